@@ -1,0 +1,8 @@
+use Rattle.std.proofs.Common.{◌≤◌, length}
+use Rattle.std.specs.Io.KnownBytes.{Consumes}
+use Rattle.av_base.proofs.device.read_whole.Given as goal
+
+-- what was read so far came from the front
+abbrev pub invariant-reads : goal.invariant-reads
+invariant-reads g l =
+    Consumes (g.R.Read.remaining l.initial.reader) (g.R.Read.remaining l.reader) l.bytes.items × (length l.bytes.items ≤ l.limit)

@@ -1,0 +1,85 @@
+//! Whole texts from readers and to writers, which may fail at any byte.
+
+ghost use Rattle.std.specs.Prelude.{◌≡◌, ◌≤◌, ◌<◌, length, IfOk, IfSome, IsErrOf, OnOk, OnErr};
+ghost use Rattle.std.specs.Io.KnownBytes.{Appends};
+ghost use Rattle.av_base.specs.Device.{AppendsPrefix};
+
+use std::alloc::{AllocError, Global};
+use std::io::{Read, Write};
+use thiserror::Error;
+
+/// Why an input was not read.
+#[derive(Clone, Copy, Debug, PartialEq, Eq, Error)]
+pub enum ReadFault {
+    /// A read failed, or as many reads were made as were allowed.
+    #[error("device")]
+    Device,
+    /// The input is longer than its limit.
+    #[error("too long")]
+    TooLong,
+    #[error("no memory")]
+    NoMemory,
+}
+
+impl From<AllocError> for ReadFault {
+    ghost use Rattle.std.specs.Prelude.{◌≡◌};
+    ghost use Rattle.av_base.specs.declared.device.ReadFault.TheVariants.{NoMemory};
+
+    ghost from_gives = { λ _ e. e ≡ NoMemory };
+
+    fn from(_e: AllocError) -> ReadFault {
+        ReadFault::NoMemory
+    }
+}
+
+/// A write failed, or took no byte. What was written before it is out.
+#[derive(Clone, Copy, Debug, PartialEq, Eq, Error)]
+#[error("device")]
+pub struct WriteFault;
+
+/// All bytes that a reader has left, where they are at most `limit` and end within `turns` reads; the read that finds
+/// the end counts as one. The first of a failing read and a byte too many decides between the faults.
+pub fn read_whole<R: Read>(
+    alloc: Global,
+    reader: &mut R,
+    limit: usize,
+    turns: u64,
+) -> Result<Vec<u8>, ReadFault>
+    ensures whole { IfOk result (λ bytes. IfSome (R.remaining reader.old) (λ input. bytes.items ≡ input)) }
+    ensures short { IfOk result (λ bytes. length bytes.items ≤ limit) }
+    ensures long { IsErrOf result ReadFault.TooLong → IfSome (R.remaining reader.old) (λ input. limit < length input) }
+{
+    let mut bytes = Vec::new(alloc);
+    let mut piece = [0u8; 4096];
+    'reads: for _ in 0..turns {
+        let Ok(count) = reader.read(&mut piece) else {
+            return Err(ReadFault::Device);
+        };
+        if count == 0 {
+            return Ok(bytes);
+        }
+        if count > limit - bytes.len() {
+            return Err(ReadFault::TooLong);
+        }
+        bytes.extend_from_slice(&piece[..count])?;
+    }
+    Err(ReadFault::Device)
+}
+
+/// Writes a text. Where that fails, the front of the text was written and nothing else.
+pub fn write_text<W: Write>(writer: &mut W, text: &[u8]) -> Result<(), WriteFault>
+    ensures ok { OnOk result (Appends (W.contents writer.old) (W.contents writer.new) text.now) }
+    ensures err { OnErr result (AppendsPrefix (W.contents writer.old) (W.contents writer.new) text.now) }
+{
+    let mut at = 0;
+    'writes: while at < text.len() {
+        let Ok(count) = writer.write(&text[at..]) else {
+            return Err(WriteFault);
+        };
+        if count == 0 {
+            return Err(WriteFault);
+        }
+        at += count;
+    }
+    Ok(())
+}

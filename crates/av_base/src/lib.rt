@@ -1,0 +1,22 @@
+//! What every layer of Vizdroun speaks of: the numbers of streams, opens and signature sets, verdicts and causes, the
+//! limits in their ranges, refusals that say why, and the small forms of text that files and scripts share.
+//!
+//! ```text
+//! let limits = Limits::check(LimitValues::greatest().with(LimitField::Chunk, 512))?;
+//! assert_eq!(Limits::check(LimitValues::greatest().with(LimitField::Jobs, 0)),
+//!     Err(LimitFault::LimitZero { which: LimitField::Jobs }));
+//! ```
+#![tactic(auto)]
+
+pub mod byte_list;
+pub mod cause;
+pub mod decimal;
+pub mod device;
+pub mod limits;
+pub mod line;
+pub mod message_id;
+pub mod mode;
+pub mod number;
+pub mod overwrite;
+pub mod refusal;
+pub mod verdict;
