@@ -28,7 +28,8 @@ impl StreamId {
     pub fn get(self) -> u64
         ensures { result ≡ self }
     {
-        self.0
+        let StreamId(value) = self;
+        value
     }
 }
 
@@ -58,7 +59,8 @@ impl Generation {
     pub fn get(self) -> u64
         ensures { result ≡ self }
     {
-        self.0
+        let Generation(value) = self;
+        value
     }
 }
 
@@ -88,7 +90,8 @@ impl Version {
     pub fn get(self) -> u64
         ensures { result ≡ self }
     {
-        self.0
+        let Version(value) = self;
+        value
     }
 }
 
@@ -118,7 +121,8 @@ impl OpenId {
     pub fn get(self) -> u64
         ensures { result ≡ self }
     {
-        self.0
+        let OpenId(value) = self;
+        value
     }
 }
 
@@ -148,6 +152,7 @@ impl Lease {
     pub fn get(self) -> u64
         ensures { result ≡ self }
     {
-        self.0
+        let Lease(value) = self;
+        value
     }
 }

@@ -1,0 +1,76 @@
+ghost use Rattle.av_base.specs.Answers.{Reads, Steps, StepsAtOnce};
+ghost use Rattle.av_store.specs.Content.{bytes_read, written, cut_to};
+
+use crate::fault::StoreFault;
+use av_base::byte_list::ByteList;
+use av_base::limits::Limits;
+use av_base::number::Generation;
+use av_base::refusal::Refusal;
+use std::alloc::Global;
+
+/// A stream of a volume: its name, and its present generation and bytes.
+#[derive(Clone, Debug, Drop)]
+pub struct Stream {
+    pub name: ByteList,
+    pub generation: Generation,
+    pub bytes: ByteList,
+}
+
+impl Stream {
+    /// Writes bytes over those from `offset` on: Hole, TooLarge, GenerationSpent, NoMemory.
+    pub fn write(
+        &mut self,
+        limits: &Limits,
+        offset: u64,
+        bytes: &[u8],
+    ) -> Result<(), Refusal<StoreFault>>
+        ensures { Steps self.old self.new result (written limits.now offset bytes.now self.old) }
+    {
+        let limits = limits.values();
+        if offset > self.bytes.len() as u64 {
+            return Err(Refusal::Fault(StoreFault::Hole));
+        }
+        if offset + bytes.len() as u64 > limits.length {
+            return Err(Refusal::Fault(StoreFault::TooLarge));
+        }
+        if self.generation.get() >= limits.generation {
+            return Err(Refusal::Fault(StoreFault::GenerationSpent));
+        }
+        self.bytes.overwrite(offset as usize, bytes)?;
+        self.generation = Generation::new(self.generation.get() + 1);
+        Ok(())
+    }
+
+    /// Keeps the first `length` bytes alone: Hole, GenerationSpent.
+    pub fn cut(&mut self, limits: &Limits, length: u64) -> Result<(), StoreFault>
+        ensures { StepsAtOnce self.old self.new result (cut_to limits.now length self.old) }
+    {
+        if length > self.bytes.len() as u64 {
+            return Err(StoreFault::Hole);
+        }
+        if self.generation.get() >= limits.values().generation {
+            return Err(StoreFault::GenerationSpent);
+        }
+        self.bytes.truncate(length as usize);
+        self.generation = Generation::new(self.generation.get() + 1);
+        Ok(())
+    }
+
+    /// The bytes that are there from `offset` on, at most `count`: Hole, NoMemory.
+    pub fn read(
+        &self,
+        alloc: Global,
+        offset: u64,
+        count: u64,
+    ) -> Result<ByteList, Refusal<StoreFault>>
+        ensures { Reads result (bytes_read offset count self.now) }
+    {
+        let bytes = self.bytes.as_slice();
+        if offset > bytes.len() as u64 {
+            return Err(Refusal::Fault(StoreFault::Hole));
+        }
+        let rest = &bytes[offset as usize..];
+        let taken = count.min(rest.len() as u64);
+        Ok(ByteList::copied(alloc, &rest[..taken as usize])?)
+    }
+}
