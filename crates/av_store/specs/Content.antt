@@ -1,9 +1,14 @@
-use Rattle.std.specs.Prelude.{ℕ, ◌+◌, List, [], length, take, drop, Result, Ok, Err, nat_lt, nat_le, if◌then◌else◌}
+use Rattle.std.specs.Prelude.{ℕ, ◌+◌, List, [], length, take, drop, Option, None, Some, Result, Ok, Err, nat_lt, nat_le, if◌then◌else◌}
 use Rattle.av_base.specs.declared.limits.LimitValues.{LimitValues}
 use Rattle.av_base.specs.Overwrite.{overwritten}
 use Rattle.av_store.specs.declared.stream.Stream.{Stream}
 use Rattle.av_store.specs.declared.fault.StoreFault.{StoreFault}
 use Rattle.av_store.specs.declared.fault.StoreFault.TheVariants.{Hole, TooLarge, GenerationSpent}
+
+-- why a step is refused, where it is
+abbrev pub fault_of : {A : Type 0} → Result A StoreFault → Option StoreFault
+fault_of (Ok a) = None
+fault_of (Err f) = Some f
 
 -- a stream as it is made
 abbrev pub new_stream : List ℕ → Stream

@@ -1,5 +1,6 @@
+ghost use Rattle.std.specs.Prelude.{◌≡◌, ◌-◌, ◌<◌, ◌^◌, IfNone};
 ghost use Rattle.av_base.specs.Answers.{Reads, Steps, StepsAtOnce};
-ghost use Rattle.av_store.specs.Content.{bytes_read, written, cut_to};
+ghost use Rattle.av_store.specs.Content.{bytes_read, fault_of, written, cut_to};
 
 use crate::fault::StoreFault;
 use av_base::byte_list::ByteList;
@@ -26,19 +27,30 @@ impl Stream {
     ) -> Result<(), Refusal<StoreFault>>
         ensures { Steps self.old self.new result (written limits.now offset bytes.now self.old) }
     {
-        let limits = limits.values();
-        if offset > self.bytes.len() as u64 {
-            return Err(Refusal::Fault(StoreFault::Hole));
-        }
-        if offset + bytes.len() as u64 > limits.length {
-            return Err(Refusal::Fault(StoreFault::TooLarge));
-        }
-        if self.generation.get() >= limits.generation {
-            return Err(Refusal::Fault(StoreFault::GenerationSpent));
+        if let Some(fault) = self.write_refusal(limits, offset, bytes) {
+            return Err(Refusal::Fault(fault));
         }
         self.bytes.overwrite(offset as usize, bytes)?;
         self.generation = Generation::new(self.generation.get() + 1);
         Ok(())
+    }
+
+    /// Why a write is refused, where it is for a fault.
+    pub fn write_refusal(&self, limits: &Limits, offset: u64, bytes: &[u8]) -> Option<StoreFault>
+        ensures fault { result ≡ fault_of (written limits.now offset bytes.now self.now) }
+        ensures generation { IfNone result (self.now.generation < 2 ^ 64 - 1) }
+    {
+        let limits = limits.values();
+        if offset > self.bytes.len() as u64 {
+            return Some(StoreFault::Hole);
+        }
+        if offset + bytes.len() as u64 > limits.length {
+            return Some(StoreFault::TooLarge);
+        }
+        if self.generation.get() >= limits.generation {
+            return Some(StoreFault::GenerationSpent);
+        }
+        None
     }
 
     /// Keeps the first `length` bytes alone: Hole, GenerationSpent.

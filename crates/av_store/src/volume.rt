@@ -1,6 +1,7 @@
-ghost use Rattle.std.specs.Prelude.{◌≡◌, ◌-◌, IfOk, length};
+ghost use Rattle.std.specs.Prelude.{◌≡◌, ◌-◌, ◌<◌, None, IfNone, IfOk, length};
 ghost use Rattle.std.specs.Option.{option_map, option_copied};
 ghost use Rattle.av_base.specs.Answers.{Answers, AnswersAtOnce, Steps, StepsAtOnce, Reads};
+ghost use Rattle.av_store.specs.Content.{fault_of};
 ghost use Rattle.av_store.specs.Store.{Store, greatest, is_name, is_printable, create_of, write_of, cut_of, remove_of, read_of, mount_of, open_number_of, empty_store};
 ghost use Rattle.av_store.specs.Rows.{stream_at, number_named};
 
@@ -60,18 +61,30 @@ impl Volume {
     pub fn create(&mut self, alloc: Global, name: &[u8]) -> Result<StreamId, Refusal<StoreFault>>
         ensures { Answers self.old self.new result (create_of self.old name.now) }
     {
-        if !is_name(name) {
-            return Err(Refusal::Fault(StoreFault::BadName));
-        }
-        if self.names.contains_key(name) {
-            return Err(Refusal::Fault(StoreFault::Exists));
-        }
-        if self.rows.len() as u64 >= self.limits.values().streams || self.last == u64::MAX {
-            return Err(Refusal::Fault(StoreFault::Full));
+        if let Some(fault) = self.create_refusal(name) {
+            return Err(Refusal::Fault(fault));
         }
         table::add(alloc, &mut self.rows, &mut self.names, self.last + 1, name)?;
         self.last += 1;
         Ok(StreamId::new(self.last))
+    }
+
+    /// The fault that `create` would answer for this name, where there is one. It takes no memory.
+    pub fn create_refusal(&self, name: &[u8]) -> Option<StoreFault>
+        ensures fault { result ≡ fault_of (create_of self.now name.now) }
+        ensures free { IfNone result (number_named name.now self.now.streams ≡ None) }
+        ensures number { IfNone result (self.now.last < greatest) }
+    {
+        if !is_name(name) {
+            return Some(StoreFault::BadName);
+        }
+        if self.names.contains_key(name) {
+            return Some(StoreFault::Exists);
+        }
+        if self.rows.len() as u64 >= self.limits.values().streams || self.last == u64::MAX {
+            return Some(StoreFault::Full);
+        }
+        None
     }
 
     /// Writes bytes over those from `offset` on, in place, and raises the generation by 1, for no bytes too: NoStream,
@@ -86,6 +99,16 @@ impl Volume {
         ensures { Steps self.old self.new result (write_of self.old id offset bytes.now) }
     {
         table::write(&mut self.rows, &self.limits, id.get(), offset, bytes)
+    }
+
+    /// The fault that `write` would answer, where there is one. It takes no memory.
+    pub fn write_refusal(&self, id: StreamId, offset: u64, bytes: &[u8]) -> Option<StoreFault>
+        ensures { result ≡ fault_of (write_of self.now id offset bytes.now) }
+    {
+        let Some(stream) = self.rows.get(&id.get()) else {
+            return Some(StoreFault::NoStream);
+        };
+        stream.write_refusal(&self.limits, offset, bytes)
     }
 
     /// Keeps the first `length` bytes alone and raises the generation by 1: NoStream, Hole where there are fewer,
