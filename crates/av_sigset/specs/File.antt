@@ -1,0 +1,42 @@
+-- The signature files, apart from any way to read one.
+use Rattle.std.specs.Prelude.{ℕ, ◌≡◌, ◌↔◌, List, [], ◌∷◌, ◌++◌, IsTrue, Some, Ok, map, codes}
+use Rattle.std.specs.List.{AllByRecursion}
+use Rattle.av_base.specs.Decimal.{decimal_of}
+use Rattle.hex.specs.Hex.{decode_of}
+use Rattle.av_sigset.specs.Judge.{is_name, set_of}
+use Rattle.av_sigset.specs.Set.{NumberedSet, IsSet}
+use Rattle.av_sigset.specs.declared.signature.Signature.{Signature}
+
+-- a line: a name, a space, digits that spell the bytes, LF
+pub record IsLineOf (line : List ℕ) (s : Signature) : Type 0 where
+  pub digits : List ℕ
+  pub spelt : line ≡ s.name ++ 32 ∷ digits ++ 10 ∷ []
+  pub bytes : decode_of digits ≡ Ok s.pattern.bytes
+
+-- one line for each signature
+abbrev pub AreLinesOf : List ℕ → List Signature → Type 0
+AreLinesOf text [] = text ≡ []
+AreLinesOf text (s ∷ rest) = (line : List ℕ) × (below : List ℕ) × (text ≡ line ++ below) × IsLineOf line s × AreLinesOf below rest
+
+-- no name stands twice
+abbrev pub AreDistinct : List (List ℕ) → Type 0
+AreDistinct [] = Unit {0}
+AreDistinct (n ∷ names) = AllByRecursion (λ m. n ≡ m → ⊥) names × AreDistinct names
+
+abbrev pub names_of : List Signature → List (List ℕ)
+names_of signatures = map (λ s. s.name) signatures
+
+-- a file of the format spells this set
+pub record IsFileOf (file : List ℕ) (s : NumberedSet) : Type 0 where
+  pub digits : List ℕ
+  pub below : List ℕ
+  pub spelt : file ≡ codes "avsig 1" ++ 10 ∷ codes "version" ++ 32 ∷ digits ++ 10 ∷ below
+  pub version : decimal_of digits ≡ Some s.version
+  pub lines : AreLinesOf below s.signatures
+  pub names : AllByRecursion (λ n. IsTrue (is_name n)) (names_of s.signatures)
+  pub distinct : AreDistinct (names_of s.signatures)
+  pub ranges : IsSet s
+
+-- a file is judged to be a set exactly where it spells that set
+abbrev pub JudgesFiles : Type 0
+JudgesFiles = (file : List ℕ) (s : NumberedSet) → (set_of file ≡ Ok s) ↔ IsFileOf file s

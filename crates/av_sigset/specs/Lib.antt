@@ -1,0 +1,6 @@
+pub mod Catalogue
+pub mod File
+pub mod Judge
+pub mod Line
+pub mod Made
+pub mod Set

@@ -1,0 +1,38 @@
+use Rattle.std.specs.Prelude.{ℕ, ◌≡◌, ◌≤◌, ◌<◌, ◌+◌, ◌*◌, ◌++◌, ◌∷◌, [], List, length, Result, Ok, Err, IsOk}
+use Rattle.av_base.specs.declared.refusal.Refusal.{Refusal}
+use Rattle.av_base.specs.declared.refusal.Refusal.TheVariants.{Fault, NoMemory}
+use Rattle.hex.specs.Hex.{decode_of}
+use Rattle.av_sigset.specs.Judge.{signatures_with}
+use Rattle.av_sigset.specs.Set.{patterns_of, byte_count}
+use Rattle.av_sigset.specs.declared.fault.SetFaultKind.{SetFaultKind}
+use Rattle.av_sigset.specs.declared.signature.Signature.{Signature}
+
+-- digits that spell the bytes of a pattern
+pub record SpellsPattern (digits : List ℕ) : Type 0 where
+  pub bytes : List ℕ
+  pub decoded : decode_of digits ≡ Ok bytes
+  pub low : 1 ≤ length bytes
+  pub high : length bytes ≤ 64
+  pub twice : length digits ≡ 2 * length bytes
+
+-- a name and such digits make this signature
+pub record AreWordsOf (name digits : List ℕ) (signature : Result Signature SetFaultKind) : Type 0 where
+  pub spells : SpellsPattern digits
+  pub made : signature ≡ Ok (record { name = name; pattern = record { bytes = spells.bytes } })
+
+-- a line's signature may stand behind these
+pub record JoinsAs (before : List Signature) (name digits : List ℕ) (signature : Result Signature SetFaultKind) : Type 0 where
+  pub spells : SpellsPattern digits
+  pub few : length before < 1024
+  pub short : byte_count (patterns_of before) + length spells.bytes ≤ 16384
+  pub joined : signatures_with before signature ≡ Ok (before ++ record { name = name; pattern = record { bytes = spells.bytes } } ∷ [])
+
+-- a call stops at the fault that is wanted, or for memory where none is
+abbrev pub IsRefusal : {A F : Type 0} → Refusal F → Result A F → Type 0
+IsRefusal (Fault f) wanted = wanted ≡ Err f
+IsRefusal NoMemory wanted = IsOk wanted
+
+-- the same, where memory is refused before the other lines are judged
+abbrev pub IsFault : {A F : Type 0} → Refusal F → Result A F → Type 0
+IsFault (Fault f) wanted = wanted ≡ Err f
+IsFault NoMemory wanted = Unit {0}

@@ -1,0 +1,32 @@
+use Rattle.std.specs.Prelude.{ℕ, ◌≤◌, List, length, map, sum_by}
+use Rattle.std.specs.List.{AllByRecursion}
+use Rattle.av_sigset.specs.declared.signature.Pattern.{Pattern}
+use Rattle.av_sigset.specs.declared.signature.Signature.{Signature}
+
+-- a version, and the signatures in their order
+pub record NumberedSet : Type 0 where
+  pub version : ℕ
+  pub signatures : List Signature
+
+-- what the signatures look for
+abbrev pub patterns_of : List Signature → List Pattern
+patterns_of signatures = map (λ s. s.pattern) signatures
+
+-- a pattern has 1 to 64 bytes
+abbrev pub HasRightLength : Pattern → Type 0
+HasRightLength p = (1 ≤ length p.bytes) × (length p.bytes ≤ 64)
+
+-- the bytes of all patterns
+abbrev pub byte_count : List Pattern → ℕ
+byte_count patterns = sum_by (λ p. length p.bytes) patterns
+
+-- at most 1,024 patterns, each of 1 to 64 bytes, of at most 16,384 bytes in all
+pub record AreInRange (patterns : List Pattern) : Type 0 where
+  pub count : length patterns ≤ 1024
+  pub lengths : AllByRecursion HasRightLength patterns
+  pub bytes : byte_count patterns ≤ 16384
+
+-- a set has a version from 1 on, and patterns in their ranges
+pub record IsSet (s : NumberedSet) : Type 0 where
+  pub version : 1 ≤ s.version
+  pub ranges : AreInRange (patterns_of s.signatures)

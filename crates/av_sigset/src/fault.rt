@@ -1,0 +1,59 @@
+ghost use Rattle.std.specs.Prelude.{◌≡◌};
+
+use thiserror::Error;
+
+/// What is wrong with a signature file, each kind under its number. docs/FORMATS.md has the order in which a line is judged.
+#[derive(Clone, Copy, Debug, PartialEq, Eq, Error)]
+pub enum SetFaultKind {
+    /// Line 1 isn't `avsig 1`.
+    #[error("1")]
+    Header,
+    /// Line 2 isn't `version` and a decimal number from 1 to 2^64 - 1.
+    #[error("2")]
+    Version,
+    /// What stands before the first space isn't a name, or there is no space.
+    #[error("3")]
+    Name,
+    /// What stands behind the space isn't pairs of hexadecimal digits.
+    #[error("4")]
+    Hex,
+    /// The pattern has no byte, or more than 64.
+    #[error("5")]
+    Length,
+    /// The name stood before.
+    #[error("6")]
+    Duplicate,
+    /// It is signature 1,025, or the patterns have more than 16,384 bytes in all.
+    #[error("7")]
+    TooMany,
+    /// No LF ends the line, or line 1 or 2 is missing.
+    #[error("8")]
+    Unended,
+}
+
+/// The first bad line of a signature file, counted from 1, and what is wrong with it. Of a set that is made from bare
+/// patterns it is the line that the pattern would have in a file: signature i stands on line i + 3.
+#[derive(Clone, Copy, Debug, PartialEq, Eq, Error)]
+#[error("set line {line}: kind {kind}")]
+pub struct SetFault {
+    pub line: u64,
+    pub kind: SetFaultKind,
+}
+
+/// Why a set is not published.
+#[derive(Clone, Copy, Debug, PartialEq, Eq, Error)]
+pub enum CatalogueFault {
+    /// The version isn't above that of the set published last.
+    #[error("OldVersion")]
+    OldVersion,
+    /// The catalogue holds 4,096 sets.
+    #[error("CatalogueFull")]
+    CatalogueFull,
+}
+
+/// A bad line.
+pub fn bad_line(line: u64, kind: SetFaultKind) -> SetFault
+    ensures { result ≡ record { line = line; kind = kind } }
+{
+    SetFault { line, kind }
+}

@@ -1,0 +1,18 @@
+//! Signature sets: what a scan looks for, read from a signature file or made from bare patterns, and the catalogue of
+//! the sets that were published.
+//!
+//! ```text
+//! let set = SignatureSet::read(alloc, b"avsig 1\nversion 7\nt.a 4142\nb 4A4b\n")?;
+//! assert_eq!(set.name(0), Some(b"t.a".as_slice()));
+//! catalogue.publish(set)?;
+//! ```
+#![tactic(auto)]
+
+pub mod catalogue;
+pub mod fault;
+pub mod judge;
+pub mod line;
+pub mod made;
+pub mod read;
+pub mod set;
+pub mod signature;

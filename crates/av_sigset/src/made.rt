@@ -1,0 +1,56 @@
+//! Sets that are made from bare patterns.
+ghost use Rattle.std.specs.Prelude.{◌≡◌, ◌++◌, ◌∷◌, length, map, IfOk, codes, decimal};
+ghost use Rattle.av_sigset.specs.Made.{fault_in, serial_signatures, serial_signature};
+
+use crate::fault::{SetFault, SetFaultKind, bad_line};
+use crate::signature::{Pattern, Signature};
+use av_base::byte_list::ByteList;
+use itoa::Buffer;
+use std::alloc::{AllocError, Global};
+
+/// The first of these patterns that can't stand in a file.
+#[tactic(auto, unfolding(crate::specs::Made::fault_in))]
+pub fn fault_in(patterns: &[&[u8]]) -> Option<SetFault>
+    ensures { result ≡ fault_in 0 0 (map (λ p. p.now) patterns.now) }
+{
+    let mut bytes = 0usize;
+    for index in 0..patterns.len() {
+        let length = patterns[index].len();
+        let line = index as u64 + 3;
+        if length == 0 || length > 64 {
+            return Some(bad_line(line, SetFaultKind::Length));
+        }
+        if index >= 1024 || bytes + length > 16384 {
+            return Some(bad_line(line, SetFaultKind::TooMany));
+        }
+        bytes += length;
+    }
+    None
+}
+
+/// These patterns, named by their places.
+#[tactic(auto, unfolding(crate::specs::Made::serial_signatures))]
+pub fn serial_signatures(alloc: Global, patterns: &[&[u8]]) -> Result<Vec<Signature>, AllocError>
+    ensures { IfOk result (λ v. v.items ≡ serial_signatures 0 (map (λ p. p.now) patterns.now)) }
+{
+    let mut signatures = Vec::with_capacity(alloc, patterns.len())?;
+    for index in 0..patterns.len() {
+        signatures.push(serial_signature(alloc, index, patterns[index])?)?;
+    }
+    Ok(signatures)
+}
+
+// A pattern, named by its place.
+fn serial_signature(alloc: Global, index: usize, bytes: &[u8]) -> Result<Signature, AllocError>
+    ensures { IfOk result (λ s. s ≡ serial_signature index bytes.now) }
+{
+    let mut buffer = Buffer::new();
+    let mut name = Vec::from_slice(alloc, b"s")?;
+    name.extend_from_slice(buffer.format(index).as_bytes())?;
+    Ok(Signature {
+        name: ByteList::from_vec(name),
+        pattern: Pattern {
+            bytes: ByteList::copied(alloc, bytes)?,
+        },
+    })
+}

@@ -1,0 +1,107 @@
+ghost use Rattle.std.specs.Prelude.{◌≡◌, ◌≤◌, length, slice_get, map};
+ghost use Rattle.std.specs.Option.{option_copied, option_map};
+ghost use Rattle.av_base.specs.Answers.{Reads};
+ghost use Rattle.av_sigset.specs.Judge.{set_of};
+ghost use Rattle.av_sigset.specs.Made.{set_made};
+ghost use Rattle.av_sigset.specs.Set.{IsSet, patterns_of};
+
+use crate::fault::{SetFault, SetFaultKind, bad_line};
+use crate::made::{fault_in, serial_signatures};
+use crate::read::{body_of, read_signatures};
+use crate::signature::{Pattern, Signature};
+use av_base::number::Version;
+use av_base::refusal::Refusal;
+use std::alloc::Global;
+use std::marker::Model;
+
+/// Signatures under a version: at most 1,024 patterns of 1 to 64 bytes, 16,384 bytes in all. A version is 1 or more.
+#[derive(Debug, Drop)]
+pub struct SignatureSet {
+    version: Version,
+    signatures: Vec<Signature>,
+}
+
+impl Model for SignatureSet {
+    ghost use Rattle.av_sigset.specs.Set.{NumberedSet, IsSet};
+
+    ghost Value = { NumberedSet };
+
+    ghost view = { λ s. record { version = s.version; signatures = s.signatures.items } };
+
+    ghost invariant = { λ s. IsSet (record { version = s.version; signatures = s.signatures.items }) };
+}
+
+impl SignatureSet {
+    /// The set of a signature file (docs/FORMATS.md), or its first bad line. Takes memory of about the file's size.
+    pub fn read(alloc: Global, bytes: &[u8]) -> Result<SignatureSet, Refusal<SetFault>>
+        ensures { Reads result (set_of bytes.now) }
+    {
+        let (version, lines) = match body_of(bytes) {
+            Ok(body) => body,
+            Err(fault) => return Err(Refusal::Fault(fault)),
+        };
+        let signatures = read_signatures(alloc, lines)?;
+        Ok(SignatureSet {
+            version: Version::new(version),
+            signatures,
+        })
+    }
+
+    /// The set of these patterns, under the names `s0`, `s1` and on. A fault names the line that the pattern would
+    /// have in a file: line 2 is the version's, and pattern i stands on line i + 3.
+    pub fn from_patterns(
+        alloc: Global,
+        version: Version,
+        patterns: &[&[u8]],
+    ) -> Result<SignatureSet, Refusal<SetFault>>
+        ensures { Reads result (set_made version (map (λ p. p.now) patterns.now)) }
+    {
+        if version.get() == 0 {
+            return Err(Refusal::Fault(bad_line(2, SetFaultKind::Version)));
+        }
+        if let Some(fault) = fault_in(patterns) {
+            return Err(Refusal::Fault(fault));
+        }
+        let signatures = serial_signatures(alloc, patterns)?;
+        Ok(SignatureSet {
+            version,
+            signatures,
+        })
+    }
+
+    /// Its version, 1 or more.
+    pub fn version(&self) -> Version
+        ensures version { result ≡ self.now.version }
+        ensures set { IsSet self.now }
+    {
+        self.version
+    }
+
+    /// How many signatures it has.
+    pub fn len(&self) -> usize
+        ensures len { result ≡ length self.now.signatures }
+        ensures set { IsSet self.now }
+    {
+        self.signatures.len()
+    }
+
+    /// What signature `index` looks for, counted from 0.
+    pub fn pattern(&self, index: usize) -> Option<&Pattern>
+        ensures { option_copied result ≡ slice_get (patterns_of self.now.signatures) index }
+    {
+        match self.signatures.as_slice().get(index) {
+            Some(signature) => Some(&signature.pattern),
+            None => None,
+        }
+    }
+
+    /// The name of signature `index`.
+    pub fn name(&self, index: usize) -> Option<&[u8]>
+        ensures { option_copied result ≡ option_map (λ s. s.name) (slice_get self.now.signatures index) }
+    {
+        match self.signatures.as_slice().get(index) {
+            Some(signature) => Some(signature.name.as_slice()),
+            None => None,
+        }
+    }
+}
