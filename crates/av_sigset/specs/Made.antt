@@ -32,3 +32,8 @@ unless_fault (Some fault) s = Err fault
 abbrev pub set_made : ℕ → List (List ℕ) → Result NumberedSet SetFault
 set_made version patterns =
     if version == 0 then bad_line 2 Version else unless_fault (fault_in 0 0 patterns) (record { version = version; signatures = serial_signatures 0 patterns })
+
+-- why a set can't be made, where it can't
+abbrev pub fault_of : Result NumberedSet SetFault → Option SetFault
+fault_of (Ok s) = None
+fault_of (Err fault) = Some fault

@@ -56,6 +56,13 @@ impl Catalogue {
         Ok(())
     }
 
+    /// Why a set of this version can't be published, where it can't: OldVersion, CatalogueFull. It takes no memory.
+    pub fn refusal(&self, version: Version) -> Option<CatalogueFault>
+        ensures { MatchOption result (may_publish self.now.sets version ≡ Ok tt) (λ fault. may_publish self.now.sets version ≡ Err fault) }
+    {
+        refusal_of(self.sets.as_slice(), version)
+    }
+
     /// Publishes a set. A refusal hands it back. Where `room` has answered Ok for its version it succeeds.
     pub fn publish(
         &mut self,

@@ -7,15 +7,16 @@ use crate::signature::{Pattern, Signature};
 use av_base::byte_list::ByteList;
 use itoa::Buffer;
 use std::alloc::{AllocError, Global};
+use std::convert::AsSlice;
 
 /// The first of these patterns that can't stand in a file.
 #[tactic(auto, unfolding(crate::specs::Made::fault_in))]
-pub fn fault_in(patterns: &[&[u8]]) -> Option<SetFault>
-    ensures { result ≡ fault_in 0 0 (map (λ p. p.now) patterns.now) }
+pub fn fault_in<P: AsSlice<u8>>(patterns: &[P]) -> Option<SetFault>
+    ensures { result ≡ fault_in 0 0 (map P.items patterns.now) }
 {
     let mut bytes = 0usize;
     for index in 0..patterns.len() {
-        let length = patterns[index].len();
+        let length = patterns[index].as_slice().len();
         let line = index as u64 + 3;
         if length == 0 || length > 64 {
             return Some(bad_line(line, SetFaultKind::Length));
@@ -30,12 +31,15 @@ pub fn fault_in(patterns: &[&[u8]]) -> Option<SetFault>
 
 /// These patterns, named by their places.
 #[tactic(auto, unfolding(crate::specs::Made::serial_signatures))]
-pub fn serial_signatures(alloc: Global, patterns: &[&[u8]]) -> Result<Vec<Signature>, AllocError>
-    ensures { IfOk result (λ v. v.items ≡ serial_signatures 0 (map (λ p. p.now) patterns.now)) }
+pub fn serial_signatures<P: AsSlice<u8>>(
+    alloc: Global,
+    patterns: &[P],
+) -> Result<Vec<Signature>, AllocError>
+    ensures { IfOk result (λ v. v.items ≡ serial_signatures 0 (map P.items patterns.now)) }
 {
     let mut signatures = Vec::with_capacity(alloc, patterns.len())?;
     for index in 0..patterns.len() {
-        signatures.push(serial_signature(alloc, index, patterns[index])?)?;
+        signatures.push(serial_signature(alloc, index, patterns[index].as_slice())?)?;
     }
     Ok(signatures)
 }

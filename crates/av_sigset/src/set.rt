@@ -2,7 +2,7 @@ ghost use Rattle.std.specs.Prelude.{◌≡◌, ◌≤◌, length, slice_get, map
 ghost use Rattle.std.specs.Option.{option_copied, option_map};
 ghost use Rattle.av_base.specs.Answers.{Reads};
 ghost use Rattle.av_sigset.specs.Judge.{set_of};
-ghost use Rattle.av_sigset.specs.Made.{set_made};
+ghost use Rattle.av_sigset.specs.Made.{fault_of, set_made};
 ghost use Rattle.av_sigset.specs.Set.{IsSet, patterns_of};
 
 use crate::fault::{SetFault, SetFaultKind, bad_line};
@@ -12,6 +12,7 @@ use crate::signature::{Pattern, Signature};
 use av_base::number::Version;
 use av_base::refusal::Refusal;
 use std::alloc::Global;
+use std::convert::AsSlice;
 use std::marker::Model;
 
 /// Signatures under a version: at most 1,024 patterns of 1 to 64 bytes, 16,384 bytes in all. A version is 1 or more.
@@ -47,19 +48,15 @@ impl SignatureSet {
         })
     }
 
-    /// The set of these patterns, under the names `s0`, `s1` and on. A fault names the line that the pattern would
-    /// have in a file: line 2 is the version's, and pattern i stands on line i + 3.
-    pub fn from_patterns(
+    /// The set of these patterns, under the names `s0`, `s1` and on, or the fault that `patterns_fault` tells.
+    pub fn from_patterns<P: AsSlice<u8>>(
         alloc: Global,
         version: Version,
-        patterns: &[&[u8]],
+        patterns: &[P],
     ) -> Result<SignatureSet, Refusal<SetFault>>
-        ensures { Reads result (set_made version (map (λ p. p.now) patterns.now)) }
+        ensures { Reads result (set_made version (map P.items patterns.now)) }
     {
-        if version.get() == 0 {
-            return Err(Refusal::Fault(bad_line(2, SetFaultKind::Version)));
-        }
-        if let Some(fault) = fault_in(patterns) {
+        if let Some(fault) = SignatureSet::patterns_fault(version, patterns) {
             return Err(Refusal::Fault(fault));
         }
         let signatures = serial_signatures(alloc, patterns)?;
@@ -67,6 +64,18 @@ impl SignatureSet {
             version,
             signatures,
         })
+    }
+
+    /// Why these patterns are no set, where they are none: a version of 0, or the first pattern that is empty, too long
+    /// or too much. A fault names the line that the pattern would have in a file: line 2 is the version's, and pattern i
+    /// stands on line i + 3. It takes no memory.
+    pub fn patterns_fault<P: AsSlice<u8>>(version: Version, patterns: &[P]) -> Option<SetFault>
+        ensures { result ≡ fault_of (set_made version (map P.items patterns.now)) }
+    {
+        if version.get() == 0 {
+            return Some(bad_line(2, SetFaultKind::Version));
+        }
+        fault_in(patterns)
     }
 
     /// Its version, 1 or more.

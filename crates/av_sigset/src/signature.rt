@@ -1,9 +1,18 @@
 use av_base::byte_list::ByteList;
+use std::convert::AsSlice;
 
 /// What a signature looks for: these bytes, 1 to 64 of them, one behind the other.
-#[derive(Debug, Drop)]
+#[derive(Clone, Debug, Drop)]
 pub struct Pattern {
     pub bytes: ByteList,
+}
+
+impl AsSlice<u8> for Pattern {
+    ghost items = { λ p. p.bytes };
+
+    fn as_slice(&self) -> &[u8] {
+        self.bytes.as_slice()
+    }
 }
 
 /// A pattern under its name, which is 1 to 32 letters, digits, `.`, `_` or `-` where it comes from a file.

@@ -57,15 +57,26 @@ impl Stream {
     pub fn cut(&mut self, limits: &Limits, length: u64) -> Result<(), StoreFault>
         ensures { StepsAtOnce self.old self.new result (cut_to limits.now length self.old) }
     {
-        if length > self.bytes.len() as u64 {
-            return Err(StoreFault::Hole);
-        }
-        if self.generation.get() >= limits.values().generation {
-            return Err(StoreFault::GenerationSpent);
+        if let Some(fault) = self.cut_refusal(limits, length) {
+            return Err(fault);
         }
         self.bytes.truncate(length as usize);
         self.generation = Generation::new(self.generation.get() + 1);
         Ok(())
+    }
+
+    /// Why a cut is refused, where it is.
+    pub fn cut_refusal(&self, limits: &Limits, length: u64) -> Option<StoreFault>
+        ensures fault { result ≡ fault_of (cut_to limits.now length self.now) }
+        ensures generation { IfNone result (self.now.generation < 2 ^ 64 - 1) }
+    {
+        if length > self.bytes.len() as u64 {
+            return Some(StoreFault::Hole);
+        }
+        if self.generation.get() >= limits.values().generation {
+            return Some(StoreFault::GenerationSpent);
+        }
+        None
     }
 
     /// The bytes that are there from `offset` on, at most `count`: Hole, NoMemory.

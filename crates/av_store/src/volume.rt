@@ -119,6 +119,16 @@ impl Volume {
         table::cut(&mut self.rows, &self.limits, id.get(), length)
     }
 
+    /// The fault that `cut` would answer, where there is one. It takes no memory.
+    pub fn cut_refusal(&self, id: StreamId, length: u64) -> Option<StoreFault>
+        ensures { result ≡ fault_of (cut_of self.now id length) }
+    {
+        let Some(stream) = self.rows.get(&id.get()) else {
+            return Some(StoreFault::NoStream);
+        };
+        stream.cut_refusal(&self.limits, length)
+    }
+
     /// Takes a stream away, with its name: NoStream. It takes no memory.
     pub fn remove(&mut self, id: StreamId) -> Result<(), StoreFault>
         ensures { StepsAtOnce self.old self.new result (remove_of self.old id) }

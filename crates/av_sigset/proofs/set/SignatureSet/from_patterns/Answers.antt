@@ -1,10 +1,7 @@
-use Rattle.std.proofs.Common.{arith, map, sym, ◌∙◌}
-use Rattle.std.proofs.lemmas.Bool.Decides.{nat_tests}
-use Rattle.av_sigset.proofs.MadeLemmas.{ranges_made}
+use Rattle.std.proofs.Common.{map, sym, ◌∙◌}
+use Rattle.av_sigset.proofs.MadeLemmas.{made_set}
 use Rattle.av_sigset.proofs.set.SignatureSet.from_patterns.Goals as goal
 
 pub invariant_of-result : goal.invariant_of-result
-invariant_of-result c = record {
-  version = grind (arith, nat_tests);
-  ranges = rw c.in_ok-signatures.ensures (ranges_made (map (λ p. p.now) c.args.patterns.now) (sym c.fault_in.ensures ∙ c.in_default.is));
-}
+invariant_of-result g c =
+    rw c.in_ok-signatures.ensures (made_set c.args.version (map g.P.AsSlice.items c.args.patterns.now) (sym c.patterns_fault.ensures ∙ c.in_default.is))
