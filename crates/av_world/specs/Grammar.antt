@@ -11,7 +11,7 @@ use Rattle.av_base.specs.declared.mode.Mode.{Mode}
 use Rattle.av_base.specs.declared.mode.Mode.TheVariants.{FailClosed, FailOpen}
 use Rattle.av_base.specs.Decimal.{decimal_of}
 use Rattle.av_base.specs.Line.{pieces_of}
-use Rattle.av_world.specs.declared.pattern.Pattern.{Pattern}
+use Rattle.av_sigset.specs.declared.signature.Pattern.{Pattern}
 use Rattle.av_world.specs.declared.event.Event.TheVariants.{Publish, Create, Write, Cut}
 use Rattle.av_world.specs.declared.command.Command.{Command}
 use Rattle.av_world.specs.declared.command.Command.TheVariants.{Step, Judge}

@@ -5,8 +5,9 @@ ghost use Rattle.hex.specs.Hex.{is_hex_digit};
 ghost use Rattle.av_base.specs.Line.{rest_of};
 ghost use Rattle.av_world.specs.Grammar.{is_hex, bytes_in, is_content, content_in, pattern_in};
 
-use crate::pattern::{Pattern, Patterns};
+use crate::pattern::Patterns;
 use av_base::byte_list::ByteList;
+use av_sigset::signature::Pattern;
 use av_base::line::first_piece;
 use hex::FromHexError;
 use std::alloc::{AllocError, Global};

@@ -3,8 +3,13 @@
 
 pub mod command;
 pub mod event;
-pub mod hexadecimal;
+pub mod fault;
+mod happen;
+mod hexadecimal;
 pub mod pattern;
+pub mod report;
+mod scanner;
 pub mod script;
-pub mod statement;
-pub mod words;
+mod statement;
+mod words;
+pub mod world;

@@ -12,6 +12,7 @@ use av_base::line::first_line;
 use av_base::mode::Mode;
 use av_base::refusal::Refusal;
 use std::alloc::{AllocError, Global};
+use std::collections::VecDeque;
 use std::marker::Model;
 use thiserror::Error;
 
@@ -28,7 +29,7 @@ pub struct Script {
     number: u64,
     mode: Mode,
     limits: Limits,
-    commands: Vec<Command>,
+    commands: VecDeque<Command>,
 }
 
 impl Model for Script {
@@ -62,7 +63,7 @@ impl Script {
     }
 
     /// The commands, given away.
-    pub fn into_commands(self) -> Vec<Command>
+    pub fn into_commands(self) -> VecDeque<Command>
         ensures { result.items ≡ self.commands }
     {
         self.commands
@@ -136,11 +137,11 @@ fn read_commands(
     alloc: Global,
     text: &[u8],
     first_number: u64,
-) -> Result<Vec<Command>, Refusal<ScriptFault>>
+) -> Result<VecDeque<Command>, Refusal<ScriptFault>>
     requires { first_number + length text.now < 2 ^ 64 }
     ensures { Parses result (commands_from first_number (lines_of text.now)) }
 {
-    let mut commands = Vec::new(alloc);
+    let mut commands = VecDeque::new(alloc);
     let mut rest = text;
     let mut line = first_number;
     'lines: while !rest.is_empty() {
@@ -163,13 +164,13 @@ fn read_commands(
 // The command that a statement is, where it is one, behind the others.
 fn push_command(
     alloc: Global,
-    commands: &mut Vec<Command>,
+    commands: &mut VecDeque<Command>,
     statement: Statement<'_>,
 ) -> Result<(), AllocError>
     ensures { OnOk result (commands.new.items ≡ commands.old.items ++ option_to_list (command_of (meaning statement.entry))) }
 {
     if let Some(command) = statement.command(alloc)? {
-        commands.push(command)?;
+        commands.push_back(command)?;
     }
     Ok(())
 }

@@ -1,0 +1,25 @@
+-- The verdict of a stream's present content under the latest set.
+use Rattle.std.specs.Prelude.{ℕ, List, [], ◌∷◌, Option, None, Some, Result, Ok, Err}
+use Rattle.av_sigset.specs.Set.{NumberedSet, patterns_of}
+use Rattle.av_store.specs.Rows.{stream_at, number_named}
+use Rattle.av_store.specs.declared.stream.Stream.{Stream}
+use Rattle.av_world.specs.declared.fault.JudgeFault.{JudgeFault}
+use Rattle.av_world.specs.declared.fault.JudgeFault.TheVariants.{NoSuchName, NoSignatures}
+use Rattle.av_world.specs.declared.report.Judged.{Judged}
+use Rattle.av_world.specs.Verdict.{verdict_of}
+use Rattle.av_world.specs.World.{WorldState}
+
+abbrev pub judged_under : ℕ → Stream → List NumberedSet → Result Judged JudgeFault
+judged_under id s [] = Err NoSignatures
+judged_under id s (set ∷ older) = Ok (record { stream = id; generation = s.generation; version = set.version; verdict = verdict_of (patterns_of set.signatures) s.bytes })
+
+abbrev pub stream_judged : List NumberedSet → ℕ → Option Stream → Result Judged JudgeFault
+stream_judged sets id None = Err NoSuchName
+stream_judged sets id (Some s) = judged_under id s sets
+
+abbrev pub name_judged : WorldState → Option ℕ → Result Judged JudgeFault
+name_judged w None = Err NoSuchName
+name_judged w (Some id) = stream_judged w.sets id (stream_at id w.volume.streams)
+
+abbrev pub judged_of : WorldState → List ℕ → Result Judged JudgeFault
+judged_of w name = name_judged w (number_named name w.volume.streams)
