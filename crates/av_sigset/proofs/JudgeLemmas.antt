@@ -15,7 +15,7 @@ use Rattle.av_sigset.proofs.JoinLemmas.{repeats, full, joins, bytes_push}
 use Rattle.av_sigset.proofs.ReadLemmas.{line_refused, line_joined, line_unended, line_none}
 
 -- an element of the images is the image of one
-list_any-map : {A B : Type 0} (p : B → Bool) (f : A → B) (xs : List A) → list_any p (map f xs) ≡ list_any (λ x. p (f x)) xs
+pub list_any-map : {A B : Type 0} (p : B → Bool) (f : A → B) (xs : List A) → list_any p (map f xs) ≡ list_any (λ x. p (f x)) xs
 list_any-map p f [] = refl
 list_any-map p f (x ∷ xs) = ap (λ b. p (f x) || b) (list_any-map p f xs)
 

@@ -1,7 +1,9 @@
 pub mod CatalogueLemmas
 pub mod DigitsLemmas
+pub mod FileLemmas
 pub mod JoinLemmas
 pub mod JudgeLemmas
 pub mod LineLemmas
 pub mod MadeLemmas
+pub mod PieceLemmas
 pub mod ReadLemmas

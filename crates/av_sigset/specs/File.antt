@@ -1,22 +1,22 @@
 -- The signature files, apart from any way to read one.
-use Rattle.std.specs.Prelude.{ℕ, ◌≡◌, ◌↔◌, List, [], ◌∷◌, ◌++◌, IsTrue, Some, Ok, map, codes}
+use Rattle.std.specs.Prelude.{ℕ, ◌≡◌, ◌≤◌, ◌↔◌, List, [], ◌∷◌, ◌++◌, IsTrue, Some, Ok, map, codes}
 use Rattle.std.specs.List.{AllByRecursion}
 use Rattle.av_base.specs.Decimal.{decimal_of}
 use Rattle.hex.specs.Hex.{decode_of}
 use Rattle.av_sigset.specs.Judge.{is_name, set_of}
-use Rattle.av_sigset.specs.Set.{NumberedSet, IsSet}
+use Rattle.av_sigset.specs.Set.{NumberedSet, AreInRange, patterns_of}
 use Rattle.av_sigset.specs.declared.signature.Signature.{Signature}
 
--- a line: a name, a space, digits that spell the bytes, LF
+-- a line: a name, a space, and digits that spell the bytes
 pub record IsLineOf (line : List ℕ) (s : Signature) : Type 0 where
   pub digits : List ℕ
-  pub spelt : line ≡ s.name ++ 32 ∷ digits ++ 10 ∷ []
+  pub spelt : line ≡ s.name ++ 32 ∷ digits
   pub bytes : decode_of digits ≡ Ok s.pattern.bytes
 
--- one line for each signature
+-- one line for each signature, each ended by LF
 abbrev pub AreLinesOf : List ℕ → List Signature → Type 0
 AreLinesOf text [] = text ≡ []
-AreLinesOf text (s ∷ rest) = (line : List ℕ) × (below : List ℕ) × (text ≡ line ++ below) × IsLineOf line s × AreLinesOf below rest
+AreLinesOf text (s ∷ rest) = (line : List ℕ) × (below : List ℕ) × (text ≡ line ++ 10 ∷ below) × IsLineOf line s × AreLinesOf below rest
 
 -- no name stands twice
 abbrev pub AreDistinct : List (List ℕ) → Type 0
@@ -26,16 +26,21 @@ AreDistinct (n ∷ names) = AllByRecursion (λ m. n ≡ m → ⊥) names × AreD
 abbrev pub names_of : List Signature → List (List ℕ)
 names_of signatures = map (λ s. s.name) signatures
 
--- a file of the format spells this set
+-- signatures that may stand in one file: names of the right form, none twice, and patterns in their ranges
+pub record MayStand (signatures : List Signature) : Type 0 where
+  pub names : AllByRecursion (λ n. IsTrue (is_name n)) (names_of signatures)
+  pub distinct : AreDistinct (names_of signatures)
+  pub ranges : AreInRange (patterns_of signatures)
+
+-- a file of the format spells this set: the header's line, the version's, and those of the signatures
 pub record IsFileOf (file : List ℕ) (s : NumberedSet) : Type 0 where
   pub digits : List ℕ
   pub below : List ℕ
-  pub spelt : file ≡ codes "avsig 1" ++ 10 ∷ codes "version" ++ 32 ∷ digits ++ 10 ∷ below
+  pub spelt : file ≡ codes "avsig 1" ++ 10 ∷ (codes "version" ++ 32 ∷ digits) ++ 10 ∷ below
   pub version : decimal_of digits ≡ Some s.version
+  pub positive : 1 ≤ s.version
   pub lines : AreLinesOf below s.signatures
-  pub names : AllByRecursion (λ n. IsTrue (is_name n)) (names_of s.signatures)
-  pub distinct : AreDistinct (names_of s.signatures)
-  pub ranges : IsSet s
+  pub signatures : MayStand s.signatures
 
 -- a file is judged to be a set exactly where it spells that set
 abbrev pub JudgesFiles : Type 0

@@ -11,8 +11,11 @@
 pub mod catalogue;
 pub mod fault;
 pub mod judge;
+pub mod law;
 pub mod line;
 pub mod made;
 pub mod read;
 pub mod set;
 pub mod signature;
+#[cfg(test)]
+mod tests;

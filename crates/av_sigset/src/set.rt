@@ -94,6 +94,14 @@ impl SignatureSet {
         self.signatures.len()
     }
 
+    /// Its signatures, in the order of the file.
+    pub fn signatures(&self) -> &[Signature]
+        ensures signatures { result.now ≡ self.now.signatures }
+        ensures set { IsSet self.now }
+    {
+        self.signatures.as_slice()
+    }
+
     /// What signature `index` looks for, counted from 0.
     pub fn pattern(&self, index: usize) -> Option<&Pattern>
         ensures { option_copied result ≡ slice_get (patterns_of self.now.signatures) index }

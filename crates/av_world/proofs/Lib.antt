@@ -1,5 +1,6 @@
 pub mod HexLemmas
 pub mod PublishLemmas
 pub mod ScriptLemmas
-pub mod VerdictLemmas
+pub mod TextLemmas
 pub mod WordLemmas
+pub mod WorldLemmas

@@ -1,5 +1,6 @@
-use Rattle.std.proofs.Common.{ℕ, ◌≡◌, ◌+◌, ◌++◌, true, false, List, [], ◌∷◌, Some, Result, Ok, Err, refl, sym, ap, ◌∙◌, append_assoc, append-nil}
+use Rattle.std.proofs.Common.{ℕ, ◌≡◌, ◌+◌, ◌++◌, true, false, List, [], ◌∷◌, Some, Result, Ok, Err, refl, sym, ap, ◌∙◌, append_assoc, append-nil, length, ◌==◌, eqb-true, arith}
 use Rattle.std.specs.Option.{option_to_list}
+use Rattle.av_base.specs.Line.{lines_of}
 use Rattle.av_world.specs.declared.command.Command.{Command}
 use Rattle.av_world.specs.declared.script.ScriptFault.{ScriptFault}
 use Rattle.av_world.specs.Grammar.{Line, Silent, Limit, Volume, Says, line_of}
@@ -23,3 +24,9 @@ pub line_passed : (front : List Command) (n : ℕ) (l : List ℕ) (ls : List (Li
     → with_front (front ++ option_to_list (command_of line)) (commands_from (n + 1) ls) ≡ with_front front (commands_from n (l ∷ ls))
 line_passed front n l ls line is no_setting =
     passed front n line (commands_from (n + 1) ls) no_setting ∙ ap (λ o. with_front front (line_then n o (commands_from (n + 1) ls))) (sym is)
+
+-- where no text is left, the commands so far are all
+pub all_read : (front : List Command) (n : ℕ) (rest : List ℕ) (r : Result (List Command) ScriptFault) → (length rest == 0) ≡ true
+    → with_front front (commands_from n (lines_of rest)) ≡ r → r ≡ Ok front
+all_read front n [] r none h = sym h ∙ ap Ok (append-nil front)
+all_read front n (b ∷ bs) r none h = let long : length (b ∷ bs) ≡ 0 = eqb-true _ _ none in absurd (omega (arith, long))

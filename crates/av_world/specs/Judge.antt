@@ -1,21 +1,26 @@
 -- The verdict of a stream's present content under the latest set.
-use Rattle.std.specs.Prelude.{ℕ, List, [], ◌∷◌, Option, None, Some, Result, Ok, Err}
+use Rattle.std.specs.Prelude.{ℕ, List, Option, option_and_then, None, Some, Result, Ok, Err}
+use Rattle.av_sigset.specs.Catalogue.{newest, set_at}
 use Rattle.av_sigset.specs.Set.{NumberedSet, patterns_of}
 use Rattle.av_store.specs.Rows.{stream_at, number_named}
 use Rattle.av_store.specs.declared.stream.Stream.{Stream}
 use Rattle.av_world.specs.declared.fault.JudgeFault.{JudgeFault}
 use Rattle.av_world.specs.declared.fault.JudgeFault.TheVariants.{NoSuchName, NoSignatures}
 use Rattle.av_world.specs.declared.report.Judged.{Judged}
-use Rattle.av_world.specs.Verdict.{verdict_of}
+use Rattle.av_match.specs.Match.{verdict}
 use Rattle.av_world.specs.World.{WorldState}
 
-abbrev pub judged_under : ℕ → Stream → List NumberedSet → Result Judged JudgeFault
-judged_under id s [] = Err NoSignatures
-judged_under id s (set ∷ older) = Ok (record { stream = id; generation = s.generation; version = set.version; verdict = verdict_of (patterns_of set.signatures) s.bytes })
+-- the set of the newest version
+abbrev pub latest_set : List NumberedSet → Option NumberedSet
+latest_set sets = option_and_then (set_at sets) (newest sets)
+
+abbrev pub set_judged : ℕ → Stream → Option NumberedSet → Result Judged JudgeFault
+set_judged id s None = Err NoSignatures
+set_judged id s (Some set) = Ok (record { stream = id; generation = s.generation; version = set.version; verdict = verdict (patterns_of set.signatures) s.bytes })
 
 abbrev pub stream_judged : List NumberedSet → ℕ → Option Stream → Result Judged JudgeFault
 stream_judged sets id None = Err NoSuchName
-stream_judged sets id (Some s) = judged_under id s sets
+stream_judged sets id (Some s) = set_judged id s (latest_set sets)
 
 abbrev pub name_judged : WorldState → Option ℕ → Result Judged JudgeFault
 name_judged w None = Err NoSuchName

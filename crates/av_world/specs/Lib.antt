@@ -1,8 +1,9 @@
 pub mod Grammar
 pub mod Judge
+pub mod Output
+pub mod Part
 pub mod Script
 pub mod Statement
 pub mod Text
-pub mod Verdict
 pub mod Words
 pub mod World

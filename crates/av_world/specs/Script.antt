@@ -1,6 +1,7 @@
 -- A script as its lines say it, or its first bad line.
 use Rattle.std.specs.Prelude.{ℕ, ◌≡◌, ◌+◌, ◌++◌, List, [], ◌∷◌, Option, None, Some, Result, Ok, Err, IsOk}
 use Rattle.std.specs.declared.collections.VecDeque.{VecDeque}
+use Rattle.std.specs.declared.alloc.Global.{Global}
 use Rattle.av_base.specs.declared.refusal.Refusal.{Refusal}
 use Rattle.av_base.specs.declared.refusal.Refusal.TheVariants.{Fault, NoMemory}
 use Rattle.av_base.specs.Line.{lines_of}
@@ -70,7 +71,7 @@ abbrev pub Lacks : Refusal ScriptFault → Result (List Command) ScriptFault →
 Lacks (Fault f) wanted = wanted ≡ Err f
 Lacks NoMemory wanted = IsOk wanted
 
-abbrev pub Parses : Result (VecDeque Command) (Refusal ScriptFault) → Result (List Command) ScriptFault → Type 0
+abbrev pub Parses : Result (VecDeque Command Global) (Refusal ScriptFault) → Result (List Command) ScriptFault → Type 0
 Parses (Ok v) wanted = wanted ≡ Ok v.items
 Parses (Err e) wanted = Lacks e wanted
 

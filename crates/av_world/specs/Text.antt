@@ -49,14 +49,13 @@ report_text (Published v n) = spelt (codes "version " ∷ decimal v ∷ codes " 
 report_text (Created s) = spelt (codes "stream " ∷ decimal s ∷ codes " generation 1\n" ∷ [])
 report_text (Changed s g n) = spelt (codes "stream " ∷ decimal s ∷ codes " generation " ∷ decimal g ∷ codes " length " ∷ decimal n ∷ codes "\n" ∷ [])
 
--- clean, or which signature ends where first
-abbrev pub verdict_text : Verdict → List ℕ
-verdict_text Clean = codes "clean"
-verdict_text (Infected i e) = spelt (codes "infected " ∷ decimal i ∷ codes " end " ∷ decimal e ∷ [])
+-- the last words of a judgement: clean, or which signature ends where first
+abbrev pub verdict_parts : Verdict → List (List ℕ)
+verdict_parts Clean = codes " clean\n" ∷ []
+verdict_parts (Infected i e) = codes " infected " ∷ decimal i ∷ codes " end " ∷ decimal e ∷ codes "\n" ∷ []
 
 abbrev pub judged_text : Judged → List ℕ
-judged_text j =
-    spelt (codes "judge " ∷ decimal j.stream ∷ codes " generation " ∷ decimal j.generation ∷ codes " version " ∷ decimal j.version ∷ codes " " ∷ verdict_text j.verdict ∷ codes "\n" ∷ [])
+judged_text j = spelt (codes "judge " ∷ decimal j.stream ∷ codes " generation " ∷ decimal j.generation ∷ codes " version " ∷ decimal j.version ∷ verdict_parts j.verdict)
 
 abbrev pub step_text : {A : Type 0} → Result (Report × A) StepFault → List ℕ
 step_text (Ok p) = report_text p.0

@@ -1,5 +1,5 @@
 -- A world: its history, its volume, and the signature sets that were published.
-use Rattle.std.specs.Prelude.{ℕ, ◌≡◌, List, [], ◌∷◌, length, map, Option, None, Some, Result, Ok, Err, IsOk}
+use Rattle.std.specs.Prelude.{ℕ, ◌≡◌, ◌⊎◌, List, [], ◌∷◌, length, map, Option, None, Some, Result, Ok, Err, IsOk}
 use Rattle.av_base.specs.declared.limits.LimitValues.{LimitValues}
 use Rattle.av_base.specs.declared.mode.Mode.{Mode}
 use Rattle.av_base.specs.declared.refusal.Refusal.{Refusal}
@@ -121,3 +121,7 @@ Takes v sets v' sets' (Err why) wanted = RefusesStep why wanted × (v' ≡ v) ×
 abbrev pub store_refusal_of : Option StoreFault → Refusal StepFault
 store_refusal_of None = NoMemory
 store_refusal_of (Some f) = Fault (fault.Store f)
+
+-- an event that may happen does, but where memory refuses its step; a refused one is passed over
+abbrev pub Passes : WorldState → WorldState → Event → Type 0
+Passes old new event = (new ≡ old) ⊎ (IsOk (step_of old event) × (new ≡ after old event))

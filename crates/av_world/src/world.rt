@@ -1,18 +1,27 @@
-ghost use Rattle.std.specs.Prelude.{◌≡◌};
-ghost use Rattle.av_world.specs.Judge.{judged_of};
-ghost use Rattle.av_world.specs.World.{Steps, start};
+ghost use Rattle.std.specs.Prelude.{◌≡◌, reverse, OnOk, OnErr};
+ghost use Rattle.std.specs.Io.KnownBytes.{Appends};
+ghost use Rattle.av_base.specs.Device.{AppendsPrefix};
+ghost use Rattle.std.specs.Option.{option_copied};
+ghost use Rattle.av_world.specs.Judge.{judged_of, latest_set};
+ghost use Rattle.av_world.specs.Text.{report_text};
+ghost use Rattle.av_world.specs.World.{Gives, Passes, Steps, start, world_of};
 
 use crate::event::Event;
 use crate::fault::{JudgeFault, StepFault};
 use crate::happen::{happen, without_memory};
+use crate::print::print_report;
 use crate::report::{Judged, Report};
-use crate::scanner::plain_verdict;
+
+use av_base::device::WriteFault;
 use av_base::limits::Limits;
 use av_base::mode::Mode;
 use av_base::refusal::Refused;
+use av_match::plain::plain_verdict;
 use av_sigset::catalogue::Catalogue;
+use av_sigset::set::SignatureSet;
 use av_store::volume::Volume;
 use std::alloc::Global;
+use std::io::Write;
 use std::marker::Model;
 
 /// A volume and the signature sets that were published, with the history of all that happened to them.
@@ -84,20 +93,68 @@ impl World {
         let Some(content) = self.volume.content(stream) else {
             return Err(JudgeFault::NoSuchName);
         };
-        let Some(version) = self.catalogue.latest() else {
-            return Err(JudgeFault::NoSignatures);
-        };
-        let Some(set) = self.catalogue.at(version) else {
+        let Some(set) = latest_set(&self.catalogue) else {
             return Err(JudgeFault::NoSignatures);
         };
         Ok(Judged {
             stream,
             generation,
-            version,
+            version: set.version(),
             verdict: plain_verdict(set, content),
         })
     }
 
+    /// Writes what a report tells, as its line in a script's output. Where that fails a front of the line was written. It
+    /// takes no memory.
+    pub fn print<W: Write>(&self, report: &Report, writer: &mut W) -> Result<(), WriteFault>
+        ensures ok { OnOk result (Appends (W.contents writer.old) (W.contents writer.new) (report_text report.now)) }
+        ensures err { OnErr result (AppendsPrefix (W.contents writer.old) (W.contents writer.new) (report_text report.now)) }
+    {
+        print_report(report, writer)
+    }
+
+    /// Lets events happen in turn to a new world and passes over those that are refused, also those that memory refuses.
+    pub fn run(
+        alloc: Global,
+        number: u64,
+        mode: Mode,
+        limits: Limits,
+        events: &[Event],
+    ) -> World
+        ensures history { Gives (start number mode limits) (reverse events.now) result.history }
+        ensures world { result ≡ world_of (start number mode limits) result.history }
+    {
+        let mut world = World::new(alloc, number, mode, limits);
+        for event in events {
+            world.pass(alloc, event);
+        }
+        world
+    }
+
+    // Lets an event happen, where it is not refused.
+    fn pass(&mut self, alloc: Global, event: &Event)
+        ensures { Passes self.old self.new event.now }
+    {
+        if let Ok(event) = event.clone() {
+            let _ = self.step(alloc, event);
+        }
+    }
+
+    /// The accepted events, the oldest first.
+    pub fn history(&self) -> &[Event]
+        ensures { reverse result.now ≡ self.now.history }
+    {
+        self.history.as_slice()
+    }
+
     /// Ends the world.
     pub fn close(self) {}
+}
+
+// The set of the newest version.
+fn latest_set(catalogue: &Catalogue) -> Option<&SignatureSet>
+    ensures { option_copied result ≡ latest_set catalogue.now.sets }
+{
+    let version = catalogue.latest()?;
+    catalogue.at(version)
 }

@@ -3,7 +3,7 @@ use Rattle.std.specs.Option.{option_to_list}
 use Rattle.av_base.specs.Line.{lines_of}
 use Rattle.av_world.specs.Script.{commands_from, with_front}
 use Rattle.av_world.specs.Statement.{meaning, command_of}
-use Rattle.av_world.proofs.ScriptLemmas.{line_passed}
+use Rattle.av_world.proofs.ScriptLemmas.{all_read, line_passed}
 use Rattle.av_world.proofs.script.read_commands.Goals as goal
 
 pub lines-preserved : goal.lines-preserved
@@ -14,3 +14,6 @@ lines-preserved c =
     (ap (λ xs. with_front xs (commands_from (c.lines.line + 1) (lines_of c.first_line.result.1.now))) items
         ∙ passed ∙ ap (λ ls. with_front c.lines.commands.items (commands_from c.lines.line ls)) (sym c.first_line.ensures.lines) ∙ c.lines.invariant.0,
       omega (arith, c.lines.invariant.1, c.first_line.ensures.shorter))
+
+pub returns : goal.returns
+returns c = all_read c.lines.commands.items c.lines.line c.lines.rest.now _ (sym c.is_empty.ensures ∙ c.lines-test.false) c.lines.invariant.0

@@ -1,0 +1,12 @@
+//! What a set of signatures says of a content: the plain verdict, and a scan that comes to the same one however the
+//! content is cut into chunks, and keeps none of it.
+//!
+//! ```text
+//! let automaton = Automaton::build(alloc, &set)?;
+//! let mut scan = Scan::start(set.version(), 3);
+//! assert_eq!(scan.feed(&automaton, b"ABC"), Step::Hit(plain_verdict(&set, b"ABC")));
+//! ```
+#![tactic(auto)]
+
+pub mod law;
+pub mod plain;

@@ -1,0 +1,122 @@
+use crate::catalogue::Catalogue;
+use crate::fault::{CatalogueFault, SetFault, SetFaultKind};
+use crate::set::SignatureSet;
+use av_base::number::Version;
+use av_base::refusal::Refusal;
+use std::alloc::{AllocError, Global};
+use std::test::Fail;
+
+#[test]
+fn a_file_of_the_format_is_read(rt: HostRuntime) -> Result<(), Fail> {
+    let set = SignatureSet::read(rt.alloc(), b"avsig 1\nversion 7\nt.a 4142\nb 4a4B\n")?;
+    assert_eq!(rt; set.version().get(), 7);
+    assert_eq!(rt; set.len(), 2);
+    assert_eq!(rt; set.name(0), Some(b"t.a".as_slice()));
+    assert_eq!(rt; set.name(1), Some(b"b".as_slice()));
+    assert_eq!(rt; set.name(2), None);
+    match set.pattern(1) {
+        Some(pattern) => assert_eq!(rt; pattern.bytes.as_slice(), [0x4a, 0x4b].as_slice()),
+        None => panic!(rt; "no pattern"),
+    }
+    Ok(())
+}
+
+// The line and kind of a bad file, or (0, 0).
+fn judged(alloc: Global, file: &[u8]) -> (u64, u32) {
+    match SignatureSet::read(alloc, file) {
+        Err(Refusal::Fault(SetFault { line, kind })) => (line, number_of(kind)),
+        _ => (0, 0),
+    }
+}
+
+fn number_of(kind: SetFaultKind) -> u32 {
+    match kind {
+        SetFaultKind::Header => 1,
+        SetFaultKind::Version => 2,
+        SetFaultKind::Name => 3,
+        SetFaultKind::Hex => 4,
+        SetFaultKind::Length => 5,
+        SetFaultKind::Duplicate => 6,
+        SetFaultKind::TooMany => 7,
+        SetFaultKind::Unended => 8,
+    }
+}
+
+#[test]
+fn a_bad_file_names_its_first_bad_line(rt: HostRuntime) {
+    let alloc = rt.alloc();
+    let rows: [(&[u8], u64, u32); 10] = [
+        (b"avsig 3\nversion 7\n", 1, 1),
+        (b"", 1, 8),
+        (b"avsig 1\n", 2, 8),
+        (b"avsig 1\nversion 0\n", 2, 2),
+        (b"avsig 1\nversion 7\n\n", 3, 3),
+        (b"avsig 1\nversion 7\na 4\n", 3, 4),
+        (b"avsig 1\nversion 7\na \n", 3, 5),
+        (b"avsig 1\nversion 7\na 41\na 42\n", 4, 6),
+        (b"avsig 1\nversion 7\na 41", 3, 8),
+        (b"avsig 1\nversion 7\n", 0, 0),
+    ];
+    for (file, line, kind) in rows {
+        assert_eq!(rt; judged(alloc, file), (line, kind));
+    }
+}
+
+#[test]
+fn bare_patterns_are_named_by_their_places(rt: HostRuntime) -> Result<(), Fail> {
+    let set = SignatureSet::from_patterns(
+        rt.alloc(),
+        Version::new(3),
+        &[b"AB".as_slice(), b"C".as_slice()],
+    )?;
+    assert_eq!(rt; set.name(1), Some(b"s1".as_slice()));
+    match SignatureSet::from_patterns(
+        rt.alloc(),
+        Version::new(3),
+        &[b"AB".as_slice(), b"".as_slice()],
+    ) {
+        Err(Refusal::Fault(fault)) => assert_eq!(rt;
+            fault,
+            SetFault {
+                line: 4,
+                kind: SetFaultKind::Length
+            }
+        ),
+        _ => panic!(rt; "no fault"),
+    }
+    Ok(())
+}
+
+fn empty_set(alloc: Global, version: u64) -> Result<SignatureSet, Refusal<SetFault>> {
+    SignatureSet::from_patterns(alloc, Version::new(version), &[])
+}
+
+#[test]
+fn a_full_catalogue_refuses_the_next_set(rt: HostRuntime) -> Result<(), Fail> {
+    let mut catalogue = Catalogue::new(rt.alloc());
+    for version in 1..4097u64 {
+        assert_eq!(rt; catalogue.room(Version::new(version)), Ok(()));
+        match catalogue.publish(empty_set(rt.alloc(), version)?) {
+            Ok(()) => {}
+            Err(_) => panic!(rt; "refused"),
+        }
+    }
+    assert_eq!(rt; catalogue.latest(), Some(Version::new(4096)));
+    assert_eq!(rt; catalogue.len(), 4096);
+    match catalogue.at(Version::new(77)) {
+        Some(set) => assert_eq!(rt; set.version().get(), 77),
+        None => panic!(rt; "no set"),
+    }
+    assert_eq!(rt;
+        catalogue.room(Version::new(4096)),
+        Err(Refusal::Fault(CatalogueFault::OldVersion))
+    );
+    match catalogue.publish(empty_set(rt.alloc(), 4097)?) {
+        Err(refused) => {
+            assert_eq!(rt; refused.why, Refusal::Fault(CatalogueFault::CatalogueFull));
+            assert_eq!(rt; refused.value.version().get(), 4097);
+        }
+        Ok(()) => panic!(rt; "accepted"),
+    }
+    Ok(())
+}

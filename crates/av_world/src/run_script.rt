@@ -1,0 +1,150 @@
+ghost use Rattle.std.specs.Prelude.{◌≡◌, is_ok, IfSome, OnOk, OnErr};
+ghost use Rattle.std.specs.Io.KnownBytes.{Appends};
+ghost use Rattle.av_base.specs.Device.{AppendsPrefix};
+ghost use Rattle.av_world.specs.Output.{Prints, PrintsFront};
+ghost use Rattle.av_world.specs.Text.{command_text, command_world, commands_text, script_text, step_text};
+ghost use Rattle.av_world.specs.World.{after, step_of};
+
+use crate::command::Command;
+use crate::event::Event;
+use crate::print::{print_judged, print_refused};
+use crate::script::{Script, parse_script};
+use crate::world::World;
+use av_base::device::{ReadFault, WriteFault, read_whole, write_text};
+use av_base::refusal::Refusal;
+use std::alloc::Global;
+use std::collections::VecDeque;
+use std::io::{Read, Write};
+use thiserror::Error;
+
+/// The most bytes of a script.
+pub const MAX_SCRIPT: usize = 1_048_576;
+
+/// Why a script did not run to its end.
+#[derive(Clone, Copy, Debug, PartialEq, Eq, Error)]
+pub enum RunFault {
+    /// The script was not read: a read failed, or as many were made as were allowed. Nothing was written.
+    #[error("device")]
+    Read,
+    /// The script is longer than 1,048,576 bytes. Nothing was written.
+    #[error("script too long")]
+    TooLong,
+    /// This line is the first that is none of a script. Nothing was written.
+    #[error("line {line}: bad script")]
+    BadScript { line: u64 },
+    /// Memory was refused. A front of the output may have been written.
+    #[error("no memory")]
+    NoMemory,
+    /// A write failed, or took no byte. A front of the output was written.
+    #[error("device")]
+    Write,
+}
+
+/// Reads a script whole and writes the lines that it prints, and nothing else. Where that fails a front of these lines
+/// was written, and none where the script was not read or is bad.
+pub fn run_script<R: Read, W: Write>(
+    alloc: Global,
+    reader: &mut R,
+    writer: &mut W,
+    turns: u64,
+) -> Result<(), RunFault>
+    ensures ok { OnOk result (IfSome (R.remaining reader.old) (Prints (W.contents writer.old) (W.contents writer.new))) }
+    ensures err { OnErr result (IfSome (R.remaining reader.old) (PrintsFront (W.contents writer.old) (W.contents writer.new))) }
+{
+    let text = match read_whole(alloc, reader, MAX_SCRIPT, turns) {
+        Ok(text) => text,
+        Err(ReadFault::Device) => return Err(RunFault::Read),
+        Err(ReadFault::TooLong) => return Err(RunFault::TooLong),
+        Err(ReadFault::NoMemory) => return Err(RunFault::NoMemory),
+    };
+    match parse_script(alloc, &text) {
+        Ok(script) => print_script(alloc, script, writer),
+        Err(Refusal::Fault(fault)) => Err(RunFault::BadScript { line: fault.line }),
+        Err(Refusal::NoMemory) => Err(RunFault::NoMemory),
+    }
+}
+
+// Writes the lines of a script.
+fn print_script<W: Write>(alloc: Global, script: Script, writer: &mut W) -> Result<(), RunFault>
+    ensures ok { OnOk result (Appends (W.contents writer.old) (W.contents writer.new) (script_text script)) }
+    ensures err { OnErr result (AppendsPrefix (W.contents writer.old) (W.contents writer.new) (script_text script)) }
+{
+    let world = World::new(alloc, script.number(), script.mode(), script.limits());
+    if write_text(writer, b"boot 1\n".as_slice()).is_err() {
+        return Err(RunFault::Write);
+    }
+    match run_commands(alloc, world, script.into_commands(), writer) {
+        Ok(()) => Ok(()),
+        Err(fault) => Err(fault),
+    }
+}
+
+// Runs commands in turn and writes their lines.
+fn run_commands<W: Write>(
+    alloc: Global,
+    mut world: World,
+    mut commands: VecDeque<Command>,
+    writer: &mut W,
+) -> Result<(), RunFault>
+    ensures ok { OnOk result (Appends (W.contents writer.old) (W.contents writer.new) (commands_text world commands.items)) }
+    ensures err { OnErr result (AppendsPrefix (W.contents writer.old) (W.contents writer.new) (commands_text world commands.items)) }
+{
+    'commands: while let Some(command) = commands.pop_front() {
+        if let Err(fault) = run_command(alloc, &mut world, command, writer) {
+            return Err(fault);
+        }
+    }
+    if writer.flush().is_err() {
+        return Err(RunFault::Write);
+    }
+    Ok(())
+}
+
+// Runs a command and writes its line.
+fn run_command<W: Write>(
+    alloc: Global,
+    world: &mut World,
+    command: Command,
+    writer: &mut W,
+) -> Result<(), RunFault>
+    ensures world { OnOk result (world.new ≡ command_world world.old command) }
+    ensures ok { OnOk result (Appends (W.contents writer.old) (W.contents writer.new) (command_text world.old command)) }
+    ensures err { OnErr result (AppendsPrefix (W.contents writer.old) (W.contents writer.new) (command_text world.old command)) }
+{
+    match command {
+        Command::Step(event) => run_step(alloc, world, event, writer),
+        Command::Judge { name } => written(match world.judge(name.as_slice()) {
+            Ok(judged) => print_judged(&judged, writer),
+            Err(fault) => print_refused(fault.word(), writer),
+        }),
+    }
+}
+
+// Lets an event happen and writes its line.
+fn run_step<W: Write>(
+    alloc: Global,
+    world: &mut World,
+    event: Event,
+    writer: &mut W,
+) -> Result<(), RunFault>
+    ensures world { OnOk result (world.new ≡ after world.old event) }
+    ensures ok { OnOk result (Appends (W.contents writer.old) (W.contents writer.new) (step_text (step_of world.old event))) }
+    ensures err { OnErr result (AppendsPrefix (W.contents writer.old) (W.contents writer.new) (step_text (step_of world.old event))) }
+{
+    match world.step(alloc, event) {
+        Ok(report) => written(world.print(&report, writer)),
+        Err(refused) => match refused.why {
+            Refusal::Fault(fault) => written(print_refused(fault.word(), writer)),
+            Refusal::NoMemory => Err(RunFault::NoMemory),
+        },
+    }
+}
+
+fn written(outcome: Result<(), WriteFault>) -> Result<(), RunFault>
+    ensures { is_ok result ≡ is_ok outcome }
+{
+    match outcome {
+        Ok(()) => Ok(()),
+        Err(_) => Err(RunFault::Write),
+    }
+}

@@ -1,0 +1,21 @@
+use Rattle.std.specs.Prelude.{ℕ}
+use Rattle.av_world.specs.declared.run_script.RunFault.{RunFault}
+use Rattle.av_world.specs.declared.run_script.RunFault.TheVariants as fault
+use Rattle.avscan.specs.declared.status.Status.{Status}
+use Rattle.avscan.specs.declared.status.Status.TheVariants.{Done, Refused, Usage, Memory, Device}
+
+-- the exit status of the process
+abbrev pub number_of : Status → ℕ
+number_of Done = 0
+number_of Refused = 1
+number_of Usage = 2
+number_of Memory = 3
+number_of Device = 4
+
+-- the status for a script that did not run to its end
+abbrev pub status_of : RunFault → Status
+status_of fault.Read = Device
+status_of fault.TooLong = Refused
+status_of (fault.BadScript line) = Refused
+status_of fault.NoMemory = Memory
+status_of fault.Write = Device

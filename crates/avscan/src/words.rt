@@ -1,0 +1,87 @@
+use crate::run::out_of_memory;
+use crate::status::Status;
+use av_base::device::write_text;
+use clap::error::ErrorKind;
+use clap::{Arg, Command, Error};
+use std::alloc::Global;
+use std::convert::AsStr;
+use std::io::Write;
+
+/// What the words of the command line ask for.
+#[derive(Debug, Drop)]
+pub enum Request<'a> {
+    /// Run the script in this file, or on standard input for `-`.
+    Run { script: &'a str },
+}
+
+/// Reads the words of the command line, the program's name first. No other word asks for a script on standard input. A
+/// help text goes to `out` and a usage fault to `err`; the status is then that of the program.
+pub fn read_words<'a, S: AsStr, W: Write, E: Write>(
+    alloc: Global,
+    words: &'a [S],
+    out: &mut W,
+    err: &mut E,
+) -> Result<Request<'a>, Status> {
+    if words.len() <= 1 {
+        return Ok(Request::Run { script: "-" });
+    }
+    match requested(alloc, words) {
+        Ok(request) => Ok(request),
+        Err(error) => Err(told(alloc, &error, out, err)),
+    }
+}
+
+// What the words ask for.
+fn requested<'a, S: AsStr>(alloc: Global, words: &'a [S]) -> Result<Request<'a>, Error> {
+    let matches = avscan_command(alloc)?.try_get_matches_from(words)?;
+    match matches.subcommand() {
+        Some((_, run)) => Ok(Request::Run {
+            script: run.get_str("script").unwrap_or("-"),
+        }),
+        None => Ok(Request::Run { script: "-" }),
+    }
+}
+
+// The commands of the program.
+fn avscan_command<'a>(alloc: Global) -> Result<Command<'a>, Error> {
+    let run = run_command(alloc)?;
+    Ok(
+        Command::new(alloc, "avscan")
+            .version("0.1.0")
+            .about("A scan-on-open antivirus filter and its scanning service, over a volume in memory.\nWithout a command it runs the script on its standard input.")
+            .after_help("Examples:\n  avscan run examples/judge.avs    run a script\n  avscan run -                     run the script on standard input\n\nExit status: 0 all done, 1 input refused, 2 usage, 3 memory, 4 device.")
+            .subcommand_required(true)
+            .subcommand(run)?,
+    )
+}
+
+fn run_command<'a>(alloc: Global) -> Result<Command<'a>, Error> {
+    let script = Arg::new(alloc, "script")
+        .required(true)
+        .value_name("SCRIPT")
+        .help("The script's file, or - for standard input");
+    Ok(
+        Command::new(alloc, "run")
+            .about("Runs a script and prints what each command did")
+            .after_help("A script names a volume and then says what happens, a command a line:\n\n  volume 1 closed\n  publish 1 5858\n  create report\n  write report 0 414243\n  judge report\n\nIt publishes a signature set of the bytes 58 58, writes 41 42 43 into a stream and judges it.\ndocs/FORMATS.md has all commands.\n\nExample:\n  avscan run examples/judge.avs")
+            .arg(script)?,
+    )
+}
+
+// Writes the help or the fault, and gives the status.
+fn told<W: Write, E: Write>(alloc: Global, error: &Error, out: &mut W, err: &mut E) -> Status {
+    if error.kind() == ErrorKind::OutOfMemory {
+        return out_of_memory(err);
+    }
+    let Ok(text) = format!(in alloc; "{error}") else {
+        return out_of_memory(err);
+    };
+    if error.use_stderr() {
+        let _ = write_text(err, text.as_bytes());
+        Status::Usage
+    } else if write_text(out, text.as_bytes()).is_ok() {
+        Status::Done
+    } else {
+        Status::Device
+    }
+}
