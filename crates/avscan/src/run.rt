@@ -34,7 +34,14 @@ pub fn run_text<R: Read, W: Write, E: Write>(
 pub fn unreadable<E: Write>(err: &mut E, file: &str) -> Status
     ensures { result ≡ Device }
 {
-    say(err, &[b"avscan: ".as_slice(), file.as_bytes(), b": cannot read\n".as_slice()]);
+    say(
+        err,
+        &[
+            b"avscan: ".as_slice(),
+            file.as_bytes(),
+            b": cannot read\n".as_slice(),
+        ],
+    );
     Status::Device
 }
 

@@ -48,8 +48,12 @@ fn avscan_command<'a>(alloc: Global) -> Result<Command<'a>, Error> {
     Ok(
         Command::new(alloc, "avscan")
             .version("0.1.0")
-            .about("A scan-on-open antivirus filter and its scanning service, over a volume in memory.\nWithout a command it runs the script on its standard input.")
-            .after_help("Examples:\n  avscan run examples/judge.avs    run a script\n  avscan run -                     run the script on standard input\n\nExit status: 0 all done, 1 input refused, 2 usage, 3 memory, 4 device.")
+            .about(
+                "A scan-on-open antivirus filter and its scanning service, over a volume in memory.\nWithout a command it runs the script on its standard input.",
+            )
+            .after_help(
+                "Examples:\n  avscan run examples/judge.avs    run a script\n  avscan run -                     run the script on standard input\n\nExit status: 0 all done, 1 input refused, 2 usage, 3 memory, 4 device.",
+            )
             .subcommand_required(true)
             .subcommand(run)?,
     )
@@ -63,7 +67,9 @@ fn run_command<'a>(alloc: Global) -> Result<Command<'a>, Error> {
     Ok(
         Command::new(alloc, "run")
             .about("Runs a script and prints what each command did")
-            .after_help("A script names a volume and then says what happens, a command a line:\n\n  volume 1 closed\n  publish 1 5858\n  create report\n  write report 0 414243\n  judge report\n\nIt publishes a signature set of the bytes 58 58, writes 41 42 43 into a stream and judges it.\ndocs/FORMATS.md has all commands.\n\nExample:\n  avscan run examples/judge.avs")
+            .after_help(
+                "A script names a volume and then says what happens, a command a line:\n\n  volume 1 closed\n  publish 1 5858\n  create report\n  write report 0 414243\n  judge report\n\nIt publishes a signature set of the bytes 58 58, writes 41 42 43 into a stream and judges it.\ndocs/FORMATS.md has all commands.\n\nExample:\n  avscan run examples/judge.avs",
+            )
             .arg(script)?,
     )
 }
@@ -77,11 +83,26 @@ fn told<W: Write, E: Write>(alloc: Global, error: &Error, out: &mut W, err: &mut
         return out_of_memory(err);
     };
     if error.use_stderr() {
-        let _ = write_text(err, text.as_bytes());
-        Status::Usage
-    } else if write_text(out, text.as_bytes()).is_ok() {
-        Status::Done
-    } else {
-        Status::Device
+        say_usage(err, text.as_str());
+        return Status::Usage;
     }
+    if write_text(out, text.as_bytes()).is_err() || out.flush().is_err() {
+        let _ = write_text(err, b"avscan: device\n".as_slice());
+        return Status::Device;
+    }
+    Status::Done
+}
+
+// Says a usage fault on one line: the first paragraph of the text, without the word in front that says that it is a fault.
+fn say_usage<E: Write>(err: &mut E, text: &str) {
+    let _ = write_text(err, b"avscan:".as_slice());
+    let fault = text.strip_prefix("error:").unwrap_or(text);
+    for line in fault.lines() {
+        if line.is_empty() {
+            break;
+        }
+        let _ = write_text(err, b" ".as_slice());
+        let _ = write_text(err, line.trim().as_bytes());
+    }
+    let _ = write_text(err, b" (avscan --help tells more)\n".as_slice());
 }

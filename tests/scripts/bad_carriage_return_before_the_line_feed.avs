@@ -1,0 +1,1 @@
+volume 1 closed

@@ -1,0 +1,2 @@
+create a
+volume 1 closed

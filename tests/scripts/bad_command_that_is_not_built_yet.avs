@@ -1,0 +1,3 @@
+volume 1 closed
+create a
+open a

@@ -1,0 +1,2 @@
+limit speed 1
+volume 1 closed

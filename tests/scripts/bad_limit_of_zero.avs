@@ -1,0 +1,2 @@
+limit chunk 0
+volume 1 closed

@@ -1,0 +1,3 @@
+limit chunk 0
+limit
+volume 1 closed

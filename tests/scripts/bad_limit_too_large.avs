@@ -1,0 +1,3 @@
+limit jobs 257
+
+volume 1 closed

@@ -1,0 +1,2 @@
+limit chunk
+volume 1 closed

@@ -1,0 +1,1 @@
+volume 01 closed

@@ -1,0 +1,2 @@
+volume 1 closed
+delete a

@@ -1,0 +1,6 @@
+# a comment
+
+volume 1 closed
+
+#create a
+create b
