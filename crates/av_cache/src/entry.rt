@@ -1,0 +1,11 @@
+use av_base::number::{Generation, StreamId, Version};
+use av_base::verdict::Verdict;
+
+/// One verdict of a cache, with the content that it is of and the signature set that it is under.
+#[derive(Clone, Copy, Debug, PartialEq, Eq)]
+pub struct Entry {
+    pub stream: StreamId,
+    pub generation: Generation,
+    pub version: Version,
+    pub verdict: Verdict,
+}

@@ -1,0 +1,67 @@
+use Rattle.std.specs.Prelude.{ℕ, ◌+◌, ◌≤◌, ◌<◌, ◌^◌, ◌&&◌, Bool, true, nat_le, List, length}
+use Rattle.av_base.specs.declared.message_id.MessageId.{MessageId}
+use Rattle.av_base.specs.declared.verdict.Verdict.{Verdict}
+use Rattle.av_base.specs.declared.verdict.Verdict.TheVariants.{Clean, Infected}
+use Rattle.av_frame.specs.declared.outcome.Outcome.{Outcome}
+use Rattle.av_frame.specs.declared.outcome.Outcome.TheVariants.{Judged, Failed}
+use Rattle.av_frame.specs.declared.message.Body.{Body}
+use Rattle.av_frame.specs.declared.message.Body.TheVariants.{Scan, Chunk, NoChunk, Abort, Hello, Read, Reply, Updated}
+
+-- a number of eight bytes that counts from 1
+abbrev pub IsCount : ℕ → Type 0
+IsCount n = (1 ≤ n) × (n < 2 ^ 64)
+
+-- the id of a question: boots and sequences count from 1
+abbrev pub IsId : MessageId → Type 0
+IsId id = IsCount id.boot × IsCount id.seq
+
+-- a verdict that a set of at most 1,024 signatures gives of a content of at most 1,048,576 bytes
+abbrev pub IsVerdict : Verdict → Type 0
+IsVerdict Clean = Unit {0}
+IsVerdict (Infected index end_at) = (index ≤ 1023) × (1 ≤ end_at) × (end_at ≤ 1048576)
+
+abbrev pub IsOutcome : Outcome → Type 0
+IsOutcome (Judged version verdict) = IsCount version × IsVerdict verdict
+IsOutcome (Failed cause) = Unit {0}
+
+-- some bytes of a content, from a place on
+abbrev pub IsPart : ℕ → List ℕ → Type 0
+IsPart offset bytes = (1 ≤ length bytes) × (length bytes ≤ 4096) × (offset + length bytes ≤ 1048576)
+
+-- each field of a message is in its range
+abbrev pub IsInRange : Body → Type 0
+IsInRange (Scan id stream generation size) =
+    IsId id × IsCount stream × (1 ≤ generation) × (generation ≤ 281474976710655) × (size ≤ 1048576)
+IsInRange (Chunk id offset bytes) = IsId id × IsPart offset bytes
+IsInRange (NoChunk id offset cause) = IsId id × (offset ≤ 1048576)
+IsInRange (Abort id) = IsId id
+IsInRange (Hello volume version) = (volume < 2 ^ 64) × IsCount version
+IsInRange (Read id offset count) = IsId id × (offset ≤ 1048576) × (1 ≤ count) × (count ≤ 4096)
+IsInRange (Reply id outcome) = IsId id × IsOutcome outcome
+IsInRange (Updated version) = IsCount version
+
+-- The same as tests, of numbers that fit their fields.
+abbrev pub id_in_range : MessageId → Bool
+id_in_range id = nat_le 1 id.boot && nat_le 1 id.seq
+
+abbrev pub verdict_in_range : Verdict → Bool
+verdict_in_range Clean = true
+verdict_in_range (Infected index end_at) = nat_le index 1023 && nat_le 1 end_at && nat_le end_at 1048576
+
+abbrev pub outcome_in_range : Outcome → Bool
+outcome_in_range (Judged version verdict) = nat_le 1 version && verdict_in_range verdict
+outcome_in_range (Failed cause) = true
+
+abbrev pub part_in_range : ℕ → List ℕ → Bool
+part_in_range offset bytes = nat_le 1 (length bytes) && nat_le (length bytes) 4096 && nat_le (offset + length bytes) 1048576
+
+abbrev pub in_range : Body → Bool
+in_range (Scan id stream generation size) =
+    id_in_range id && nat_le 1 stream && nat_le 1 generation && nat_le generation 281474976710655 && nat_le size 1048576
+in_range (Chunk id offset bytes) = id_in_range id && part_in_range offset bytes
+in_range (NoChunk id offset cause) = id_in_range id && nat_le offset 1048576
+in_range (Abort id) = id_in_range id
+in_range (Hello volume version) = nat_le 1 version
+in_range (Read id offset count) = id_in_range id && nat_le offset 1048576 && nat_le 1 count && nat_le count 4096
+in_range (Reply id outcome) = id_in_range id && outcome_in_range outcome
+in_range (Updated version) = nat_le 1 version

@@ -1,0 +1,122 @@
+use Rattle.std.specs.Prelude.{ℕ, ◌==◌, ◌||◌, ◌&&◌, Bool, List, length, take, drop, Option, None, Some, Result, Ok, Err, nat_lt, nat_le, slice_index, if◌then◌else◌, not}
+use Rattle.std.specs.Int.{w32, w64, from_be_bytes}
+use Rattle.av_base.specs.declared.message_id.MessageId.{MessageId}
+use Rattle.av_base.specs.declared.verdict.Verdict.TheVariants.{Clean, Infected}
+use Rattle.av_frame.specs.declared.cause.NoChunkCause.{NoChunkCause}
+use Rattle.av_frame.specs.declared.cause.FailCause.{FailCause}
+use Rattle.av_frame.specs.declared.fault.FrameFault.{FrameFault}
+use Rattle.av_frame.specs.declared.fault.FrameFault.TheVariants as fault
+use Rattle.av_frame.specs.declared.outcome.Outcome.TheVariants.{Judged, Failed}
+use Rattle.av_frame.specs.declared.message.Body.{Body}
+use Rattle.av_frame.specs.declared.message.Body.TheVariants.{Scan, Chunk, NoChunk, Abort, Hello, Read, Reply, Updated}
+use Rattle.av_frame.specs.Cause.{no_chunk_cause, fail_cause}
+use Rattle.av_frame.specs.Message.{in_range}
+
+-- the numbers in eight and in four bytes at a place
+abbrev pub number8 : List ℕ → ℕ → ℕ
+number8 bytes at = from_be_bytes w64 (take 8 (drop at bytes))
+
+abbrev pub number4 : List ℕ → ℕ → ℕ
+number4 bytes at = from_be_bytes w32 (take 4 (drop at bytes))
+
+abbrev pub id_at : List ℕ → MessageId
+id_at bytes = record { boot = number8 bytes 1; seq = number8 bytes 9 }
+
+-- fields of a message, where each is in its range
+unfoldable pub checked : Body → Result Body FrameFault
+checked m = if in_range m then Ok m else Err fault.Range
+
+-- the message that a body of each kind gives, read field by field, or the fault of its shape or of a range
+unfoldable pub scan_of : List ℕ → Result Body FrameFault
+scan_of body =
+    if length body == 41 then checked (Scan (id_at body) (number8 body 17) (number8 body 25) (number8 body 33)) else Err fault.Shape
+
+unfoldable pub chunk_of : List ℕ → Result Body FrameFault
+chunk_of body = if nat_le 26 (length body) then checked (Chunk (id_at body) (number8 body 17) (drop 25 body)) else Err fault.Shape
+
+abbrev pub no_chunk_with : MessageId → ℕ → Option NoChunkCause → Result Body FrameFault
+no_chunk_with id offset None = Err fault.Range
+no_chunk_with id offset (Some cause) = checked (NoChunk id offset cause)
+
+unfoldable pub no_chunk_of : List ℕ → Result Body FrameFault
+no_chunk_of body =
+    if length body == 26 then no_chunk_with (id_at body) (number8 body 17) (no_chunk_cause (slice_index body 25)) else Err fault.Shape
+
+unfoldable pub abort_of : List ℕ → Result Body FrameFault
+abort_of body = if length body == 17 then checked (Abort (id_at body)) else Err fault.Shape
+
+unfoldable pub hello_of : List ℕ → Result Body FrameFault
+hello_of body = if length body == 17 then checked (Hello (number8 body 1) (number8 body 9)) else Err fault.Shape
+
+unfoldable pub read_of : List ℕ → Result Body FrameFault
+read_of body = if length body == 29 then checked (Read (id_at body) (number8 body 17) (number4 body 25)) else Err fault.Shape
+
+unfoldable pub clean_of : List ℕ → Result Body FrameFault
+clean_of body = if length body == 26 then checked (Reply (id_at body) (Judged (number8 body 18) Clean)) else Err fault.Shape
+
+unfoldable pub infected_of : List ℕ → Result Body FrameFault
+infected_of body =
+    if length body == 38 then checked (Reply (id_at body) (Judged (number8 body 18) (Infected (number4 body 26) (number8 body 30)))) else Err fault.Shape
+
+abbrev pub failed_with : MessageId → Option FailCause → Result Body FrameFault
+failed_with id None = Err fault.Range
+failed_with id (Some cause) = checked (Reply id (Failed cause))
+
+unfoldable pub failed_of : List ℕ → Result Body FrameFault
+failed_of body = if length body == 19 then failed_with (id_at body) (fail_cause (slice_index body 18)) else Err fault.Shape
+
+-- a reply's status says how it goes on
+unfoldable pub reply_of : List ℕ → Result Body FrameFault
+reply_of body =
+    if not (nat_le 18 (length body)) then Err fault.Shape else
+    (if slice_index body 17 == 0 then clean_of body else
+    (if slice_index body 17 == 1 then infected_of body else
+    (if slice_index body 17 == 2 then failed_of body else Err fault.Range)))
+
+unfoldable pub updated_of : List ℕ → Result Body FrameFault
+updated_of body = if length body == 9 then checked (Updated (number8 body 1)) else Err fault.Shape
+
+-- the message of a kind that has no content in it
+unfoldable pub plain_of : List ℕ → Result Body FrameFault
+plain_of body =
+    if slice_index body 0 == 1 then scan_of body else
+    (if slice_index body 0 == 3 then no_chunk_of body else
+    (if slice_index body 0 == 4 then abort_of body else
+    (if slice_index body 0 == 5 then hello_of body else
+    (if slice_index body 0 == 6 then read_of body else
+    (if slice_index body 0 == 7 then reply_of body else
+    (if slice_index body 0 == 8 then updated_of body else Err fault.Kind))))))
+
+-- the message of a body, or the fault
+unfoldable pub decoded : List ℕ → Result Body FrameFault
+decoded body =
+    if length body == 0 || nat_lt 4121 (length body) then Err fault.Length else
+    (if slice_index body 0 == 2 then chunk_of body else plain_of body)
+
+-- how many bytes a body of each kind has; a reply has those up to its status
+abbrev pub fits_kind : ℕ → ℕ → Bool
+fits_kind kind size =
+    if kind == 1 then size == 41 else
+    (if kind == 2 then nat_le 26 size else
+    (if kind == 3 then size == 26 else
+    (if kind == 4 then size == 17 else
+    (if kind == 5 then size == 17 else
+    (if kind == 6 then size == 29 else
+    (if kind == 7 then nat_le 18 size else size == 9))))))
+
+-- how many bytes a reply of each status has
+abbrev pub fits_status : ℕ → ℕ → Bool
+fits_status status size =
+    if status == 0 then size == 26 else (if status == 1 then size == 38 else size == 19)
+
+-- What is wrong with bytes that spell no message: the first that applies.
+abbrev pub fault_by : (size kind status : ℕ) → FrameFault
+fault_by size kind status =
+    if size == 0 || nat_lt 4121 size then fault.Length else
+    (if kind == 0 || nat_lt 8 kind then fault.Kind else
+    (if not (fits_kind kind size) then fault.Shape else
+    (if kind == 7 && nat_lt 2 status then fault.Range else
+    (if kind == 7 && not (fits_status status size) then fault.Shape else fault.Range))))
+
+abbrev pub fault_of : List ℕ → FrameFault
+fault_of body = fault_by (length body) (slice_index body 0) (slice_index body 17)

@@ -1,0 +1,62 @@
+use Rattle.std.specs.Prelude.{ℕ, ◌≡◌, ◌+◌, List, [], ◌∷◌, ◌++◌, length}
+use Rattle.std.specs.Int.{w32, w64, to_be_bytes}
+use Rattle.av_base.specs.declared.message_id.MessageId.{MessageId}
+use Rattle.av_base.specs.declared.verdict.Verdict.TheVariants.{Clean, Infected}
+use Rattle.av_frame.specs.declared.outcome.Outcome.{Outcome}
+use Rattle.av_frame.specs.declared.outcome.Outcome.TheVariants.{Judged, Failed}
+use Rattle.av_frame.specs.declared.message.Body.{Body}
+use Rattle.av_frame.specs.declared.message.Body.TheVariants.{Scan, Chunk, NoChunk, Abort, Hello, Read, Reply, Updated}
+use Rattle.av_frame.specs.Cause.{no_chunk_number, fail_number}
+use Rattle.av_frame.specs.Message.{IsInRange}
+
+-- a number of eight bytes and one of four bytes, the highest byte first
+unfoldable pub field8 : ℕ → List ℕ
+field8 n = to_be_bytes w64 n
+
+unfoldable pub field4 : ℕ → List ℕ
+field4 n = to_be_bytes w32 n
+
+-- the two numbers of an id
+abbrev pub id_fields : MessageId → List ℕ
+id_fields id = field8 id.boot ++ field8 id.seq
+
+-- an outcome: its status and what follows it
+abbrev pub outcome_fields : Outcome → List ℕ
+outcome_fields (Judged version Clean) = 0 ∷ field8 version
+outcome_fields (Judged version (Infected index end_at)) = 1 ∷ (field8 version ++ field4 index ++ field8 end_at)
+outcome_fields (Failed cause) = 2 ∷ fail_number cause ∷ []
+
+-- the one spelling of a message: its kind, and its fields in their order
+abbrev pub spelling : Body → List ℕ
+spelling (Scan id stream generation size) = 1 ∷ (id_fields id ++ field8 stream ++ field8 generation ++ field8 size)
+spelling (Chunk id offset bytes) = 2 ∷ (id_fields id ++ field8 offset ++ bytes)
+spelling (NoChunk id offset cause) = 3 ∷ (id_fields id ++ field8 offset ++ no_chunk_number cause ∷ [])
+spelling (Abort id) = 4 ∷ id_fields id
+spelling (Hello volume version) = 5 ∷ (field8 volume ++ field8 version)
+spelling (Read id offset count) = 6 ∷ (id_fields id ++ field8 offset ++ field4 count)
+spelling (Reply id outcome) = 7 ∷ (id_fields id ++ outcome_fields outcome)
+spelling (Updated version) = 8 ∷ field8 version
+
+-- a body spells a message
+abbrev pub Spells : List ℕ → Body → Type 0
+Spells body m = IsInRange m × (body ≡ spelling m)
+
+-- how many bytes spell an outcome, and a message
+abbrev pub outcome_size : Outcome → ℕ
+outcome_size (Judged version Clean) = 9
+outcome_size (Judged version (Infected index end_at)) = 21
+outcome_size (Failed cause) = 2
+
+abbrev pub size_of : Body → ℕ
+size_of (Scan id stream generation size) = 41
+size_of (Chunk id offset bytes) = 25 + length bytes
+size_of (NoChunk id offset cause) = 26
+size_of (Abort id) = 17
+size_of (Hello volume version) = 17
+size_of (Read id offset count) = 29
+size_of (Reply id outcome) = 17 + outcome_size outcome
+size_of (Updated version) = 9
+
+-- a frame: the body's length in four bytes, then the body
+abbrev pub frame : Body → List ℕ
+frame m = field4 (length (spelling m)) ++ spelling m

@@ -1,0 +1,268 @@
+ghost use Rattle.std.specs.Prelude.{◌≡◌, ◌≤◌, length, IfOk, Ok, slice_index};
+ghost use Rattle.av_base.specs.Answers.{Reads};
+ghost use Rattle.av_frame.specs.declared.message.Body.{Body};
+ghost use Rattle.av_frame.specs.declared.fault.FrameFault.{FrameFault};
+ghost use Rattle.av_frame.specs.Reading.{abort_of, checked, chunk_of, clean_of, decoded, failed_of, fault_of, hello_of, id_at, infected_of, no_chunk_of, plain_of, read_of, reply_of, scan_of, updated_of};
+ghost use Rattle.av_frame.specs.Spelling.{Spells};
+
+use crate::cause::{FailCause, NoChunkCause};
+use crate::fault::FrameFault;
+use crate::fields::{u32_at, u64_at};
+use crate::message::{Body, Message, is_chunk};
+use crate::outcome::Outcome;
+use av_base::byte_list::ByteList;
+use av_base::message_id::MessageId;
+use av_base::number::{Generation, StreamId, Version};
+use av_base::refusal::Refusal;
+use av_base::verdict::Verdict;
+use std::alloc::Global;
+
+/// The most bytes of a body.
+pub const MAX_BODY: usize = 4_121;
+
+/// The message that a body spells, all of its bytes, or the first fault. A chunk's bytes are copied once; no other
+/// message takes memory.
+pub fn decode(alloc: Global, body: &[u8]) -> Result<Message, Refusal<FrameFault>>
+    // What is read is spelled so.
+    ensures found { IfOk result (λ m. Spells body.now m) }
+    // What is spelled so is read, unless memory is refused.
+    ensures only { (m : Body) → Spells body.now m → Reads result (Ok m) }
+    // Which fault it is.
+    ensures fault { (f : FrameFault) → result ≡ Err (Refusal.Fault f) → f ≡ fault_of body.now }
+    // Memory is refused to chunks alone.
+    ensures memory { result ≡ Err Refusal.NoMemory → slice_index body.now 0 ≡ 2 }
+    // All of this computed, field by field.
+    ensures exact { Reads result (decoded body.now) }
+{
+    parts(alloc, body)
+}
+
+#[tactic(auto, unfolding(crate::specs::Reading::decoded))]
+fn parts(alloc: Global, body: &[u8]) -> Result<Message, Refusal<FrameFault>>
+    ensures exact { Reads result (decoded body.now) }
+    ensures memory { result ≡ Err Refusal.NoMemory → slice_index body.now 0 ≡ 2 }
+{
+    if body.is_empty() || body.len() > MAX_BODY {
+        return Err(Refusal::Fault(FrameFault::Length));
+    }
+    if body[0] == 2 {
+        return chunk(alloc, body);
+    }
+    match plain(body) {
+        Ok(message) => Ok(message),
+        Err(fault) => Err(Refusal::Fault(fault)),
+    }
+}
+
+#[tactic(auto, unfolding(crate::specs::Reading::chunk_of))]
+fn chunk(alloc: Global, body: &[u8]) -> Result<Message, Refusal<FrameFault>>
+    ensures { Reads result (chunk_of body.now) }
+{
+    if body.len() < 26 {
+        return Err(Refusal::Fault(FrameFault::Shape));
+    }
+    let (_, bytes) = body.split_at(25);
+    content(alloc, id_of(body), u64_at(body, 17), bytes)
+}
+
+// The chunk of these fields, where each is in its range. They are tested before the bytes are copied.
+#[tactic(auto, unfolding(crate::specs::Reading::checked))]
+fn content(
+    alloc: Global,
+    id: MessageId,
+    offset: u64,
+    bytes: &[u8],
+) -> Result<Message, Refusal<FrameFault>>
+    ensures { Reads result (checked (Body.Chunk id offset bytes.now)) }
+{
+    if !is_chunk(id, offset, bytes) {
+        return Err(Refusal::Fault(FrameFault::Range));
+    }
+    let bytes = ByteList::copied(alloc, bytes)?;
+    Ok(Message::chunk(id, offset, bytes))
+}
+
+// The message of a body of any other kind.
+#[tactic(auto, unfolding(crate::specs::Reading::plain_of))]
+fn plain(body: &[u8]) -> Result<Message, FrameFault>
+    requires { 1 ≤ length body.now }
+    ensures { result ≡ plain_of body.now }
+{
+    match body[0] {
+        1 => scan(body),
+        3 => no_chunk(body),
+        4 => abort(body),
+        5 => hello(body),
+        6 => read(body),
+        7 => reply(body),
+        8 => updated(body),
+        _ => Err(FrameFault::Kind),
+    }
+}
+
+#[tactic(auto, unfolding(crate::specs::Reading::scan_of))]
+fn scan(body: &[u8]) -> Result<Message, FrameFault>
+    ensures { result ≡ scan_of body.now }
+{
+    if body.len() != 41 {
+        return Err(FrameFault::Shape);
+    }
+    in_range(Body::Scan {
+        id: id_of(body),
+        stream: StreamId::new(u64_at(body, 17)),
+        generation: Generation::new(u64_at(body, 25)),
+        length: u64_at(body, 33),
+    })
+}
+
+#[tactic(auto, unfolding(crate::specs::Reading::no_chunk_of))]
+fn no_chunk(body: &[u8]) -> Result<Message, FrameFault>
+    ensures { result ≡ no_chunk_of body.now }
+{
+    if body.len() != 26 {
+        return Err(FrameFault::Shape);
+    }
+    let Some(cause) = NoChunkCause::from_number(body[25]) else {
+        return Err(FrameFault::Range);
+    };
+    in_range(Body::NoChunk {
+        id: id_of(body),
+        offset: u64_at(body, 17),
+        cause,
+    })
+}
+
+#[tactic(auto, unfolding(crate::specs::Reading::abort_of))]
+fn abort(body: &[u8]) -> Result<Message, FrameFault>
+    ensures { result ≡ abort_of body.now }
+{
+    if body.len() != 17 {
+        return Err(FrameFault::Shape);
+    }
+    in_range(Body::Abort { id: id_of(body) })
+}
+
+#[tactic(auto, unfolding(crate::specs::Reading::hello_of))]
+fn hello(body: &[u8]) -> Result<Message, FrameFault>
+    ensures { result ≡ hello_of body.now }
+{
+    if body.len() != 17 {
+        return Err(FrameFault::Shape);
+    }
+    in_range(Body::Hello {
+        volume: u64_at(body, 1),
+        version: Version::new(u64_at(body, 9)),
+    })
+}
+
+#[tactic(auto, unfolding(crate::specs::Reading::read_of))]
+fn read(body: &[u8]) -> Result<Message, FrameFault>
+    ensures { result ≡ read_of body.now }
+{
+    if body.len() != 29 {
+        return Err(FrameFault::Shape);
+    }
+    in_range(Body::Read {
+        id: id_of(body),
+        offset: u64_at(body, 17),
+        count: u32_at(body, 25),
+    })
+}
+
+// A reply's status is judged before the length that the status wants.
+#[tactic(auto, unfolding(crate::specs::Reading::reply_of))]
+fn reply(body: &[u8]) -> Result<Message, FrameFault>
+    ensures { result ≡ reply_of body.now }
+{
+    if body.len() < 18 {
+        return Err(FrameFault::Shape);
+    }
+    match body[17] {
+        0 => clean(body),
+        1 => infected(body),
+        2 => failed(body),
+        _ => Err(FrameFault::Range),
+    }
+}
+
+#[tactic(auto, unfolding(crate::specs::Reading::clean_of))]
+fn clean(body: &[u8]) -> Result<Message, FrameFault>
+    ensures { result ≡ clean_of body.now }
+{
+    if body.len() != 26 {
+        return Err(FrameFault::Shape);
+    }
+    let version = Version::new(u64_at(body, 18));
+    let verdict = Verdict::Clean;
+    in_range(Body::Reply {
+        id: id_of(body),
+        outcome: Outcome::Judged { version, verdict },
+    })
+}
+
+#[tactic(auto, unfolding(crate::specs::Reading::infected_of))]
+fn infected(body: &[u8]) -> Result<Message, FrameFault>
+    ensures { result ≡ infected_of body.now }
+{
+    if body.len() != 38 {
+        return Err(FrameFault::Shape);
+    }
+    let version = Version::new(u64_at(body, 18));
+    let verdict = Verdict::Infected {
+        index: u32_at(body, 26),
+        end_at: u64_at(body, 30),
+    };
+    in_range(Body::Reply {
+        id: id_of(body),
+        outcome: Outcome::Judged { version, verdict },
+    })
+}
+
+#[tactic(auto, unfolding(crate::specs::Reading::failed_of))]
+fn failed(body: &[u8]) -> Result<Message, FrameFault>
+    ensures { result ≡ failed_of body.now }
+{
+    if body.len() != 19 {
+        return Err(FrameFault::Shape);
+    }
+    let Some(cause) = FailCause::from_number(body[18]) else {
+        return Err(FrameFault::Range);
+    };
+    in_range(Body::Reply {
+        id: id_of(body),
+        outcome: Outcome::Failed { cause },
+    })
+}
+
+#[tactic(auto, unfolding(crate::specs::Reading::updated_of))]
+fn updated(body: &[u8]) -> Result<Message, FrameFault>
+    ensures { result ≡ updated_of body.now }
+{
+    if body.len() != 9 {
+        return Err(FrameFault::Shape);
+    }
+    in_range(Body::Updated {
+        version: Version::new(u64_at(body, 1)),
+    })
+}
+
+fn id_of(body: &[u8]) -> MessageId
+    requires { 17 ≤ length body.now }
+    ensures { result ≡ id_at body.now }
+{
+    MessageId {
+        boot: u64_at(body, 1),
+        seq: u64_at(body, 9),
+    }
+}
+
+// The message of these fields, where each is in its range.
+#[tactic(auto, unfolding(crate::specs::Reading::checked))]
+fn in_range(body: Body) -> Result<Message, FrameFault>
+    ensures { result ≡ checked body }
+{
+    if !body.is_in_range() {
+        return Err(FrameFault::Range);
+    }
+    Ok(Message::new(body))
+}

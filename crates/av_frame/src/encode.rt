@@ -1,0 +1,144 @@
+ghost use Rattle.std.specs.Prelude.{◌≡◌, ◌+◌, ◌≤◌, ◌++◌, OnOk, OnErr, vec_len, vec_capacity};
+ghost use Rattle.av_frame.specs.Message.{IsInRange};
+ghost use Rattle.av_frame.specs.Spelling.{frame, id_fields, outcome_fields, outcome_size, size_of, spelling};
+
+use crate::fields::{put1, put4, put8};
+use crate::message::{Body, Message};
+use crate::outcome::Outcome;
+use av_base::message_id::MessageId;
+use av_base::verdict::Verdict;
+use std::alloc::AllocError;
+
+/// Appends a message's frame: the body's length in four bytes, then its kind and fields. Its bytes are copied once.
+/// Where memory is refused nothing is appended.
+pub fn encode_into(message: &Message, out: &mut Vec<u8>) -> Result<(), AllocError>
+    ensures ok { OnOk result (out.new.items ≡ out.old.items ++ frame message.now) }
+    ensures err { OnErr result (out.new.items ≡ out.old.items) }
+{
+    let body = message.body();
+    let size = size(body);
+    out.reserve(4 + size)?;
+    put4(out, size as u32);
+    put_body(out, body);
+    Ok(())
+}
+
+// How many bytes spell these fields.
+fn size(body: &Body) -> usize
+    requires { IsInRange body.now }
+    ensures size { result ≡ size_of body.now }
+    ensures small { result ≤ 4121 }
+{
+    match body {
+        Body::Scan { .. } => 41,
+        Body::Chunk { bytes, .. } => 25 + bytes.len(),
+        Body::NoChunk { .. } => 26,
+        Body::Abort { .. } | Body::Hello { .. } => 17,
+        Body::Read { .. } => 29,
+        Body::Reply { outcome, .. } => 17 + outcome_bytes(*outcome),
+        Body::Updated { .. } => 9,
+    }
+}
+
+fn outcome_bytes(outcome: Outcome) -> usize
+    ensures { result ≡ outcome_size outcome }
+{
+    match outcome {
+        Outcome::Judged { verdict, .. } => match verdict {
+            Verdict::Clean => 9,
+            Verdict::Infected { .. } => 21,
+        },
+        Outcome::Failed { .. } => 2,
+    }
+}
+
+// Appends the kind and the fields, for which there is room.
+fn put_body(out: &mut Vec<u8>, body: &Body)
+    requires { vec_len out.old + size_of body.now ≤ vec_capacity out.old }
+    ensures { out.new.items ≡ out.old.items ++ spelling body.now }
+{
+    match body {
+        Body::Scan {
+            id,
+            stream,
+            generation,
+            length,
+        } => {
+            put1(out, 1);
+            put_id(out, *id);
+            put8(out, stream.get());
+            put8(out, generation.get());
+            put8(out, *length);
+        }
+        Body::Chunk { id, offset, bytes } => {
+            put1(out, 2);
+            put_id(out, *id);
+            put8(out, *offset);
+            out.extend_from_slice(bytes.as_slice()).unwrap();
+        }
+        Body::NoChunk { id, offset, cause } => {
+            put1(out, 3);
+            put_id(out, *id);
+            put8(out, *offset);
+            put1(out, cause.number());
+        }
+        Body::Abort { id } => {
+            put1(out, 4);
+            put_id(out, *id);
+        }
+        Body::Hello { volume, version } => {
+            put1(out, 5);
+            put8(out, *volume);
+            put8(out, version.get());
+        }
+        Body::Read { id, offset, count } => {
+            put1(out, 6);
+            put_id(out, *id);
+            put8(out, *offset);
+            put4(out, *count);
+        }
+        Body::Reply { id, outcome } => {
+            put1(out, 7);
+            put_id(out, *id);
+            put_outcome(out, *outcome);
+        }
+        Body::Updated { version } => {
+            put1(out, 8);
+            put8(out, version.get());
+        }
+    }
+}
+
+fn put_id(out: &mut Vec<u8>, id: MessageId)
+    requires { vec_len out.old + 16 ≤ vec_capacity out.old }
+    ensures bytes { out.new.items ≡ out.old.items ++ id_fields id }
+    ensures len { vec_len out.new ≡ vec_len out.old + 16 }
+    ensures capacity { vec_capacity out.old ≤ vec_capacity out.new }
+{
+    put8(out, id.boot);
+    put8(out, id.seq);
+}
+
+fn put_outcome(out: &mut Vec<u8>, outcome: Outcome)
+    requires { vec_len out.old + outcome_size outcome ≤ vec_capacity out.old }
+    ensures { out.new.items ≡ out.old.items ++ outcome_fields outcome }
+{
+    match outcome {
+        Outcome::Judged { version, verdict } => match verdict {
+            Verdict::Clean => {
+                put1(out, 0);
+                put8(out, version.get());
+            }
+            Verdict::Infected { index, end_at } => {
+                put1(out, 1);
+                put8(out, version.get());
+                put4(out, index);
+                put8(out, end_at);
+            }
+        },
+        Outcome::Failed { cause } => {
+            put1(out, 2);
+            put1(out, cause.number());
+        }
+    }
+}

@@ -1,0 +1,242 @@
+ghost use Rattle.std.specs.Prelude.{◌≡◌, ◌≤◌, ◌↔◌, IsTrue};
+ghost use Rattle.av_frame.specs.Message.{IsId, IsInRange, IsOutcome, IsPart, in_range, id_in_range, part_in_range};
+ghost use Rattle.av_frame.specs.declared.message.Body.TheVariants.{Scan, Chunk, NoChunk, Abort, Hello, Read, Reply, Updated};
+
+use crate::cause::NoChunkCause;
+use crate::outcome::Outcome;
+use av_base::byte_list::ByteList;
+use av_base::limits::{MAX_CHUNK, MAX_GENERATION, MAX_LENGTH};
+use av_base::message_id::MessageId;
+use av_base::number::{Generation, StreamId, Version};
+use std::marker::Model;
+
+/// The fields of a message. The filter sends Scan, Chunk, NoChunk and Abort, the scanning service the others.
+#[derive(Debug, Drop)]
+pub enum Body {
+    /// Judge this content, which has `length` bytes.
+    Scan {
+        id: MessageId,
+        stream: StreamId,
+        generation: Generation,
+        length: u64,
+    },
+    /// Content of that question, from `offset` on.
+    Chunk {
+        id: MessageId,
+        offset: u64,
+        bytes: ByteList,
+    },
+    /// No content comes for a Read.
+    NoChunk {
+        id: MessageId,
+        offset: u64,
+        cause: NoChunkCause,
+    },
+    /// The question has ended.
+    Abort {
+        id: MessageId,
+    },
+    /// The service connects, to judge under this version.
+    Hello {
+        volume: u64,
+        version: Version,
+    },
+    /// Send up to `count` bytes of the content, from `offset` on.
+    Read {
+        id: MessageId,
+        offset: u64,
+        count: u32,
+    },
+    /// The answer to a question.
+    Reply {
+        id: MessageId,
+        outcome: Outcome,
+    },
+    /// The service judges under this version from now on.
+    Updated {
+        version: Version,
+    },
+}
+
+/// A message whose fields are in their ranges, so whoever holds one need not test them again.
+#[derive(Debug, Drop)]
+pub struct Message {
+    body: Body,
+}
+
+impl Model for Message {
+    ghost use Rattle.av_frame.specs.declared.message.Body.{Body};
+    ghost use Rattle.av_frame.specs.Message.{IsInRange};
+
+    ghost Value = { Body };
+
+    ghost view = { λ m. m.body };
+
+    ghost invariant = { λ m. IsInRange m.body };
+}
+
+impl Message {
+    /// The message of these fields, which `Body::is_in_range` tests.
+    pub fn new(body: Body) -> Message
+        requires { IsInRange body }
+        ensures { result ≡ body }
+    {
+        Message { body }
+    }
+
+    /// The question of this id: judge that content.
+    pub fn scan(id: MessageId, stream: StreamId, generation: Generation, length: u64) -> Message
+        requires id { IsId id }
+        requires stream { 1 ≤ stream }
+        requires generation { (1 ≤ generation) × (generation ≤ 281474976710655) }
+        requires length { length ≤ 1048576 }
+        ensures { result ≡ Scan id stream generation length }
+    {
+        let stream = StreamId::new(stream.get());
+        Message::new(Body::Scan {
+            id,
+            stream,
+            generation,
+            length,
+        })
+    }
+
+    /// Content of that question.
+    pub fn chunk(id: MessageId, offset: u64, bytes: ByteList) -> Message
+        requires id { IsId id }
+        requires part { IsPart offset bytes }
+        ensures { result ≡ Chunk id offset bytes }
+    {
+        Message::new(Body::Chunk { id, offset, bytes })
+    }
+
+    /// No content comes from that offset.
+    pub fn no_chunk(id: MessageId, offset: u64, cause: NoChunkCause) -> Message
+        requires id { IsId id }
+        requires offset { offset ≤ 1048576 }
+        ensures { result ≡ NoChunk id offset cause }
+    {
+        Message::new(Body::NoChunk { id, offset, cause })
+    }
+
+    /// That question has ended.
+    pub fn abort(id: MessageId) -> Message
+        requires { IsId id }
+        ensures { result ≡ Abort id }
+    {
+        Message::new(Body::Abort { id })
+    }
+
+    /// The service of this volume's filter connects.
+    pub fn hello(volume: u64, version: Version) -> Message
+        requires { 1 ≤ version }
+        ensures { result ≡ Hello volume version }
+    {
+        let version = Version::new(version.get());
+        Message::new(Body::Hello { volume, version })
+    }
+
+    /// Send that content.
+    pub fn read(id: MessageId, offset: u64, count: u32) -> Message
+        requires id { IsId id }
+        requires offset { offset ≤ 1048576 }
+        requires count { (1 ≤ count) × (count ≤ 4096) }
+        ensures { result ≡ Read id offset count }
+    {
+        Message::new(Body::Read { id, offset, count })
+    }
+
+    /// The answer to that question.
+    pub fn reply(id: MessageId, outcome: Outcome) -> Message
+        requires id { IsId id }
+        requires outcome { IsOutcome outcome }
+        ensures { result ≡ Reply id outcome }
+    {
+        Message::new(Body::Reply { id, outcome })
+    }
+
+    /// The service judges under this version from now on.
+    pub fn updated(version: Version) -> Message
+        requires { 1 ≤ version }
+        ensures { result ≡ Updated version }
+    {
+        let version = Version::new(version.get());
+        Message::new(Body::Updated { version })
+    }
+
+    /// The fields, to be matched by name.
+    pub fn body(&self) -> &Body
+        ensures same { result.now ≡ self.now }
+        ensures in_range { IsInRange self.now }
+    {
+        &self.body
+    }
+
+    /// The fields, given back.
+    pub fn into_body(self) -> Body
+        ensures same { result ≡ self }
+        ensures in_range { IsInRange self }
+    {
+        let Message { body } = self;
+        body
+    }
+}
+
+impl Body {
+    /// Whether each field is in its range.
+    pub fn is_in_range(&self) -> bool
+        ensures test { result ≡ in_range self.now }
+        ensures meaning { IsTrue result ↔ IsInRange self.now }
+    {
+        match self {
+            Body::Scan {
+                id,
+                stream,
+                generation,
+                length,
+            } => {
+                is_id(*id)
+                    && stream.get() >= 1
+                    && generation.get() >= 1
+                    && generation.get() <= MAX_GENERATION
+                    && *length <= MAX_LENGTH
+            }
+            Body::Chunk { id, offset, bytes } => is_chunk(*id, *offset, bytes.as_slice()),
+            Body::NoChunk { id, offset, .. } => is_id(*id) && *offset <= MAX_LENGTH,
+            Body::Abort { id } => is_id(*id),
+            Body::Hello { volume, version } => {
+                let _any_number = *volume;
+                version.get() >= 1
+            }
+            Body::Read { id, offset, count } => {
+                is_id(*id) && *offset <= MAX_LENGTH && *count >= 1 && *count <= MAX_CHUNK as u32
+            }
+            Body::Reply { id, outcome } => is_id(*id) && outcome.is_in_range(),
+            Body::Updated { version } => version.get() >= 1,
+        }
+    }
+}
+
+/// Whether an id can name a question: both its numbers count from 1.
+pub fn is_id(id: MessageId) -> bool
+    ensures test { result ≡ id_in_range id }
+    ensures meaning { IsTrue result ↔ IsId id }
+{
+    id.boot >= 1 && id.seq >= 1
+}
+
+/// Whether these bytes can go to a question in one chunk, from `offset` on.
+pub fn is_chunk(id: MessageId, offset: u64, bytes: &[u8]) -> bool
+    ensures test { result ≡ in_range (Chunk id offset bytes.now) }
+    ensures meaning { IsTrue result ↔ IsInRange (Chunk id offset bytes.now) }
+{
+    is_id(id) && is_part(offset, bytes)
+}
+
+fn is_part(offset: u64, bytes: &[u8]) -> bool
+    ensures test { result ≡ part_in_range offset bytes.now }
+    ensures meaning { IsTrue result ↔ IsPart offset bytes.now }
+{
+    let count = bytes.len() as u64;
+    count >= 1 && count <= MAX_CHUNK && offset <= MAX_LENGTH - count
+}

@@ -1,0 +1,2 @@
+pub mod Pend
+pub mod Waiting
