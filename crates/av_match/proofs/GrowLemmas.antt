@@ -2,8 +2,8 @@ use Rattle.std.proofs.Common.{ℕ, zero, suc, ◌≡◌, inl, inr, ◌<◌, ◌�
 use Rattle.std.proofs.lemmas.Bool.{cases_lt}
 use Rattle.std.proofs.lemmas.List.Sums.{sum_by-cons}
 use Rattle.std.proofs.lemmas.List.{take_more, take_all, at_drop_more}
-use Rattle.av_match.specs.Words.{word_at, is_word, add_word, grow, grow_all, words_upto, words_of}
-use Rattle.av_match.specs.Part.{AtMost, KnowsAll, HasAll, ArePatterns}
+use Rattle.av_match.specs.Words.{word_at, is_word, add_word, grow, grow_all, longer, words_upto, words_of}
+use Rattle.av_match.specs.Part.{AtMost, KnowsAll, HasAll, AllPatterns}
 use Rattle.av_match.proofs.WordLemmas.{is_word-old, is_word-new, word_at-old, word_at-new}
 
 add_keeps : (ws : List (List ℕ)) (w x : List ℕ) → is_word ws x ≡ true → is_word (add_word ws w) x ≡ true
@@ -122,12 +122,7 @@ upto_most (suc n) ps s l =
 abbrev pub short_sum : ℕ → List (List ℕ) → ℕ
 short_sum n ps = sum_by (λ p. min n (length p)) ps
 
--- how many patterns are longer
-abbrev longer : ℕ → List (List ℕ) → ℕ
-longer n [] = 0
-longer n (p ∷ ps) = (if nat_lt n (length p) then 1 else 0) + longer n ps
-
-grow_few : (n : ℕ) (p : List ℕ) (ws : List (List ℕ)) → length (grow n p ws) ≤ length ws + (if nat_lt n (length p) then 1 else 0)
+pub grow_few : (n : ℕ) (p : List ℕ) (ws : List (List ℕ)) → length (grow n p ws) ≤ length ws + (if nat_lt n (length p) then 1 else 0)
 grow_few n p ws =
     elim (nat_lt n (length p)) as (λ v. length (if v then add_word ws (take n p ++ slice_index p n ∷ []) else ws) ≤ length ws + (if v then 1 else 0)) [
       | true ↦ add_count ws (take n p ++ slice_index p n ∷ [])
@@ -159,14 +154,18 @@ short_all n (p ∷ ps) = omega (arith, short_all n ps, sum_by-cons (λ q. min n 
 pub upto_few : (n : ℕ) (ps : List (List ℕ)) → length (words_upto n ps) ≤ 1 + sum_by length ps
 upto_few n ps = omega (arith, upto_count n ps, short_all n ps)
 
+-- so a level has room
+pub level_few : (n : ℕ) (ps : List (List ℕ)) → sum_by length ps ≤ 16384 → length (words_upto n ps) + longer n ps ≤ 16385
+level_few n ps few = omega (arith, upto_count n ps, short_more n ps, short_all (suc n) ps)
+
 -- within a level no more words come than patterns are left
 pub left_few : (n i : ℕ) (ps : List (List ℕ)) (p : List ℕ) → i < length ps → p ≡ word_at ps i → longer n (drop i ps) ≡ (if nat_lt n (length p) then 1 else 0) + longer n (drop (i + 1) ps)
 left_few n i ps p l is_p = at_drop_more (longer n) ps i [] l ∙ ap (λ q. (if nat_lt n (length q) then 1 else 0) + longer n (drop (i + 1) ps)) (sym is_p)
 
 -- each pattern of at most 64 bytes is a word
-pub has_all : (ps : List (List ℕ)) → ArePatterns ps → HasAll ps (words_of ps)
+pub has_all : (ps : List (List ℕ)) → AllPatterns ps → HasAll ps (words_of ps)
 has_all ps set i l =
-    let short : length (word_at ps i) ≤ 64 = (set.1 i l).1 in
+    let short : length (word_at ps i) ≤ 64 = (set i l).1 in
     ap (is_word (words_of ps)) (sym (take_all 64 (word_at ps i) short)) ∙ upto_known 64 ps i l
 
 -- one pattern more

@@ -1,8 +1,14 @@
 pub mod GrowLemmas
+pub mod LaneLemmas
 pub mod LongestLemmas
 pub mod OccursLemmas
 pub mod PartLemmas
 pub mod PlainLemmas
+pub mod ReachLemmas
+pub mod RunLemmas
+pub mod ScanLemmas
 pub mod SearchLemmas
+pub mod TableLemmas
 pub mod Verdicts
+pub mod WindowLemmas
 pub mod WordLemmas

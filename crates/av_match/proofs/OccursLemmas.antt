@@ -7,7 +7,7 @@ use Rattle.av_base.specs.declared.verdict.Verdict.TheVariants.{Clean, Infected}
 use Rattle.av_match.specs.Longest.{longest, is_end}
 use Rattle.av_match.specs.Search.{occurs_at, index_at, verdict_below, verdict_of, or_at, or_else}
 use Rattle.av_match.specs.Words.{word_at, is_word}
-use Rattle.av_match.specs.Part.{ArePatterns, HasAll}
+use Rattle.av_match.specs.Part.{AllPatterns, HasAll}
 use Rattle.av_match.proofs.SearchLemmas.{stays}
 use Rattle.av_match.proofs.LongestLemmas.{is_end-longest}
 use Rattle.av_match.proofs.WordLemmas.{false_from}
@@ -122,7 +122,7 @@ verdict-append ps c d i e hit =
     let all : suc (length (c ++ d)) ≡ suc (length c) + length d = let f : length (c ++ d) ≡ length c + length d = length-append c d in omega arith in
     ap (λ n. verdict_below n ps (c ++ d)) all ∙ stays ps (c ++ d) i e (suc (length c)) (length d) (below-append (suc (length c)) ps c d (omega arith) ∙ hit)
 
-nothing_first : (i : ℕ) (ps : List (List ℕ)) → ((j : ℕ) → j < length ps → 0 < length (word_at ps j)) → index_at i ps [] 0 ≡ None
+pub nothing_first : (i : ℕ) (ps : List (List ℕ)) → ((j : ℕ) → j < length ps → 0 < length (word_at ps j)) → index_at i ps [] 0 ≡ None
 nothing_first i [] some = refl
 nothing_first i ([] ∷ ps) some = let one : 0 < 0 = some 0 (omega arith) in absurd (omega arith)
 nothing_first i ((b ∷ p) ∷ ps) some =
@@ -130,5 +130,5 @@ nothing_first i ((b ∷ p) ∷ ps) some =
     let rest : index_at (i + 1) ps [] 0 ≡ None = nothing_first (i + 1) ps (λ j l. some (suc j) (omega arith)) in
     rw long rest
 
-pub verdict_nothing : (ps : List (List ℕ)) → ArePatterns ps → verdict_of ps [] ≡ Clean
-verdict_nothing ps set = ap (λ o. or_at 0 o) (nothing_first 0 ps (λ j l. (set.1 j l).0))
+pub verdict_nothing : (ps : List (List ℕ)) → AllPatterns ps → verdict_of ps [] ≡ Clean
+verdict_nothing ps set = ap (λ o. or_at 0 o) (nothing_first 0 ps (λ j l. (set j l).0))

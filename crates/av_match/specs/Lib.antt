@@ -1,5 +1,9 @@
+pub mod Lanes
 pub mod Longest
 pub mod Match
 pub mod Part
+pub mod Reach
+pub mod Scanning
 pub mod Search
+pub mod Step
 pub mod Words

@@ -8,5 +8,14 @@
 //! ```
 #![tactic(auto)]
 
+pub mod automaton;
+pub mod cells;
+pub mod lanes;
 pub mod law;
 pub mod plain;
+pub mod rows;
+pub mod scan;
+pub mod step;
+#[cfg(test)]
+mod tests;
+pub mod trie;

@@ -1,0 +1,45 @@
+use Rattle.std.proofs.Common.{ℕ, ◌≡◌, ◌≤◌, List, length, map, arith, refl, sym, ap, ap₂, subst, ◌∙◌}
+use Rattle.std.proofs.lemmas.List.{length-map}
+use Rattle.av_sigset.specs.Set.{patterns_of}
+use Rattle.av_sigset.specs.declared.signature.Pattern.{Pattern}
+use Rattle.av_match.specs.Part.{ArePatterns, IsAutomaton, IsSettled, output_of}
+use Rattle.av_match.specs.Scanning.{Compiled, as_pattern}
+use Rattle.av_match.specs.Search.{bytes_of}
+use Rattle.av_match.specs.Words.{words_of}
+use Rattle.av_match.proofs.GrowLemmas.{upto_few}
+use Rattle.av_match.proofs.TableLemmas.{set_patterns, build_is, as_bytes}
+use Rattle.av_match.proofs.automaton.Automaton.build.Goals as goal
+
+pub trie_of-requires : goal.trie_of-requires
+trie_of-requires c =
+    let same : c.as_slice.result.now ≡ bytes_of (patterns_of c.args.set.now.signatures) =
+    c.as_slice.ensures.value ∙ c.in_ok-patterns.ensures ∙ ap (λ ss. bytes_of (patterns_of ss)) c.signatures.ensures.signatures in
+    subst ArePatterns (sym same) (set_patterns c.args.set.now c.signatures.ensures.set)
+
+pub settle-requires-clause-few : goal.settle-requires-clause-few
+settle-requires-clause-few c =
+    let ps = bytes_of (patterns_of c.args.set.now.signatures) in
+    let same : c.as_slice.result.now ≡ ps = c.as_slice.ensures.value ∙ c.in_ok-patterns.ensures ∙ ap (λ ss. bytes_of (patterns_of ss)) c.signatures.ensures.signatures in
+    let words : c.as_slice-3.result.now ≡ words_of ps = c.as_slice-3.ensures.value ∙ c.in_ok-trie.ensures.words ∙ ap words_of same in
+    let count : length c.as_slice-4.result.now ≡ length c.as_slice-3.result.now =
+    ap length (c.as_slice-4.ensures.value ∙ c.in_ok-outputs.ensures) ∙ length-map c.as_slice-3.result.now (λ w. output_of (bytes_of (patterns_of c.signatures-2.result.now)) w) in
+    let few = upto_few 64 ps in
+    omega (arith, count, ap length words, few, (set_patterns c.args.set.now c.signatures.ensures.set).2)
+
+pub invariant_of-result : goal.invariant_of-result
+invariant_of-result c =
+    let ps = bytes_of (patterns_of c.args.set.now.signatures) in
+    let items : c.in_ok-patterns.patterns.items ≡ ps = c.in_ok-patterns.ensures ∙ ap (λ ss. bytes_of (patterns_of ss)) c.signatures.ensures.signatures in
+    let words : c.as_slice-2.result.now ≡ words_of ps = c.as_slice-2.ensures.value ∙ c.in_ok-trie.ensures.words ∙ ap words_of (c.as_slice.ensures.value ∙ items) in
+    let gives : c.in_ok-outputs.outputs.items ≡ map (λ w. output_of ps w) c.as_slice-2.result.now =
+    c.in_ok-outputs.ensures ∙ ap₂ (λ ss ws. map (λ w. output_of (bytes_of (patterns_of ss)) w) ws) c.signatures-2.ensures.signatures (c.as_slice-3.ensures.value ∙ sym c.as_slice-2.ensures.value) in
+    let settled : IsSettled c.finish.new.next.items c.in_ok-outputs.outputs.items (length c.in_ok-outputs.outputs.items) c.settle.new.next.items =
+    subst (λ o. IsSettled c.finish.new.next.items o (length o) c.settle.new.next.items) c.as_slice-4.ensures.value c.settle.ensures in
+    subst (λ qs. IsAutomaton qs c.settle.new.next.items c.in_ok-outputs.outputs.items) (sym items)
+    (build_is ps c.as_slice-2.result.now c.finish.new.next.items c.settle.new.next.items c.in_ok-outputs.outputs.items (set_patterns c.args.set.now c.signatures.ensures.set) words c.finish.ensures gives settled)
+
+pub returns : goal.returns
+returns c =
+    let items = c.in_ok-patterns.ensures ∙ ap (λ ss. bytes_of (patterns_of ss)) c.signatures.ensures.signatures in
+    let looked : map as_pattern c.in_ok-patterns.patterns.items ≡ patterns_of c.args.set.now.signatures = ap (map as_pattern) items ∙ as_bytes (patterns_of c.args.set.now.signatures) in
+    ap₂ {C = Compiled} (λ v ps. record { version = v; patterns = ps }) c.version.ensures.version looked

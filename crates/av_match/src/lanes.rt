@@ -1,0 +1,174 @@
+//! A piece of a content, read in six parts side by side: a part needs no more than the 63 bytes before it to come to
+//! the state of the whole, since a word of 64 bytes is a pattern.
+ghost use Rattle.std.specs.Prelude.{◌≡◌, ◌+◌, ◌*◌, ◌<◌, ◌≤◌, length, take, drop, slice_index, IfSome};
+ghost use Rattle.std.specs.Bool.{OnTrue};
+ghost use Rattle.av_match.specs.Lanes.{AreInside, AreSilent, AreWithin};
+ghost use Rattle.av_match.specs.Part.{IsClosed, IsTable};
+ghost use Rattle.av_match.specs.Reach.{reach, place_of};
+ghost use Rattle.av_match.specs.Words.{run, AllBytes};
+ghost use Rattle.av_match.specs.declared.cells.Reached.TheVariants.{Through};
+
+use crate::cells::{Reached, reach_of};
+
+/// How many bytes a part is begun early: one less than the longest pattern has.
+const EARLY: usize = 63;
+
+/// Below this length six parts cost more than one.
+const LEAST: usize = 1024;
+
+/// The most bytes of one piece. After a hit a piece is read again from its start, by one part.
+const PIECE: usize = 12288;
+
+/// The states to which six parts lead.
+#[derive(Clone, Copy)]
+pub struct SixStates {
+    pub a: usize,
+    pub b: usize,
+    pub c: usize,
+    pub d: usize,
+    pub e: usize,
+    pub f: usize,
+}
+
+/// Where the bytes of a chunk lead from a state.
+pub fn reach_in_pieces(cells: &[u16], outputs: &[u16], from: u16, chunk: &[u8]) -> Reached
+    requires table { IsTable cells.now outputs.now }
+    requires inside { from < length outputs.now }
+    requires silent { slice_index outputs.now from ≡ 0 }
+    ensures reach { result ≡ reach cells.now outputs.now from 0 chunk.now }
+    ensures place { place_of result ≤ length chunk.now }
+    ensures bytes { AllBytes chunk.now }
+{
+    let mut state = from;
+    let mut start = 0usize;
+    'pieces: while start < chunk.len() {
+        let end = chunk.len().min(start + PIECE);
+        match through_piece(cells, outputs, state, &chunk[start..end]) {
+            Some(next) => {
+                state = next;
+                start = end;
+            }
+            None => return reach_of(cells, outputs, state, chunk, start),
+        }
+    }
+    Reached::Through { state }
+}
+
+// The state to which a piece leads, where it is long and nothing is given out on the way.
+fn through_piece(cells: &[u16], outputs: &[u16], from: u16, piece: &[u8]) -> Option<u16>
+    requires table { IsTable cells.now outputs.now }
+    requires inside { from < length outputs.now }
+    requires silent { slice_index outputs.now from ≡ 0 }
+    ensures { IfSome result (λ t. reach cells.now outputs.now from 0 piece.now ≡ Through t) }
+{
+    if piece.len() < LEAST {
+        return None;
+    }
+    let step = (piece.len() - EARLY) / 6;
+    let state = through_parts(cells, outputs, from, piece, step)?;
+    match reach_of(cells, outputs, state, piece, 6 * step + EARLY) {
+        Reached::Through { state } => Some(state),
+        Reached::Hit { .. } => None,
+    }
+}
+
+// The state to which six parts of a piece lead, where nothing is given out in them.
+fn through_parts(
+    cells: &[u16],
+    outputs: &[u16],
+    from: u16,
+    piece: &[u8],
+    step: usize,
+) -> Option<u16>
+    requires table { IsTable cells.now outputs.now }
+    requires inside { from < length outputs.now }
+    requires silent { slice_index outputs.now from ≡ 0 }
+    requires room { 6 * step + 63 ≤ length piece.now }
+    ensures { IfSome result (λ t. reach cells.now outputs.now from 0 (take (6 * step + 63) piece.now) ≡ Through t) }
+{
+    let count = step + EARLY;
+    let states = six_lanes(
+        cells,
+        from as usize,
+        part(piece, 0, count),
+        part(piece, step, count),
+        part(piece, 2 * step, count),
+        part(piece, 3 * step, count),
+        part(piece, 4 * step, count),
+        part(piece, 5 * step, count),
+    );
+    if are_silent(outputs, states) {
+        Some(states.f as u16)
+    } else {
+        None
+    }
+}
+
+// Whether none of the states gives anything out.
+fn are_silent(outputs: &[u16], states: SixStates) -> bool
+    requires { AreInside (length outputs.now) states }
+    ensures { OnTrue result (AreSilent outputs.now states) }
+{
+    outputs[states.a] == 0
+        && outputs[states.b] == 0
+        && outputs[states.c] == 0
+        && outputs[states.d] == 0
+        && outputs[states.e] == 0
+        && outputs[states.f] == 0
+}
+
+// Where six parts of one length lead, the first from a state and the others from the root.
+fn six_lanes(
+    cells: &[u16],
+    from: usize,
+    a: &[u8],
+    b: &[u8],
+    c: &[u8],
+    d: &[u8],
+    e: &[u8],
+    f: &[u8],
+) -> SixStates
+    requires closed { IsClosed cells.now }
+    requires some { 256 ≤ length cells.now }
+    requires inside { 256 * from + 256 ≤ length cells.now }
+    requires b { length b.now ≡ length a.now }
+    requires c { length c.now ≡ length a.now }
+    requires d { length d.now ≡ length a.now }
+    requires e { length e.now ≡ length a.now }
+    requires f { length f.now ≡ length a.now }
+    ensures runs { result ≡ record { a = run cells.now from a.now; b = run cells.now 0 b.now; c = run cells.now 0 c.now; d = run cells.now 0 d.now; e = run cells.now 0 e.now; f = run cells.now 0 f.now } }
+    ensures inside { AreWithin (length cells.now) result }
+{
+    let mut p = from;
+    let mut q = 0usize;
+    let mut r = 0usize;
+    let mut s = 0usize;
+    let mut t = 0usize;
+    let mut u = 0usize;
+    for i in 0..a.len() {
+        p = cells[256 * p + a[i] as usize] as usize;
+        q = cells[256 * q + b[i] as usize] as usize;
+        r = cells[256 * r + c[i] as usize] as usize;
+        s = cells[256 * s + d[i] as usize] as usize;
+        t = cells[256 * t + e[i] as usize] as usize;
+        u = cells[256 * u + f[i] as usize] as usize;
+    }
+    SixStates {
+        a: p,
+        b: q,
+        c: r,
+        d: s,
+        e: t,
+        f: u,
+    }
+}
+
+// So many bytes of a piece, from a place on.
+fn part(piece: &[u8], start: usize, count: usize) -> &[u8]
+    requires { start + count ≤ length piece.now }
+    ensures part { result.now ≡ take count (drop start piece.now) }
+    ensures length { length result.now ≡ count }
+    ensures bytes { AllBytes piece.now }
+{
+    &piece[start..start + count]
+}
