@@ -1,9 +1,8 @@
 use Rattle.std.proofs.Common.{ℕ, zero, suc, ◌≡◌, ◌<◌, ◌++◌, List, [], ◌∷◌, length, map, take, drop, get_or, refl, sym, ap, ◌∙◌, append_assoc, append-nil, arith}
-use Rattle.av_world.specs.declared.parts.Part.{Part}
 use Rattle.av_world.specs.Text.{spelt}
 
 -- one part more
-pub spelt_next : (f : Part → List ℕ) (ps : List Part) (i : ℕ) (d : Part) → i < length ps → spelt (map f (take (suc i) ps)) ≡ spelt (map f (take i ps)) ++ f (get_or ps i d)
+pub spelt_next : {A : Type 0} (f : A → List ℕ) (ps : List A) (i : ℕ) (d : A) → i < length ps → spelt (map f (take (suc i) ps)) ≡ spelt (map f (take i ps)) ++ f (get_or ps i d)
 spelt_next f [] i d lt = absurd (omega arith)
 spelt_next f (p ∷ ps) zero d lt = append-nil (f p)
 spelt_next f (p ∷ ps) (suc i) d lt =
@@ -11,7 +10,7 @@ spelt_next f (p ∷ ps) (suc i) d lt =
     ap (λ t. f p ++ t) (spelt_next f ps i d lower) ∙ sym (append_assoc (f p) (spelt (map f (take i ps))) (f (get_or ps i d)))
 
 -- the parts before one, that one, and those behind it
-pub spelt_around : (f : Part → List ℕ) (ps : List Part) (i : ℕ) (d : Part) → i < length ps
+pub spelt_around : {A : Type 0} (f : A → List ℕ) (ps : List A) (i : ℕ) (d : A) → i < length ps
     → spelt (map f (take i ps)) ++ (f (get_or ps i d) ++ spelt (map f (drop (suc i) ps))) ≡ spelt (map f ps)
 spelt_around f [] i d lt = absurd (omega arith)
 spelt_around f (p ∷ ps) zero d lt = refl

@@ -10,7 +10,7 @@ pub mod pattern;
 pub mod report;
 pub mod run_script;
 pub mod script;
-mod parts;
+pub mod parts;
 mod print;
 mod statement;
 mod words;

@@ -34,14 +34,8 @@ pub fn run_text<R: Read, W: Write, E: Write>(
 pub fn unreadable<E: Write>(err: &mut E, file: &str) -> Status
     ensures { result ≡ Device }
 {
-    say(
-        err,
-        &[
-            b"avscan: ".as_slice(),
-            file.as_bytes(),
-            b": cannot read\n".as_slice(),
-        ],
-    );
+    let ending = b": cannot read\n".as_slice();
+    say(err, &[b"avscan: ".as_slice(), file.as_bytes(), ending]);
     Status::Device
 }
 
@@ -53,15 +47,20 @@ pub fn out_of_memory<E: Write>(err: &mut E) -> Status
     Status::Memory
 }
 
+/// Says on one line that a file or a stream failed.
+pub fn device_failed<E: Write>(err: &mut E) -> Status
+    ensures { result ≡ Device }
+{
+    say(err, &[b"avscan: device\n".as_slice()]);
+    Status::Device
+}
+
 // Says why a script did not run to its end.
 fn failed<E: Write>(err: &mut E, fault: RunFault) -> Status
     ensures { result ≡ status_of fault }
 {
     match fault {
-        RunFault::Read | RunFault::Write => {
-            say(err, &[b"avscan: device\n".as_slice()]);
-            Status::Device
-        }
+        RunFault::Read | RunFault::Write => device_failed(err),
         RunFault::TooLong => {
             say(err, &[b"avscan: script too long\n".as_slice()]);
             Status::Refused
@@ -82,8 +81,8 @@ fn failed<E: Write>(err: &mut E, fault: RunFault) -> Status
     }
 }
 
-// Writes texts one behind the other, as far as that goes.
-fn say<E: Write>(err: &mut E, texts: &[&[u8]]) {
+/// Writes texts one behind the other, as far as that goes.
+pub fn say<E: Write>(err: &mut E, texts: &[&[u8]]) {
     for text in texts {
         let _ = write_text(err, text);
     }

@@ -2,7 +2,7 @@ use crate::run::out_of_memory;
 use crate::status::Status;
 use av_base::device::write_text;
 use clap::error::ErrorKind;
-use clap::{Arg, Command, Error};
+use clap::{Arg, ArgAction, Command, Error};
 use std::alloc::Global;
 use std::convert::AsStr;
 use std::io::Write;
@@ -12,6 +12,8 @@ use std::io::Write;
 pub enum Request<'a> {
     /// Run the script in this file, or on standard input for `-`.
     Run { script: &'a str },
+    /// Scan these files under the signature file `set`.
+    Scan { set: &'a str, files: Vec<&'a str> },
 }
 
 /// Reads the words of the command line, the program's name first. No other word asks for a script on standard input. A
@@ -35,6 +37,14 @@ pub fn read_words<'a, S: AsStr, W: Write, E: Write>(
 fn requested<'a, S: AsStr>(alloc: Global, words: &'a [S]) -> Result<Request<'a>, Error> {
     let matches = avscan_command(alloc)?.try_get_matches_from(words)?;
     match matches.subcommand() {
+        Some(("scan", scan)) => {
+            let mut files = Vec::new(alloc);
+            if let Some(names) = scan.get_strs("file") {
+                files.extend_from_slice(names)?;
+            }
+            let set = scan.get_str("set").unwrap_or("-");
+            Ok(Request::Scan { set, files })
+        }
         Some((_, run)) => Ok(Request::Run {
             script: run.get_str("script").unwrap_or("-"),
         }),
@@ -45,6 +55,7 @@ fn requested<'a, S: AsStr>(alloc: Global, words: &'a [S]) -> Result<Request<'a>,
 // The commands of the program.
 fn avscan_command<'a>(alloc: Global) -> Result<Command<'a>, Error> {
     let run = run_command(alloc)?;
+    let scan = scan_command(alloc)?;
     Ok(
         Command::new(alloc, "avscan")
             .version("0.1.0")
@@ -52,10 +63,11 @@ fn avscan_command<'a>(alloc: Global) -> Result<Command<'a>, Error> {
                 "A scan-on-open antivirus filter and its scanning service, over a volume in memory.\nWithout a command it runs the script on its standard input.",
             )
             .after_help(
-                "Examples:\n  avscan run examples/judge.avs    run a script\n  avscan run -                     run the script on standard input\n\nExit status: 0 all done, 1 input refused, 2 usage, 3 memory, 4 device.",
+                "Examples:\n  avscan run examples/judge.avs                            run a script\n  avscan run -                                             run the script on standard input\n  avscan scan examples/test.avsig examples/letter.txt      scan a file\n\nExit status: 0 all done, 1 input refused, 2 usage, 3 memory, 4 device.",
             )
             .subcommand_required(true)
-            .subcommand(run)?,
+            .subcommand(run)?
+            .subcommand(scan)?,
     )
 }
 
@@ -71,6 +83,28 @@ fn run_command<'a>(alloc: Global) -> Result<Command<'a>, Error> {
                 "A script names a volume and then says what happens, a command a line:\n\n  volume 1 closed\n  publish 1 5858\n  create report\n  write report 0 414243\n  judge report\n\nIt publishes a signature set of the bytes 58 58, writes 41 42 43 into a stream and judges it.\ndocs/FORMATS.md has all commands.\n\nExample:\n  avscan run examples/judge.avs",
             )
             .arg(script)?,
+    )
+}
+
+fn scan_command<'a>(alloc: Global) -> Result<Command<'a>, Error> {
+    let set = Arg::new(alloc, "set")
+        .required(true)
+        .value_name("SET")
+        .help("The signature file");
+    let file = Arg::new(alloc, "file")
+        .required(true)
+        .value_name("FILE")
+        .action(ArgAction::Append)
+        .num_args(1..)
+        .help("The files to scan, of at most 1,048,576 bytes each");
+    Ok(
+        Command::new(alloc, "scan")
+            .about("Scans files for signatures and prints a line for each")
+            .after_help(
+                "A signature file names a format and a version, and then a signature a line, a name and bytes in hexadecimal:\n\n  avsig 1\n  version 1\n  two.x 5858\n\nA line of the output is `FILE clean` or `FILE infected INDEX NAME end PLACE`: which signature ends first, and at which byte.\ndocs/FORMATS.md has the whole format.\n\nExample:\n  avscan scan examples/test.avsig examples/letter.txt examples/eicar.com.txt",
+            )
+            .arg(set)?
+            .arg(file)?,
     )
 }
 
