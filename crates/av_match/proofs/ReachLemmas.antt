@@ -1,10 +1,9 @@
-use Rattle.std.proofs.Common.{ℕ, suc, ◌≡◌, ◌<◌, ◌≤◌, ◌+◌, ◌-◌, ◌*◌, ◌==◌, true, false, Bool, List, [], ◌∷◌, ◌++◌, length, map, slice_index, if◌then◌else◌, refl, sym, ◌∙◌, ap, subst, arith, append_assoc, append-nil, eqb-true}
+use Rattle.std.proofs.Common.{ℕ, suc, ◌≡◌, ◌<◌, ◌+◌, ◌-◌, ◌*◌, ◌==◌, true, false, List, [], ◌∷◌, ◌++◌, length, slice_index, if◌then◌else◌, refl, sym, ◌∙◌, ap, subst, arith, append_assoc, append-nil, eqb-true}
 use Rattle.std.proofs.lemmas.Bool.Decides.{nat_tests}
 use Rattle.std.proofs.lemmas.List.{get_or-map, length-map}
 use Rattle.av_match.specs.Longest.{longest}
 use Rattle.av_match.specs.Words.{word_at, is_word, words_of, run, AllBytes}
 use Rattle.av_match.specs.Part.{IsAutomaton, IsClosed, output_of, number_of}
-use Rattle.av_match.specs.declared.cells.Reached.{Reached}
 use Rattle.av_match.specs.declared.cells.Reached.TheVariants.{Through, Hit}
 use Rattle.av_match.specs.Reach.{reach, Leads}
 use Rattle.av_match.proofs.LongestLemmas.{longest-step, longest-child}

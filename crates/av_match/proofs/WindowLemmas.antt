@@ -1,16 +1,13 @@
 use Rattle.std.proofs.Common.{ℕ, zero, suc, ◌≡◌, ◌≢◌, inl, inr, ◌<◌, ◌≤◌, ◌+◌, ◌-◌, Bool, true, false, cond, min, List, [], ◌∷◌, ◌++◌, length, take, drop, slice_index, if◌then◌else◌, Option, None, Some, refl, sym, ◌∙◌, ap, subst, arith, length-append, length-take, lt-ltb, le-ltb}
 use Rattle.std.proofs.lemmas.Bool.{cases_lt, cases_eq}
 use Rattle.std.proofs.lemmas.List.{take_more, take_all, get_or-map}
-use Rattle.av_base.specs.declared.verdict.Verdict.{Verdict}
-use Rattle.av_base.specs.declared.verdict.Verdict.TheVariants.{Clean, Infected}
 use Rattle.av_match.specs.Longest.{longest, is_end}
-use Rattle.av_match.specs.Search.{occurs_at, index_at, verdict_below, or_at, or_else}
+use Rattle.av_match.specs.Search.{occurs_at, index_at}
 use Rattle.av_match.specs.Words.{word_at, is_word, add_word, grow, grow_all, words_upto, words_of}
 use Rattle.av_match.specs.Part.{ArePatterns, IsAutomaton, output_of, number_of}
 use Rattle.av_match.specs.Reach.{Leads}
-use Rattle.av_match.proofs.LongestLemmas.{is_end-longest}
-use Rattle.av_match.proofs.WordLemmas.{word_at-old, word_at-new, is_word-at}
-use Rattle.av_match.proofs.GrowLemmas.{upto_most, upto_rooted}
+use Rattle.av_match.proofs.WordLemmas.{word_at-old, word_at-new}
+use Rattle.av_match.proofs.GrowLemmas.{upto_most}
 use Rattle.av_match.proofs.OccursLemmas.{occurs-is_end, is_end-from}
 
 -- a longest end that lies in the last bytes is theirs

@@ -1,7 +1,7 @@
 ghost use Rattle.std.specs.Prelude.{◌≡◌, ◌<◌, ◌≤◌, ◌==◌, ℕ, None, length, map, slice_index, IfOk};
 ghost use Rattle.av_match.specs.Part.{ArePatterns, IsTable};
 ghost use Rattle.av_match.specs.Reach.{place_of, IsRest};
-ghost use Rattle.av_match.specs.Scanning.{ScanState, run, landed, resting};
+ghost use Rattle.av_match.specs.Scanning.{AreSolid, ScanState, run, landed, resting};
 ghost use Rattle.av_match.specs.Search.{bytes_of};
 ghost use Rattle.av_sigset.specs.Set.{patterns_of};
 
@@ -60,7 +60,8 @@ impl Automaton {
 
     /// The version of its set.
     pub fn version(&self) -> Version
-        ensures { result ≡ self.now.version }
+        ensures version { result ≡ self.now.version }
+        ensures solid { AreSolid self.now.patterns }
     {
         self.version
     }

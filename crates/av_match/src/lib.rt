@@ -9,13 +9,13 @@
 #![tactic(auto)]
 
 pub mod automaton;
-pub mod cells;
-pub mod lanes;
+mod cells;
+mod lanes;
 pub mod law;
 pub mod plain;
-pub mod rows;
+mod rows;
 pub mod scan;
 pub mod step;
 #[cfg(test)]
 mod tests;
-pub mod trie;
+mod trie;

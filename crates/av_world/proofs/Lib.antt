@@ -1,4 +1,5 @@
 pub mod HexLemmas
+pub mod PastLemmas
 pub mod PublishLemmas
 pub mod ScriptLemmas
 pub mod TextLemmas

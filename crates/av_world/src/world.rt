@@ -1,8 +1,9 @@
-ghost use Rattle.std.specs.Prelude.{◌≡◌, reverse, OnOk, OnErr};
+ghost use Rattle.std.specs.Prelude.{◌≡◌, reverse, IfOk, OnOk, OnErr};
 ghost use Rattle.std.specs.Io.KnownBytes.{Appends};
 ghost use Rattle.av_base.specs.Device.{AppendsPrefix};
 ghost use Rattle.std.specs.Option.{option_copied};
 ghost use Rattle.av_world.specs.Judge.{judged_of, latest_set};
+ghost use Rattle.av_world.specs.Past.{IsRight, IsTold, past};
 ghost use Rattle.av_world.specs.Text.{report_text};
 ghost use Rattle.av_world.specs.World.{Gives, Passes, Steps, start, world_of};
 
@@ -35,11 +36,14 @@ pub struct World {
 
 impl Model for World {
     ghost use Rattle.std.specs.Prelude.{reverse};
+    ghost use Rattle.av_world.specs.Past.{IsTold};
     ghost use Rattle.av_world.specs.World.{WorldState};
 
     ghost Value = { WorldState };
 
     ghost view = { λ w. record { history = reverse w.history.items; mode = w.mode; volume = w.volume; sets = w.catalogue.sets } };
+
+    ghost invariant = { λ w. IsTold (record { history = reverse w.history.items; mode = w.mode; volume = w.volume; sets = w.catalogue.sets }) };
 }
 
 impl World {
@@ -82,7 +86,8 @@ impl World {
     /// The verdict of a stream's present content under the latest set: NoSuchName, NoSignatures. It takes no memory and
     /// copies nothing; it costs the content times the set.
     pub fn judge(&self, name: &[u8]) -> Result<Judged, JudgeFault>
-        ensures { result ≡ judged_of self.now name.now }
+        ensures exact { result ≡ judged_of self.now name.now }
+        ensures right { IfOk result (IsRight (past self.now.history)) }
     {
         let Some(stream) = self.volume.find(name) else {
             return Err(JudgeFault::NoSuchName);
@@ -142,7 +147,8 @@ impl World {
 
     /// The accepted events, the oldest first.
     pub fn history(&self) -> &[Event]
-        ensures { reverse result.now ≡ self.now.history }
+        ensures history { reverse result.now ≡ self.now.history }
+        ensures told { IsTold self.now }
     {
         self.history.as_slice()
     }

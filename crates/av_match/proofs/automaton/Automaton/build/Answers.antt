@@ -1,7 +1,6 @@
-use Rattle.std.proofs.Common.{ℕ, ◌≡◌, ◌≤◌, List, length, map, arith, refl, sym, ap, ap₂, subst, ◌∙◌}
+use Rattle.std.proofs.Common.{◌≡◌, length, map, arith, sym, ap, ap₂, subst, ◌∙◌}
 use Rattle.std.proofs.lemmas.List.{length-map}
 use Rattle.av_sigset.specs.Set.{patterns_of}
-use Rattle.av_sigset.specs.declared.signature.Pattern.{Pattern}
 use Rattle.av_match.specs.Part.{ArePatterns, IsAutomaton, IsSettled, output_of}
 use Rattle.av_match.specs.Scanning.{Compiled, as_pattern}
 use Rattle.av_match.specs.Search.{bytes_of}
