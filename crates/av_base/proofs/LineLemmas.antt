@@ -1,4 +1,4 @@
-use Rattle.std.proofs.Common.{ℕ, zero, suc, ◌≡◌, ◌<◌, List, [], ◌∷◌, length, take, drop, get_or, nat_eq, false, true, refl, ap, arith, eq-eqb, inl, inr}
+use Rattle.std.proofs.Common.{ℕ, zero, suc, ◌≡◌, ◌<◌, List, [], ◌∷◌, length, take, drop, get_or, nat_eq, cond, false, true, refl, ap, arith, eq-eqb, inl, inr}
 use Rattle.std.proofs.lemmas.Bool.Decides.{eqb_tells}
 use Rattle.av_base.specs.Line.{lines_of, pieces_of, onto_first}
 
@@ -41,3 +41,17 @@ pieces_of-whole s [] none = refl
 pieces_of-whole s (b ∷ bs) none =
     let other : nat_eq b s ≡ false = apart b s (none 0 (omega arith)) in
     rw other (ap (onto_first b) (pieces_of-whole s bs (λ k h. none (suc k) (omega arith))))
+
+-- onto any list of pieces there is a first one
+onto_some : (b : ℕ) (ps : List (List ℕ)) → (first : List ℕ) × (rest : List (List ℕ)) × (onto_first b ps ≡ first ∷ rest)
+onto_some b [] = (b ∷ [], [], refl)
+onto_some b (p ∷ ps) = (b ∷ p, ps, refl)
+
+-- there is a first piece
+pub pieces_some : (s : ℕ) (bs : List ℕ) → (first : List ℕ) × (rest : List (List ℕ)) × (pieces_of s bs ≡ first ∷ rest)
+pieces_some s [] = ([], [], refl)
+pieces_some s (b ∷ bs) =
+    elim (nat_eq b s) as (λ v. (first : List ℕ) × (rest : List (List ℕ)) × (cond v ([] ∷ pieces_of s bs) (onto_first b (pieces_of s bs)) ≡ first ∷ rest)) [
+      | true ↦ ([], pieces_of s bs, refl)
+      | false ↦ onto_some b (pieces_of s bs)
+    ]

@@ -6,7 +6,7 @@ use Rattle.av_sigset.specs.declared.fault.SetFaultKind.TheVariants.{Header, Unen
 use Rattle.av_sigset.specs.declared.fault.SetFaultKind.{SetFaultKind}
 use Rattle.av_sigset.specs.Line.{JoinsAs}
 use Rattle.av_sigset.specs.declared.signature.Signature.{Signature}
-use Rattle.av_sigset.proofs.LineLemmas.{pieces_some}
+use Rattle.av_base.proofs.LineLemmas.{pieces_some}
 
 -- line 1 is ended where a line stands below it
 pub header_judged : (line bs : List ℕ) → set_of_lines (line ∷ pieces_of 10 bs) ≡ cond (bytes_eq line (codes "avsig 1")) (set_below (pieces_of 10 bs)) (bad_line 1 Header)

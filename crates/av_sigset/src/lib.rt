@@ -10,6 +10,7 @@
 
 pub mod catalogue;
 pub mod fault;
+pub mod hexadecimal;
 pub mod judge;
 pub mod law;
 pub mod line;

@@ -7,6 +7,7 @@ ghost use Rattle.av_sigset.specs.Judge.{is_name_byte, is_name, signature_of, sig
 ghost use Rattle.av_sigset.specs.Line.{AreWordsOf, SpellsPattern};
 
 use crate::fault::SetFaultKind;
+use crate::hexadecimal::is_hex;
 use av_base::decimal::decimal;
 use av_base::line::first_piece;
 
@@ -108,22 +109,4 @@ fn is_name_byte(byte: u8) -> bool
         || byte == b'.'
         || byte == b'_'
         || byte == b'-'
-}
-
-// Whether a word is pairs of hexadecimal digits.
-fn is_hex(word: &[u8]) -> bool
-    ensures { result ≡ (length word.now % 2 == 0) && list_all is_hex_digit word.now }
-{
-    word.len() % 2 == 0 && are_hex_digits(word)
-}
-
-fn are_hex_digits(word: &[u8]) -> bool
-    ensures { result ≡ list_all is_hex_digit word.now }
-{
-    for byte in word {
-        if !byte.is_ascii_hexdigit() {
-            return false;
-        }
-    }
-    true
 }

@@ -123,7 +123,6 @@ file_away fs (Write t o b) s u of ne = ap if_here (numbered-changed_other _ t u 
 file_away fs (Cut t n) s u of ne = ap if_here (numbered-changed_other _ t u fs (λ e. ne (sym e ∙ of)))
 file_away fs (Remove t) s u of ne = ap if_here (numbered-changed_other _ t u fs (λ e. ne (sym e ∙ of)))
 
-
 -- what a volume has held stays known
 pub remembers : Remembers
 remembers = record {

@@ -1,4 +1,5 @@
-use Rattle.std.proofs.Common.{ℕ, ◌≡◌, ◌≢◌, ◌%◌, ◌==◌, true, false, List, [], ◌∷◌, length, Ok, Err, refl, sym, arith, eqb-true}
+use Rattle.std.proofs.Common.{ℕ, ◌≡◌, ◌≢◌, ◌%◌, ◌==◌, ◌&&◌, inl, inr, true, false, List, [], ◌∷◌, length, Ok, Err, refl, sym, arith, eqb-true}
+use Rattle.std.proofs.lemmas.Bool.Decides.{eqb_tells}
 use Rattle.std.proofs.lemmas.Bool.{true≢false}
 use Rattle.std.proofs.lemmas.List.Sums.{AllPass-from_list_all, list_all-from_AllPass}
 use Rattle.std.specs.List.{list_all}
@@ -34,3 +35,11 @@ is_hex-even (c ∷ cs) some even =
             | false ↦ λ none. refl
           ]) refl
     ]) refl
+
+-- so a word of one byte and more is judged by its digits
+pub is_hex-digits : (word : List ℕ) → (length word == 0) ≡ false → ((length word % 2 == 0) && list_all is_hex_digit word) ≡ is_hex word
+is_hex-digits word some =
+    elim (eqb_tells (length word % 2) 0) [
+      | inl even ↦ rw even.0 (sym (is_hex-even word some even.1))
+      | inr odd ↦ rw odd.0 (sym (is_hex-odd word odd.1))
+    ]

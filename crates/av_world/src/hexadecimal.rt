@@ -1,7 +1,6 @@
-ghost use Rattle.std.specs.Prelude.{◌≡◌, ◌&&◌, ◌||◌, ◌==◌, ◌%◌, not, length, IfOk, map};
+ghost use Rattle.std.specs.Prelude.{◌≡◌, IfOk, map};
 ghost use Rattle.std.specs.Option.{option_copied};
 ghost use Rattle.std.specs.List.{list_all};
-ghost use Rattle.hex.specs.Hex.{is_hex_digit};
 ghost use Rattle.av_base.specs.Line.{rest_of};
 ghost use Rattle.av_world.specs.Grammar.{is_hex, bytes_in, is_content, content_in, pattern_in};
 
@@ -9,6 +8,7 @@ use crate::pattern::Patterns;
 use av_base::byte_list::ByteList;
 use av_sigset::signature::Pattern;
 use av_base::line::first_piece;
+use av_sigset::hexadecimal;
 use hex::FromHexError;
 use std::alloc::{AllocError, Global};
 
@@ -19,21 +19,7 @@ pub fn is_hex(word: &[u8]) -> bool
     if word.is_empty() {
         return false;
     }
-    if word.len() % 2 != 0 {
-        return false;
-    }
-    are_digits(word)
-}
-
-fn are_digits(word: &[u8]) -> bool
-    ensures { result ≡ list_all is_hex_digit word.now }
-{
-    for byte in word {
-        if !byte.is_ascii_hexdigit() {
-            return false;
-        }
-    }
-    true
+    hexadecimal::is_hex(word)
 }
 
 /// Whether each word that is left is such pairs.

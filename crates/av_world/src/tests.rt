@@ -51,16 +51,16 @@ fn a_world_tells_what_each_step_did(rt: HostRuntime) -> Result<(), Fail> {
     let mut world = World::new(alloc, 1, Mode::FailClosed, Limits::greatest());
     assert_eq!(rt; world.judge(b"a"), Err(JudgeFault::NoSuchName));
     let Ok(created) = world.step(alloc, create(alloc)?) else {
-        return Err(Fail);
+        panic!(rt; "it was refused");
     };
     assert_eq!(rt; created, Report::Created { stream: StreamId::new(1) });
     assert_eq!(rt; world.judge(b"a"), Err(JudgeFault::NoSignatures));
     let Ok(published) = world.step(alloc, publish(alloc, 3, b"AB")?) else {
-        return Err(Fail);
+        panic!(rt; "it was refused");
     };
     assert_eq!(rt; published, Report::Published { version: Version::new(3), signatures: 1 });
     let Ok(written) = world.step(alloc, write(alloc, 0, b"xAB")?) else {
-        return Err(Fail);
+        panic!(rt; "it was refused");
     };
     assert_eq!(rt; written, Report::Changed { stream: StreamId::new(1), generation: Generation::new(2), length: 3 });
     assert_eq!(rt;
@@ -81,15 +81,15 @@ fn a_refused_event_is_handed_back_and_joins_no_history(rt: HostRuntime) -> Resul
     let alloc = rt.alloc();
     let mut world = World::new(alloc, 1, Mode::FailOpen, Limits::greatest());
     let Err(unnamed) = world.step(alloc, write(alloc, 0, b"x")?) else {
-        return Err(Fail);
+        panic!(rt; "it was refused");
     };
     assert_eq!(rt; unnamed.why, Refusal::Fault(StepFault::NoSuchName));
     let Event::Write { offset, .. } = unnamed.value else {
-        return Err(Fail);
+        panic!(rt; "it was refused");
     };
     assert_eq!(rt; offset, 0);
     let Err(bad) = world.step(alloc, publish(alloc, 0, b"x")?) else {
-        return Err(Fail);
+        panic!(rt; "it was refused");
     };
     assert_eq!(rt; bad.why, Refusal::Fault(StepFault::BadSet));
     assert_eq!(rt; world.history().len(), 0);
@@ -123,14 +123,14 @@ fn a_script_is_read_and_run(rt: HostRuntime) -> Result<(), Fail> {
     let alloc = rt.alloc();
     let text = b"limit chunk 7\nvolume 9 open\ncreate a\ncut a 1".as_slice();
     let Ok(script) = parse_script(alloc, text) else {
-        return Err(Fail);
+        panic!(rt; "it was refused");
     };
     assert_eq!(rt; script.number(), 9);
     assert_eq!(rt; script.mode(), Mode::FailOpen);
     assert_eq!(rt; script.limits().values().chunk, 7);
     assert_eq!(rt; script.into_commands().len(), 2);
     let bad = match parse_script(alloc, b"volume 1 closed\ncreate") {
-        Ok(_) => return Err(Fail),
+        Ok(_) => panic!(rt; "a bad script was read"),
         Err(why) => why,
     };
     assert_eq!(rt; bad, Refusal::Fault(ScriptFault { line: 2 }));

@@ -1,8 +1,8 @@
 use Rattle.std.proofs.Common.{◌≡◌, drop}
 use Rattle.std.specs.List.{list_all}
 use Rattle.hex.specs.Hex.{is_hex_digit}
-use Rattle.av_world.proofs.hexadecimal.are_digits.Given as goal
+use Rattle.av_sigset.proofs.hexadecimal.are_hex_digits.Given as goal
 
--- what is left decides
+-- the bytes left decide
 abbrev pub invariant-loop-byte : goal.invariant-loop-byte
 invariant-loop-byte l = list_all is_hex_digit (drop l.byte-index l.word) ≡ list_all is_hex_digit l.word

@@ -1,8 +1,0 @@
-use Rattle.std.proofs.Common.{◌≡◌, drop}
-use Rattle.std.specs.List.{list_all}
-use Rattle.hex.specs.Hex.{is_hex_digit}
-use Rattle.av_sigset.proofs.line.are_hex_digits.Given as goal
-
--- the bytes left decide
-abbrev pub invariant-loop-byte : goal.invariant-loop-byte
-invariant-loop-byte l = list_all is_hex_digit (drop l.byte-index l.word) ≡ list_all is_hex_digit l.word
