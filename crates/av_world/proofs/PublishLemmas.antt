@@ -1,11 +1,10 @@
-use Rattle.std.proofs.Common.{ℕ, ◌≡◌, ◌==◌, true, false, cond, List, Option, None, Some, Result, Ok, Err, refl, sym, subst, ap, ◌∙◌}
+use Rattle.std.proofs.Common.{ℕ, ◌≡◌, ◌==◌, true, false, cond, List, None, Some, Result, Ok, Err, refl, sym}
 use Rattle.std.proofs.lemmas.Bool.{true≢false}
 use Rattle.std.specs.Prelude.{IsOk}
 use Rattle.av_sigset.specs.Catalogue.{may_publish}
-use Rattle.av_sigset.specs.Made.{fault_in, fault_of, serial_signatures, set_made, unless_fault}
+use Rattle.av_sigset.specs.Made.{fault_in, serial_signatures, set_made, unless_fault}
 use Rattle.av_sigset.specs.Judge.{bad_line}
 use Rattle.av_sigset.specs.Set.{NumberedSet}
-use Rattle.av_sigset.specs.declared.fault.SetFault.{SetFault}
 use Rattle.av_sigset.specs.declared.fault.SetFaultKind.TheVariants.{Version}
 use Rattle.av_sigset.specs.declared.fault.CatalogueFault.{CatalogueFault}
 use Rattle.av_store.specs.Store.{Store}

@@ -1,4 +1,4 @@
-use Rattle.std.proofs.Common.{ℕ, ◌≡◌, true, false, cond, List, [], ◌∷◌, None, refl, ap, nat_eq}
+use Rattle.std.proofs.Common.{ℕ, ◌≡◌, List, ◌∷◌, None, ap}
 use Rattle.av_base.specs.Line.{pieces_of}
 use Rattle.av_base.proofs.LineLemmas.{pieces_some}
 use Rattle.av_world.specs.Words.{one_word}

@@ -1,5 +1,5 @@
 -- What is written for the text of a script.
-use Rattle.std.specs.Prelude.{ℕ, ◌≡◌, List, Option, Result, Ok, Err}
+use Rattle.std.specs.Prelude.{ℕ, List, Option, Result, Ok, Err}
 use Rattle.std.specs.Io.KnownBytes.{Appends, Keeps}
 use Rattle.av_base.specs.Device.{AppendsPrefix}
 use Rattle.av_world.specs.Script.{ScriptText, script_of}

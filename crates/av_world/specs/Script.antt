@@ -55,12 +55,12 @@ mounted_with n number mode (Err f) ls = bad_at n
 abbrev pub header_from : LimitValues → ℕ → List (List ℕ) → Result ScriptText ScriptFault
 header_from values n [] = bad_at n
 header_from values n (l ∷ ls) = elim (line_of l) [
-    | None ↦ bad_at n
-    | Some Silent ↦ header_from values (n + 1) ls
-    | Some (Limit which value) ↦ header_from (with_field which value values) (n + 1) ls
-    | Some (Volume number mode) ↦ mounted_with n number mode (checked values) ls
-    | Some (Says command) ↦ bad_at n
-  ]
+  | None ↦ bad_at n
+  | Some Silent ↦ header_from values (n + 1) ls
+  | Some (Limit which value) ↦ header_from (with_field which value values) (n + 1) ls
+  | Some (Volume number mode) ↦ mounted_with n number mode (checked values) ls
+  | Some (Says command) ↦ bad_at n
+]
 
 -- the script of a text
 abbrev pub script_of : List ℕ → Result ScriptText ScriptFault

@@ -1,4 +1,4 @@
-use Rattle.std.specs.Prelude.{ℕ, ◌≡◌, Bool, true, false, Option, None, Some, map}
+use Rattle.std.specs.Prelude.{◌≡◌, Bool, true, false, Option, None, Some, map}
 use Rattle.std.specs.Option.{option_copied}
 use Rattle.av_base.specs.Line.{rest_of}
 use Rattle.av_world.specs.declared.statement.Statement.{Statement}

@@ -6,9 +6,14 @@ use av_base::number::Version;
 #[derive(Clone, Debug, Drop)]
 pub enum Event {
     /// A signature set is published under a version.
-    Publish { version: Version, patterns: Patterns },
+    Publish {
+        version: Version,
+        patterns: Patterns,
+    },
     /// A stream is created.
-    Create { name: ByteList },
+    Create {
+        name: ByteList,
+    },
     /// Bytes are written over those of a stream from `offset` on.
     Write {
         name: ByteList,
@@ -16,5 +21,8 @@ pub enum Event {
         bytes: ByteList,
     },
     /// A stream keeps its first `length` bytes alone.
-    Cut { name: ByteList, length: u64 },
+    Cut {
+        name: ByteList,
+        length: u64,
+    },
 }

@@ -119,11 +119,7 @@ fn publish(
     }
 }
 
-fn create(
-    alloc: Global,
-    volume: &mut Volume,
-    name: &[u8],
-) -> Result<Report, Refusal<StepFault>>
+fn create(alloc: Global, volume: &mut Volume, name: &[u8]) -> Result<Report, Refusal<StepFault>>
     ensures { (sets : List NumberedSet) → Takes volume.old sets volume.new sets result (created sets (create_of volume.old name.now)) }
 {
     match volume.create(alloc, name) {
@@ -148,11 +144,7 @@ fn write(
     }
 }
 
-fn cut(
-    volume: &mut Volume,
-    stream: StreamId,
-    length: u64,
-) -> Result<Report, Refusal<StepFault>>
+fn cut(volume: &mut Volume, stream: StreamId, length: u64) -> Result<Report, Refusal<StepFault>>
     ensures { (sets : List NumberedSet) → Takes volume.old sets volume.new sets result (changed sets stream (cut_of volume.old stream length)) }
 {
     match volume.cut(stream, length) {

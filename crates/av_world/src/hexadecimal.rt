@@ -6,9 +6,9 @@ ghost use Rattle.av_world.specs.Grammar.{is_hex, bytes_in, is_content, content_i
 
 use crate::pattern::Patterns;
 use av_base::byte_list::ByteList;
-use av_sigset::signature::Pattern;
 use av_base::line::first_piece;
 use av_sigset::hexadecimal;
+use av_sigset::signature::Pattern;
 use hex::FromHexError;
 use std::alloc::{AllocError, Global};
 

@@ -5,9 +5,14 @@ use av_base::verdict::Verdict;
 #[derive(Clone, Copy, Debug, PartialEq, Eq)]
 pub enum Report {
     /// A set of so many signatures was published.
-    Published { version: Version, signatures: u64 },
+    Published {
+        version: Version,
+        signatures: u64,
+    },
     /// A stream was created, at generation 1.
-    Created { stream: StreamId },
+    Created {
+        stream: StreamId,
+    },
     /// A stream has a new content, of `length` bytes.
     Changed {
         stream: StreamId,

@@ -5,10 +5,10 @@ ghost use Rattle.av_world.specs.Grammar.{line_of, field_named, mode_named, publi
 ghost use Rattle.av_world.specs.Words.{one_word, two_words, three_words};
 ghost use Rattle.av_world.specs.Statement.{Reads, meaning, is_setting, Commands};
 
+use crate::command::Command;
 use crate::event::Event;
 use crate::hexadecimal::{are_hex, content, is_content, patterns};
-use crate::command::Command;
-use crate::words::{one_word, two_words, three_words};
+use crate::words::{one_word, three_words, two_words};
 use av_base::byte_list::ByteList;
 use av_base::decimal::decimal;
 use av_base::limits::LimitField;

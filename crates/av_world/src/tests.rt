@@ -53,23 +53,44 @@ fn a_world_tells_what_each_step_did(rt: HostRuntime) -> Result<(), Fail> {
     let Ok(created) = world.step(alloc, create(alloc)?) else {
         panic!(rt; "it was refused");
     };
-    assert_eq!(rt; created, Report::Created { stream: StreamId::new(1) });
+    assert_eq!(rt;
+        created,
+        Report::Created {
+            stream: StreamId::new(1)
+        }
+    );
     assert_eq!(rt; world.judge(b"a"), Err(JudgeFault::NoSignatures));
     let Ok(published) = world.step(alloc, publish(alloc, 3, b"AB")?) else {
         panic!(rt; "it was refused");
     };
-    assert_eq!(rt; published, Report::Published { version: Version::new(3), signatures: 1 });
+    assert_eq!(rt;
+        published,
+        Report::Published {
+            version: Version::new(3),
+            signatures: 1
+        }
+    );
     let Ok(written) = world.step(alloc, write(alloc, 0, b"xAB")?) else {
         panic!(rt; "it was refused");
     };
-    assert_eq!(rt; written, Report::Changed { stream: StreamId::new(1), generation: Generation::new(2), length: 3 });
+    assert_eq!(rt;
+        written,
+        Report::Changed {
+            stream: StreamId::new(1),
+            generation: Generation::new(2),
+            length: 3
+        }
+    );
     assert_eq!(rt;
         world.judge(b"a"),
         Ok(Judged {
             stream: StreamId::new(1),
             generation: Generation::new(2),
             version: Version::new(3),
-            verdict: Verdict::Infected { index: 0, end_at: 3 },
+            verdict: Verdict::Infected {
+                index: 0,
+                end_at: 3
+            },
         })
     );
     assert_eq!(rt; world.history().len(), 3);
@@ -105,7 +126,13 @@ fn a_run_passes_over_refused_events_alone(rt: HostRuntime) -> Result<(), Fail> {
     events.push(create(alloc)?)?;
     events.push(write(alloc, 1, b"x")?)?;
     events.push(write(alloc, 0, b"x")?)?;
-    let world = World::run(alloc, 1, Mode::FailClosed, Limits::greatest(), events.as_slice());
+    let world = World::run(
+        alloc,
+        1,
+        Mode::FailClosed,
+        Limits::greatest(),
+        events.as_slice(),
+    );
     assert_eq!(rt; world.history().len(), 2);
     world.close();
     Ok(())
@@ -113,7 +140,10 @@ fn a_run_passes_over_refused_events_alone(rt: HostRuntime) -> Result<(), Fail> {
 
 #[test]
 fn a_fault_has_its_word(rt: HostRuntime) -> Result<(), Fail> {
-    assert_eq!(rt; StepFault::Store(StoreFault::GenerationSpent).word(), b"GenerationSpent".as_slice());
+    assert_eq!(rt;
+        StepFault::Store(StoreFault::GenerationSpent).word(),
+        b"GenerationSpent".as_slice()
+    );
     assert_eq!(rt; JudgeFault::NoSignatures.word(), b"NoSignatures".as_slice());
     Ok(())
 }
@@ -137,8 +167,14 @@ fn a_script_is_read_and_run(rt: HostRuntime) -> Result<(), Fail> {
     let mut output = Vec::new(alloc);
     let mut reader = text;
     assert_eq!(rt; run_script(alloc, &mut reader, &mut output, 3), Ok(()));
-    assert_eq!(rt; output.as_slice(), b"boot 1\nstream 1 generation 1\nrefused Hole\n".as_slice());
+    assert_eq!(rt;
+        output.as_slice(),
+        b"boot 1\nstream 1 generation 1\nrefused Hole\n".as_slice()
+    );
     let mut again = text;
-    assert_eq!(rt; run_script(alloc, &mut again, &mut output, 1), Err(RunFault::Read));
+    assert_eq!(rt;
+        run_script(alloc, &mut again, &mut output, 1),
+        Err(RunFault::Read)
+    );
     Ok(())
 }

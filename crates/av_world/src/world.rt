@@ -12,7 +12,6 @@ use crate::fault::{JudgeFault, StepFault};
 use crate::happen::{happen, without_memory};
 use crate::print::print_report;
 use crate::report::{Judged, Report};
-
 use av_base::device::WriteFault;
 use av_base::limits::Limits;
 use av_base::mode::Mode;
@@ -63,11 +62,7 @@ impl World {
 
     /// Lets an event happen, and tells what it did. An event that is refused by its fault, or for memory where it has no
     /// fault, changes nothing and is handed back.
-    pub fn step(
-        &mut self,
-        alloc: Global,
-        event: Event,
-    ) -> Result<Report, Refused<Event, StepFault>>
+    pub fn step(&mut self, alloc: Global, event: Event) -> Result<Report, Refused<Event, StepFault>>
         ensures { Steps self.old self.new event result }
     {
         if self.history.reserve(1).is_err() {
@@ -119,13 +114,7 @@ impl World {
     }
 
     /// Lets events happen in turn to a new world and passes over those that are refused, also those that memory refuses.
-    pub fn run(
-        alloc: Global,
-        number: u64,
-        mode: Mode,
-        limits: Limits,
-        events: &[Event],
-    ) -> World
+    pub fn run(alloc: Global, number: u64, mode: Mode, limits: Limits, events: &[Event]) -> World
         ensures history { Gives (start number mode limits) (reverse events.now) result.history }
         ensures world { result ≡ world_of (start number mode limits) result.history }
     {

@@ -1,4 +1,4 @@
-use Rattle.std.proofs.Common.{rules, [], ◌≡◌, ◌++◌, add-one, ap, sym, ◌∙◌, subst, map, take, drop, suc, get_or}
+use Rattle.std.proofs.Common.{rules, [], add-one, sym, subst, map, drop, suc, get_or}
 use Rattle.std.proofs.KnownBytes.{Appends-trans}
 use Rattle.std.specs.Io.KnownBytes.{Appends}
 use Rattle.av_base.proofs.DeviceLemmas.{prefix_after, prefix_before}

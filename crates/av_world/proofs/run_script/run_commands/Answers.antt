@@ -1,4 +1,4 @@
-use Rattle.std.proofs.Common.{◌≡◌, ◌∷◌, ◌++◌, ap, sym, ◌∙◌, subst, append_assoc}
+use Rattle.std.proofs.Common.{◌≡◌, ◌++◌, ap, sym, ◌∙◌, subst, append_assoc}
 use Rattle.std.proofs.KnownBytes.{Appends-trans}
 use Rattle.av_base.proofs.DeviceLemmas.{prefix_after, prefix_before}
 use Rattle.av_base.specs.Device.{AppendsPrefix}
@@ -8,13 +8,14 @@ use Rattle.av_world.proofs.run_script.run_commands.Goals as goal
 pub commands-preserved : goal.commands-preserved
 commands-preserved g c =
     let done = c.commands.invariant.0 in
-    let line = command_text c.commands.world c.in-Some.command in
-    (done ++ line,
+    let line = command_text c.commands.world c.in-Some.command in (
+      done ++ line,
       Appends-trans _ _ _ done line c.commands.invariant.1 c.in_default-run_command.ensures.ok,
       append_assoc done line (commands_text c.run_command.new.world c.pop_front.new.self.items)
-        ∙ ap (λ w. done ++ (line ++ commands_text w c.pop_front.new.self.items)) c.in_default-run_command.ensures.world
-        ∙ ap (λ cs. done ++ commands_text c.commands.world cs) (sym c.in-Some.ensures.items)
-        ∙ c.commands.invariant.2)
+          ∙ ap (λ w. done ++ (line ++ commands_text w c.pop_front.new.self.items)) c.in_default-run_command.ensures.world
+          ∙ ap (λ cs. done ++ commands_text c.commands.world cs) (sym c.in-Some.ensures.items)
+          ∙ c.commands.invariant.2,
+    )
 
 pub returns-in-Err-clause-err : goal.returns-in-Err-clause-err
 returns-in-Err-clause-err g c =
