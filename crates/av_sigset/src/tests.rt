@@ -92,7 +92,8 @@ fn bare_patterns_are_named_by_their_places(rt: HostRuntime) -> Result<(), Fail> 
 }
 
 fn empty_set(alloc: Global, version: u64) -> Result<SignatureSet, Refusal<SetFault>> {
-    SignatureSet::from_patterns(alloc, Version::new(version), &[])
+    let no_patterns: &[&[u8]] = &[];
+    SignatureSet::from_patterns(alloc, Version::new(version), no_patterns)
 }
 
 #[test]
