@@ -4,7 +4,7 @@
 The script creates 65,536 streams and then spreads writes and cuts over them. Twice the work may cost at most 2.3 times as
 much: the look-ups by name may grow by a logarithm and nothing else. Prints the least time of some rounds for each size, their
 ratios, and the peak of the process's memory beside the bytes that the script makes the volume hold."""
-import os, subprocess, sys, tempfile, time
+import os, subprocess, sys, tempfile
 
 CREATES = 65_536
 SIZE = 1_048_576
@@ -34,14 +34,13 @@ def script(parts):
         at += 1
 
 
-def measure(program, path):
-    with open(path, "rb") as text, open(os.devnull, "wb") as nothing:
-        started = time.perf_counter()
-        child = subprocess.Popen([program, "run", "-"], stdin=text, stdout=nothing)
-        _, status, usage = os.wait4(child.pid, 0)
-        if status != 0:
-            sys.exit(f"avscan ended with status {os.waitstatus_to_exitcode(status)}")
-        return time.perf_counter() - started, usage.ru_maxrss
+def measure(spawn, program, path):
+    """Seconds gone by, and the peak of the process's memory in KiB."""
+    done = subprocess.run([spawn, os.devnull, program, "run", path], stdout=subprocess.PIPE, check=True)
+    gone, _, peak, status = done.stdout.split()
+    if int(status) != 0:
+        sys.exit(f"avscan ended with status {int(status)}")
+    return float(gone) * 1e-9, int(peak)
 
 
 def main():
@@ -49,12 +48,15 @@ def main():
     print(f"load {os.getloadavg()[0]:.2f} on {os.cpu_count()} processors; the least of {ROUNDS} rounds")
     times = []
     with tempfile.TemporaryDirectory() as folder:
+        spawn = os.path.join(folder, "spawn")
+        source = os.path.join(os.path.dirname(os.path.abspath(__file__)), os.pardir, "spawn.c")
+        subprocess.run(["cc", "-O2", "-o", spawn, source], check=True)
         for parts in (4, 2, 1):
             text, held = script(parts)
             path = os.path.join(folder, f"{parts}.avs")
             with open(path, "w") as file:
                 file.write(text)
-            rounds = [measure(program, path) for _ in range(ROUNDS)]
+            rounds = [measure(spawn, program, path) for _ in range(ROUNDS)]
             least, peak = min(r[0] for r in rounds), max(r[1] for r in rounds)
             times.append(least)
             print(f"1/{parts}: {len(text):>9,} bytes, {text.count(chr(10)):>7,} lines: {least * 1000:7.1f} ms, "
