@@ -19,4 +19,6 @@ pub mod mode;
 pub mod number;
 pub mod overwrite;
 pub mod refusal;
+#[cfg(test)]
+mod tests;
 pub mod verdict;
