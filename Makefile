@@ -7,9 +7,11 @@ PREFIX ?= /usr/local
 
 build: kit
 	@echo "building: proving each crate and compiling avscan (some minutes on the first run)"
-	@cd crates/avscan && rt run -- run ../../$(EXAMPLE) > out-of-build.txt 2> build-log.txt \
-	  || { cat build-log.txt; rm -f out-of-build.txt build-log.txt; echo "avscan was not built"; exit 1; }
-	@rm -f crates/avscan/out-of-build.txt crates/avscan/build-log.txt
+	@status=$$(mktemp); \
+	  (cd crates/avscan && rt run -- run "$(CURDIR)/$(EXAMPLE)" > /dev/null; echo $$? > $$status) 2>&1 \
+	    | grep --line-buffered -aE '^rt: |^so far|error|no proof' ; \
+	  built=$$(cat $$status); rm -f $$status; \
+	  [ "$$built" = 0 ] || { echo "make: avscan was not built: the lines above say why" >&2; exit 1; }
 	@echo "built: $(PROGRAM)"
 
 run: build
@@ -18,7 +20,7 @@ run: build
 
 try: kit
 	@echo "trying $(EXAMPLE) without any proof: what this shows is not checked"
-	@cd crates/avscan && rt try -- run ../../$(EXAMPLE)
+	@cd crates/avscan && rt try -- run "$(CURDIR)/$(EXAMPLE)"
 
 test: kit
 	@tests/gate.sh
