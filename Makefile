@@ -9,7 +9,7 @@ build: kit
 	@echo "building: proving each crate and compiling avscan (some minutes on the first run)"
 	@status=$$(mktemp); \
 	  (cd crates/avscan && rt run -- run "$(CURDIR)/$(EXAMPLE)" > /dev/null; echo $$? > $$status) 2>&1 \
-	    | grep --line-buffered -aE '^rt: |^so far|error|no proof' ; \
+	    | grep --line-buffered -aE '^rt: |^so far|: error|error\[|no proof' ; \
 	  built=$$(cat $$status); rm -f $$status; \
 	  [ "$$built" = 0 ] || { echo "make: avscan was not built: the lines above say why" >&2; exit 1; }
 	@echo "built: $(PROGRAM)"
