@@ -1,9 +1,11 @@
 -- What is written for the text of a script.
-use Rattle.std.specs.Prelude.{ℕ, List, Option, Result, Ok, Err}
+use Rattle.std.specs.Prelude.{ℕ, ◌≡◌, ◌<◌, length, List, Option, Result, Ok, Err}
 use Rattle.std.specs.Io.KnownBytes.{Appends, Keeps}
 use Rattle.av_base.specs.Device.{AppendsPrefix}
 use Rattle.av_world.specs.Script.{ScriptText, script_of}
 use Rattle.av_world.specs.Text.{script_text}
+use Rattle.av_world.specs.declared.run_script.RunFault.{RunFault}
+use Rattle.av_world.specs.declared.run_script.RunFault.TheVariants.{BadScript, NoMemory, Read, TooLong, Write}
 use Rattle.av_world.specs.declared.script.ScriptFault.{ScriptFault}
 
 -- the whole output of a script
@@ -21,3 +23,27 @@ PrintsSome old new (Err f) = Keeps old new
 
 abbrev pub PrintsFront : Option (List ℕ) → Option (List ℕ) → List ℕ → Type 0
 PrintsFront old new input = PrintsSome old new (script_of input)
+
+-- a fault that comes once lines may be written: memory was refused, or a write failed
+abbrev pub IsLate : RunFault → Type 0
+IsLate NoMemory = Unit {0}
+IsLate Write = Unit {0}
+IsLate Read = ⊥
+IsLate TooLong = ⊥
+IsLate (BadScript line) = ⊥
+
+-- a script that is too long or bad is told as what it is
+abbrev pub IsTrueOf : RunFault → List ℕ → Type 0
+IsTrueOf (BadScript line) input = script_of input ≡ Err (record { line = line })
+IsTrueOf TooLong input = 1048576 < length input
+IsTrueOf Read input = Unit {0}
+IsTrueOf NoMemory input = Unit {0}
+IsTrueOf Write input = Unit {0}
+
+-- nothing is written of a script that was not read, or is bad
+abbrev pub KeepsEarly : RunFault → Option (List ℕ) → Option (List ℕ) → Type 0
+KeepsEarly Read old new = Keeps old new
+KeepsEarly TooLong old new = Keeps old new
+KeepsEarly (BadScript line) old new = Keeps old new
+KeepsEarly NoMemory old new = Unit {0}
+KeepsEarly Write old new = Unit {0}

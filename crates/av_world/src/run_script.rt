@@ -1,7 +1,7 @@
-ghost use Rattle.std.specs.Prelude.{◌≡◌, is_ok, IfSome, OnOk, OnErr};
+ghost use Rattle.std.specs.Prelude.{◌≡◌, is_ok, IfErr, IfSome, OnOk, OnErr};
 ghost use Rattle.std.specs.Io.KnownBytes.{Appends};
 ghost use Rattle.av_base.specs.Device.{AppendsPrefix};
-ghost use Rattle.av_world.specs.Output.{Prints, PrintsFront};
+ghost use Rattle.av_world.specs.Output.{IsLate, IsTrueOf, KeepsEarly, Prints, PrintsFront};
 ghost use Rattle.av_world.specs.Text.{command_text, command_world, commands_text, script_text, step_text};
 ghost use Rattle.av_world.specs.World.{after, step_of};
 
@@ -50,6 +50,8 @@ pub fn run_script<R: Read, W: Write>(
 ) -> Result<(), RunFault>
     ensures ok { OnOk result (IfSome (R.remaining reader.old) (Prints (W.contents writer.old) (W.contents writer.new))) }
     ensures err { OnErr result (IfSome (R.remaining reader.old) (PrintsFront (W.contents writer.old) (W.contents writer.new))) }
+    ensures fault { IfErr result (λ f. IfSome (R.remaining reader.old) (IsTrueOf f)) }
+    ensures early { IfErr result (λ f. KeepsEarly f (W.contents writer.old) (W.contents writer.new)) }
 {
     let text = match read_whole(alloc, reader, MAX_SCRIPT, turns) {
         Ok(text) => text,
@@ -58,7 +60,10 @@ pub fn run_script<R: Read, W: Write>(
         Err(ReadFault::NoMemory) => return Err(RunFault::NoMemory),
     };
     match parse_script(alloc, &text) {
-        Ok(script) => print_script(alloc, script, writer),
+        Ok(script) => match print_script(alloc, script, writer) {
+            Ok(()) => Ok(()),
+            Err(late) => Err(late),
+        },
         Err(Refusal::Fault(fault)) => Err(RunFault::BadScript { line: fault.line }),
         Err(Refusal::NoMemory) => Err(RunFault::NoMemory),
     }
@@ -68,6 +73,7 @@ pub fn run_script<R: Read, W: Write>(
 fn print_script<W: Write>(alloc: Global, script: Script, writer: &mut W) -> Result<(), RunFault>
     ensures ok { OnOk result (Appends (W.contents writer.old) (W.contents writer.new) (script_text script)) }
     ensures err { OnErr result (AppendsPrefix (W.contents writer.old) (W.contents writer.new) (script_text script)) }
+    ensures late { IfErr result IsLate }
 {
     let world = World::new(alloc, script.number(), script.mode(), script.limits());
     if write_text(writer, b"boot 1\n".as_slice()).is_err() {
@@ -88,6 +94,7 @@ fn run_commands<W: Write>(
 ) -> Result<(), RunFault>
     ensures ok { OnOk result (Appends (W.contents writer.old) (W.contents writer.new) (commands_text world commands.items)) }
     ensures err { OnErr result (AppendsPrefix (W.contents writer.old) (W.contents writer.new) (commands_text world commands.items)) }
+    ensures late { IfErr result IsLate }
 {
     'commands: while let Some(command) = commands.pop_front() {
         if let Err(fault) = run_command(alloc, &mut world, command, writer) {
@@ -110,6 +117,7 @@ fn run_command<W: Write>(
     ensures world { OnOk result (world.new ≡ command_world world.old command) }
     ensures ok { OnOk result (Appends (W.contents writer.old) (W.contents writer.new) (command_text world.old command)) }
     ensures err { OnErr result (AppendsPrefix (W.contents writer.old) (W.contents writer.new) (command_text world.old command)) }
+    ensures late { IfErr result IsLate }
 {
     match command {
         Command::Step(event) => run_step(alloc, world, event, writer),
@@ -130,6 +138,7 @@ fn run_step<W: Write>(
     ensures world { OnOk result (world.new ≡ after world.old event) }
     ensures ok { OnOk result (Appends (W.contents writer.old) (W.contents writer.new) (step_text (step_of world.old event))) }
     ensures err { OnErr result (AppendsPrefix (W.contents writer.old) (W.contents writer.new) (step_text (step_of world.old event))) }
+    ensures late { IfErr result IsLate }
 {
     match world.step(alloc, event) {
         Ok(report) => written(world.print(&report, writer)),
@@ -141,7 +150,8 @@ fn run_step<W: Write>(
 }
 
 fn written(outcome: Result<(), WriteFault>) -> Result<(), RunFault>
-    ensures { is_ok result ≡ is_ok outcome }
+    ensures ok { is_ok result ≡ is_ok outcome }
+    ensures late { IfErr result IsLate }
 {
     match outcome {
         Ok(()) => Ok(()),
