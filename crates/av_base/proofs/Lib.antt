@@ -1,3 +1,4 @@
 pub mod DecimalLemmas
 pub mod DeviceLemmas
 pub mod LineLemmas
+pub mod PartLemmas

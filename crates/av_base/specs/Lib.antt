@@ -5,3 +5,4 @@ pub mod Device
 pub mod Limits
 pub mod Line
 pub mod Overwrite
+pub mod Part

@@ -1,6 +1,6 @@
 //! Whole texts from readers and to writers, which may fail at any byte.
 
-ghost use Rattle.std.specs.Prelude.{◌≡◌, ◌≤◌, ◌<◌, length, IfOk, IfSome, IsErrOf, OnOk, OnErr};
+ghost use Rattle.std.specs.Prelude.{◌≡◌, ◌≢◌, ◌≤◌, ◌<◌, length, take, Err, IfOk, IfSome, IsErrOf, OnOk, OnErr};
 ghost use Rattle.std.specs.Io.KnownBytes.{Appends};
 ghost use Rattle.av_base.specs.Device.{AppendsPrefix};
 
@@ -62,6 +62,36 @@ pub fn read_whole<R: Read>(
             return Err(ReadFault::TooLong);
         }
         bytes.extend_from_slice(&piece[..count])?;
+    }
+    Err(ReadFault::Device)
+}
+
+/// Reads all bytes that a reader has left into the front of a buffer, which can be used again and again, and answers how many
+/// they are. They must be fewer than the buffer holds, since only a read behind the last byte finds the end. Otherwise as
+/// [`read_whole`], without memory.
+pub fn read_into<R: Read>(
+    reader: &mut R,
+    buffer: &mut [u8],
+    turns: u64,
+) -> Result<usize, ReadFault>
+    ensures whole { IfOk result (λ count. IfSome (R.remaining reader.old) (λ input. take count buffer.new ≡ input)) }
+    ensures short { IfOk result (λ count. count < length buffer.new) }
+    ensures size { length buffer.new ≡ length buffer.old }
+    ensures long { IsErrOf result ReadFault.TooLong → IfSome (R.remaining reader.old) (λ input. length buffer.old ≤ length input) }
+    ensures memory { result ≢ Err ReadFault.NoMemory }
+{
+    let mut count = 0;
+    'reads: for _ in 0..turns {
+        if count == buffer.len() {
+            return Err(ReadFault::TooLong);
+        }
+        let Ok(more) = reader.read(&mut buffer[count..]) else {
+            return Err(ReadFault::Device);
+        };
+        if more == 0 {
+            return Ok(count);
+        }
+        count += more;
     }
     Err(ReadFault::Device)
 }

@@ -18,6 +18,7 @@ pub mod message_id;
 pub mod mode;
 pub mod number;
 pub mod overwrite;
+pub mod parts;
 pub mod refusal;
 #[cfg(test)]
 mod tests;

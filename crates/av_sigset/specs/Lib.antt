@@ -1,4 +1,5 @@
 pub mod Catalogue
+pub mod Fault
 pub mod File
 pub mod Judge
 pub mod Line

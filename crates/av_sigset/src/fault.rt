@@ -1,40 +1,42 @@
 ghost use Rattle.std.specs.Prelude.{◌≡◌};
+ghost use Rattle.av_sigset.specs.Fault.{number_of};
 
 use thiserror::Error;
 
 /// What is wrong with a signature file, each kind under its number. docs/FORMATS.md has the order in which a line is judged.
-#[derive(Clone, Copy, Debug, PartialEq, Eq, Error)]
+#[derive(Clone, Copy, Debug, PartialEq, Eq)]
 pub enum SetFaultKind {
     /// Line 1 isn't `avsig 1`.
-    #[error("1")]
-    Header,
+    Header = 1,
     /// Line 2 isn't `version` and a decimal number from 1 to 2^64 - 1.
-    #[error("2")]
-    Version,
+    Version = 2,
     /// What stands before the first space isn't a name, or there is no space.
-    #[error("3")]
-    Name,
+    Name = 3,
     /// What stands behind the space isn't pairs of hexadecimal digits.
-    #[error("4")]
-    Hex,
+    Hex = 4,
     /// The pattern has no byte, or more than 64.
-    #[error("5")]
-    Length,
+    Length = 5,
     /// The name stood before.
-    #[error("6")]
-    Duplicate,
+    Duplicate = 6,
     /// It is signature 1,025, or the patterns have more than 16,384 bytes in all.
-    #[error("7")]
-    TooMany,
+    TooMany = 7,
     /// No LF ends the line, or line 1 or 2 is missing.
-    #[error("8")]
-    Unended,
+    Unended = 8,
+}
+
+impl SetFaultKind {
+    /// The number by which fault lines name the kind, from 1 to 8.
+    pub fn number(self) -> u8
+        ensures { result ≡ number_of self }
+    {
+        self as u8
+    }
 }
 
 /// The first bad line of a signature file, counted from 1, and what is wrong with it. Of a set that is made from bare
 /// patterns it is the line that the pattern would have in a file: signature i stands on line i + 3.
 #[derive(Clone, Copy, Debug, PartialEq, Eq, Error)]
-#[error("set line {line}: kind {kind}")]
+#[error("set line {line}: kind {}", .kind.number())]
 pub struct SetFault {
     pub line: u64,
     pub kind: SetFaultKind,

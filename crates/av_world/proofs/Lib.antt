@@ -2,6 +2,5 @@ pub mod HexLemmas
 pub mod PastLemmas
 pub mod PublishLemmas
 pub mod ScriptLemmas
-pub mod TextLemmas
 pub mod WordLemmas
 pub mod WorldLemmas

@@ -1,7 +1,6 @@
 pub mod Grammar
 pub mod Judge
 pub mod Output
-pub mod Part
 pub mod Past
 pub mod Script
 pub mod Statement

@@ -1,5 +1,6 @@
 -- The lines that a script prints, apart from any way to print them.
 use Rattle.std.specs.Prelude.{ℕ, List, [], ◌∷◌, ◌++◌, Result, Ok, Err, codes, decimal}
+use Rattle.av_base.specs.Part.{spelt}
 use Rattle.av_base.specs.declared.verdict.Verdict.{Verdict}
 use Rattle.av_base.specs.declared.verdict.Verdict.TheVariants.{Clean, Infected}
 use Rattle.av_sigset.specs.declared.fault.CatalogueFault.TheVariants.{OldVersion, CatalogueFull}
@@ -16,11 +17,6 @@ use Rattle.av_world.specs.declared.report.Judged.{Judged}
 use Rattle.av_world.specs.Judge.{judged_of}
 use Rattle.av_world.specs.Script.{ScriptText}
 use Rattle.av_world.specs.World.{WorldState, start, step_of, after}
-
--- texts one behind the other
-abbrev pub spelt : List (List ℕ) → List ℕ
-spelt [] = []
-spelt (t ∷ ts) = t ++ spelt ts
 
 -- the word for a refused step
 abbrev pub word_of : StepFault → List ℕ

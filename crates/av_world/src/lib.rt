@@ -13,7 +13,6 @@ pub mod event;
 pub mod fault;
 mod happen;
 mod hexadecimal;
-pub mod parts;
 pub mod pattern;
 mod print;
 pub mod report;

@@ -3,9 +3,9 @@ ghost use Rattle.std.specs.Io.KnownBytes.{Appends};
 ghost use Rattle.av_base.specs.Device.{AppendsPrefix};
 ghost use Rattle.av_world.specs.Text.{judged_text, refused_text, report_text};
 
-use crate::parts::{Part, write_parts};
 use crate::report::{Judged, Report};
 use av_base::device::WriteFault;
+use av_base::parts::{Part, write_parts};
 use av_base::verdict::Verdict;
 use std::io::Write;
 

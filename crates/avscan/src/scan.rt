@@ -1,33 +1,25 @@
-ghost use Rattle.std.specs.Prelude.{◌≡◌, ◌≢◌, map, Some, IfErr, IfOk, OnOk};
+ghost use Rattle.std.specs.Prelude.{◌≡◌, ◌≢◌, map, IfErr, IfOk, OnOk};
 ghost use Rattle.std.specs.Option.{option_copied};
 ghost use Rattle.std.specs.Io.KnownBytes.{Appends};
-ghost use Rattle.av_match.specs.Match.{verdict};
-ghost use Rattle.av_sigset.specs.Set.{patterns_of};
-ghost use Rattle.av_world.specs.Text.{spelt};
-ghost use Rattle.avscan.specs.Scan.{Scans, SpellsSet, file_text, verdict_text};
+ghost use Rattle.av_base.specs.Part.{spelt};
+ghost use Rattle.avscan.specs.Scan.{Scans, file_text, line_of, verdict_text};
 ghost use Rattle.avscan.specs.declared.status.Status.TheVariants.{Done};
 
-use crate::run::{device_failed, out_of_memory, say, unreadable};
+use crate::faults::{device_failed, out_of_memory};
+use crate::scanner::{Input, Scanner};
 use crate::status::Status;
 use av_base::device::WriteFault;
-use av_base::refusal::Refusal;
+use av_base::parts::{Part, write_parts};
 use av_base::verdict::Verdict;
-use av_match::automaton::Automaton;
-use av_match::scan::Scan;
-use av_sigset::fault::SetFault;
 use av_sigset::set::SignatureSet;
-use av_world::parts::{Part, write_parts};
 use std::alloc::Global;
 use std::io::Write;
 
-/// The most bytes of a signature file, and of a file that is scanned.
-pub const MAX_FILE: usize = 1_048_576;
-
-/// A file: the name under which it was asked for, and its content, where it could be read.
+/// A file that was scanned: its name and the verdict of its content.
 #[derive(Clone, Copy)]
-pub struct Input<'a> {
+pub struct Scanned<'a> {
     pub name: &'a str,
-    pub content: Option<&'a [u8]>,
+    pub verdict: Verdict,
 }
 
 /// Scans files under the set of a signature file and writes a line for each, in the order given. The set and then each file is
@@ -41,113 +33,71 @@ pub fn scan_files<W: Write, E: Write>(
 ) -> Status
     ensures { result ≡ Done → Scans (option_copied set.entry.content) files.now (W.contents out.old) (W.contents out.new) }
 {
-    let set = match read_set(alloc, set, err) {
-        Ok(set) => set,
+    let scanner = match Scanner::read(alloc, set, err) {
+        Ok(scanner) => scanner,
         Err(status) => return status,
     };
+    match verdicts_of(alloc, &scanner, files, err) {
+        Ok(scanned) => print_scanned(&scanner, scanned.as_slice(), out, err),
+        Err(status) => status,
+    }
+}
+
+// The files with their verdicts, in the order given.
+fn verdicts_of<'a, E: Write>(
+    alloc: Global,
+    scanner: &Scanner,
+    files: &[Input<'a>],
+    err: &mut E,
+) -> Result<Vec<Scanned<'a>>, Status>
+    ensures scanned { IfOk result (λ scanned. map (line_of scanner.now) scanned.items ≡ map (file_text scanner.now) files.now) }
+    ensures status { IfErr result (λ status. status ≢ Done) }
+{
+    let Ok(mut scanned) = Vec::with_capacity(alloc, files.len()) else {
+        return Err(out_of_memory(err));
+    };
     for file in files {
-        if let Err(status) = fitting(*file, err) {
-            return status;
+        let verdict = scanner.scan(*file, err)?;
+        let one = Scanned {
+            name: file.name,
+            verdict,
+        };
+        if scanned.push(one).is_err() {
+            return Err(out_of_memory(err));
         }
     }
-    let Ok(automaton) = Automaton::build(alloc, &set) else {
-        return out_of_memory(err);
-    };
-    if print_verdicts(&set, &automaton, files, out).is_err() || out.flush().is_err() {
+    Ok(scanned)
+}
+
+/// Writes the lines of files that were scanned, and leaves none in a buffer.
+pub fn print_scanned<W: Write, E: Write>(
+    scanner: &Scanner,
+    scanned: &[Scanned<'_>],
+    out: &mut W,
+    err: &mut E,
+) -> Status
+    ensures { result ≡ Done → Appends (W.contents out.old) (W.contents out.new) (spelt (map (line_of scanner.now) scanned.now)) }
+{
+    if print_lines(scanner.set(), scanned, out).is_err() || out.flush().is_err() {
         return device_failed(err);
     }
     Status::Done
 }
 
-// The set of a signature file.
-fn read_set<E: Write>(alloc: Global, file: Input<'_>, err: &mut E) -> Result<SignatureSet, Status>
-    ensures set { IfOk result (SpellsSet (option_copied file.entry.content)) }
-    ensures status { IfErr result (λ status. status ≢ Done) }
-{
-    let content = fitting(file, err)?;
-    match SignatureSet::read(alloc, content) {
-        Ok(set) => Ok(set),
-        Err(Refusal::Fault(fault)) => Err(bad_set(alloc, fault, err)),
-        Err(Refusal::NoMemory) => Err(out_of_memory(err)),
-    }
-}
-
-// The content of a file, where it was read and is not too large.
-fn fitting<'a, E: Write>(file: Input<'a>, err: &mut E) -> Result<&'a [u8], Status>
-    ensures content { IfOk result (λ content. option_copied file.entry.content ≡ Some content.now) }
-    ensures status { IfErr result (λ status. status ≢ Done) }
-{
-    let Some(content) = file.content else {
-        return Err(unreadable(err, file.name));
-    };
-    if content.len() > MAX_FILE {
-        say(
-            err,
-            &[
-                b"avscan: ".as_slice(),
-                file.name.as_bytes(),
-                b": TooLarge\n".as_slice(),
-            ],
-        );
-        return Err(Status::Refused);
-    }
-    Ok(content)
-}
-
-// Says on one line which line of a signature file is bad.
-fn bad_set<E: Write>(alloc: Global, fault: SetFault, err: &mut E) -> Status
-    ensures { result ≢ Done }
-{
-    let Ok(text) = format!(in alloc; "avscan: {fault}\n") else {
-        return out_of_memory(err);
-    };
-    say(err, &[text.as_bytes()]);
-    Status::Refused
-}
-
-// Writes a line for each file.
-fn print_verdicts<W: Write>(
+fn print_lines<W: Write>(
     set: &SignatureSet,
-    automaton: &Automaton,
-    files: &[Input<'_>],
+    scanned: &[Scanned<'_>],
     out: &mut W,
 ) -> Result<(), WriteFault>
-    requires { automaton.now ≡ record { version = set.now.version; patterns = patterns_of set.now.signatures } }
-    ensures { OnOk result (Appends (W.contents out.old) (W.contents out.new) (spelt (map (file_text set.now) files.now))) }
+    ensures { OnOk result (Appends (W.contents out.old) (W.contents out.new) (spelt (map (line_of set.now) scanned.now))) }
 {
-    for file in files {
-        match print_file(set, automaton, *file, out) {
+    for file in scanned {
+        match print_verdict(set, file.name, file.verdict, out) {
             Ok(()) => {}
             Err(_) => return Err(WriteFault),
         }
     }
     Ok(())
-}
-
-// Writes the line of a file, where it was read.
-fn print_file<W: Write>(
-    set: &SignatureSet,
-    automaton: &Automaton,
-    file: Input<'_>,
-    out: &mut W,
-) -> Result<(), WriteFault>
-    requires { automaton.now ≡ record { version = set.now.version; patterns = patterns_of set.now.signatures } }
-    ensures { OnOk result (Appends (W.contents out.old) (W.contents out.new) (file_text set.now file.entry)) }
-{
-    match file.content {
-        Some(content) => print_verdict(set, file.name, judge(set, automaton, content), out),
-        None => Ok(()),
-    }
-}
-
-// The verdict of a content, in one pass.
-fn judge(set: &SignatureSet, automaton: &Automaton, content: &[u8]) -> Verdict
-    requires { automaton.now ≡ record { version = set.now.version; patterns = patterns_of set.now.signatures } }
-    ensures { result ≡ verdict (patterns_of set.now.signatures) content.now }
-{
-    let mut scan = Scan::start(set.version(), content.len() as u64);
-    let _ = scan.feed(automaton, content);
-    scan.end()
 }
 
 // Writes the line of a verdict.

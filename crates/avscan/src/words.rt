@@ -1,10 +1,11 @@
-use crate::run::out_of_memory;
+use crate::faults::{device_failed, out_of_memory};
 use crate::status::Status;
 use av_base::device::write_text;
 use clap::error::ErrorKind;
 use clap::{Arg, ArgAction, Command, Error};
-use std::alloc::Global;
+use std::alloc::{AllocError, Global};
 use std::convert::AsStr;
+use std::env::{Env, FillError};
 use std::io::Write;
 
 /// What the words of the command line ask for.
@@ -31,6 +32,26 @@ pub fn read_words<'a, S: AsStr, W: Write, E: Write>(
         Ok(request) => Ok(request),
         Err(error) => Err(told(alloc, &error, out, err)),
     }
+}
+
+// The most bytes of a word: what Linux hands to a program, the byte behind its end included.
+const MAX_WORD: usize = 131_072;
+
+/// The first word of the command line that is not UTF-8, counted from 1 behind the program's name.
+pub fn first_bad_word<R: Env>(rt: &R, alloc: Global) -> Result<Option<u64>, AllocError> {
+    let mut word = vec![in alloc; 0u8; MAX_WORD]?;
+    for i in 1..usize::MAX {
+        match rt.arg(i, &mut word) {
+            Ok(length) => {
+                if str::from_utf8(&word[..length]).is_err() {
+                    return Ok(Some(i as u64));
+                }
+            }
+            Err(FillError::TooLong) => {}
+            Err(FillError::NotPresent) => break,
+        }
+    }
+    Ok(None)
 }
 
 // What the words ask for.
@@ -121,8 +142,7 @@ fn told<W: Write, E: Write>(alloc: Global, error: &Error, out: &mut W, err: &mut
         return Status::Usage;
     }
     if write_text(out, text.as_bytes()).is_err() || out.flush().is_err() {
-        let _ = write_text(err, b"avscan: device\n".as_slice());
-        return Status::Device;
+        return device_failed(err);
     }
     Status::Done
 }

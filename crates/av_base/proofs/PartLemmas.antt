@@ -1,5 +1,5 @@
 use Rattle.std.proofs.Common.{ℕ, zero, suc, ◌≡◌, ◌<◌, ◌++◌, List, [], ◌∷◌, length, map, take, drop, get_or, refl, sym, ap, ◌∙◌, append_assoc, append-nil, arith}
-use Rattle.av_world.specs.Text.{spelt}
+use Rattle.av_base.specs.Part.{spelt}
 
 -- one part more
 pub spelt_next : {A : Type 0} (f : A → List ℕ) (ps : List A) (i : ℕ) (d : A) → i < length ps → spelt (map f (take (suc i) ps)) ≡ spelt (map f (take i ps)) ++ f (get_or ps i d)

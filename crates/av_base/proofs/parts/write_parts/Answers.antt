@@ -3,12 +3,11 @@ use Rattle.std.proofs.KnownBytes.{Appends-trans}
 use Rattle.std.specs.Io.KnownBytes.{Appends}
 use Rattle.av_base.proofs.DeviceLemmas.{prefix_after, prefix_before}
 use Rattle.av_base.specs.Device.{AppendsPrefix}
-use Rattle.av_world.specs.declared.parts.Part.TheVariants.{Text}
-use Rattle.av_world.specs.declared.parts.Part.{Part}
-use Rattle.av_world.specs.Part.{part_text}
-use Rattle.av_world.specs.Text.{spelt}
-use Rattle.av_world.proofs.TextLemmas.{spelt_around, spelt_next}
-use Rattle.av_world.proofs.parts.write_parts.Goals as goal
+use Rattle.av_base.specs.declared.parts.Part.TheVariants.{Text}
+use Rattle.av_base.specs.declared.parts.Part.{Part}
+use Rattle.av_base.specs.Part.{part_text, spelt}
+use Rattle.av_base.proofs.PartLemmas.{spelt_around, spelt_next}
+use Rattle.av_base.proofs.parts.write_parts.Goals as goal
 
 -- what a list of parts has past its end
 abbrev nothing : Part

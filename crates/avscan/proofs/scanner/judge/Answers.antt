@@ -1,7 +1,7 @@
 use Rattle.std.proofs.Common.{[], arith, length, subst, sym}
 use Rattle.av_match.specs.Scanning.{AreSolid, Compiled, IsScan}
 use Rattle.av_sigset.specs.Set.{patterns_of}
-use Rattle.avscan.proofs.scan.judge.Goals as goal
+use Rattle.avscan.proofs.scanner.judge.Goals as goal
 
 pub returns : goal.returns
 returns c =

@@ -1,8 +1,7 @@
 use Rattle.std.proofs.Common.{map, take}
 use Rattle.std.specs.Io.KnownBytes.{Appends}
-use Rattle.av_world.specs.Part.{part_text}
-use Rattle.av_world.specs.Text.{spelt}
-use Rattle.av_world.proofs.parts.write_parts.Given as goal
+use Rattle.av_base.specs.Part.{part_text, spelt}
+use Rattle.av_base.proofs.parts.write_parts.Given as goal
 
 -- the parts so far were written
 abbrev pub invariant-loop-part : goal.invariant-loop-part

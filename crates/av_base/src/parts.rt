@@ -1,10 +1,11 @@
+//! Lines made of parts: text and numbers.
+
 ghost use Rattle.std.specs.Prelude.{◌≡◌, map, OnOk, OnErr};
 ghost use Rattle.std.specs.Io.KnownBytes.{Appends};
 ghost use Rattle.av_base.specs.Device.{AppendsPrefix};
-ghost use Rattle.av_world.specs.Part.{part_text};
-ghost use Rattle.av_world.specs.Text.{spelt};
+ghost use Rattle.av_base.specs.Part.{part_text, spelt};
 
-use av_base::device::{WriteFault, write_text};
+use crate::device::{WriteFault, write_text};
 use itoa::Buffer;
 use std::io::Write;
 

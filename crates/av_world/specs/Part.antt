@@ -1,7 +1,0 @@
-use Rattle.std.specs.Prelude.{ℕ, List, decimal}
-use Rattle.av_world.specs.declared.parts.Part.{Part}
-use Rattle.av_world.specs.declared.parts.Part.TheVariants.{Text, Number}
-
-abbrev pub part_text : Part → List ℕ
-part_text (Text text) = text.now
-part_text (Number n) = decimal n
