@@ -69,11 +69,7 @@ pub fn read_whole<R: Read>(
 /// Reads all bytes that a reader has left into the front of a buffer, which can be used again and again, and answers how many
 /// they are. They must be fewer than the buffer holds, since only a read behind the last byte finds the end. Otherwise as
 /// [`read_whole`], without memory.
-pub fn read_into<R: Read>(
-    reader: &mut R,
-    buffer: &mut [u8],
-    turns: u64,
-) -> Result<usize, ReadFault>
+pub fn read_into<R: Read>(reader: &mut R, buffer: &mut [u8], turns: u64) -> Result<usize, ReadFault>
     ensures whole { IfOk result (λ count. IfSome (R.remaining reader.old) (λ input. take count buffer.new ≡ input)) }
     ensures short { IfOk result (λ count. count < length buffer.new) }
     ensures size { length buffer.new ≡ length buffer.old }
