@@ -21,6 +21,10 @@ count() { # the last line of a step, as counted by its own
 }
 echo "gate: values that must be spent"
 if tests/must-be-spent.sh; then count "1 passed, 0 failed"; else count "0 passed, 1 failed"; fi
+echo "gate: refused memory"
+refusals=$(tests/refused-memory.sh av_service)
+echo "$refusals"
+count "$(echo "$refusals" | tail -n 1)"
 echo "gate: the cases of tests/ on the built program"
 cases=$(tests/run.py crates/avscan/out/avscan tests/scripts tests/words tests/scan)
 echo "$cases"

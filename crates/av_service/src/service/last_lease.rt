@@ -1,0 +1,55 @@
+// The count of leases at its end.
+use crate::service::Service;
+use crate::tests::steps::{Stand, Step, discard_all};
+use crate::work::Work;
+use av_base::limits::LimitField;
+use av_base::number::Lease;
+use std::alloc::Global;
+use std::collections::VecDeque;
+use std::test::Fail;
+
+#[test]
+fn no_work_is_lent_behind_the_last_lease(rt: HostRuntime) -> Result<(), Fail> {
+    let mut works = VecDeque::new(rt.alloc());
+    let first_bad = run_out(rt.alloc(), &mut works);
+    discard_all(works);
+    assert_eq!(rt; first_bad?, None);
+    Ok(())
+}
+
+// The place of the first step that is answered otherwise, with one lease left behind the second step.
+fn run_out(alloc: Global, works: &mut VecDeque<Work>) -> Result<Option<usize>, Fail> {
+    let mut stand = Stand::new(alloc, (LimitField::Chunk, 1))?;
+    let steps = [
+        (Step::Publish(1, b"AB"), ""),
+        (Step::Connect, "hello volume 1 version 1"),
+        (Step::Scan(1, 1, 2), "read 1.1 offset 0 count 1"),
+        (
+            Step::Chunk(1, 0, b"A"),
+            "lease 18446744073709551615 1.1 version 1",
+        ),
+        (Step::Finish, "read 1.1 offset 1 count 1"),
+        (Step::Chunk(1, 1, b"B"), "note Ignored"),
+        (Step::Chunk(1, 1, b"BC"), "note Ignored"),
+        (Step::Restart, ""),
+        (Step::Connect, "hello volume 1 version 1"),
+        (Step::Scan(2, 1, 2), "read 1.2 offset 0 count 1"),
+        (Step::Chunk(2, 0, b"A"), "note Ignored"),
+        (Step::Scan(3, 3, 0), "reply 1.3 version 1 clean"),
+        (Step::Abort(2), ""),
+    ];
+    for (i, (step, want)) in steps.iter().enumerate() {
+        if i == 2 {
+            leave_one_lease(&mut stand.service);
+        }
+        let said = stand.answer(alloc, works, *step)?;
+        if said.as_str() != *want {
+            return Ok(Some(i));
+        }
+    }
+    Ok(None)
+}
+
+fn leave_one_lease(service: &mut Service) {
+    service.last_lease = Lease::new(u64::MAX - 1);
+}

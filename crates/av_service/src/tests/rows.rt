@@ -1,0 +1,286 @@
+// Whole courses of events, with what a service says at each, as scripts print it.
+use crate::tests::steps::{Stand, Step, discard_all};
+use crate::work::Work;
+use av_base::limits::LimitField;
+use std::alloc::Global;
+use std::collections::VecDeque;
+use std::test::Fail;
+
+// A limit, and what a service says at each step.
+struct Row<'a> {
+    name: &'a str,
+    limit: (LimitField, u64),
+    steps: &'a [(Step<'a>, &'a str)],
+}
+
+const FULL: (LimitField, u64) = (LimitField::Chunk, 4096);
+
+const ROWS: [Row<'static>; 14] = [
+    Row {
+        name: "a content that was judged is answered by the cache, until a restart",
+        limit: FULL,
+        steps: &[
+            (Step::Publish(1, b"XX"), ""),
+            (Step::Connect, "hello volume 1 version 1"),
+            (Step::Scan(1, 1, 3), "read 1.1 offset 0 count 3"),
+            (Step::Chunk(1, 0, b"ABC"), "lease 1 1.1 version 1"),
+            (Step::Finish, "reply 1.1 version 1 clean"),
+            (Step::Scan(2, 1, 3), "reply 1.2 version 1 clean"),
+            (Step::Disconnect, ""),
+            (Step::Connect, "hello volume 1 version 1"),
+            (Step::Scan(3, 1, 3), "reply 1.3 version 1 clean"),
+            (Step::Restart, ""),
+            (Step::Scan(4, 1, 3), "note Ignored"),
+            (Step::Connect, "hello volume 1 version 1"),
+            (Step::Scan(4, 1, 3), "read 1.4 offset 0 count 3"),
+        ],
+    },
+    Row {
+        name: "a pattern over three chunks is found in the last",
+        limit: (LimitField::Chunk, 1),
+        steps: &[
+            (Step::Publish(1, b"ABC"), ""),
+            (Step::Connect, "hello volume 1 version 1"),
+            (Step::Scan(1, 1, 3), "read 1.1 offset 0 count 1"),
+            (Step::Chunk(1, 0, b"A"), "lease 1 1.1 version 1"),
+            (Step::Finish, "read 1.1 offset 1 count 1"),
+            (Step::Chunk(1, 1, b"B"), "lease 2 1.1 version 1"),
+            (Step::Finish, "read 1.1 offset 2 count 1"),
+            (Step::Chunk(1, 2, b"C"), "lease 3 1.1 version 1"),
+            (Step::Finish, "reply 1.1 version 1 infected 0 end 3"),
+        ],
+    },
+    Row {
+        name: "an abort that comes behind the reply finds no job",
+        limit: FULL,
+        steps: &[
+            (Step::Publish(1, b"XX"), ""),
+            (Step::Connect, "hello volume 1 version 1"),
+            (Step::Scan(1, 1, 3), "read 1.1 offset 0 count 3"),
+            (Step::Chunk(1, 0, b"ABC"), "lease 1 1.1 version 1"),
+            (Step::Finish, "reply 1.1 version 1 clean"),
+            (Step::Abort(1), "note Ignored"),
+            (Step::NoChunk(1), "note Ignored"),
+            (Step::Chunk(1, 0, b"ABC"), "note Ignored"),
+        ],
+    },
+    Row {
+        name: "behind a publication a content is judged again",
+        limit: FULL,
+        steps: &[
+            (Step::Publish(1, b"XX"), ""),
+            (Step::Connect, "hello volume 1 version 1"),
+            (Step::Scan(1, 1, 3), "read 1.1 offset 0 count 3"),
+            (Step::Chunk(1, 0, b"ABC"), "lease 1 1.1 version 1"),
+            (Step::Finish, "reply 1.1 version 1 clean"),
+            (Step::Publish(2, b"XX"), "updated 2"),
+            (Step::Scan(2, 1, 3), "read 1.2 offset 0 count 3"),
+            (Step::Chunk(2, 0, b"ABC"), "lease 2 1.2 version 2"),
+            (Step::Finish, "reply 1.2 version 2 clean"),
+        ],
+    },
+    Row {
+        name: "work that was lent before a publication is an orphan",
+        limit: FULL,
+        steps: &[
+            (Step::Publish(1, b"XX"), ""),
+            (Step::Connect, "hello volume 1 version 1"),
+            (Step::Scan(1, 1, 3), "read 1.1 offset 0 count 3"),
+            (Step::Chunk(1, 0, b"ABC"), "lease 1 1.1 version 1"),
+            (
+                Step::Publish(2, b"AB"),
+                "updated 2, read 1.1 offset 0 count 3",
+            ),
+            (Step::Finish, "note Orphan"),
+            (Step::Chunk(1, 0, b"ABC"), "lease 2 1.1 version 2"),
+            (Step::Finish, "reply 1.1 version 2 infected 0 end 2"),
+        ],
+    },
+    Row {
+        name: "a late work does not finish the job of its id",
+        limit: FULL,
+        steps: &[
+            (Step::Publish(1, b"XX"), ""),
+            (Step::Connect, "hello volume 1 version 1"),
+            (Step::Scan(1, 1, 3), "read 1.1 offset 0 count 3"),
+            (Step::Chunk(1, 0, b"ABC"), "lease 1 1.1 version 1"),
+            (
+                Step::Publish(2, b"AB"),
+                "updated 2, read 1.1 offset 0 count 3",
+            ),
+            (Step::Chunk(1, 0, b"ABC"), "lease 2 1.1 version 2"),
+            (Step::Finish, "note Orphan"),
+            (Step::Finish, "reply 1.1 version 2 infected 0 end 2"),
+        ],
+    },
+    Row {
+        name: "work of a job that was dropped does not finish the next of its id",
+        limit: FULL,
+        steps: &[
+            (Step::Publish(1, b"AB"), ""),
+            (Step::Connect, "hello volume 1 version 1"),
+            (Step::Scan(1, 1, 3), "read 1.1 offset 0 count 3"),
+            (Step::Chunk(1, 0, b"ABC"), "lease 1 1.1 version 1"),
+            (Step::Abort(1), ""),
+            (Step::Scan(1, 2, 3), "read 1.1 offset 0 count 3"),
+            (Step::Chunk(1, 0, b"XYZ"), "lease 2 1.1 version 1"),
+            (Step::Finish, "note Orphan"),
+            (Step::Finish, "reply 1.1 version 1 clean"),
+        ],
+    },
+    Row {
+        name: "a disconnection drops the jobs, and what was lent comes back as an orphan",
+        limit: FULL,
+        steps: &[
+            (Step::Publish(1, b"XX"), ""),
+            (Step::Connect, "hello volume 1 version 1"),
+            (Step::Scan(1, 1, 3), "read 1.1 offset 0 count 3"),
+            (Step::Chunk(1, 0, b"ABC"), "lease 1 1.1 version 1"),
+            (Step::Disconnect, ""),
+            (Step::Finish, "note Orphan"),
+            (Step::Abort(1), "note Ignored"),
+            (Step::Publish(2, b"XX"), ""),
+            (Step::Disconnect, ""),
+            (Step::Connect, "hello volume 1 version 2"),
+            (Step::Scan(1, 1, 3), "read 1.1 offset 0 count 3"),
+        ],
+    },
+    Row {
+        name: "a restart keeps the count of leases and drops what was lent",
+        limit: FULL,
+        steps: &[
+            (Step::Publish(1, b"XX"), ""),
+            (Step::Connect, "hello volume 1 version 1"),
+            (Step::Scan(1, 1, 3), "read 1.1 offset 0 count 3"),
+            (Step::Chunk(1, 0, b"ABC"), "lease 1 1.1 version 1"),
+            (Step::Restart, ""),
+            (Step::Connect, "hello volume 1 version 1"),
+            (Step::Scan(1, 1, 3), "read 1.1 offset 0 count 3"),
+            (Step::Chunk(1, 0, b"ABC"), "lease 2 1.1 version 1"),
+            (Step::Finish, "note Orphan"),
+            (Step::Finish, "reply 1.1 version 1 clean"),
+        ],
+    },
+    Row {
+        name: "an abort may overtake its scan, and scans and chunks may come twice",
+        limit: FULL,
+        steps: &[
+            (Step::Publish(1, b"XX"), ""),
+            (Step::Connect, "hello volume 1 version 1"),
+            (Step::Abort(1), "note Ignored"),
+            (Step::Scan(1, 1, 3), "read 1.1 offset 0 count 3"),
+            (Step::NoChunk(1), ""),
+            (Step::Scan(1, 1, 3), "read 1.1 offset 0 count 3"),
+            (Step::Scan(1, 1, 3), "note Repeat"),
+            (Step::Scan(1, 2, 9), "note Repeat"),
+            (Step::Chunk(1, 1, b"BC"), "note Ignored"),
+            (Step::Chunk(1, 0, b"AB"), "lease 1 1.1 version 1"),
+            (Step::Chunk(1, 0, b"AB"), "note Ignored"),
+            (Step::Chunk(1, 2, b"C"), "note Ignored"),
+            (Step::Scan(1, 1, 3), "note Repeat"),
+            (Step::Finish, "read 1.1 offset 2 count 1"),
+            (Step::Chunk(1, 0, b"AB"), "note Ignored"),
+            (Step::Chunk(1, 2, b"C"), "lease 2 1.1 version 1"),
+            (Step::Abort(1), ""),
+            (Step::Finish, "note Orphan"),
+            (Step::Hello, "note Ignored"),
+        ],
+    },
+    Row {
+        name: "a second job does not fit a limit of one",
+        limit: (LimitField::Jobs, 1),
+        steps: &[
+            (Step::Publish(1, b"XX"), ""),
+            (Step::Connect, "hello volume 1 version 1"),
+            (Step::Scan(1, 1, 3), "read 1.1 offset 0 count 3"),
+            (Step::Scan(2, 2, 1), "reply 1.2 failed 1"),
+            (Step::Scan(3, 3, 0), "reply 1.3 failed 1"),
+            (Step::Abort(1), ""),
+            (Step::Scan(3, 3, 0), "reply 1.3 version 1 clean"),
+            (Step::Scan(2, 2, 1), "read 1.2 offset 0 count 1"),
+            (Step::Scan(4, 3, 0), "reply 1.4 version 1 clean"),
+        ],
+    },
+    Row {
+        name: "a chunk past the length ends its job, and a short one is followed by a Read of the rest",
+        limit: (LimitField::Chunk, 2),
+        steps: &[
+            (Step::Publish(1, b"BC"), ""),
+            (Step::Connect, "hello volume 1 version 1"),
+            (Step::Scan(1, 1, 3), "read 1.1 offset 0 count 2"),
+            (Step::Chunk(1, 0, b"ABCD"), "reply 1.1 failed 2"),
+            (Step::Chunk(1, 0, b"A"), "note Ignored"),
+            (Step::Scan(2, 1, 3), "read 1.2 offset 0 count 2"),
+            (Step::Chunk(2, 0, b"A"), "lease 1 1.2 version 1"),
+            (Step::Finish, "read 1.2 offset 1 count 2"),
+            (Step::Chunk(2, 1, b"BCD"), "reply 1.2 failed 2"),
+            (Step::Scan(3, 1, 3), "read 1.3 offset 0 count 2"),
+            (Step::Chunk(3, 0, b"ABC"), "lease 2 1.3 version 1"),
+            (Step::Finish, "reply 1.3 version 1 infected 0 end 3"),
+        ],
+    },
+    Row {
+        name: "jobs end in any order, and go on in the order of their start",
+        limit: FULL,
+        steps: &[
+            (Step::Publish(1, b"XX"), ""),
+            (Step::Connect, "hello volume 1 version 1"),
+            (Step::Scan(2, 2, 1), "read 1.2 offset 0 count 1"),
+            (Step::Scan(1, 1, 3), "read 1.1 offset 0 count 3"),
+            (Step::Scan(3, 3, 9), "read 1.3 offset 0 count 9"),
+            (Step::Abort(1), ""),
+            (
+                Step::Publish(2, b"AB"),
+                "updated 2, read 1.2 offset 0 count 1, read 1.3 offset 0 count 9",
+            ),
+            (Step::Chunk(3, 0, b"AXX"), "lease 1 1.3 version 2"),
+            (Step::Chunk(2, 0, b"A"), "lease 2 1.2 version 2"),
+            (Step::Finish, "read 1.3 offset 3 count 6"),
+            (Step::Finish, "reply 1.2 version 2 clean"),
+        ],
+    },
+    Row {
+        name: "nothing is judged without a set or a connection",
+        limit: FULL,
+        steps: &[
+            (Step::Connect, "refused NoSignatures"),
+            (Step::Scan(1, 1, 3), "note Ignored"),
+            (Step::Restart, ""),
+            (Step::Connect, "refused NoSignatures"),
+            (Step::Publish(1, b"XX"), ""),
+            (Step::Scan(1, 1, 3), "note Ignored"),
+            (Step::Connect, "hello volume 1 version 1"),
+            (Step::Connect, "refused AlreadyConnected"),
+        ],
+    },
+];
+
+// Every call that a row makes is made again where memory was refused it, so this one test is run with each of its requests
+// refused in turn, too.
+#[test]
+fn refused_or_not_every_row_is_answered_as_written(rt: HostRuntime) -> Result<(), Fail> {
+    for row in &ROWS {
+        let mut works = VecDeque::new(rt.alloc());
+        let first_bad = run_row(rt.alloc(), row, &mut works);
+        discard_all(works);
+        let name = row.name;
+        assert_eq!(rt; first_bad?, None, "{name}");
+    }
+    Ok(())
+}
+
+// The place of the first step that is answered otherwise.
+fn run_row(
+    alloc: Global,
+    row: &Row<'_>,
+    works: &mut VecDeque<Work>,
+) -> Result<Option<usize>, Fail> {
+    let mut stand = Stand::new(alloc, row.limit)?;
+    for (i, (step, want)) in row.steps.iter().enumerate() {
+        let said = stand.answer(alloc, works, *step)?;
+        if said.as_str() != *want {
+            return Ok(Some(i));
+        }
+    }
+    Ok(None)
+}

@@ -1,0 +1,200 @@
+// What happens to a service, step by step, with what it says.
+use crate::service::Service;
+use crate::tests::calls;
+use crate::tests::say::told;
+use crate::work::Work;
+use av_base::byte_list::ByteList;
+use av_base::limits::{LimitField, LimitValues, Limits};
+use av_base::message_id::MessageId;
+use av_base::number::{Generation, StreamId, Version};
+use av_frame::cause::NoChunkCause;
+use av_frame::message::{Body, Message};
+use av_match::automaton::Automaton;
+use av_sigset::catalogue::Catalogue;
+use av_sigset::set::SignatureSet;
+use std::alloc::{AllocError, Global};
+use std::collections::VecDeque;
+use std::test::Fail;
+
+// One step. Ids are of boot 1, and contents of generation 2.
+#[derive(Clone, Copy)]
+pub enum Step<'a> {
+    Publish(u64, &'a [u8]),
+    Connect,
+    // seq, stream, length
+    Scan(u64, u64, u64),
+    // seq, offset, bytes
+    Chunk(u64, u64, &'a [u8]),
+    NoChunk(u64),
+    Abort(u64),
+    // A message of the service, sent to it.
+    Hello,
+    // The oldest work that is out comes back.
+    Finish,
+    Disconnect,
+    Restart,
+}
+
+// A service, and the catalogue of the sets that were published.
+#[derive(Drop)]
+pub struct Stand {
+    pub service: Service,
+    pub catalogue: Catalogue,
+}
+
+impl Stand {
+    // A service at the greatest limits but this one, where nothing was published.
+    pub fn new(alloc: Global, limit: (LimitField, u64)) -> Result<Stand, Fail> {
+        let (field, value) = limit;
+        Stand::with_limits(alloc, LimitValues::greatest().with(field, value))
+    }
+
+    pub fn with_limits(alloc: Global, values: LimitValues) -> Result<Stand, Fail> {
+        let limits = Limits::check(values)?;
+        let catalogue = Catalogue::new(alloc);
+        let service = calls::start(alloc, &catalogue, limits)?;
+        Ok(Stand { service, catalogue })
+    }
+
+    // What the service says to a step.
+    pub fn answer(
+        &mut self,
+        alloc: Global,
+        works: &mut VecDeque<Work>,
+        step: Step<'_>,
+    ) -> Result<String, Fail> {
+        match step {
+            Step::Publish(version, pattern) => {
+                publish(alloc, self, works, Version::new(version), &[pattern])
+            }
+            Step::Connect => connect(alloc, self, works),
+            Step::Finish => finish(alloc, self, works, 0),
+            Step::Disconnect => told(alloc, self.service.disconnect(alloc), works),
+            Step::Restart => told(alloc, self.service.restart(alloc, &self.catalogue), works),
+            _ => message(alloc, self, works, body_of(alloc, step)?),
+        }
+    }
+}
+
+pub fn discard_all(works: VecDeque<Work>) {
+    let mut works = works;
+    'each: while let Some(work) = works.pop_front() {
+        work.discard();
+    }
+    works.destroy_empty();
+}
+
+pub fn connect(
+    alloc: Global,
+    stand: &mut Stand,
+    works: &mut VecDeque<Work>,
+) -> Result<String, Fail> {
+    match calls::connect(alloc, &mut stand.service)? {
+        Ok(out) => told(alloc, out, works),
+        Err(fault) => Ok(format!(in alloc; "refused {fault}")?),
+    }
+}
+
+// The set of these patterns is published, and the service learns of it.
+pub fn publish(
+    alloc: Global,
+    stand: &mut Stand,
+    works: &mut VecDeque<Work>,
+    version: Version,
+    patterns: &[&[u8]],
+) -> Result<String, Fail> {
+    let set = SignatureSet::from_patterns(alloc, version, patterns)?;
+    let present = match stand.service.version() {
+        Some(present) => present.get(),
+        None => 0,
+    };
+    if present >= version.get() {
+        return Err(Fail::new("not above the present version"));
+    }
+    let said = told(
+        alloc,
+        calls::publish(alloc, &mut stand.service, version)?,
+        works,
+    )?;
+    match stand.catalogue.publish(set) {
+        Ok(()) => Ok(said),
+        Err(_) => Err(Fail::new("the catalogue refuses the set")),
+    }
+}
+
+pub fn message(
+    alloc: Global,
+    stand: &mut Stand,
+    works: &mut VecDeque<Work>,
+    body: Body,
+) -> Result<String, Fail> {
+    if !body.is_in_range() {
+        return Err(Fail::new("no message"));
+    }
+    let message = Message::new(body);
+    told(
+        alloc,
+        calls::message(alloc, &mut stand.service, &message)?,
+        works,
+    )
+}
+
+// The work at this place of those that are out is run, goes through a parcel as through a channel, and comes back.
+pub fn finish(
+    alloc: Global,
+    stand: &mut Stand,
+    works: &mut VecDeque<Work>,
+    place: usize,
+) -> Result<String, Fail> {
+    let Some(work) = works.remove(place) else {
+        return Err(Fail::new("no such work is out"));
+    };
+    let automaton = match automaton_of(alloc, &stand.catalogue, work.version()) {
+        Ok(automaton) => automaton,
+        Err(fail) => {
+            work.discard();
+            return Err(fail);
+        }
+    };
+    let done = work.pack().unpack().run(&automaton).pack().unpack();
+    told(
+        alloc,
+        calls::finish(alloc, &mut stand.service, done)?,
+        works,
+    )
+}
+
+fn automaton_of(alloc: Global, catalogue: &Catalogue, version: Version) -> Result<Automaton, Fail> {
+    match catalogue.at(version) {
+        Some(set) => Ok(Automaton::build(alloc, set)?),
+        None => Err(Fail::new("no set of that version")),
+    }
+}
+
+fn body_of(alloc: Global, step: Step<'_>) -> Result<Body, AllocError> {
+    Ok(match step {
+        Step::Scan(seq, stream, length) => Body::Scan {
+            id: MessageId { boot: 1, seq },
+            stream: StreamId::new(stream),
+            generation: Generation::new(2),
+            length,
+        },
+        Step::Chunk(seq, offset, bytes) => Body::Chunk {
+            id: MessageId { boot: 1, seq },
+            offset,
+            bytes: ByteList::copied(alloc, bytes)?,
+        },
+        Step::NoChunk(seq) => Body::NoChunk {
+            id: MessageId { boot: 1, seq },
+            offset: 0,
+            cause: NoChunkCause::NoQuestion,
+        },
+        Step::Abort(seq) => Body::Abort {
+            id: MessageId { boot: 1, seq },
+        },
+        _ => Body::Hello {
+            volume: 1,
+            version: Version::new(1),
+        },
+    })
+}
