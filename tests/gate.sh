@@ -22,12 +22,16 @@ count() { # the last line of a step, as counted by its own
 echo "gate: values that must be spent"
 if tests/must-be-spent.sh; then count "1 passed, 0 failed"; else count "0 passed, 1 failed"; fi
 echo "gate: refused memory"
-refusals=$(tests/refused-memory.sh av_service)
+refusals=$(tests/refused-memory.sh $(grep -l refused_or_not_ -r crates/*/src | cut -d / -f 2 | sort -u))
 echo "$refusals"
 count "$(echo "$refusals" | tail -n 1)"
 echo "gate: the cases of tests/ on the built program"
 cases=$(tests/run.py crates/avscan/out/avscan tests/scripts tests/words tests/scan)
 echo "$cases"
 count "$(echo "$cases" | tail -n 1)"
+echo "gate: the program over devices that fail, without memory, and in the order of its faults"
+program=$(tests/program.py crates/avscan/out/avscan)
+echo "$program"
+count "$(echo "$program" | tail -n 1)"
 echo "$passed passed, $failed failed"
 [ "$failed" = 0 ]

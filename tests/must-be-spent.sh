@@ -41,9 +41,9 @@ END
     cd "$here"
 }
 
-must_be_spent av_pend pended_open PendedOpen av_base
-must_be_spent av_context context_ref ContextRef av_base
-must_be_spent av_service work Work "av_base av_sigset av_match av_frame av_cache"
-must_be_spent av_service done Done "av_base av_sigset av_match av_frame av_cache"
-must_be_spent av_service out ServiceOut "av_base av_sigset av_match av_frame av_cache"
+must_be_spent av_pend pended_open PendedOpen "av_fakes av_base"
+must_be_spent av_context context_ref ContextRef "av_fakes av_base"
+must_be_spent av_service work Work "av_fakes av_base av_sigset av_match av_frame av_cache"
+must_be_spent av_service done Done "av_fakes av_base av_sigset av_match av_frame av_cache"
+must_be_spent av_service out ServiceOut "av_fakes av_base av_sigset av_match av_frame av_cache"
 exit $failed

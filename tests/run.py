@@ -49,15 +49,30 @@ def complaints(program, base):
     return found
 
 
+def attempt(program, base):
+    try:
+        return complaints(program, base)
+    except Exception as fault:
+        return [f"{type(fault).__name__}: {fault}"]
+
+
+def case_names(folder):
+    files = os.listdir(folder) if os.path.isdir(folder) else []
+    return sorted({file.rsplit(".", 1)[0] for file in files if file.endswith((".avs", ".gen", ".args"))})
+
+
 def main():
     if len(sys.argv) < 3:
         sys.exit("usage: tests/run.py PROGRAM FOLDER..")
     program = os.path.abspath(sys.argv[1])
     passed = failed = 0
     for folder in sys.argv[2:]:
-        files = os.listdir(folder)
-        for name in sorted({f.rsplit(".", 1)[0] for f in files if f.endswith((".avs", ".gen", ".args"))}):
-            found = complaints(program, os.path.abspath(os.path.join(folder, name)))
+        names = case_names(folder)
+        if not names:
+            failed += 1
+            print(f"{folder}: no case is there")
+        for name in names:
+            found = attempt(program, os.path.abspath(os.path.join(folder, name)))
             if found:
                 failed += 1
                 for line in found:

@@ -1,0 +1,125 @@
+#!/usr/bin/env python3
+"""The built program over devices that fail and memory that is refused: what no case of files can set up.
+
+Standard output on a full device, closed, and a pipe that nobody reads, with one line and with thousands: the status is 4, or
+the process is ended by the signal, and never 0 with lines lost. Each request for memory refused in turn: one line, status 3,
+and a front of the output. A word that is not UTF-8 is named. The order of faults of `scan`: words, set, files.
+The last line says how many passed and how many failed."""
+import os, signal, subprocess, sys, tempfile
+
+SECONDS = 60
+HERE = os.path.dirname(os.path.abspath(__file__))
+EXAMPLES = os.path.join(os.path.dirname(HERE), "examples")
+SET = os.path.join(EXAMPLES, "test.avsig")
+LETTER = os.path.join(EXAMPLES, "letter.txt")
+SCRIPT = os.path.join(EXAMPLES, "judge.avs")
+LONG = b"volume 1 closed\n" + b"".join(b"create s%d\n" % i for i in range(3000))
+
+
+class Cases:
+    def __init__(self):
+        self.passed = self.failed = 0
+
+    def check(self, name, holds, what=""):
+        if holds:
+            self.passed += 1
+        else:
+            self.failed += 1
+            print(f"{name}: {what}")
+
+
+def run(words, given=b"", **options):
+    return subprocess.run(words, input=given, stderr=subprocess.PIPE, timeout=SECONDS, **options)
+
+
+def devices(cases, program):
+    short = b"volume 1 closed\n"
+    jobs = [("one line", [program, "run", "-"], short), ("3,000 lines", [program, "run", "-"], LONG),
+            ("a file scanned", [program, "scan", SET, LETTER], b""), ("3,000 files scanned", [program, "scan", SET] + [LETTER] * 3000, b""),
+            ("a help text", [program, "--help"], b"")]
+    for name, words, given in jobs:
+        with open("/dev/full", "wb") as full:
+            done = run(words, given, stdout=full)
+        cases.check(f"{name} on a full device", done.returncode == 4 and done.stderr == b"avscan: device\n", f"status {done.returncode}, {done.stderr!r}")
+        done = run(["sh", "-c", '"$@" >&-', "sh"] + words, given)
+        cases.check(f"{name} on a closed output", done.returncode == 4 and done.stderr == b"avscan: device\n", f"status {done.returncode}, {done.stderr!r}")
+        reading, writing = os.pipe()
+        os.close(reading)
+        done = run(words, given, stdout=writing)
+        os.close(writing)
+        gone = done.returncode == -signal.SIGPIPE or done.returncode == 4
+        cases.check(f"{name} on a pipe that nobody reads", gone, f"status {done.returncode}")
+    closed = run(["sh", "-c", '"$@" <&-', "sh", program, "run", "-"], stdout=subprocess.PIPE)
+    cases.check("a closed input", closed.returncode == 4 and closed.stderr == b"avscan: device\n", f"status {closed.returncode}, {closed.stderr!r}")
+
+
+def memory(cases, program):
+    with tempfile.TemporaryDirectory() as work:
+        library = os.path.join(work, "fail_nth.so")
+        subprocess.run(["cc", "-shared", "-fPIC", "-O1", "-o", library, os.path.join(HERE, "fail_nth.c")], check=True)
+        for words in (["run", SCRIPT], ["scan", SET, LETTER], ["--help"]):
+            whole = run([program] + words, stdout=subprocess.PIPE).stdout
+            refused, in_a_row, number = 0, 0, 0
+            while in_a_row < 20:
+                number += 1
+                environment = dict(os.environ, LD_PRELOAD=library, FAIL_NTH=str(number))
+                done = run([program] + words, stdout=subprocess.PIPE, env=environment)
+                told = done.returncode == 3 and done.stderr == b"avscan: no memory\n" and whole.startswith(done.stdout)
+                spared = done.returncode == 0 and done.stdout == whole and done.stderr == b""
+                in_a_row = in_a_row + 1 if spared else 0
+                refused += told
+                if not told and not spared:
+                    cases.check(f"avscan {' '.join(words)}", False, f"request {number} refused: status {done.returncode}, {done.stderr!r}")
+                    break
+            cases.check(f"avscan {' '.join(words)}", refused > 0, "no request was refused")
+
+
+def words(cases, program):
+    with tempfile.TemporaryDirectory() as work:
+        name = os.path.join(os.fsencode(work), b"caf\xe9.txt")
+        with open(name, "wb") as file:
+            file.write(b"abc")
+        done = run([program, "scan", SET, name], stdout=subprocess.PIPE)
+        cases.check("a name that is not UTF-8", (done.returncode, done.stderr, done.stdout) == (2, b"avscan: word 3 is not UTF-8\n", b""), f"{done}")
+        done = run([program, b"\xff", SET], stdout=subprocess.PIPE)
+        cases.check("a command that is not UTF-8", (done.returncode, done.stderr) == (2, b"avscan: word 1 is not UTF-8\n"), f"{done}")
+        line = os.path.join(work, "two\nlines")
+        with open(line, "wb") as file:
+            file.write(b"abc")
+        done = run([program, "scan", SET, line], stdout=subprocess.PIPE)
+        cases.check("a name with a line feed is written as it is", done.stdout == os.fsencode(line) + b" clean\n", f"{done}")
+
+
+def order(cases, program):
+    with tempfile.TemporaryDirectory() as work:
+        pipe, bad, missing = (os.path.join(work, name) for name in ("pipe", "bad.avsig", "missing"))
+        os.mkfifo(pipe)
+        with open(bad, "wb") as file:
+            file.write(b"avsig 3\n")
+        done = run([program, "scan", bad, pipe], stdout=subprocess.PIPE)
+        cases.check("a bad set before a file that never ends", (done.returncode, done.stderr) == (1, b"avscan: set line 1: kind 1\n"), f"{done}")
+        done = run([program, "scan", missing, pipe], stdout=subprocess.PIPE)
+        cases.check("a missing set before a file that never ends", (done.returncode, done.stderr) == (4, b"avscan: " + os.fsencode(missing) + b": cannot read\n"), f"{done}")
+        done = run([program, "scan", SET, missing, pipe], stdout=subprocess.PIPE)
+        cases.check("a missing file before one that never ends", (done.returncode, done.stdout) == (4, b""), f"{done}")
+        large = os.path.join(work, "large")
+        with open(large, "wb") as file:
+            file.write(bytes(1048576))
+        done = run(["sh", "-c", 'ulimit -v 65536; "$@"', "sh", program, "scan", SET] + [large] * 200, stdout=subprocess.PIPE)
+        cases.check("200 files of a MiB in 64 MiB of memory", done.returncode == 0, f"{done.returncode} {done.stderr!r}")
+
+
+def main():
+    if len(sys.argv) != 2:
+        sys.exit("usage: tests/program.py PROGRAM")
+    cases = Cases()
+    for part in (devices, memory, words, order):
+        try:
+            part(cases, os.path.abspath(sys.argv[1]))
+        except Exception as fault:
+            cases.check(part.__name__, False, f"{type(fault).__name__}: {fault}")
+    print(f"{cases.passed} passed, {cases.failed} failed")
+    sys.exit(1 if cases.failed else 0)
+
+
+main()
