@@ -29,6 +29,10 @@ echo "gate: the cases of tests/ on the built program"
 cases=$(tests/run.py crates/avscan/out/avscan tests/scripts tests/words tests/scan)
 echo "$cases"
 count "$(echo "$cases" | tail -n 1)"
+echo "gate: the tables of cases"
+tables=$(tests/tables.py crates/avscan/out/avscan)
+echo "$tables"
+count "$(echo "$tables" | tail -n 1)"
 echo "gate: the program over devices that fail, without memory, and in the order of its faults"
 program=$(tests/program.py crates/avscan/out/avscan)
 echo "$program"
