@@ -6,3 +6,4 @@ pub mod MovingLemmas
 pub mod NumberedLemmas
 pub mod PlainLemmas
 pub mod TableLemmas
+pub mod RewritingLemmas

@@ -6,3 +6,4 @@ pub mod Moving
 pub mod Numbered
 pub mod StreamContexts
 pub mod Table
+pub mod Rewriting

@@ -4,8 +4,8 @@ ghost use Rattle.av_filter_table.specs.Answering.{by_mode};
 ghost use Rattle.av_filter_table.specs.FilterTable.{id_of};
 ghost use Rattle.av_filter_table.specs.Table.{question_at, opens_of, other_opens};
 
-use crate::present::generation_now;
 use crate::filter_table::FilterTable;
+use crate::present::generation_now;
 use av_base::cause::Cause;
 use av_context::context_state::ContextState;
 use av_pend::answer::Answer;

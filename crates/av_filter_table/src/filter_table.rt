@@ -1,3 +1,6 @@
+mod changing;
+mod reading;
+
 ghost use Rattle.av_context.specs.Contexts.{set_at};
 ghost use Rattle.av_context.specs.declared.context_state.ContextState.TheVariants.{Scanning};
 ghost use Rattle.std.specs.Prelude.{◌+◌, ◌^◌, IfOk, ◌≡◌, ◌++◌, ◌∷◌, ◌<◌, [], None, Some, IsSome, IfSome, IfNone, OnOk, OnErr, IfErr, length, filter, vec_len, vec_capacity, ◌≤◌};
@@ -73,7 +76,12 @@ impl Model for FilterTable {
 
 impl FilterTable {
     /// The table of a filter just mounted: nothing is held. The greatest part of their memory, the cache's, is taken here.
-    pub fn new(alloc: Global, mode: Mode, limits: Limits, boot: u64) -> Result<FilterTable, AllocError>
+    pub fn new(
+        alloc: Global,
+        mode: Mode,
+        limits: Limits,
+        boot: u64,
+    ) -> Result<FilterTable, AllocError>
         ensures { IfOk result (λ table. table ≡ mounted mode limits boot) }
     {
         let limits = limits.values();

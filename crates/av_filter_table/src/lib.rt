@@ -10,6 +10,7 @@ pub mod numbered;
 pub mod pended;
 pub mod present;
 pub mod question;
+pub mod rewriting;
 pub mod stream_contexts;
 #[cfg(test)]
 mod tests;
