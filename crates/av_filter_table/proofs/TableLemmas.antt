@@ -274,7 +274,7 @@ ends boot sequence n q q' p k k' state x key consistent up up_k found gone puts 
     }
 
 -- a question ends, and the context of its stream goes
-states-without : (n : ℕ) (k : List (ℕ × Known)) → states (without k n) ≡ without (states k) n
+pub states-without : (n : ℕ) (k : List (ℕ × Known)) → states (without k n) ≡ without (states k) n
 states-without n [] = refl
 states-without n (d ∷ k) = elim (cases_eq n d.0) [
   | inl same ↦ ap states (without-here k d.0 n d.1 same) ∙ sym (without-here (states k) d.0 n d.1.state same)

@@ -1,5 +1,6 @@
 -- What opens are answered with.
-use Rattle.std.specs.Prelude.{ℕ, List, [], map, Option, None, Some}
+use Rattle.std.specs.Prelude.{ℕ, ◌≤◌, List, [], ◌∷◌, map, Option, None, Some}
+use Rattle.std.specs.List.{AllByRecursion}
 use Rattle.av_base.specs.declared.cause.Cause.{Cause}
 use Rattle.av_base.specs.declared.cause.Cause.TheVariants as cause
 use Rattle.av_base.specs.declared.verdict.Verdict.{Verdict}
@@ -32,6 +33,14 @@ present_bytes v s = stream_bytes (stream_at s v.streams)
 abbrev pub judged : Verdict → ℕ → ℕ → Waiting → Answer
 judged Clean generation version p = granted generation version p
 judged (Infected index end_at) generation version p = denied cause.Infected p
+
+-- what the opens of a question get by its verdict
+abbrev pub all_judged : Verdict → ℕ → ℕ → List Pended → List Answer
+all_judged r generation version ps = map (λ p. judged r generation version p.held) ps
+
+-- a version is new enough to judge these opens
+abbrev pub MayJudge : ℕ → List Pended → Type 0
+MayJudge version ps = AllByRecursion (λ p. p.held.least ≤ version) ps
 
 -- what an open gets that can't be judged, at the present generation of its stream
 abbrev pub refused_now : Table → Store → Cause → Pended → Answer

@@ -3,9 +3,11 @@ use Rattle.std.specs.Prelude.{ℕ, ◌+◌, Bool, not, ◌&&◌, nat_le, List, [
 use Rattle.av_base.specs.declared.cause.Cause.{Cause}
 use Rattle.av_base.specs.declared.cause.Cause.TheVariants.{Unsettled, Busy}
 use Rattle.av_base.specs.declared.message_id.MessageId.{MessageId}
+use Rattle.av_base.specs.declared.verdict.Verdict.{Verdict}
+use Rattle.av_cache.specs.Cache.{put}
 use Rattle.av_context.specs.Contexts.{set_at}
 use Rattle.av_context.specs.declared.context_state.ContextState.{ContextState}
-use Rattle.av_context.specs.declared.context_state.ContextState.TheVariants.{Scanning}
+use Rattle.av_context.specs.declared.context_state.ContextState.TheVariants.{Modified, Scanning, Judged}
 use Rattle.av_filter_table.specs.declared.pended.Pended.{Pended}
 use Rattle.av_filter_table.specs.declared.question.Question.{Question}
 use Rattle.av_filter_table.specs.Answering.{present_generation}
@@ -23,6 +25,19 @@ asks t v s = record t { sequence = t.sequence + 1; contexts = set_at t.contexts 
 -- a question ends, its stream has this context, and its opens leave the table
 unfoldable pub ended : Table → Question → Option ContextState → Table
 ended t q c = record t { contexts = set_at t.contexts q.stream c; questions = without_question q.id t.questions; pended = other_opens q.id t.pended }
+
+-- a question ends with this verdict under this version, which is the floor from then on, and the cache keeps it
+abbrev pub settled : Table → Question → ℕ → Verdict → Table
+settled t q version r =
+    record (ended t q (Some (Judged version r))) {
+      floor = version;
+      cache = put t.limits.cache (record { stream = q.stream; generation = q.generation; version = version; verdict = r }) t.cache;
+    }
+
+-- each scan that runs is lost, and the context of its stream is Modified
+unfoldable pub lost_contexts : List Question → List (ℕ × ContextState) → List (ℕ × ContextState)
+lost_contexts [] contexts = contexts
+lost_contexts (q ∷ qs) contexts = set_at (lost_contexts qs contexts) q.stream (Some Modified)
 
 -- an open saw as many rescans as it may
 abbrev pub is_spent : Pended → Bool

@@ -1,5 +1,5 @@
 -- The opens of one question are a chain: from its first to its last, each row names the next.
-use Rattle.std.specs.Prelude.{◌≡◌, ℕ, ◌+◌, ◌-◌, ◌==◌, not, nat_le, find, Bool, List, [], ◌∷◌, Option, None, Some, IfSome, if◌then◌else◌, map, filter}
+use Rattle.std.specs.Prelude.{◌≡◌, ℕ, ◌+◌, ◌-◌, ◌==◌, ◌&&◌, not, nat_le, find, Bool, List, [], ◌∷◌, Option, None, Some, IfSome, if◌then◌else◌, map, filter}
 use Rattle.std.specs.Option.{option_or}
 use Rattle.av_context.specs.Contexts.{at}
 use Rattle.av_filter_table.specs.declared.asked.Asked.{Asked}
@@ -108,3 +108,7 @@ IsBehind old new xs = of new (after_first old xs) ≡ []
 -- an open saw as many rescans as it may
 abbrev pub is_spent : ℕ × Waiting → Bool
 is_spent x = nat_le 8 x.1.rescans
+
+-- it waits for this question, with a rescan left
+abbrev pub is_left : ℕ → ℕ × Waiting → Bool
+is_left n x = is_of n x && not (is_spent x)

@@ -2,6 +2,7 @@
 use Rattle.std.specs.Prelude.{◌≡◌, ◌≢◌, ℕ, ◌≤◌, ◌<◌, List, [], Some, IfSome, map}
 use Rattle.std.specs.List.{AllByRecursion}
 use Rattle.std.specs.Map.{keys_of}
+use Rattle.av_base.specs.declared.limits.LimitValues.{LimitValues}
 use Rattle.av_base.specs.declared.message_id.MessageId.{MessageId}
 use Rattle.av_context.specs.Contexts.{at}
 use Rattle.av_context.specs.declared.context_state.ContextState.TheVariants.{Scanning}
@@ -52,6 +53,12 @@ pub record IsConsistent (boot sequence : ℕ) (q : Questions) (p : Opens) (k : L
   pub unasked : (n : ℕ) → sequence < n → of n (plains p) ≡ []
   pub scanned : AreScanned boot (essences q) k
   pub free : (s : ℕ) → IsUnasked s (essences q) → held_out (at k s) ≡ 0
+
+-- what holds of a table between calls: its rows are consistent, it was mounted, and its cache has the size of the limits
+pub record IsSound (boot sequence capacity : ℕ) (limits : LimitValues) (q : Questions) (p : Opens) (k : List (ℕ × Known)) : Type 0 where
+  pub rows : IsConsistent boot sequence q p k
+  pub mounted : 1 ≤ boot
+  pub sized : capacity ≡ limits.cache
 
 -- the numbers of the held opens
 abbrev pub open_numbers : List Pended → List ℕ

@@ -1,10 +1,10 @@
 ghost use Rattle.std.specs.Prelude.{◌≡◌, ◌≢◌, ℕ, ◌≤◌, ◌<◌, ◌++◌, ◌∷◌, [], None, Some, IsSome, IsSomeAnd, IfSome, IfNone, OnOk, OnErr, IfErr};
-ghost use Rattle.std.specs.List.{AllByRecursion};
+ghost use Rattle.std.specs.List.{AllByRecursion, list_any};
 ghost use Rattle.std.specs.Map.{keys_of};
 ghost use Rattle.std.specs.Option.{option_map};
 ghost use Rattle.av_context.specs.Contexts.{at, with, without, PutsAt};
 ghost use Rattle.av_filter_table.specs.FilterTable.{AreNumbered};
-ghost use Rattle.av_filter_table.specs.Chains.{AreChained, plains, of, others, shorter, essences, first_waiting, without_first, moved_first, once_more, IsBehind, is_spent};
+ghost use Rattle.av_filter_table.specs.Chains.{AreChained, plains, of, others, shorter, essences, first_waiting, without_first, moved_first, once_more, IsBehind, is_left, is_spent};
 
 use crate::asked::Asked;
 use crate::numbered::Numbered;
@@ -90,6 +90,37 @@ pub fn first_is_spent(
         unreachable!()
     };
     Some(held.rescans() >= MOST_RESCANS)
+}
+
+/// Whether an open that waits for a question has a rescan left: it goes along the chain until it finds one.
+pub fn has_rescan_left(
+    questions: &Numbered<Asked, ContextRef>,
+    pended: &Numbered<Waits, PendedOpen>,
+    question: u64,
+) -> bool
+    requires there { IsSome (at questions.now question) }
+    requires chained { AreChained questions.now pended.now }
+    ensures { result ≡ list_any (is_left question) (plains pended.now) }
+{
+    let _opens_ascend = pended.len();
+    let Some(asked) = questions.row(question) else {
+        unreachable!()
+    };
+    let mut next = asked.first;
+    'opens: for _ in 0..asked.opens {
+        let Some(number) = next else { unreachable!() };
+        let Some(row) = pended.row(number) else {
+            unreachable!()
+        };
+        let Some(held) = pended.value(number) else {
+            unreachable!()
+        };
+        if held.rescans() < MOST_RESCANS {
+            return true;
+        }
+        next = row.next;
+    }
+    false
 }
 
 // One rescan more.

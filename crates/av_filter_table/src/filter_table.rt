@@ -4,13 +4,15 @@ mod reading;
 ghost use Rattle.av_context.specs.Contexts.{set_at};
 ghost use Rattle.av_context.specs.declared.context_state.ContextState.TheVariants.{Scanning};
 ghost use Rattle.std.specs.Prelude.{◌+◌, ◌^◌, IfOk, ◌≡◌, ◌++◌, ◌∷◌, ◌<◌, [], None, Some, IsSome, IfSome, IfNone, OnOk, OnErr, IfErr, length, filter, vec_len, vec_capacity, ◌≤◌};
-ghost use Rattle.std.specs.List.{AllByRecursion};
+ghost use Rattle.std.specs.List.{AllByRecursion, list_any};
+ghost use Rattle.av_base.specs.Limits.{AreInRange};
 ghost use Rattle.av_base.specs.declared.cause.Cause.TheVariants.{Unsettled};
-ghost use Rattle.av_filter_table.specs.Asking.{ended, is_lost, asked_again};
+ghost use Rattle.av_filter_table.specs.Asking.{ended, is_held, is_lost, asked_again};
 ghost use Rattle.av_base.specs.declared.message_id.MessageId.{MessageId};
 ghost use Rattle.av_filter_table.specs.Answering.{by_mode};
 ghost use Rattle.std.specs.Option.{option_map};
-ghost use Rattle.av_cache.specs.Cache.{look, moved, verdict_of};
+ghost use Rattle.av_cache.specs.Cache.{look, moved, put, verdict_of};
+ghost use Rattle.av_filter_table.specs.Numbered.{IsAscending};
 ghost use Rattle.av_filter_table.specs.Table.{mounted, raised, context_of, next_id, question_of, question_at, opens_of, other_opens};
 ghost use Rattle.av_filter_table.specs.FilterTable.{id_of, open_numbers};
 
@@ -22,7 +24,7 @@ use crate::present::generation_now;
 use crate::question::Question;
 use crate::stream_contexts::StreamContexts;
 use crate::waits::Waits;
-use av_base::limits::{LimitValues, Limits};
+use av_base::limits::Limits;
 use av_base::message_id::MessageId;
 use av_base::mode::Mode;
 use av_base::number::{Generation, StreamId, Version};
@@ -40,7 +42,7 @@ use std::marker::Model;
 /// each question and each held open beside; the opens of one question as a chain; what is known of streams; the cache.
 pub struct FilterTable {
     mode: Mode,
-    limits: LimitValues,
+    limits: Limits,
     boot: u64,
     sequence: u64,
     connected: bool,
@@ -53,7 +55,7 @@ pub struct FilterTable {
 
 impl Model for FilterTable {
     ghost use Rattle.av_filter_table.specs.Table.{Table};
-    ghost use Rattle.av_filter_table.specs.FilterTable.{questions_of, pended_of, IsConsistent};
+    ghost use Rattle.av_filter_table.specs.FilterTable.{questions_of, pended_of, IsSound};
     ghost use Rattle.av_filter_table.specs.StreamContexts.{states};
 
     ghost Value = { Table };
@@ -71,21 +73,22 @@ impl Model for FilterTable {
       cache = t.cache.entries;
     } };
 
-    ghost invariant = { λ t. IsConsistent t.boot t.sequence t.questions t.pended t.contexts };
+    ghost invariant = { λ t. IsSound t.boot t.sequence t.cache.capacity t.limits t.questions t.pended t.contexts };
 }
 
 impl FilterTable {
-    /// The table of a filter just mounted: nothing is held. The greatest part of their memory, the cache's, is taken here.
+    /// The table of a filter just mounted, for the boot of this number: nothing is held. The greatest part of its memory, the
+    /// cache's, is taken here.
     pub fn new(
         alloc: Global,
         mode: Mode,
         limits: Limits,
         boot: u64,
     ) -> Result<FilterTable, AllocError>
+        requires { 1 ≤ boot }
         ensures { IfOk result (λ table. table ≡ mounted mode limits boot) }
     {
-        let limits = limits.values();
-        let cache = VerdictCache::new(alloc, limits.cache as usize)?;
+        let cache = VerdictCache::new(alloc, limits.values().cache as usize)?;
         Ok(FilterTable {
             mode,
             limits,
@@ -175,6 +178,15 @@ impl FilterTable {
         Ok(())
     }
 
+    /// Lets the context of a stream go that no question runs of, if it has one. The cost grows with the logarithm of the count
+    /// of streams. It takes no memory.
+    pub fn forget_context(&mut self, stream: StreamId)
+        requires { question_of stream self.old.questions ≡ None }
+        ensures { self.new ≡ record self.old { contexts = set_at self.old.contexts stream None } }
+    {
+        self.contexts.detach(stream);
+    }
+
     /// The verdict that the cache has of a content under a version; a hit becomes the most recent.
     pub fn look(
         &mut self,
@@ -186,6 +198,21 @@ impl FilterTable {
         ensures order { self.new ≡ record self.old { cache = moved (look stream generation version self.old.cache) self.old.cache } }
     {
         self.cache.look(stream, generation, version)
+    }
+
+    /// Keeps the verdict of a content under a version, as the most recent one of the cache. The cost does not depend on how many
+    /// there are. Where memory is refused nothing changes.
+    pub fn put(
+        &mut self,
+        stream: StreamId,
+        generation: Generation,
+        version: Version,
+        verdict: Verdict,
+    ) -> Result<(), AllocError>
+        ensures ok { OnOk result (self.new ≡ record self.old { cache = put self.old.limits.cache (record { stream = stream; generation = generation; version = version; verdict = verdict }) self.old.cache }) }
+        ensures err { OnErr result (self.new ≡ self.old) }
+    {
+        self.cache.put(stream, generation, version, verdict)
     }
 
     /// Holds an open under a question that runs. Where memory is refused the open comes back.
@@ -243,6 +270,16 @@ impl FilterTable {
             unreachable!()
         };
         asked.opens
+    }
+
+    /// Whether an open that waits for a question has a rescan left. The cost grows with the count of the question's opens, and
+    /// a logarithm for each.
+    pub fn has_rescan_left(&self, question: u64) -> bool
+        requires { IsSome (question_at (id_of self.now.boot question) self.now.questions) }
+        ensures { result ≡ list_any (is_held (id_of self.now.boot question)) self.now.pended }
+    {
+        let _numbers_ascend = self.questions.len();
+        chains::has_rescan_left(&self.questions, &self.pended, question)
     }
 
     /// Asks for a scan of a stream that none runs of: a new question, which no open waits for yet. Where memory is refused
@@ -421,6 +458,27 @@ impl FilterTable {
         self.contexts.forget(asked.stream, context);
     }
 
+    /// Ends the first of all questions, where no open waits any more. The context of its stream has this state from now on. The
+    /// cost grows with the logarithms of the counts of streams and of questions.
+    pub fn pop_question(&mut self, state: ContextState) -> Option<Question>
+        requires { self.old.pended ≡ [] }
+        ensures none { IfNone result ((self.old.questions ≡ []) × (self.new ≡ self.old)) }
+        ensures some { IfSome result (λ q. (self.old.questions ≡ q ∷ self.new.questions) × (self.new ≡ record self.old { contexts = set_at self.old.contexts q.stream (Some state); questions = self.new.questions })) }
+        ensures ascend { IfSome result (λ _. IsAscending self.old.contexts) }
+    {
+        let _numbers_ascend = self.questions.len();
+        let (seq, asked, context) = self.questions.pop_first()?;
+        self.contexts.give_back(asked.stream, context, state);
+        Some(Question {
+            id: MessageId {
+                boot: self.boot,
+                seq,
+            },
+            stream: asked.stream,
+            generation: asked.generation,
+        })
+    }
+
     /// Whether the service is connected.
     pub fn connected(&self) -> bool
         ensures { result ≡ self.now.connected }
@@ -458,6 +516,30 @@ impl FilterTable {
         self.sequence
     }
 
+    /// The number of the boot, which each id of a question has.
+    pub fn boot(&self) -> u64
+        ensures value { result ≡ self.now.boot }
+        ensures mounted { 1 ≤ self.now.boot }
+    {
+        self.boot
+    }
+
+    /// The limits, all in range.
+    pub fn limits(&self) -> Limits
+        ensures value { result ≡ self.now.limits }
+        ensures in_range { AreInRange self.now.limits }
+    {
+        let _in_range = self.limits.values();
+        self.limits
+    }
+
+    /// The verdicts that were kept, to be read.
+    pub fn cache(&self) -> &VerdictCache
+        ensures { result.now ≡ record { capacity = self.now.limits.cache; entries = self.now.cache } }
+    {
+        &self.cache
+    }
+
     /// What becomes of an open that can't be judged.
     pub fn mode(&self) -> Mode
         ensures { result ≡ self.now.mode }
@@ -477,5 +559,13 @@ impl FilterTable {
         ensures { result ≡ length self.now.questions }
     {
         self.questions.len()
+    }
+
+    /// How many streams have a context. At once.
+    pub fn context_count(&self) -> usize
+        ensures len { result ≡ length self.now.contexts }
+        ensures ascend { IsAscending self.now.contexts }
+    {
+        self.contexts.len()
     }
 }

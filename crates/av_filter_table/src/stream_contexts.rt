@@ -1,4 +1,4 @@
-ghost use Rattle.std.specs.Prelude.{◌≡◌, ◌+◌, ◌-◌, ◌<◌, ◌≤◌, ◌^◌, [], Some, None, IsSomeAnd, IfSome, IfOk, OnErr};
+ghost use Rattle.std.specs.Prelude.{◌≡◌, length, ◌+◌, ◌-◌, ◌<◌, ◌≤◌, ◌^◌, [], Some, None, IsSomeAnd, IfSome, IfOk, OnErr};
 ghost use Rattle.std.specs.Option.{option_map};
 ghost use Rattle.av_context.specs.Contexts.{at, PutsAt};
 ghost use Rattle.av_filter_table.specs.Numbered.{IsAscending};
@@ -99,6 +99,23 @@ impl StreamContexts {
             Err(_) => unreachable!(),
         }
         let _is_sound = self.table.len();
+    }
+
+    /// Lets a stream's context go, if it has one, to which no reference is out.
+    pub fn detach(&mut self, stream: StreamId)
+        requires { held_of (at self.old stream) ≡ 0 }
+        ensures { PutsAt self.old self.new stream None }
+    {
+        let _none_is_gone_already = self.table.delete(stream);
+        let _is_sound = self.table.len();
+    }
+
+    /// How many streams have a context. At once.
+    pub fn len(&self) -> usize
+        ensures len { result ≡ length self.now }
+        ensures ascend { IsAscending self.now }
+    {
+        self.table.len()
     }
 
     /// Takes back the reference that `hold` gave, as if it had not been called; `old` is the state before it.

@@ -26,19 +26,22 @@ unreachable-requires c =
     no_row (Some y) none some = absurd (cc)
 
 pub insert-requires : goal.insert-requires
-insert-requires c = new-question c.self.inside.boot c.self.inside.sequence c.self.inside.questions c.self.inside.pended c.self.inside.contexts c.self.invariant
+insert-requires c = new-question c.self.inside.boot c.self.inside.sequence c.self.inside.questions c.self.inside.pended c.self.inside.contexts c.self.invariant.rows
 
 pub invariant_of-self-in-Err : goal.invariant_of-self-in-Err
-invariant_of-self-in-Err c =
-    let t = c.self.inside in
-    let n = c.args.question in
-    let m = t.sequence + 1 in
-    let s = c.in-Some.asked.stream in
-    let found = row_found (at t.questions n) c.in-Some.asked c.in-Some.ensures in
-    let before = known-at t.boot t.sequence n t.questions t.pended t.contexts c.in-Some.asked found.0 c.self.invariant found.1 in
-    let key_is = held-again t.boot t.sequence n t.contexts s found.0 c.in_ok-context.context before c.in_ok-context.ensures.same in
-    let same = undone-again t.boot n t.contexts c.hold.new.self c.give_back.new.self s found.0 _ c.in_ok-context.ensures.ascend before (sym key_is) refl c.in_ok-context.ensures.ok c.give_back.ensures.puts in
-    subst (λ q. IsConsistent t.boot t.sequence q t.pended c.give_back.new.self) (sym c.in-Err.ensures.err) (subst (IsConsistent t.boot t.sequence t.questions t.pended) (sym same) c.self.invariant)
+invariant_of-self-in-Err c = record {
+  rows = (let t = c.self.inside in
+      let n = c.args.question in
+      let m = t.sequence + 1 in
+      let s = c.in-Some.asked.stream in
+      let found = row_found (at t.questions n) c.in-Some.asked c.in-Some.ensures in
+      let before = known-at t.boot t.sequence n t.questions t.pended t.contexts c.in-Some.asked found.0 c.self.invariant.rows found.1 in
+      let key_is = held-again t.boot t.sequence n t.contexts s found.0 c.in_ok-context.context before c.in_ok-context.ensures.same in
+      let same = undone-again t.boot n t.contexts c.hold.new.self c.give_back.new.self s found.0 _ c.in_ok-context.ensures.ascend before (sym key_is) refl c.in_ok-context.ensures.ok c.give_back.ensures.puts in
+      subst (λ q. IsConsistent t.boot t.sequence q t.pended c.give_back.new.self) (sym c.in-Err.ensures.err) (subst (IsConsistent t.boot t.sequence t.questions t.pended) (sym same) c.self.invariant.rows));
+  mounted = c.self.invariant.mounted;
+  sized = c.self.invariant.sized;
+}
 
 pub returns-in-Err-clause-err : goal.returns-in-Err-clause-err
 returns-in-Err-clause-err c =
@@ -47,7 +50,7 @@ returns-in-Err-clause-err c =
     let m = t.sequence + 1 in
     let s = c.in-Some.asked.stream in
     let found = row_found (at t.questions n) c.in-Some.asked c.in-Some.ensures in
-    let before = known-at t.boot t.sequence n t.questions t.pended t.contexts c.in-Some.asked found.0 c.self.invariant found.1 in
+    let before = known-at t.boot t.sequence n t.questions t.pended t.contexts c.in-Some.asked found.0 c.self.invariant.rows found.1 in
     let key_is = held-again t.boot t.sequence n t.contexts s found.0 c.in_ok-context.context before c.in_ok-context.ensures.same in
     let same = undone-again t.boot n t.contexts c.hold.new.self c.give_back.new.self s found.0 _ c.in_ok-context.ensures.ascend before (sym key_is) refl c.in_ok-context.ensures.ok c.give_back.ensures.puts in (
       rw (← c.self.view_is)
@@ -70,13 +73,13 @@ pub move_opens-requires-clause-apart : goal.move_opens-requires-clause-apart
 move_opens-requires-clause-apart c = λ e.
     let t = c.self.inside in
     let found = row_found (at t.questions c.args.question) c.in-Some.asked c.in-Some.ensures in
-    let low : c.args.question ≤ t.sequence = all-at (λ j. j ≤ t.sequence) t.questions c.args.question c.self.invariant.asked (is_there (at t.questions c.args.question) (c.in-Some.asked, found.0) found.1) in
+    let low : c.args.question ≤ t.sequence = all-at (λ j. j ≤ t.sequence) t.questions c.args.question c.self.invariant.rows.asked (is_there (at t.questions c.args.question) (c.in-Some.asked, found.0) found.1) in
     absurd (omega arith)
 
 pub move_opens-requires-clause-chained : goal.move_opens-requires-clause-chained
 move_opens-requires-clause-chained c =
     let t = c.self.inside in
-    chained-new t.boot t.sequence c.in-Some.asked.stream c.generation_now-generation.result c.in_ok-context.context t.questions c.insert.new.self t.pended t.contexts c.self.invariant c.in_default-insert.ensures.ok
+    chained-new t.boot t.sequence c.in-Some.asked.stream c.generation_now-generation.result c.in_ok-context.context t.questions c.insert.new.self t.pended t.contexts c.self.invariant.rows c.in_default-insert.ensures.ok
 
 pub move_opens-requires-clause-room : goal.move_opens-requires-clause-room
 move_opens-requires-clause-room c =
@@ -91,7 +94,7 @@ unreachable-requires-in_default-remove c =
     let t = c.self.inside in
     let n = c.args.question in
     let found = row_found (at t.questions n) c.in-Some.asked c.in-Some.ensures in
-    let low : n ≤ t.sequence = all-at (λ j. j ≤ t.sequence) t.questions n c.self.invariant.asked (is_there (at t.questions n) (c.in-Some.asked, found.0) found.1) in
+    let low : n ≤ t.sequence = all-at (λ j. j ≤ t.sequence) t.questions n c.self.invariant.rows.asked (is_there (at t.questions n) (c.in-Some.asked, found.0) found.1) in
     let old : at c.insert.new.self n ≡ Some (c.in-Some.asked, found.0) = c.in_default-insert.ensures.ok.others n (λ e. absurd (omega arith)) ∙ found.1 in
     not_there (at c.move_opens.new.questions n) (sym c.in_default-remove.ensures.value) (there-kept c.insert.new.self c.move_opens.new.questions n c.move_opens.ensures.same (is_there (at c.insert.new.self n) (c.in-Some.asked, found.0) old))
 
@@ -102,29 +105,32 @@ release-requires c =
     let m = t.sequence + 1 in
     let s = c.in-Some.asked.stream in
     let found = row_found (at t.questions n) c.in-Some.asked c.in-Some.ensures in
-    let before = known-at t.boot t.sequence n t.questions t.pended t.contexts c.in-Some.asked found.0 c.self.invariant found.1 in
+    let before = known-at t.boot t.sequence n t.questions t.pended t.contexts c.in-Some.asked found.0 c.self.invariant.rows found.1 in
     let key_is = held-again t.boot t.sequence n t.contexts s found.0 c.in_ok-context.context before c.in_ok-context.ensures.same in
-    let low : n ≤ t.sequence = all-at (λ j. j ≤ t.sequence) t.questions n c.self.invariant.asked (is_there (at t.questions n) (c.in-Some.asked, found.0) found.1) in
+    let low : n ≤ t.sequence = all-at (λ j. j ≤ t.sequence) t.questions n c.self.invariant.rows.asked (is_there (at t.questions n) (c.in-Some.asked, found.0) found.1) in
     let old : at c.insert.new.self n ≡ Some (c.in-Some.asked, found.0) = c.in_default-insert.ensures.ok.others n (λ e. absurd (omega arith)) ∙ found.1 in
     let same : c.in-Some-remove.context ≡ found.0 = same-key n c.insert.new.self c.move_opens.new.questions c.in-Some.asked c.in-Some-remove._ended found.0 c.in-Some-remove.context c.move_opens.ensures.same old c.in-Some-remove.ensures.value in
     subst (λ o. IsSomeAnd o (λ m. (m.key ≡ c.in-Some-remove.context) × (1 ≤ m.held))) (sym c.in_ok-context.ensures.ok.here) (sym key_is ∙ sym same, omega arith)
 
 pub invariant_of-self-2 : goal.invariant_of-self-2
-invariant_of-self-2 c =
-    let t = c.self.inside in
-    let n = c.args.question in
-    let m = t.sequence + 1 in
-    let s = c.in-Some.asked.stream in
-    let found = row_found (at t.questions n) c.in-Some.asked c.in-Some.ensures in
-    let before = known-at t.boot t.sequence n t.questions t.pended t.contexts c.in-Some.asked found.0 c.self.invariant found.1 in
-    let key_is = held-again t.boot t.sequence n t.contexts s found.0 c.in_ok-context.context before c.in_ok-context.ensures.same in
-    let v = c.args.volume.now in
-    let a = asks_again t.boot t.sequence n (present_generation v s) t.questions c.insert.new.self c.move_opens.new.questions c.remove.new.self t.pended c.move_opens.new.pended t.contexts c.hold.new.self c.release.new.self c.in-Some.asked found.0
-    c.self.invariant c.len-numbers_ascend.ensures.ascend c.in_ok-context.ensures.ascend found.1
-    (subst (λ j. PutsAt t.contexts c.hold.new.self s (Some (record { key = j; state = Scanning (id_of t.boot m); held = held_out (at t.contexts s) + 1 }))) (sym key_is) c.in_ok-context.ensures.ok)
-    (subst (λ g. PutsAt t.questions c.insert.new.self m (Some (new_row s g, found.0))) c.generation_now-generation.ensures (subst (λ j. PutsAt t.questions c.insert.new.self m (Some (new_row s c.generation_now-generation.result, j))) (sym key_is) c.in_default-insert.ensures.ok))
-    c.move_opens.ensures.same c.move_opens.ensures.chained (c.move_opens.ensures.numbered c.self.invariant.numbered) c.move_opens.ensures.moved c.remove.ensures.puts c.release.ensures in
-    a.consistent
+invariant_of-self-2 c = record {
+  rows = (let t = c.self.inside in
+      let n = c.args.question in
+      let m = t.sequence + 1 in
+      let s = c.in-Some.asked.stream in
+      let found = row_found (at t.questions n) c.in-Some.asked c.in-Some.ensures in
+      let before = known-at t.boot t.sequence n t.questions t.pended t.contexts c.in-Some.asked found.0 c.self.invariant.rows found.1 in
+      let key_is = held-again t.boot t.sequence n t.contexts s found.0 c.in_ok-context.context before c.in_ok-context.ensures.same in
+      let v = c.args.volume.now in
+      let a = asks_again t.boot t.sequence n (present_generation v s) t.questions c.insert.new.self c.move_opens.new.questions c.remove.new.self t.pended c.move_opens.new.pended t.contexts c.hold.new.self c.release.new.self c.in-Some.asked found.0
+      c.self.invariant.rows c.len-numbers_ascend.ensures.ascend c.in_ok-context.ensures.ascend found.1
+      (subst (λ j. PutsAt t.contexts c.hold.new.self s (Some (record { key = j; state = Scanning (id_of t.boot m); held = held_out (at t.contexts s) + 1 }))) (sym key_is) c.in_ok-context.ensures.ok)
+      (subst (λ g. PutsAt t.questions c.insert.new.self m (Some (new_row s g, found.0))) c.generation_now-generation.ensures (subst (λ j. PutsAt t.questions c.insert.new.self m (Some (new_row s c.generation_now-generation.result, j))) (sym key_is) c.in_default-insert.ensures.ok))
+      c.move_opens.ensures.same c.move_opens.ensures.chained (c.move_opens.ensures.numbered c.self.invariant.rows.numbered) c.move_opens.ensures.moved c.remove.ensures.puts c.release.ensures in
+      a.consistent);
+  mounted = c.self.invariant.mounted;
+  sized = c.self.invariant.sized;
+}
 
 pub returns-clause-answers : goal.returns-clause-answers
 returns-clause-answers c =
@@ -154,14 +160,14 @@ returns-clause-ok c =
     let m = t.sequence + 1 in
     let s = c.in-Some.asked.stream in
     let found = row_found (at t.questions n) c.in-Some.asked c.in-Some.ensures in
-    let before = known-at t.boot t.sequence n t.questions t.pended t.contexts c.in-Some.asked found.0 c.self.invariant found.1 in
+    let before = known-at t.boot t.sequence n t.questions t.pended t.contexts c.in-Some.asked found.0 c.self.invariant.rows found.1 in
     let key_is = held-again t.boot t.sequence n t.contexts s found.0 c.in_ok-context.context before c.in_ok-context.ensures.same in
     let v = c.args.volume.now in
     let a = asks_again t.boot t.sequence n (present_generation v s) t.questions c.insert.new.self c.move_opens.new.questions c.remove.new.self t.pended c.move_opens.new.pended t.contexts c.hold.new.self c.release.new.self c.in-Some.asked found.0
-    c.self.invariant c.len-numbers_ascend.ensures.ascend c.in_ok-context.ensures.ascend found.1
+    c.self.invariant.rows c.len-numbers_ascend.ensures.ascend c.in_ok-context.ensures.ascend found.1
     (subst (λ j. PutsAt t.contexts c.hold.new.self s (Some (record { key = j; state = Scanning (id_of t.boot m); held = held_out (at t.contexts s) + 1 }))) (sym key_is) c.in_ok-context.ensures.ok)
     (subst (λ g. PutsAt t.questions c.insert.new.self m (Some (new_row s g, found.0))) c.generation_now-generation.ensures (subst (λ j. PutsAt t.questions c.insert.new.self m (Some (new_row s c.generation_now-generation.result, j))) (sym key_is) c.in_default-insert.ensures.ok))
-    c.move_opens.ensures.same c.move_opens.ensures.chained (c.move_opens.ensures.numbered c.self.invariant.numbered) c.move_opens.ensures.moved c.remove.ensures.puts c.release.ensures in
+    c.move_opens.ensures.same c.move_opens.ensures.chained (c.move_opens.ensures.numbered c.self.invariant.rows.numbered) c.move_opens.ensures.moved c.remove.ensures.puts c.release.ensures in
     rw (← c.self.view_is, question-found t.boot n t.questions c.len-numbers_ascend.ensures.ascend ∙ ap (option_map (λ y. asked_of t.boot (n, essence y))) found.1)
     (λ i. record {
       mode = t.mode;

@@ -28,19 +28,22 @@ unreachable-requires c =
     no_row (Some y) none some = absurd (cc)
 
 pub insert-requires : goal.insert-requires
-insert-requires c = new-question c.self.inside.boot c.self.inside.sequence c.self.inside.questions c.self.inside.pended c.self.inside.contexts c.self.invariant
+insert-requires c = new-question c.self.inside.boot c.self.inside.sequence c.self.inside.questions c.self.inside.pended c.self.inside.contexts c.self.invariant.rows
 
 pub invariant_of-self-in-Err : goal.invariant_of-self-in-Err
-invariant_of-self-in-Err c =
-    let t = c.self.inside in
-    let n = c.args.question in
-    let m = t.sequence + 1 in
-    let s = c.in-Some.asked.stream in
-    let found = row_found (at t.questions n) c.in-Some.asked c.in-Some.ensures in
-    let before = known-at t.boot t.sequence n t.questions t.pended t.contexts c.in-Some.asked found.0 c.self.invariant found.1 in
-    let key_is = held-again t.boot t.sequence n t.contexts s found.0 c.in_ok-context.context before c.in_ok-context.ensures.same in
-    let same = undone-again t.boot n t.contexts c.hold.new.self c.give_back.new.self s found.0 _ c.in_ok-context.ensures.ascend before (sym key_is) refl c.in_ok-context.ensures.ok c.give_back.ensures.puts in
-    subst (λ q. IsConsistent t.boot t.sequence q t.pended c.give_back.new.self) (sym c.in-Err.ensures.err) (subst (IsConsistent t.boot t.sequence t.questions t.pended) (sym same) c.self.invariant)
+invariant_of-self-in-Err c = record {
+  rows = (let t = c.self.inside in
+      let n = c.args.question in
+      let m = t.sequence + 1 in
+      let s = c.in-Some.asked.stream in
+      let found = row_found (at t.questions n) c.in-Some.asked c.in-Some.ensures in
+      let before = known-at t.boot t.sequence n t.questions t.pended t.contexts c.in-Some.asked found.0 c.self.invariant.rows found.1 in
+      let key_is = held-again t.boot t.sequence n t.contexts s found.0 c.in_ok-context.context before c.in_ok-context.ensures.same in
+      let same = undone-again t.boot n t.contexts c.hold.new.self c.give_back.new.self s found.0 _ c.in_ok-context.ensures.ascend before (sym key_is) refl c.in_ok-context.ensures.ok c.give_back.ensures.puts in
+      subst (λ q. IsConsistent t.boot t.sequence q t.pended c.give_back.new.self) (sym c.in-Err.ensures.err) (subst (IsConsistent t.boot t.sequence t.questions t.pended) (sym same) c.self.invariant.rows));
+  mounted = c.self.invariant.mounted;
+  sized = c.self.invariant.sized;
+}
 
 pub returns-in-Err-clause-err : goal.returns-in-Err-clause-err
 returns-in-Err-clause-err c =
@@ -49,7 +52,7 @@ returns-in-Err-clause-err c =
     let m = t.sequence + 1 in
     let s = c.in-Some.asked.stream in
     let found = row_found (at t.questions n) c.in-Some.asked c.in-Some.ensures in
-    let before = known-at t.boot t.sequence n t.questions t.pended t.contexts c.in-Some.asked found.0 c.self.invariant found.1 in
+    let before = known-at t.boot t.sequence n t.questions t.pended t.contexts c.in-Some.asked found.0 c.self.invariant.rows found.1 in
     let key_is = held-again t.boot t.sequence n t.contexts s found.0 c.in_ok-context.context before c.in_ok-context.ensures.same in
     let same = undone-again t.boot n t.contexts c.hold.new.self c.give_back.new.self s found.0 _ c.in_ok-context.ensures.ascend before (sym key_is) refl c.in_ok-context.ensures.ok c.give_back.ensures.puts in (
       rw (← c.self.view_is)
@@ -73,13 +76,13 @@ pub move_opens-requires-clause-apart : goal.move_opens-requires-clause-apart
 move_opens-requires-clause-apart c = λ e.
     let t = c.self.inside in
     let found = row_found (at t.questions c.args.question) c.in-Some.asked c.in-Some.ensures in
-    let low : c.args.question ≤ t.sequence = all-at (λ j. j ≤ t.sequence) t.questions c.args.question c.self.invariant.asked (is_there (at t.questions c.args.question) (c.in-Some.asked, found.0) found.1) in
+    let low : c.args.question ≤ t.sequence = all-at (λ j. j ≤ t.sequence) t.questions c.args.question c.self.invariant.rows.asked (is_there (at t.questions c.args.question) (c.in-Some.asked, found.0) found.1) in
     absurd (omega arith)
 
 pub move_opens-requires-clause-chained : goal.move_opens-requires-clause-chained
 move_opens-requires-clause-chained c =
     let t = c.self.inside in
-    chained-new t.boot t.sequence c.in-Some.asked.stream c.new-generation.result c.in_ok-context.context t.questions c.insert.new.self t.pended t.contexts c.self.invariant c.in_default-insert.ensures.ok
+    chained-new t.boot t.sequence c.in-Some.asked.stream c.new-generation.result c.in_ok-context.context t.questions c.insert.new.self t.pended t.contexts c.self.invariant.rows c.in_default-insert.ensures.ok
 
 pub move_opens-requires-clause-room : goal.move_opens-requires-clause-room
 move_opens-requires-clause-room c =
@@ -94,7 +97,7 @@ unreachable-requires-in_default-remove-2 c =
     let t = c.self.inside in
     let n = c.args.question in
     let found = row_found (at t.questions n) c.in-Some.asked c.in-Some.ensures in
-    let low : n ≤ t.sequence = all-at (λ j. j ≤ t.sequence) t.questions n c.self.invariant.asked (is_there (at t.questions n) (c.in-Some.asked, found.0) found.1) in
+    let low : n ≤ t.sequence = all-at (λ j. j ≤ t.sequence) t.questions n c.self.invariant.rows.asked (is_there (at t.questions n) (c.in-Some.asked, found.0) found.1) in
     let old : at c.insert.new.self n ≡ Some (c.in-Some.asked, found.0) = c.in_default-insert.ensures.ok.others n (λ e. absurd (omega arith)) ∙ found.1 in
     not_there (at c.move_opens.new.questions n) (sym c.in_default-remove-2.ensures.value) (there-kept c.insert.new.self c.move_opens.new.questions n c.move_opens.ensures.same (is_there (at c.insert.new.self n) (c.in-Some.asked, found.0) old))
 
@@ -105,29 +108,32 @@ release-requires c =
     let m = t.sequence + 1 in
     let s = c.in-Some.asked.stream in
     let found = row_found (at t.questions n) c.in-Some.asked c.in-Some.ensures in
-    let before = known-at t.boot t.sequence n t.questions t.pended t.contexts c.in-Some.asked found.0 c.self.invariant found.1 in
+    let before = known-at t.boot t.sequence n t.questions t.pended t.contexts c.in-Some.asked found.0 c.self.invariant.rows found.1 in
     let key_is = held-again t.boot t.sequence n t.contexts s found.0 c.in_ok-context.context before c.in_ok-context.ensures.same in
-    let low : n ≤ t.sequence = all-at (λ j. j ≤ t.sequence) t.questions n c.self.invariant.asked (is_there (at t.questions n) (c.in-Some.asked, found.0) found.1) in
+    let low : n ≤ t.sequence = all-at (λ j. j ≤ t.sequence) t.questions n c.self.invariant.rows.asked (is_there (at t.questions n) (c.in-Some.asked, found.0) found.1) in
     let old : at c.insert.new.self n ≡ Some (c.in-Some.asked, found.0) = c.in_default-insert.ensures.ok.others n (λ e. absurd (omega arith)) ∙ found.1 in
     let same : c.in-Some-remove-2.context ≡ found.0 = same-key n c.insert.new.self c.move_opens.new.questions c.in-Some.asked c.in-Some-remove-2._ended found.0 c.in-Some-remove-2.context c.move_opens.ensures.same old c.in-Some-remove-2.ensures.value in
     subst (λ o. IsSomeAnd o (λ m. (m.key ≡ c.in-Some-remove-2.context) × (1 ≤ m.held))) (sym c.in_ok-context.ensures.ok.here) (sym key_is ∙ sym same, omega arith)
 
 pub invariant_of-self-2 : goal.invariant_of-self-2
-invariant_of-self-2 c =
-    let t = c.self.inside in
-    let n = c.args.question in
-    let m = t.sequence + 1 in
-    let s = c.in-Some.asked.stream in
-    let found = row_found (at t.questions n) c.in-Some.asked c.in-Some.ensures in
-    let before = known-at t.boot t.sequence n t.questions t.pended t.contexts c.in-Some.asked found.0 c.self.invariant found.1 in
-    let key_is = held-again t.boot t.sequence n t.contexts s found.0 c.in_ok-context.context before c.in_ok-context.ensures.same in
-    let v = c.apply.new.volume in
-    let a = asks_again t.boot t.sequence n (present_generation v s) t.questions c.insert.new.self c.move_opens.new.questions c.remove-2.new.self t.pended c.move_opens.new.pended t.contexts c.hold.new.self c.release.new.self c.in-Some.asked found.0
-    c.self.invariant c.len-numbers_ascend.ensures.ascend c.in_ok-context.ensures.ascend found.1
-    (subst (λ j. PutsAt t.contexts c.hold.new.self s (Some (record { key = j; state = Scanning (id_of t.boot m); held = held_out (at t.contexts s) + 1 }))) (sym key_is) c.in_ok-context.ensures.ok)
-    (subst (λ g. PutsAt t.questions c.insert.new.self m (Some (new_row s g, found.0))) (c.new-generation.ensures ∙ ap (λ g. g + 1) (c.get.ensures ∙ c.generation_now.ensures) ∙ sym (raised_by c.args.volume.now v s c.args.rewriting c.in-Ok.ensures)) (subst (λ j. PutsAt t.questions c.insert.new.self m (Some (new_row s c.new-generation.result, j))) (sym key_is) c.in_default-insert.ensures.ok))
-    c.move_opens.ensures.same c.move_opens.ensures.chained (c.move_opens.ensures.numbered c.self.invariant.numbered) c.move_opens.ensures.moved c.remove-2.ensures.puts c.release.ensures in
-    a.consistent
+invariant_of-self-2 c = record {
+  rows = (let t = c.self.inside in
+      let n = c.args.question in
+      let m = t.sequence + 1 in
+      let s = c.in-Some.asked.stream in
+      let found = row_found (at t.questions n) c.in-Some.asked c.in-Some.ensures in
+      let before = known-at t.boot t.sequence n t.questions t.pended t.contexts c.in-Some.asked found.0 c.self.invariant.rows found.1 in
+      let key_is = held-again t.boot t.sequence n t.contexts s found.0 c.in_ok-context.context before c.in_ok-context.ensures.same in
+      let v = c.apply.new.volume in
+      let a = asks_again t.boot t.sequence n (present_generation v s) t.questions c.insert.new.self c.move_opens.new.questions c.remove-2.new.self t.pended c.move_opens.new.pended t.contexts c.hold.new.self c.release.new.self c.in-Some.asked found.0
+      c.self.invariant.rows c.len-numbers_ascend.ensures.ascend c.in_ok-context.ensures.ascend found.1
+      (subst (λ j. PutsAt t.contexts c.hold.new.self s (Some (record { key = j; state = Scanning (id_of t.boot m); held = held_out (at t.contexts s) + 1 }))) (sym key_is) c.in_ok-context.ensures.ok)
+      (subst (λ g. PutsAt t.questions c.insert.new.self m (Some (new_row s g, found.0))) (c.new-generation.ensures ∙ ap (λ g. g + 1) (c.get.ensures ∙ c.generation_now.ensures) ∙ sym (raised_by c.args.volume.now v s c.args.rewriting c.in-Ok.ensures)) (subst (λ j. PutsAt t.questions c.insert.new.self m (Some (new_row s c.new-generation.result, j))) (sym key_is) c.in_default-insert.ensures.ok))
+      c.move_opens.ensures.same c.move_opens.ensures.chained (c.move_opens.ensures.numbered c.self.invariant.rows.numbered) c.move_opens.ensures.moved c.remove-2.ensures.puts c.release.ensures in
+      a.consistent);
+  mounted = c.self.invariant.mounted;
+  sized = c.self.invariant.sized;
+}
 
 pub returns-clause-answers : goal.returns-clause-answers
 returns-clause-answers c =
@@ -157,14 +163,14 @@ returns-clause-ok c =
     let m = t.sequence + 1 in
     let s = c.in-Some.asked.stream in
     let found = row_found (at t.questions n) c.in-Some.asked c.in-Some.ensures in
-    let before = known-at t.boot t.sequence n t.questions t.pended t.contexts c.in-Some.asked found.0 c.self.invariant found.1 in
+    let before = known-at t.boot t.sequence n t.questions t.pended t.contexts c.in-Some.asked found.0 c.self.invariant.rows found.1 in
     let key_is = held-again t.boot t.sequence n t.contexts s found.0 c.in_ok-context.context before c.in_ok-context.ensures.same in
     let v = c.apply.new.volume in
     let a = asks_again t.boot t.sequence n (present_generation v s) t.questions c.insert.new.self c.move_opens.new.questions c.remove-2.new.self t.pended c.move_opens.new.pended t.contexts c.hold.new.self c.release.new.self c.in-Some.asked found.0
-    c.self.invariant c.len-numbers_ascend.ensures.ascend c.in_ok-context.ensures.ascend found.1
+    c.self.invariant.rows c.len-numbers_ascend.ensures.ascend c.in_ok-context.ensures.ascend found.1
     (subst (λ j. PutsAt t.contexts c.hold.new.self s (Some (record { key = j; state = Scanning (id_of t.boot m); held = held_out (at t.contexts s) + 1 }))) (sym key_is) c.in_ok-context.ensures.ok)
     (subst (λ g. PutsAt t.questions c.insert.new.self m (Some (new_row s g, found.0))) (c.new-generation.ensures ∙ ap (λ g. g + 1) (c.get.ensures ∙ c.generation_now.ensures) ∙ sym (raised_by c.args.volume.now v s c.args.rewriting c.in-Ok.ensures)) (subst (λ j. PutsAt t.questions c.insert.new.self m (Some (new_row s c.new-generation.result, j))) (sym key_is) c.in_default-insert.ensures.ok))
-    c.move_opens.ensures.same c.move_opens.ensures.chained (c.move_opens.ensures.numbered c.self.invariant.numbered) c.move_opens.ensures.moved c.remove-2.ensures.puts c.release.ensures in
+    c.move_opens.ensures.same c.move_opens.ensures.chained (c.move_opens.ensures.numbered c.self.invariant.rows.numbered) c.move_opens.ensures.moved c.remove-2.ensures.puts c.release.ensures in
     rw (← c.self.view_is, question-found t.boot n t.questions c.len-numbers_ascend.ensures.ascend ∙ ap (option_map (λ y. asked_of t.boot (n, essence y))) found.1)
     (λ i. record {
       mode = t.mode;
@@ -202,7 +208,7 @@ rows_same c =
     let up = c.len-numbers_ascend.ensures.ascend in
     put_back t.questions c.insert.new.self c.remove.new.self m (Some (new_row c.in-Some.asked.stream c.new-generation.result, c.in_ok-context.context)) up
     (puts-ascends c.insert.new.self c.remove.new.self m None c.remove.ensures.puts (puts-ascends t.questions c.insert.new.self m _ put up)) put
-    (subst (λ o. PutsAt c.insert.new.self c.remove.new.self m o) (sym (new-question t.boot t.sequence t.questions t.pended t.contexts c.self.invariant)) c.remove.ensures.puts)
+    (subst (λ o. PutsAt c.insert.new.self c.remove.new.self m o) (sym (new-question t.boot t.sequence t.questions t.pended t.contexts c.self.invariant.rows)) c.remove.ensures.puts)
 
 -- and so are the contexts
 contexts_same : (c : goal.After-give_back-in_default-apply) → c.give_back-in_default-apply.new.self ≡ c.self.inside.contexts
@@ -211,14 +217,17 @@ contexts_same c =
     let n = c.args.question in
     let s = c.in-Some.asked.stream in
     let found = row_found (at t.questions n) c.in-Some.asked c.in-Some.ensures in
-    let before = known-at t.boot t.sequence n t.questions t.pended t.contexts c.in-Some.asked found.0 c.self.invariant found.1 in
+    let before = known-at t.boot t.sequence n t.questions t.pended t.contexts c.in-Some.asked found.0 c.self.invariant.rows found.1 in
     let key_is = held-again t.boot t.sequence n t.contexts s found.0 c.in_ok-context.context before c.in_ok-context.ensures.same in
     undone-again t.boot n t.contexts c.hold.new.self c.give_back-in_default-apply.new.self s found.0 _ c.in_ok-context.ensures.ascend before (sym key_is) refl c.in_ok-context.ensures.ok c.give_back-in_default-apply.ensures.puts
 
 pub invariant_of-self-in_default-apply : goal.invariant_of-self-in_default-apply
-invariant_of-self-in_default-apply c =
-    let t = c.self.inside in
-    subst (λ q. IsConsistent t.boot t.sequence q t.pended c.give_back-in_default-apply.new.self) (sym (rows_same c)) (subst (IsConsistent t.boot t.sequence t.questions t.pended) (sym (contexts_same c)) c.self.invariant)
+invariant_of-self-in_default-apply c = record {
+  rows = (let t = c.self.inside in
+      subst (λ q. IsConsistent t.boot t.sequence q t.pended c.give_back-in_default-apply.new.self) (sym (rows_same c)) (subst (IsConsistent t.boot t.sequence t.questions t.pended) (sym (contexts_same c)) c.self.invariant.rows));
+  mounted = c.self.invariant.mounted;
+  sized = c.self.invariant.sized;
+}
 
 pub returns-in_default-apply-clause-err : goal.returns-in_default-apply-clause-err
 returns-in_default-apply-clause-err c =

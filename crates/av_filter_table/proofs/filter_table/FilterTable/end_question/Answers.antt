@@ -19,12 +19,16 @@ unreachable-requires c =
 pub give_back-requires : goal.give_back-requires
 give_back-requires c =
     subst (λ o. IsSomeAnd o (λ m. (m.key ≡ c.in-Some.context) × (1 ≤ m.held)))
-    (sym (known-at c.self.inside.boot c.self.inside.sequence c.args.question c.self.inside.questions c.self.inside.pended c.self.inside.contexts c.in-Some.asked c.in-Some.context c.self.invariant (sym c.in-Some.ensures.value)))
+    (sym (known-at c.self.inside.boot c.self.inside.sequence c.args.question c.self.inside.questions c.self.inside.pended c.self.inside.contexts c.in-Some.asked c.in-Some.context c.self.invariant.rows (sym c.in-Some.ensures.value)))
     (refl, omega arith)
 
 pub invariant_of-self : goal.invariant_of-self
-invariant_of-self c = (ends c.self.inside.boot c.self.inside.sequence c.args.question c.self.inside.questions c.remove.new.self c.self.inside.pended c.self.inside.contexts c.give_back.new.self c.args.state c.in-Some.asked c.in-Some.context
-    c.self.invariant c.len-numbers_ascend.ensures.ascend c.give_back.ensures.ascend (sym c.in-Some.ensures.value) c.remove.ensures.puts c.give_back.ensures.puts).consistent
+invariant_of-self c = record {
+  rows = ((ends c.self.inside.boot c.self.inside.sequence c.args.question c.self.inside.questions c.remove.new.self c.self.inside.pended c.self.inside.contexts c.give_back.new.self c.args.state c.in-Some.asked c.in-Some.context
+      c.self.invariant.rows c.len-numbers_ascend.ensures.ascend c.give_back.ensures.ascend (sym c.in-Some.ensures.value) c.remove.ensures.puts c.give_back.ensures.puts).consistent);
+  mounted = c.self.invariant.mounted;
+  sized = c.self.invariant.sized;
+}
 
 pub returns : goal.returns
 unfolding ended
@@ -32,7 +36,7 @@ returns c =
     let t = c.self.inside in
     let n = c.args.question in
     let e = ends c.self.inside.boot c.self.inside.sequence c.args.question c.self.inside.questions c.remove.new.self c.self.inside.pended c.self.inside.contexts c.give_back.new.self c.args.state c.in-Some.asked c.in-Some.context
-    c.self.invariant c.len-numbers_ascend.ensures.ascend c.give_back.ensures.ascend (sym c.in-Some.ensures.value) c.remove.ensures.puts c.give_back.ensures.puts in
+    c.self.invariant.rows c.len-numbers_ascend.ensures.ascend c.give_back.ensures.ascend (sym c.in-Some.ensures.value) c.remove.ensures.puts c.give_back.ensures.puts in
     let none : opens_of (id_of t.boot n) (pended_of t.boot t.pended) ≡ [] = subst (λ u. opens_of (id_of u.boot n) u.pended ≡ []) (sym c.self.view_is) c.requires.none in
     rw (← c.self.view_is, question-found t.boot n t.questions c.len-numbers_ascend.ensures.ascend ∙ ap (option_map (λ y. asked_of t.boot (n, essence y))) (sym c.in-Some.ensures.value))
     (λ i. record {

@@ -19,12 +19,16 @@ unreachable-requires c =
 pub forget-requires : goal.forget-requires
 forget-requires c =
     subst (λ o. IsSomeAnd o (λ m. (m.key ≡ c.in-Some.context) × (m.held ≡ 1)))
-    (sym (known-at c.self.inside.boot c.self.inside.sequence c.args.question c.self.inside.questions c.self.inside.pended c.self.inside.contexts c.in-Some.asked c.in-Some.context c.self.invariant (sym c.in-Some.ensures.value)))
+    (sym (known-at c.self.inside.boot c.self.inside.sequence c.args.question c.self.inside.questions c.self.inside.pended c.self.inside.contexts c.in-Some.asked c.in-Some.context c.self.invariant.rows (sym c.in-Some.ensures.value)))
     (refl, refl)
 
 pub invariant_of-self : goal.invariant_of-self
-invariant_of-self c = (ends_gone c.self.inside.boot c.self.inside.sequence c.args.question c.self.inside.questions c.remove.new.self c.self.inside.pended c.self.inside.contexts c.forget.new.self c.in-Some.asked c.in-Some.context
-    c.self.invariant c.len-numbers_ascend.ensures.ascend (sym c.in-Some.ensures.value) c.remove.ensures.puts c.forget.ensures).consistent
+invariant_of-self c = record {
+  rows = ((ends_gone c.self.inside.boot c.self.inside.sequence c.args.question c.self.inside.questions c.remove.new.self c.self.inside.pended c.self.inside.contexts c.forget.new.self c.in-Some.asked c.in-Some.context
+      c.self.invariant.rows c.len-numbers_ascend.ensures.ascend (sym c.in-Some.ensures.value) c.remove.ensures.puts c.forget.ensures).consistent);
+  mounted = c.self.invariant.mounted;
+  sized = c.self.invariant.sized;
+}
 
 pub returns : goal.returns
 unfolding ended
@@ -32,7 +36,7 @@ returns c =
     let t = c.self.inside in
     let n = c.args.question in
     let e = ends_gone c.self.inside.boot c.self.inside.sequence c.args.question c.self.inside.questions c.remove.new.self c.self.inside.pended c.self.inside.contexts c.forget.new.self c.in-Some.asked c.in-Some.context
-    c.self.invariant c.len-numbers_ascend.ensures.ascend (sym c.in-Some.ensures.value) c.remove.ensures.puts c.forget.ensures in
+    c.self.invariant.rows c.len-numbers_ascend.ensures.ascend (sym c.in-Some.ensures.value) c.remove.ensures.puts c.forget.ensures in
     let none : opens_of (id_of t.boot n) (pended_of t.boot t.pended) ≡ [] = subst (λ u. opens_of (id_of u.boot n) u.pended ≡ []) (sym c.self.view_is) c.requires.none in
     rw (← c.self.view_is, question-found t.boot n t.questions c.len-numbers_ascend.ensures.ascend ∙ ap (option_map (λ y. asked_of t.boot (n, essence y))) (sym c.in-Some.ensures.value))
     (λ i. record {

@@ -17,4 +17,4 @@ unreachable-requires c =
     no_row (Some y) none some = absurd (cc)
 
 pub returns : goal.returns
-returns c = rw (← c.self.view_is) (count-opens c.self.inside.boot c.args.question c.self.inside.questions c.self.inside.pended c.in-Some.asked c.self.invariant.chained c.in-Some.ensures)
+returns c = rw (← c.self.view_is) (count-opens c.self.inside.boot c.args.question c.self.inside.questions c.self.inside.pended c.in-Some.asked c.self.invariant.rows.chained c.in-Some.ensures)
