@@ -4,8 +4,8 @@ ghost use Rattle.av_filter_table.specs.Answering.{all_judged, by_mode, judged, M
 ghost use Rattle.av_filter_table.specs.FilterTable.{id_of};
 ghost use Rattle.av_filter_table.specs.Table.{question_at, opens_of, other_opens};
 
-use crate::present::generation_now;
 use crate::filter_table::FilterTable;
+use crate::present::generation_now;
 use av_base::cause::Cause;
 use av_base::message_id::MessageId;
 use av_base::number::{Generation, Version};
@@ -92,12 +92,7 @@ pub fn judge_opens(
 }
 
 // The answer to one open.
-fn judge(
-    held: PendedOpen,
-    generation: Generation,
-    version: Version,
-    verdict: Verdict,
-) -> Answer
+fn judge(held: PendedOpen, generation: Generation, version: Version, verdict: Verdict) -> Answer
     requires { held.least ≤ version }
     ensures { result ≡ judged verdict generation version held }
 {

@@ -108,9 +108,7 @@ pub fn has_rescan_left(
     };
     let mut next = asked.first;
     'opens: for _ in 0..asked.opens {
-        let Some(number) = next else {
-            unreachable!()
-        };
+        let Some(number) = next else { unreachable!() };
         let Some(row) = pended.row(number) else {
             unreachable!()
         };

@@ -20,14 +20,13 @@ append-requires-clause-last c =
 
 pub invariant_of-self : goal.invariant_of-self
 invariant_of-self c = record {
-      rows = (rows-kept c.self.inside.boot c.self.inside.sequence c.self.inside.questions c.append.new.questions c.self.inside.pended c.append.new.pended c.self.inside.contexts c.self.invariant.rows c.append.ensures.chained
-    (numbered-result c.append.result c.args.question c.get-number.result c.args.held c.self.inside.questions c.append.new.questions c.self.inside.pended c.append.new.pended c.self.invariant.rows.numbered
-    (c.get-number.ensures ∙ c.open_id.ensures) c.append.ensures.ok c.append.ensures.keys c.append.ensures.err)
-    (unasked-result c.append.result c.self.inside.boot c.self.inside.sequence c.args.question c.args.held c.self.inside.questions c.append.new.questions c.self.inside.pended c.append.new.pended c.self.inside.contexts c.self.invariant.rows
-    (question-there c.self.inside.boot c.args.question c.self.inside.questions c.len-numbers_ascend.ensures.ascend
-    (subst (λ t. IsSome (question_at (id_of t.boot c.args.question) t.questions)) (sym c.self.view_is) c.requires.there)) c.append.ensures.ok c.append.ensures.err)
-    c.append.ensures.same);
-      mounted = c.self.invariant.mounted;
-      sized = c.self.invariant.sized;
-    }
-
+  rows = (rows-kept c.self.inside.boot c.self.inside.sequence c.self.inside.questions c.append.new.questions c.self.inside.pended c.append.new.pended c.self.inside.contexts c.self.invariant.rows c.append.ensures.chained
+      (numbered-result c.append.result c.args.question c.get-number.result c.args.held c.self.inside.questions c.append.new.questions c.self.inside.pended c.append.new.pended c.self.invariant.rows.numbered
+      (c.get-number.ensures ∙ c.open_id.ensures) c.append.ensures.ok c.append.ensures.keys c.append.ensures.err)
+      (unasked-result c.append.result c.self.inside.boot c.self.inside.sequence c.args.question c.args.held c.self.inside.questions c.append.new.questions c.self.inside.pended c.append.new.pended c.self.inside.contexts c.self.invariant.rows
+      (question-there c.self.inside.boot c.args.question c.self.inside.questions c.len-numbers_ascend.ensures.ascend
+      (subst (λ t. IsSome (question_at (id_of t.boot c.args.question) t.questions)) (sym c.self.view_is) c.requires.there)) c.append.ensures.ok c.append.ensures.err)
+      c.append.ensures.same);
+  mounted = c.self.invariant.mounted;
+  sized = c.self.invariant.sized;
+}

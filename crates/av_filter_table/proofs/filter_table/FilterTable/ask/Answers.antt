@@ -19,16 +19,16 @@ undo_hold-requires c =
 
 pub invariant_of-self-in-Err : goal.invariant_of-self-in-Err
 invariant_of-self-in-Err c = record {
-      rows = (subst (λ q. IsConsistent c.self.inside.boot c.self.inside.sequence q c.self.inside.pended c.undo_hold.new.self) (sym c.in-Err.ensures.err)
-    (subst (λ k. IsConsistent c.self.inside.boot c.self.inside.sequence c.self.inside.questions c.self.inside.pended k) (sym (undone c.self.inside.contexts c.hold.new.self c.undo_hold.new.self c.args.stream c.in_ok-context.context
-    (record { key = c.in_ok-context.context; state = Scanning (id_of c.self.inside.boot (c.self.inside.sequence + 1)); held = held_out (at c.self.inside.contexts c.args.stream) + 1 }) c.state_of-old.result
-    c.in_ok-context.ensures.ascend
-    (puts-ascends c.self.inside.contexts c.hold.new.self c.args.stream _ c.in_ok-context.ensures.ok c.in_ok-context.ensures.ascend)
-    (c.self.invariant.rows.free c.args.stream (unasked-of c.self.inside.boot c.args.stream c.self.inside.questions (subst (λ t. question_of c.args.stream t.questions ≡ None) (sym c.self.view_is) c.requires.none))) c.in_ok-context.ensures.same c.state_of-old.ensures c.in_ok-context.ensures.ok
-    (subst (λ v. PutsAt c.hold.new.self c.undo_hold.new.self c.args.stream (option_map (known_again v) c.state_of-old.result)) c.in-Err.ensures.back c.undo_hold.ensures))) c.self.invariant.rows));
-      mounted = c.self.invariant.mounted;
-      sized = c.self.invariant.sized;
-    }
+  rows = (subst (λ q. IsConsistent c.self.inside.boot c.self.inside.sequence q c.self.inside.pended c.undo_hold.new.self) (sym c.in-Err.ensures.err)
+      (subst (λ k. IsConsistent c.self.inside.boot c.self.inside.sequence c.self.inside.questions c.self.inside.pended k) (sym (undone c.self.inside.contexts c.hold.new.self c.undo_hold.new.self c.args.stream c.in_ok-context.context
+      (record { key = c.in_ok-context.context; state = Scanning (id_of c.self.inside.boot (c.self.inside.sequence + 1)); held = held_out (at c.self.inside.contexts c.args.stream) + 1 }) c.state_of-old.result
+      c.in_ok-context.ensures.ascend
+      (puts-ascends c.self.inside.contexts c.hold.new.self c.args.stream _ c.in_ok-context.ensures.ok c.in_ok-context.ensures.ascend)
+      (c.self.invariant.rows.free c.args.stream (unasked-of c.self.inside.boot c.args.stream c.self.inside.questions (subst (λ t. question_of c.args.stream t.questions ≡ None) (sym c.self.view_is) c.requires.none))) c.in_ok-context.ensures.same c.state_of-old.ensures c.in_ok-context.ensures.ok
+      (subst (λ v. PutsAt c.hold.new.self c.undo_hold.new.self c.args.stream (option_map (known_again v) c.state_of-old.result)) c.in-Err.ensures.back c.undo_hold.ensures))) c.self.invariant.rows));
+  mounted = c.self.invariant.mounted;
+  sized = c.self.invariant.sized;
+}
 
 pub returns-in-Err-clause-err : goal.returns-in-Err-clause-err
 returns-in-Err-clause-err c =
@@ -55,11 +55,11 @@ returns-in-Err-clause-err c =
 
 pub invariant_of-self-2 : goal.invariant_of-self-2
 invariant_of-self-2 c = record {
-      rows = ((asks c.self.inside.boot c.self.inside.sequence c.self.inside.questions c.insert.new.self c.self.inside.pended c.self.inside.contexts c.hold.new.self c.args.stream c.args.generation c.in_ok-context.context
-    c.self.invariant.rows c.in_ok-context.ensures.ascend (unasked-of c.self.inside.boot c.args.stream c.self.inside.questions (subst (λ t. question_of c.args.stream t.questions ≡ None) (sym c.self.view_is) c.requires.none)) c.in_ok-context.ensures.ok c.in_default.ensures.ok).consistent);
-      mounted = c.self.invariant.mounted;
-      sized = c.self.invariant.sized;
-    }
+  rows = ((asks c.self.inside.boot c.self.inside.sequence c.self.inside.questions c.insert.new.self c.self.inside.pended c.self.inside.contexts c.hold.new.self c.args.stream c.args.generation c.in_ok-context.context
+      c.self.invariant.rows c.in_ok-context.ensures.ascend (unasked-of c.self.inside.boot c.args.stream c.self.inside.questions (subst (λ t. question_of c.args.stream t.questions ≡ None) (sym c.self.view_is) c.requires.none)) c.in_ok-context.ensures.ok c.in_default.ensures.ok).consistent);
+  mounted = c.self.invariant.mounted;
+  sized = c.self.invariant.sized;
+}
 
 pub returns-clause-ok : goal.returns-clause-ok
 returns-clause-ok c =

@@ -30,18 +30,18 @@ insert-requires c = new-question c.self.inside.boot c.self.inside.sequence c.sel
 
 pub invariant_of-self-in-Err : goal.invariant_of-self-in-Err
 invariant_of-self-in-Err c = record {
-      rows = (let t = c.self.inside in
-    let n = c.args.question in
-    let m = t.sequence + 1 in
-    let s = c.in-Some.asked.stream in
-    let found = row_found (at t.questions n) c.in-Some.asked c.in-Some.ensures in
-    let before = known-at t.boot t.sequence n t.questions t.pended t.contexts c.in-Some.asked found.0 c.self.invariant.rows found.1 in
-    let key_is = held-again t.boot t.sequence n t.contexts s found.0 c.in_ok-context.context before c.in_ok-context.ensures.same in
-    let same = undone-again t.boot n t.contexts c.hold.new.self c.give_back.new.self s found.0 _ c.in_ok-context.ensures.ascend before (sym key_is) refl c.in_ok-context.ensures.ok c.give_back.ensures.puts in
-    subst (λ q. IsConsistent t.boot t.sequence q t.pended c.give_back.new.self) (sym c.in-Err.ensures.err) (subst (IsConsistent t.boot t.sequence t.questions t.pended) (sym same) c.self.invariant.rows));
-      mounted = c.self.invariant.mounted;
-      sized = c.self.invariant.sized;
-    }
+  rows = (let t = c.self.inside in
+      let n = c.args.question in
+      let m = t.sequence + 1 in
+      let s = c.in-Some.asked.stream in
+      let found = row_found (at t.questions n) c.in-Some.asked c.in-Some.ensures in
+      let before = known-at t.boot t.sequence n t.questions t.pended t.contexts c.in-Some.asked found.0 c.self.invariant.rows found.1 in
+      let key_is = held-again t.boot t.sequence n t.contexts s found.0 c.in_ok-context.context before c.in_ok-context.ensures.same in
+      let same = undone-again t.boot n t.contexts c.hold.new.self c.give_back.new.self s found.0 _ c.in_ok-context.ensures.ascend before (sym key_is) refl c.in_ok-context.ensures.ok c.give_back.ensures.puts in
+      subst (λ q. IsConsistent t.boot t.sequence q t.pended c.give_back.new.self) (sym c.in-Err.ensures.err) (subst (IsConsistent t.boot t.sequence t.questions t.pended) (sym same) c.self.invariant.rows));
+  mounted = c.self.invariant.mounted;
+  sized = c.self.invariant.sized;
+}
 
 pub returns-in-Err-clause-err : goal.returns-in-Err-clause-err
 returns-in-Err-clause-err c =
@@ -114,23 +114,23 @@ release-requires c =
 
 pub invariant_of-self-2 : goal.invariant_of-self-2
 invariant_of-self-2 c = record {
-      rows = (let t = c.self.inside in
-    let n = c.args.question in
-    let m = t.sequence + 1 in
-    let s = c.in-Some.asked.stream in
-    let found = row_found (at t.questions n) c.in-Some.asked c.in-Some.ensures in
-    let before = known-at t.boot t.sequence n t.questions t.pended t.contexts c.in-Some.asked found.0 c.self.invariant.rows found.1 in
-    let key_is = held-again t.boot t.sequence n t.contexts s found.0 c.in_ok-context.context before c.in_ok-context.ensures.same in
-    let v = c.args.volume.now in
-    let a = asks_again t.boot t.sequence n (present_generation v s) t.questions c.insert.new.self c.move_opens.new.questions c.remove.new.self t.pended c.move_opens.new.pended t.contexts c.hold.new.self c.release.new.self c.in-Some.asked found.0
-    c.self.invariant.rows c.len-numbers_ascend.ensures.ascend c.in_ok-context.ensures.ascend found.1
-    (subst (λ j. PutsAt t.contexts c.hold.new.self s (Some (record { key = j; state = Scanning (id_of t.boot m); held = held_out (at t.contexts s) + 1 }))) (sym key_is) c.in_ok-context.ensures.ok)
-    (subst (λ g. PutsAt t.questions c.insert.new.self m (Some (new_row s g, found.0))) c.generation_now-generation.ensures (subst (λ j. PutsAt t.questions c.insert.new.self m (Some (new_row s c.generation_now-generation.result, j))) (sym key_is) c.in_default-insert.ensures.ok))
-    c.move_opens.ensures.same c.move_opens.ensures.chained (c.move_opens.ensures.numbered c.self.invariant.rows.numbered) c.move_opens.ensures.moved c.remove.ensures.puts c.release.ensures in
-    a.consistent);
-      mounted = c.self.invariant.mounted;
-      sized = c.self.invariant.sized;
-    }
+  rows = (let t = c.self.inside in
+      let n = c.args.question in
+      let m = t.sequence + 1 in
+      let s = c.in-Some.asked.stream in
+      let found = row_found (at t.questions n) c.in-Some.asked c.in-Some.ensures in
+      let before = known-at t.boot t.sequence n t.questions t.pended t.contexts c.in-Some.asked found.0 c.self.invariant.rows found.1 in
+      let key_is = held-again t.boot t.sequence n t.contexts s found.0 c.in_ok-context.context before c.in_ok-context.ensures.same in
+      let v = c.args.volume.now in
+      let a = asks_again t.boot t.sequence n (present_generation v s) t.questions c.insert.new.self c.move_opens.new.questions c.remove.new.self t.pended c.move_opens.new.pended t.contexts c.hold.new.self c.release.new.self c.in-Some.asked found.0
+      c.self.invariant.rows c.len-numbers_ascend.ensures.ascend c.in_ok-context.ensures.ascend found.1
+      (subst (λ j. PutsAt t.contexts c.hold.new.self s (Some (record { key = j; state = Scanning (id_of t.boot m); held = held_out (at t.contexts s) + 1 }))) (sym key_is) c.in_ok-context.ensures.ok)
+      (subst (λ g. PutsAt t.questions c.insert.new.self m (Some (new_row s g, found.0))) c.generation_now-generation.ensures (subst (λ j. PutsAt t.questions c.insert.new.self m (Some (new_row s c.generation_now-generation.result, j))) (sym key_is) c.in_default-insert.ensures.ok))
+      c.move_opens.ensures.same c.move_opens.ensures.chained (c.move_opens.ensures.numbered c.self.invariant.rows.numbered) c.move_opens.ensures.moved c.remove.ensures.puts c.release.ensures in
+      a.consistent);
+  mounted = c.self.invariant.mounted;
+  sized = c.self.invariant.sized;
+}
 
 pub returns-clause-answers : goal.returns-clause-answers
 returns-clause-answers c =

@@ -24,11 +24,11 @@ forget-requires c =
 
 pub invariant_of-self : goal.invariant_of-self
 invariant_of-self c = record {
-      rows = ((ends_gone c.self.inside.boot c.self.inside.sequence c.args.question c.self.inside.questions c.remove.new.self c.self.inside.pended c.self.inside.contexts c.forget.new.self c.in-Some.asked c.in-Some.context
-    c.self.invariant.rows c.len-numbers_ascend.ensures.ascend (sym c.in-Some.ensures.value) c.remove.ensures.puts c.forget.ensures).consistent);
-      mounted = c.self.invariant.mounted;
-      sized = c.self.invariant.sized;
-    }
+  rows = ((ends_gone c.self.inside.boot c.self.inside.sequence c.args.question c.self.inside.questions c.remove.new.self c.self.inside.pended c.self.inside.contexts c.forget.new.self c.in-Some.asked c.in-Some.context
+      c.self.invariant.rows c.len-numbers_ascend.ensures.ascend (sym c.in-Some.ensures.value) c.remove.ensures.puts c.forget.ensures).consistent);
+  mounted = c.self.invariant.mounted;
+  sized = c.self.invariant.sized;
+}
 
 pub returns : goal.returns
 unfolding ended

@@ -36,19 +36,21 @@ returns-clause-some c =
     let found = ap (λ m. at m c.in_ok-seq.seq) c.in_ok-seq.ensures.some.0 ∙ at-same c.pop_first.new.self c.in_ok-seq.seq (x, key) in
     let e = ends t.boot t.sequence c.in_ok-seq.seq t.questions c.pop_first.new.self t.pended t.contexts c.give_back.new.self c.args.state x key
     c.self.invariant.rows c.len-numbers_ascend.ensures.ascend c.give_back.ensures.ascend found c.in_ok-seq.ensures.some.1 c.give_back.ensures.puts in
-    rw (← c.self.view_is)
-    (ap (questions_of t.boot) c.in_ok-seq.ensures.some.0, λ i. record {
-      mode = t.mode;
-      limits = t.limits;
-      boot = t.boot;
-      sequence = t.sequence;
-      connected = t.connected;
-      floor = t.floor;
-      contexts = e.contexts i;
-      questions = questions_of t.boot c.pop_first.new.self;
-      pended = pended_of t.boot t.pended;
-      cache = t.cache.entries;
-    })
+    rw (← c.self.view_is) (
+      ap (questions_of t.boot) c.in_ok-seq.ensures.some.0,
+      λ i. record {
+        mode = t.mode;
+        limits = t.limits;
+        boot = t.boot;
+        sequence = t.sequence;
+        connected = t.connected;
+        floor = t.floor;
+        contexts = e.contexts i;
+        questions = questions_of t.boot c.pop_first.new.self;
+        pended = pended_of t.boot t.pended;
+        cache = t.cache.entries;
+      },
+    )
 
 pub returns-clause-ascend : goal.returns-clause-ascend
 returns-clause-ascend c = subst (λ t. IsAscending t.contexts) c.self.view_is (states-ascend c.self.inside.contexts c.give_back.ensures.ascend)

@@ -6,10 +6,10 @@ use Rattle.av_filter_table.proofs.filter_table.FilterTable.set_state.Goals as go
 
 pub invariant_of-self-2 : goal.invariant_of-self-2
 invariant_of-self-2 c = record {
-      rows = ((sets c.self.inside.boot c.self.inside.sequence c.self.inside.questions c.self.inside.pended c.self.inside.contexts c.hold.new.self c.release.new.self c.args.stream c.in_ok-context.context c.args.state c.self.invariant.rows c.in_ok-context.ensures.ascend (unasked-of c.self.inside.boot c.args.stream c.self.inside.questions (subst (λ t. question_of c.args.stream t.questions ≡ None) (sym c.self.view_is) c.requires)) c.in_ok-context.ensures.ok c.release.ensures).consistent);
-      mounted = c.self.invariant.mounted;
-      sized = c.self.invariant.sized;
-    }
+  rows = ((sets c.self.inside.boot c.self.inside.sequence c.self.inside.questions c.self.inside.pended c.self.inside.contexts c.hold.new.self c.release.new.self c.args.stream c.in_ok-context.context c.args.state c.self.invariant.rows c.in_ok-context.ensures.ascend (unasked-of c.self.inside.boot c.args.stream c.self.inside.questions (subst (λ t. question_of c.args.stream t.questions ≡ None) (sym c.self.view_is) c.requires)) c.in_ok-context.ensures.ok c.release.ensures).consistent);
+  mounted = c.self.invariant.mounted;
+  sized = c.self.invariant.sized;
+}
 
 pub returns-clause-ok : goal.returns-clause-ok
 returns-clause-ok c =

@@ -12,15 +12,15 @@ take_first-requires-clause-there c =
 
 pub invariant_of-self : goal.invariant_of-self
 invariant_of-self c = record {
-      rows = (rows-kept c.self.inside.boot c.self.inside.sequence c.self.inside.questions c.take_first.new.questions c.self.inside.pended c.take_first.new.pended c.self.inside.contexts c.self.invariant.rows c.take_first.ensures.chained
-    (c.take_first.ensures.numbered c.self.invariant.rows.numbered)
-    (unasked-taken c.self.inside.boot c.self.inside.sequence c.args.question c.self.inside.questions c.self.inside.pended c.take_first.new.pended c.self.inside.contexts c.self.invariant.rows
-    (question-there c.self.inside.boot c.args.question c.self.inside.questions c.len-numbers_ascend.ensures.ascend
-    (subst (λ t. IsSome (question_at (id_of t.boot c.args.question) t.questions)) (sym c.self.view_is) c.requires)) c.take_first.ensures.others)
-    c.take_first.ensures.same);
-      mounted = c.self.invariant.mounted;
-      sized = c.self.invariant.sized;
-    }
+  rows = (rows-kept c.self.inside.boot c.self.inside.sequence c.self.inside.questions c.take_first.new.questions c.self.inside.pended c.take_first.new.pended c.self.inside.contexts c.self.invariant.rows c.take_first.ensures.chained
+      (c.take_first.ensures.numbered c.self.invariant.rows.numbered)
+      (unasked-taken c.self.inside.boot c.self.inside.sequence c.args.question c.self.inside.questions c.self.inside.pended c.take_first.new.pended c.self.inside.contexts c.self.invariant.rows
+      (question-there c.self.inside.boot c.args.question c.self.inside.questions c.len-numbers_ascend.ensures.ascend
+      (subst (λ t. IsSome (question_at (id_of t.boot c.args.question) t.questions)) (sym c.self.view_is) c.requires)) c.take_first.ensures.others)
+      c.take_first.ensures.same);
+  mounted = c.self.invariant.mounted;
+  sized = c.self.invariant.sized;
+}
 
 pub returns-clause-none : goal.returns-clause-none
 returns-clause-none c = rw (← c.self.view_is) (none-opens c.take_first.result c.self.inside.boot c.args.question c.self.inside.pended c.take_first.ensures.none)
