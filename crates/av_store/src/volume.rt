@@ -56,6 +56,20 @@ impl Volume {
         }
     }
 
+    /// Its number. It takes no memory.
+    pub fn number(&self) -> u64
+        ensures { result ≡ self.now.number }
+    {
+        self.number
+    }
+
+    /// How often it was mounted: the boot of the last mount. It takes no memory.
+    pub fn boot(&self) -> u64
+        ensures { result ≡ self.now.boot }
+    {
+        self.boot
+    }
+
     /// A new stream of this name at generation 1, without bytes: BadName, Exists, Full, NoMemory. Streams are numbered
     /// from 1, and no number is given twice; a removal makes room for another stream.
     pub fn create(&mut self, alloc: Global, name: &[u8]) -> Result<StreamId, Refusal<StoreFault>>

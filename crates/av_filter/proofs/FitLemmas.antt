@@ -1,0 +1,458 @@
+-- Each event of the filter keeps the fit of its table and the volume.
+use Rattle.std.proofs.Common.{◌≡◌, ◌≢◌, ℕ, ◌+◌, ◌≤◌, Bool, true, false, not, ◌&&◌, if◌then◌else◌, ◌==◌, nat_lt, nat_le, max, List, [], ◌∷◌, ◌++◌, length, find, Option, Some, None, Result, Ok, Err, refl, sym, ap, ◌∙◌, subst, arith, eqb-true}
+use Rattle.std.proofs.lemmas.Bool.{and_parts, cond_both, ltb-false, not-true, true≢false}
+use Rattle.std.specs.List.{AllByRecursion as Each, list_any}
+use Rattle.std.specs.Option.{option_map}
+use Rattle.av_base.specs.MessageId.{same_id}
+use Rattle.av_base.specs.declared.limits.LimitValues.{LimitValues}
+use Rattle.av_base.specs.declared.message_id.MessageId.{MessageId}
+use Rattle.av_base.specs.declared.mode.Mode.{Mode}
+use Rattle.av_base.specs.declared.verdict.Verdict.{Verdict}
+use Rattle.av_cache.specs.declared.entry.Entry.{Entry}
+use Rattle.av_context.specs.Contexts.{set_at}
+use Rattle.av_context.specs.declared.context_state.ContextState.{ContextState}
+use Rattle.av_context.specs.declared.context_state.ContextState.TheVariants as context
+use Rattle.av_filter.proofs.EachLemmas.{each_weaker, each-append, each-filter, each-filter_passed, each-map, find_each, find_passes}
+use Rattle.av_filter.proofs.MapLemmas.{at-set, at-set_other, each-set, rises-set}
+use Rattle.av_filter.proofs.QuestionLemmas.{apart-filter, apart-push, away_none, away_without, found_more, found_new, found_own, found_without, order-filter, order-push, same_id-true}
+use Rattle.av_filter.proofs.VolumeLemmas.{Leaves, SameBut, changed_same, left_by, stays_there, there_after}
+use Rattle.av_filter.specs.Again.{again}
+use Rattle.av_filter_table.specs.Asking.{again_under, asks, ended, is_held, is_lost, lost_contexts, moved, next_question}
+use Rattle.av_filter.specs.Changing.{changed_volume, changes, cleaned, removed, rewritten}
+use Rattle.av_filter.specs.Conduct.{FilterEvent, Opens, Changes, CleansUp, Receives, TimesOut, Disconnects, Restarts, booted, disconnects, filter_refusal, filter_step, restarts, times_out}
+use Rattle.av_filter.specs.Fit.{AreApart, AreInOrder, Fits, IsAsked, IsGiven, IsPresent, IsScanned, IsThere, KeepsFit, Rises}
+use Rattle.av_filter.specs.Opening.{new_open, open_asked, open_cached, open_found, open_judged, opened, taken}
+use Rattle.av_filter.specs.Reaction.{Reaction}
+use Rattle.av_filter_table.specs.Answering.{present_bytes, stream_generation}
+use Rattle.av_filter.specs.Receiving.{greeted, reads, receives, replies}
+use Rattle.av_filter_table.specs.Table.{Table, can_ask, context_of, has_room, is_modified, mounted, next_id, other_opens, question_at, question_of, raised, sequence_left, waits_for, without_question}
+use Rattle.av_filter.specs.declared.fault.FilterFault.TheVariants as filter_fault
+use Rattle.av_filter_table.specs.declared.pended.Pended.{Pended}
+use Rattle.av_filter_table.specs.declared.question.Question.{Question}
+use Rattle.av_frame.specs.declared.message.Body.{Body}
+use Rattle.av_frame.specs.declared.message.Body.TheVariants.{Hello, Read, Reply, Updated}
+use Rattle.av_frame.specs.declared.outcome.Outcome.{Outcome}
+use Rattle.av_frame.specs.declared.outcome.Outcome.TheVariants.{Judged, Failed}
+use Rattle.av_store.specs.Content.{fault_of}
+use Rattle.av_store.specs.Files.{Change, Create, Write, Cut, Remove}
+use Rattle.av_store.specs.History.{IsOf}
+use Rattle.av_store.specs.Rows.{Streams, stream_at}
+use Rattle.av_store.specs.Seen.{change_of, kept_or}
+use Rattle.av_store.specs.Store.{Store}
+use Rattle.av_store.specs.declared.fault.StoreFault.{StoreFault}
+use Rattle.av_store.specs.declared.stream.Stream.{Stream}
+
+abbrev Marks : Type 0
+Marks = List (ℕ × ContextState)
+
+-- what the fit says of contexts and questions
+record Whole (boot sequence : ℕ) (contexts : Marks) (qs : List Question) (ss : Streams) : Type 0 where
+  rises : Rises contexts
+  given : Each (IsGiven boot sequence) qs
+  order : AreInOrder qs
+  apart : AreApart qs
+  scanned : Each (IsScanned contexts) qs
+  there : Each (λ c. IsThere ss c.0) contexts
+  present : Each (IsPresent ss) qs
+
+-- the same with one stream left out
+record Away (s boot sequence : ℕ) (contexts : Marks) (qs : List Question) (ss : Streams) : Type 0 where
+  rises : Rises contexts
+  given : Each (IsGiven boot sequence) qs
+  order : AreInOrder qs
+  apart : AreApart qs
+  scanned : Each (IsScanned contexts) qs
+  away : Each (λ q. q.stream ≢ s) qs
+  there : Each (λ c. c.0 ≢ s → IsThere ss c.0) contexts
+  present : Each (IsPresent ss) qs
+
+whole_of : (t : Table) (v : Store) → Fits t v → Whole t.boot t.sequence t.contexts t.questions v.streams
+whole_of t v f = record { rises = f.rises; given = f.given; order = f.order; apart = f.apart; scanned = f.scanned; there = f.there; present = f.present }
+
+module _ (boot sequence : ℕ) (contexts : Marks) (qs : List Question) (ss : Streams) where
+  -- a question leaves, or there was none
+  leave : (test : Question → Bool) (q : Question) → find test qs ≡ Some q → Whole boot sequence contexts qs ss → Away q.stream boot sequence contexts (without_question q.id qs) ss
+  leave test q at w = record {
+    rises = w.rises;
+    given = each-filter (IsGiven boot sequence) (λ x. not (same_id x.id q.id)) qs w.given;
+    order = order-filter (λ x. not (same_id x.id q.id)) qs w.order;
+    apart = apart-filter (λ x. not (same_id x.id q.id)) qs w.apart;
+    scanned = each-filter (IsScanned contexts) (λ x. not (same_id x.id q.id)) qs w.scanned;
+    away = away_without qs test q w.apart at;
+    there = each_weaker (λ (c : ℕ × ContextState). IsThere ss c.0) (λ (c : ℕ × ContextState). c.0 ≢ q.stream → IsThere ss c.0) (λ c h ne. h) contexts w.there;
+    present = each-filter (IsPresent ss) (λ x. not (same_id x.id q.id)) qs w.present;
+  }
+
+  leave_none : (s : ℕ) → question_of s qs ≡ None → Whole boot sequence contexts qs ss → Away s boot sequence contexts qs ss
+  leave_none s none w = record {
+    rises = w.rises;
+    given = w.given;
+    order = w.order;
+    apart = w.apart;
+    scanned = w.scanned;
+    away = away_none qs s none;
+    there = each_weaker (λ (c : ℕ × ContextState). IsThere ss c.0) (λ (c : ℕ × ContextState). c.0 ≢ s → IsThere ss c.0) (λ c h ne. h) contexts w.there;
+    present = w.present;
+  }
+
+  -- streams change, but for the one that is left out
+  change_away : (s : ℕ) (ss' : Streams) → Leaves s ss ss' → Away s boot sequence contexts qs ss → Away s boot sequence contexts qs ss'
+  change_away s ss' same a = record {
+    rises = a.rises;
+    given = a.given;
+    order = a.order;
+    apart = a.apart;
+    scanned = a.scanned;
+    away = a.away;
+    there = each_weaker (λ (c : ℕ × ContextState). c.0 ≢ s → IsThere ss c.0) (λ (c : ℕ × ContextState). c.0 ≢ s → IsThere ss' c.0) (λ c h ne. let k = h ne in (k.0, same c.0 ne ∙ k.1)) contexts a.there;
+    present = present_kept qs a.present a.away;
+  }
+    where
+      present_kept : (xs : List Question) → Each (IsPresent ss) xs → Each (λ q. q.stream ≢ s) xs → Each (IsPresent ss') xs
+      present_kept [] h ne = tt
+      present_kept (q ∷ xs) h ne = ((h.0.0, same q.stream ne.0 ∙ h.0.1, h.0.2), present_kept xs h.1 ne.1)
+
+  still_scanned : (s : ℕ) (c : Option ContextState) (xs : List Question) → Each (λ q. q.stream ≢ s) xs → Each (IsScanned contexts) xs → Each (IsScanned (set_at contexts s c)) xs
+  still_scanned s c [] ne h = tt
+  still_scanned s c (q ∷ xs) ne h = (at-set_other contexts s q.stream c ne.0 ∙ h.0, still_scanned s c xs ne.1 h.1)
+
+  -- the stream that was left out loses its context, or gets one where it is there
+  clear : (s : ℕ) → Away s boot sequence contexts qs ss → Whole boot sequence (set_at contexts s None) qs ss
+  clear s a = record {
+    rises = rises-set contexts s None a.rises;
+    given = a.given;
+    order = a.order;
+    apart = a.apart;
+    scanned = still_scanned s None qs a.away a.scanned;
+    there = each-set (λ n. IsThere ss n) contexts s None a.rises (λ some. absurd (cc (some))) a.there;
+    present = a.present;
+  }
+
+  close : (s : ℕ) (c : ContextState) → IsThere ss s → Away s boot sequence contexts qs ss → Whole boot sequence (set_at contexts s (Some c)) qs ss
+  close s c here a = record {
+    rises = rises-set contexts s (Some c) a.rises;
+    given = a.given;
+    order = a.order;
+    apart = a.apart;
+    scanned = still_scanned s (Some c) qs a.away a.scanned;
+    there = each-set (λ n. IsThere ss n) contexts s (Some c) a.rises (λ some. here) a.there;
+    present = a.present;
+  }
+
+  -- or is asked about
+  abbrev next : MessageId
+  next = record { boot = boot; seq = sequence + 1 }
+
+  abbrev new_question : ℕ → Question
+  new_question s = record { id = next; stream = s; generation = stream_generation (stream_at s ss) }
+
+  ask : (s : ℕ) → IsThere ss s → Away s boot sequence contexts qs ss → Whole boot (sequence + 1) (set_at contexts s (Some (context.Scanning next))) (qs ++ new_question s ∷ []) ss
+  ask s here a =
+      let c : Option ContextState = Some (context.Scanning next) in
+      record {
+        rises = rises-set contexts s c a.rises;
+        given =
+            each-append (IsGiven boot (sequence + 1)) qs (new_question s ∷ []) (each_weaker (IsGiven boot sequence) (IsGiven boot (sequence + 1)) (λ q g. record { boot_is = g.boot_is; low = g.low; high = omega (arith, g.high) }) qs a.given)
+            (record { boot_is = refl; low = omega arith; high = omega arith }, tt);
+        order = order-push boot sequence qs (new_question s) (omega arith) a.given a.order;
+        apart = apart-push qs (new_question s) a.apart a.away;
+        scanned = each-append (IsScanned (set_at contexts s c)) qs (new_question s ∷ []) (still_scanned s c qs a.away a.scanned) (at-set contexts s c a.rises, tt);
+        there = each-set (λ n. IsThere ss n) contexts s c a.rises (λ some. here) a.there;
+        present = each-append (IsPresent ss) qs (new_question s ∷ []) a.present ((here.0, here.1, ap stream_generation here.1), tt);
+      }
+
+-- opens that wait for other questions go on to do so
+asked_without : (gone : MessageId) (qs : List Question) (ps : List Pended) → Each (IsAsked qs) ps → Each (IsAsked (without_question gone qs)) (other_opens gone ps)
+asked_without gone qs ps all =
+    each-filter_passed (IsAsked qs) (IsAsked (without_question gone qs)) (λ p. not (waits_for gone p))
+    (λ p w h. record { question = h.question; runs = found_without p.question gone h.question qs (not-true (waits_for gone p) w) h.runs; stream = h.stream }) ps all
+
+asked_more : (qs more : List Question) (ps : List Pended) → Each (IsAsked qs) ps → Each (IsAsked (qs ++ more)) ps
+asked_more qs more ps all = each_weaker (IsAsked qs) (IsAsked (qs ++ more)) (λ p h. record { question = h.question; runs = found_more p.question h.question qs more h.runs; stream = h.stream }) ps all
+
+abbrev Least : ℕ → Pended → Type 0
+Least floor p = p.held.least ≤ floor
+
+abbrev Taken : ℕ → Pended → Type 0
+Taken opens p = p.held.open_id ≤ opens
+
+-- a whole that is given, with its opens
+fit : (t : Table) (v : Store) → t.boot ≡ v.boot → Whole t.boot t.sequence t.contexts t.questions v.streams → Each (IsAsked t.questions) t.pended → Each (Least t.floor) t.pended → Each (Taken v.opens) t.pended → Fits t v
+fit t v boots w asked leasts taken = record {
+  boots = boots;
+  rises = w.rises;
+  given = w.given;
+  order = w.order;
+  apart = w.apart;
+  scanned = w.scanned;
+  there = w.there;
+  present = w.present;
+  asked = asked;
+  leasts = leasts;
+  taken = taken;
+}
+
+abbrev FitsAfter : Reaction → Type 0
+FitsAfter r = Fits r.table r.volume
+
+-- a question whose stream is left out ends, or is asked anew, at a volume that has as many opens
+module _ (t : Table) (v : Store) (q : Question) (boots : t.boot ≡ v.boot) (a : Away q.stream t.boot t.sequence t.contexts (without_question q.id t.questions) v.streams) (asked : Each (IsAsked t.questions) t.pended) (leasts : Each (Least t.floor) t.pended) (taken : Each (Taken v.opens) t.pended) where
+  others_fit : (w : Table) → w.boot ≡ t.boot → w.questions ≡ without_question q.id t.questions → w.pended ≡ other_opens q.id t.pended → w.floor ≡ t.floor → Whole w.boot w.sequence w.contexts w.questions v.streams → Fits w v
+  others_fit w same qs ps fl whole =
+      fit w v (same ∙ boots) whole
+      (subst (λ xs. Each (IsAsked xs) w.pended) (sym qs) (subst (Each (IsAsked (without_question q.id t.questions))) (sym ps) (asked_without q.id t.questions t.pended asked)))
+      (subst (λ n. Each (Least n) w.pended) (sym fl) (subst (Each (Least t.floor)) (sym ps) (each-filter (Least t.floor) (λ p. not (waits_for q.id p)) t.pended leasts)))
+      (subst (Each (Taken v.opens)) (sym ps) (each-filter (Taken v.opens) (λ p. not (waits_for q.id p)) t.pended taken))
+
+  ended_fits : (c : ContextState) → IsThere v.streams q.stream → Fits (ended t q (Some c)) v
+  unfolding ended
+  ended_fits c here = others_fit _ refl refl refl refl (close t.boot t.sequence t.contexts (without_question q.id t.questions) v.streams q.stream c here a)
+
+  cleared_fits : Fits (ended t q None) v
+  unfolding ended
+  cleared_fits = others_fit _ refl refl refl refl (clear t.boot t.sequence t.contexts (without_question q.id t.questions) v.streams q.stream a)
+
+  again_fits : (early : List Body) → question_at q.id t.questions ≡ Some q → IsThere v.streams q.stream → FitsAfter (again t v q early)
+  unfolding again asks
+  again_fits early at here =
+      let rest : List Question = without_question q.id t.questions in
+      let new : Question = next_question t v q.stream in
+      let whole : Whole t.boot (t.sequence + 1) (set_at t.contexts q.stream (Some (context.Scanning (next_id t)))) (rest ++ new ∷ []) v.streams = ask t.boot t.sequence t.contexts rest v.streams q.stream here a in
+      let found : question_at (next_id t) (rest ++ new ∷ []) ≡ Some new = found_new t.boot t.sequence new rest (omega arith) a.given in
+      cond_both (list_any (is_held q.id) t.pended && sequence_left t) _ _ FitsAfter
+      (λ e.
+      fit _ v boots whole
+      (each-map (IsAsked (rest ++ new ∷ [])) (IsAsked t.questions) (moved q.id (next_id t))
+      (λ p h. (elim (waits_for q.id p) as (λ b. waits_for q.id p ≡ b → IsAsked (rest ++ new ∷ []) (if b then again_under (next_id t) p else p)) [
+        | true ↦ λ w.
+            let id : p.question ≡ q.id = same_id-true p.question q.id w in
+            let same : Some h.question ≡ Some q = sym h.runs ∙ (ap (λ i. question_at i t.questions) id ∙ at) in
+            let is : h.question ≡ q = cc (same) in
+            record { question = new; runs = found; stream = ap (λ (x : Question). x.stream) (sym is) ∙ h.stream }
+        | false ↦ λ w. record { question = h.question; runs = found_more p.question h.question rest (new ∷ []) (found_without p.question q.id h.question t.questions w h.runs); stream = h.stream }
+      ]) refl) _
+      (each-filter (IsAsked t.questions) (λ p. not (is_lost q.id p)) t.pended asked))
+      (each-map (Least t.floor) (Least t.floor) (moved q.id (next_id t)) (λ p le. cond_both (waits_for q.id p) (again_under (next_id t) p) p (Least t.floor) (λ w. le) (λ w. le)) _ (each-filter (Least t.floor) (λ p. not (is_lost q.id p)) t.pended leasts))
+      (each-map (Taken v.opens) (Taken v.opens) (moved q.id (next_id t)) (λ p le. cond_both (waits_for q.id p) (again_under (next_id t) p) p (Taken v.opens) (λ w. le) (λ w. le)) _ (each-filter (Taken v.opens) (λ p. not (is_lost q.id p)) t.pended taken)))
+      (λ e. ended_fits context.Modified here)
+
+-- the stream of a question that runs is there
+runs_there : (t : Table) (v : Store) (f : Fits t v) (test : Question → Bool) (q : Question) → find test t.questions ≡ Some q → IsThere v.streams q.stream
+runs_there t v f test q at = let h = find_each (IsPresent v.streams) test t.questions q f.present at in (h.0, h.1)
+
+away_of : (t : Table) (v : Store) (f : Fits t v) (test : Question → Bool) (q : Question) → find test t.questions ≡ Some q → Away q.stream t.boot t.sequence t.contexts (without_question q.id t.questions) v.streams
+away_of t v f test q at = leave t.boot t.sequence t.contexts t.questions v.streams test q at (whole_of t v f)
+
+-- an open whose stream is there
+module _ (t : Table) (v : Store) (f : Fits t v) (s least : ℕ) (low : least ≤ t.floor) (x : Stream) (here : stream_at s v.streams ≡ Some x) where
+  abbrev new : MessageId → Pended
+  new id = record { question = id; held = new_open v s least }
+
+  leasts_more : (id : MessageId) → Each (Least t.floor) (t.pended ++ new id ∷ [])
+  leasts_more id = each-append (Least t.floor) t.pended (new id ∷ []) f.leasts (low, tt)
+
+  taken_more : (id : MessageId) → Each (Taken v.opens) (t.pended ++ new id ∷ [])
+  taken_more id = each-append (Taken v.opens) t.pended (new id ∷ []) f.taken (omega arith, tt)
+
+  cached_fits : question_of s t.questions ≡ None → (o : Option Entry) → FitsAfter (open_cached t v s least x o)
+  unfolding open_cached asks
+  cached_fits none (Some e) =
+      fit _ v f.boots (close t.boot t.sequence t.contexts t.questions v.streams s (context.Judged t.floor e.verdict) (x, here) (leave_none t.boot t.sequence t.contexts t.questions v.streams s none (whole_of t v f))) f.asked f.leasts f.taken
+  cached_fits none None =
+      cond_both (not (has_room t)) _ _ FitsAfter (λ e. f)
+      (λ e. cond_both (not t.connected) _ _ FitsAfter (λ e. f)
+      (λ e. cond_both (not (can_ask t)) _ _ FitsAfter (λ e. f)
+      (λ e.
+      let q : Question = next_question t v s in
+      let away = leave_none t.boot t.sequence t.contexts t.questions v.streams s none (whole_of t v f) in
+      fit _ v f.boots (ask t.boot t.sequence t.contexts t.questions v.streams s (x, here) away)
+      (each-append (IsAsked (t.questions ++ q ∷ [])) t.pended (new (next_id t) ∷ []) (asked_more t.questions (q ∷ []) t.pended f.asked) (record { question = q; runs = found_new t.boot t.sequence q t.questions (omega arith) f.given; stream = refl }, tt))
+      (leasts_more (next_id t)) (taken_more (next_id t)))))
+
+  asked_fits : (o : Option Question) → question_of s t.questions ≡ o → FitsAfter (open_asked t v s least x o)
+  unfolding open_asked
+  asked_fits (Some q) at =
+      let test : Question → Bool = λ (q : Question). q.stream == s in
+      let same : q.stream ≡ s = eqb-true q.stream s (find_passes test t.questions q at) in
+      cond_both (has_room t) _ _ FitsAfter
+      (λ e. fit _ v f.boots (whole_of t v f) (each-append (IsAsked t.questions) t.pended (new q.id ∷ []) f.asked (record { question = q; runs = found_own test q t.questions f.order at; stream = same }, tt)) (leasts_more q.id) (taken_more q.id)) (λ e. f)
+  asked_fits None at = cached_fits at _
+
+  judged_fits : (o : Option Verdict) → FitsAfter (open_judged t v s least x o)
+  unfolding open_judged
+  judged_fits (Some r) = f
+  judged_fits None = asked_fits _ refl
+
+found_fits : (t : Table) (v : Store) → Fits t v → (s least : ℕ) → least ≤ t.floor → (o : Option Stream) → stream_at s v.streams ≡ o → FitsAfter (open_found t v s least o)
+unfolding open_found
+found_fits t v f s least low None at = f
+found_fits t v f s least low (Some x) at = judged_fits t v f s least low x at _
+
+opened_fits : (t : Table) (v : Store) → Fits t v → (s least : ℕ) → FitsAfter (opened t v s least)
+unfolding opened
+opened_fits t v f s least =
+    let higher : Each (Least (max t.floor least)) t.pended = each_weaker (Least t.floor) (Least (max t.floor least)) (λ p le. omega arith) t.pended f.leasts in
+    let more : Each (Taken (v.opens + 1)) t.pended = each_weaker (Taken v.opens) (Taken (v.opens + 1)) (λ p le. omega arith) t.pended f.taken in
+    found_fits (raised least t) (taken v) (fit (raised least t) (taken v) f.boots (whole_of t v f) f.asked higher more) s least (omega arith) _ refl
+
+-- a change of a stream
+module _ (t : Table) (v w : Store) (f : Fits t v) (same : SameBut v w) where
+  boots : t.boot ≡ w.boot
+  boots = f.boots ∙ sym same.boot
+
+  taken_still : Each (Taken w.opens) t.pended
+  taken_still = subst (λ n. Each (Taken n) t.pended) (sym same.opens) f.taken
+
+  away_none_at : (c : Change) (s : ℕ) → IsOf c s → change_of v c ≡ Ok w → question_of s t.questions ≡ None → Away s t.boot t.sequence t.contexts t.questions w.streams
+  away_none_at c s of ok none = change_away t.boot t.sequence t.contexts t.questions v.streams s w.streams (left_by v w c s of ok) (leave_none t.boot t.sequence t.contexts t.questions v.streams s none (whole_of t v f))
+
+  away_at : (c : Change) (s : ℕ) → IsOf c s → change_of v c ≡ Ok w → (q : Question) → question_of s t.questions ≡ Some q → (q.stream ≡ s) × Away q.stream t.boot t.sequence t.contexts (without_question q.id t.questions) w.streams
+  away_at c s of ok q at =
+      let test : Question → Bool = λ (q : Question). q.stream == s in
+      let is : q.stream ≡ s = eqb-true q.stream s (find_passes test t.questions q at) in
+      (is, change_away t.boot t.sequence t.contexts (without_question q.id t.questions) v.streams q.stream w.streams (left_by v w c q.stream (subst (IsOf c) (sym is) of) ok) (away_of t v f test q at))
+
+  rewritten_fits : (c : Change) (s : ℕ) → IsOf c s → (c ≡ Remove s → ⊥) → change_of v c ≡ Ok w → (o : Option Question) → question_of s t.questions ≡ o → FitsAfter (rewritten t w s o)
+  unfolding rewritten
+  rewritten_fits c s of keep ok None at =
+      fit _ w boots (close t.boot t.sequence t.contexts t.questions w.streams s context.Modified (there_after v w c s of keep ok) (away_none_at c s of ok at)) f.asked f.leasts taken_still
+  rewritten_fits c s of keep ok (Some q) at =
+      let a = away_at c s of ok q at in
+      again_fits t w q boots a.1 f.asked f.leasts taken_still _ (found_own (λ (q : Question). q.stream == s) q t.questions f.order at) (subst (IsThere w.streams) (sym a.0) (there_after v w c s of keep ok))
+
+  removed_fits : (s : ℕ) → change_of v (Remove s) ≡ Ok w → (o : Option Question) → question_of s t.questions ≡ o → FitsAfter (removed t w s o)
+  unfolding removed
+  removed_fits s ok None at = fit _ w boots (clear t.boot t.sequence t.contexts t.questions w.streams s (away_none_at (Remove s) s refl ok at)) f.asked f.leasts taken_still
+  removed_fits s ok (Some q) at = let a = away_at (Remove s) s refl ok q at in cleared_fits t w q boots a.1 f.asked f.leasts taken_still
+
+  created_fits : (name : List ℕ) → change_of v (Create name) ≡ Ok w → Fits t w
+  created_fits name ok =
+      fit t w boots
+      (record {
+        rises = f.rises;
+        given = f.given;
+        order = f.order;
+        apart = f.apart;
+        scanned = f.scanned;
+        there = each_weaker (λ (c : ℕ × ContextState). IsThere v.streams c.0) (λ (c : ℕ × ContextState). IsThere w.streams c.0) (λ c h. (h.0, stays_there v w name c.0 h.0 ok h.1)) t.contexts f.there;
+        present = each_weaker (IsPresent v.streams) (IsPresent w.streams) (λ q h. (h.0, stays_there v w name q.stream h.0 ok h.1, h.2)) t.questions f.present;
+      })
+      f.asked f.leasts taken_still
+
+changes_fits : (t : Table) (v : Store) → Fits t v → (c : Change) → change_of v c ≡ Ok (changed_volume v c) → FitsAfter (changes t v c)
+unfolding changes
+changes_fits t v f (Create name) ok = created_fits t v (changed_volume v (Create name)) f (changed_same v (Create name)) name ok
+changes_fits t v f (Write s o b) ok = rewritten_fits t v (changed_volume v (Write s o b)) f (changed_same v (Write s o b)) (Write s o b) s refl (λ e. cc (e)) ok _ refl
+changes_fits t v f (Cut s n) ok = rewritten_fits t v (changed_volume v (Cut s n)) f (changed_same v (Cut s n)) (Cut s n) s refl (λ e. cc (e)) ok _ refl
+changes_fits t v f (Remove s) ok = removed_fits t v (changed_volume v (Remove s)) f (changed_same v (Remove s)) s ok _ refl
+
+-- the contexts once the service is lost
+lost_rises : (qs : List Question) (contexts : Marks) → Rises contexts → Rises (lost_contexts qs contexts)
+unfolding lost_contexts
+lost_rises [] contexts r = r
+lost_rises (q ∷ qs) contexts r = rises-set (lost_contexts qs contexts) q.stream (Some context.Modified) (lost_rises qs contexts r)
+
+lost_there : (ss : Streams) (qs : List Question) (contexts : Marks) → Rises contexts → Each (IsPresent ss) qs → Each (λ c. IsThere ss c.0) contexts → Each (λ c. IsThere ss c.0) (lost_contexts qs contexts)
+unfolding lost_contexts
+lost_there ss [] contexts r present there = there
+lost_there ss (q ∷ qs) contexts r present there =
+    each-set (λ n. IsThere ss n) (lost_contexts qs contexts) q.stream (Some context.Modified) (lost_rises qs contexts r) (λ some. (present.0.0, present.0.1))
+    (each_weaker (λ (c : ℕ × ContextState). IsThere ss c.0) (λ (c : ℕ × ContextState). c.0 ≢ q.stream → IsThere ss c.0) (λ c h ne. h) (lost_contexts qs contexts) (lost_there ss qs contexts r present.1 there))
+
+-- the other events
+module _ (t : Table) (v : Store) (f : Fits t v) where
+  with_floor : (connected : Bool) (version : ℕ) → t.floor ≤ version → Fits (record t { connected = connected; floor = version }) v
+  with_floor connected version up = fit _ v f.boots (whole_of t v f) f.asked (each_weaker (Least t.floor) (Least version) (λ p le. omega arith) t.pended f.leasts) f.taken
+
+  -- a written stream has no question
+  no_question : (s : ℕ) → is_modified (context_of t.contexts s) ≡ true → (o : Option Question) → question_of s t.questions ≡ o → question_of s t.questions ≡ None
+  no_question s modified None at = at
+  no_question s modified (Some q) at =
+      let test : Question → Bool = λ (q : Question). q.stream == s in
+      let scanned : context_of t.contexts q.stream ≡ Some (context.Scanning q.id) = find_each (IsScanned t.contexts) test t.questions q f.scanned at in
+      let same : q.stream ≡ s = eqb-true q.stream s (find_passes test t.questions q at) in
+      let marked : context_of t.contexts s ≡ Some (context.Scanning q.id) = subst (λ u. context_of t.contexts u ≡ Some (context.Scanning q.id)) same scanned in
+      absurd (true≢false (sym modified ∙ ap is_modified marked))
+
+  cleaned_fits : (s : ℕ) (o : Option Stream) → stream_at s v.streams ≡ o → FitsAfter (cleaned t v s o)
+  unfolding cleaned asks
+  cleaned_fits s None at = f
+  cleaned_fits s (Some x) at =
+      cond_both (is_modified (context_of t.contexts s) && can_ask t) _ _ FitsAfter
+      (λ e.
+      let modified = (and_parts (is_modified (context_of t.contexts s)) (can_ask t) e).0 in
+      let none : question_of s t.questions ≡ None = no_question s modified (question_of s t.questions) refl in
+      fit _ v f.boots (ask t.boot t.sequence t.contexts t.questions v.streams s (x, at) (leave_none t.boot t.sequence t.contexts t.questions v.streams s none (whole_of t v f))) (asked_more t.questions _ t.pended f.asked) f.leasts f.taken)
+      (λ e. f)
+
+  greeted_fits : (number version : ℕ) → FitsAfter (greeted t v number version)
+  unfolding greeted
+  greeted_fits number version =
+      cond_both (not (number == v.number)) _ _ FitsAfter (λ e. f)
+      (λ e. cond_both t.connected _ _ FitsAfter (λ e. f) (λ e. cond_both (nat_lt version t.floor) _ _ FitsAfter (λ e. f) (λ e. with_floor true version (ltb-false version t.floor e))))
+
+  reads_fits : (id : MessageId) (offset count : ℕ) (o : Option Question) → FitsAfter (reads t v id offset count o)
+  unfolding reads
+  reads_fits id offset count None = f
+  reads_fits id offset count (Some q) = cond_both (nat_le (length (present_bytes v q.stream)) offset) _ _ FitsAfter (λ e. f) (λ e. f)
+
+  replies_fits : (id : MessageId) (outcome : Outcome) (o : Option Question) → question_at id t.questions ≡ o → FitsAfter (replies t v outcome o)
+  unfolding replies ended
+  replies_fits id outcome None at = f
+  replies_fits id (Failed why) (Some q) at =
+      let test : Question → Bool = λ (q : Question). same_id q.id id in
+      ended_fits t v q f.boots (away_of t v f test q at) f.asked f.leasts f.taken context.Modified (runs_there t v f test q at)
+  replies_fits id (Judged version r) (Some q) at =
+      let test : Question → Bool = λ (q : Question). same_id q.id id in
+      let away = away_of t v f test q at in
+      let here : IsThere v.streams q.stream = runs_there t v f test q at in
+      cond_both (nat_lt version t.floor) _ _ FitsAfter (λ e. again_fits t v q f.boots away f.asked f.leasts f.taken _ (found_own test q t.questions f.order at) here)
+      (λ e.
+      let up : t.floor ≤ version = ltb-false version t.floor e in
+      fit _ v f.boots (close t.boot t.sequence t.contexts (without_question q.id t.questions) v.streams q.stream (context.Judged version r) here away) (asked_without q.id t.questions t.pended f.asked)
+      (each-filter (Least version) (λ p. not (waits_for q.id p)) t.pended (each_weaker (Least t.floor) (Least version) (λ p le. omega arith) t.pended f.leasts)) (each-filter (Taken v.opens) (λ p. not (waits_for q.id p)) t.pended f.taken))
+
+  receives_fits : (m : Body) → FitsAfter (receives t v m)
+  unfolding receives
+  receives_fits (Hello number version) = greeted_fits number version
+  receives_fits (Updated version) = with_floor t.connected (max t.floor version) (omega arith)
+  receives_fits (Read id offset count) = reads_fits id offset count _
+  receives_fits (Reply id outcome) = replies_fits id outcome _ refl
+  receives_fits _ = f
+
+  times_out_fits : (id : MessageId) (o : Option Question) → question_at id t.questions ≡ o → FitsAfter (times_out t v o)
+  unfolding times_out
+  times_out_fits id None at = f
+  times_out_fits id (Some q) at =
+      let test : Question → Bool = λ (q : Question). same_id q.id id in
+      ended_fits t v q f.boots (away_of t v f test q at) f.asked f.leasts f.taken context.Modified (runs_there t v f test q at)
+
+  disconnects_fits : FitsAfter (disconnects t v)
+  unfolding disconnects
+  disconnects_fits =
+      fit _ v f.boots (record { rises = lost_rises t.questions t.contexts f.rises; given = tt; order = tt; apart = tt; scanned = tt; there = lost_there v.streams t.questions t.contexts f.rises f.present f.there; present = tt }) tt tt tt
+
+pub mounted_fits : (mode : Mode) (limits : LimitValues) (v : Store) → Fits (mounted mode limits v.boot) v
+unfolding Rises
+mounted_fits mode limits v = record { boots = refl; rises = tt; given = tt; order = tt; apart = tt; scanned = tt; there = tt; present = tt; asked = tt; leasts = tt; taken = tt }
+
+-- an accepted change leads to the volume after it
+pub accepted : (v : Store) (c : Change) → option_map filter_fault.Store (fault_of (change_of v c)) ≡ None → change_of v c ≡ Ok (changed_volume v c)
+accepted v c = go (change_of v c)
+  where
+    go : (r : Result Store StoreFault) → option_map filter_fault.Store (fault_of r) ≡ None → r ≡ Ok (kept_or v r)
+    go (Ok w) h = refl
+    go (Err f) h = absurd (cc (h))
+
+pub event_fits : (t : Table) (v : Store) (e : FilterEvent) → Fits t v → filter_refusal t v e ≡ None → Fits (filter_step t v e).table (filter_step t v e).volume
+unfolding filter_step filter_refusal restarts
+event_fits t v (Opens s least) f ok = opened_fits t v f s least
+event_fits t v (Changes c) f ok = changes_fits t v f c (accepted v c ok)
+event_fits t v (CleansUp s) f ok = cleaned_fits t v f s _ refl
+event_fits t v (Receives m) f ok = receives_fits t v f m
+event_fits t v (TimesOut seq) f ok = times_out_fits t v f _ _ refl
+event_fits t v Disconnects f ok = disconnects_fits t v f
+event_fits t v Restarts f ok = mounted_fits t.mode t.limits (booted v)
+
+pub keeps_fit : KeepsFit
+keeps_fit = record { mounts = mounted_fits; events = event_fits }

@@ -1,0 +1,74 @@
+-- The filter's conduct: what each event does, and why it may be refused.
+use Rattle.std.specs.Prelude.{ℕ, ◌+◌, false, ◌==◌, List, [], ◌∷◌, Option, Some, None, if◌then◌else◌}
+use Rattle.std.specs.Option.{option_map}
+use Rattle.av_base.specs.declared.cause.Cause.TheVariants.{TimedOut, PortDisconnected, FilterRestart}
+use Rattle.av_context.specs.declared.context_state.ContextState.TheVariants.{Modified}
+use Rattle.av_filter_table.specs.Asking.{ended, lost_contexts}
+use Rattle.av_filter.specs.Changing.{changes, cleaned}
+use Rattle.av_filter.specs.declared.fault.FilterFault.{FilterFault}
+use Rattle.av_filter.specs.declared.fault.FilterFault.TheVariants as fault
+use Rattle.av_filter.specs.declared.note.Note.TheVariants.{Quiet, NoWaiter}
+use Rattle.av_filter_table.specs.declared.question.Question.{Question}
+use Rattle.av_filter.specs.Opening.{opened}
+use Rattle.av_filter.specs.Reaction.{Reaction, only}
+use Rattle.av_filter_table.specs.Answering.{by_mode}
+use Rattle.av_filter.specs.Receiving.{receives}
+use Rattle.av_filter_table.specs.Table.{Table, mounted, question_at, opens_of}
+use Rattle.av_frame.specs.declared.message.Body.{Body}
+use Rattle.av_frame.specs.declared.message.Body.TheVariants.{Abort}
+use Rattle.av_store.specs.Content.{fault_of}
+use Rattle.av_store.specs.Files.{Change}
+use Rattle.av_store.specs.Seen.{change_of}
+use Rattle.av_store.specs.Store.{Store, greatest}
+use Rattle.av_store.specs.Rows.{stream_at}
+
+pub data FilterEvent : Type 0 where
+  Opens : (stream least : ℕ) → FilterEvent
+  Changes : (change : Change) → FilterEvent
+  CleansUp : (stream : ℕ) → FilterEvent
+  Receives : (message : Body) → FilterEvent
+  TimesOut : (seq : ℕ) → FilterEvent
+  Disconnects Restarts : FilterEvent
+
+-- a question's time is up
+unfoldable pub times_out : Table → Store → Option Question → Reaction
+times_out t v None = only t v NoWaiter
+times_out t v (Some q) = record { table = ended t q (Some Modified); volume = v; answers = by_mode t v TimedOut (opens_of q.id t.pended); messages = Abort q.id ∷ []; note = Quiet }
+
+-- the service is lost, and with it each scan that runs
+unfoldable pub disconnects : Table → Store → Reaction
+disconnects t v =
+    record {
+      table = record t { connected = false; contexts = lost_contexts t.questions t.contexts; questions = []; pended = [] };
+      volume = v;
+      answers = by_mode t v PortDisconnected t.pended;
+      messages = [];
+      note = Quiet;
+    }
+
+-- the filter is mounted anew
+abbrev pub booted : Store → Store
+booted v = record v { boot = v.boot + 1 }
+
+unfoldable pub restarts : Table → Store → Reaction
+restarts t v = record { table = mounted t.mode t.limits (v.boot + 1); volume = booted v; answers = by_mode t v FilterRestart t.pended; messages = []; note = Quiet }
+
+-- what each event does, where it is not refused
+unfoldable pub filter_step : Table → Store → FilterEvent → Reaction
+filter_step t v (Opens s least) = opened t v s least
+filter_step t v (Changes c) = changes t v c
+filter_step t v (CleansUp s) = cleaned t v s (stream_at s v.streams)
+filter_step t v (Receives m) = receives t v m
+filter_step t v (TimesOut seq) = times_out t v (question_at (record { boot = t.boot; seq = seq }) t.questions)
+filter_step t v Disconnects = disconnects t v
+filter_step t v Restarts = restarts t v
+
+-- why it is refused
+unfoldable pub filter_refusal : Table → Store → FilterEvent → Option FilterFault
+filter_refusal t v (Opens s least) = if v.opens == greatest then Some fault.OpensSpent else None
+filter_refusal t v (Changes c) = option_map fault.Store (fault_of (change_of v c))
+filter_refusal t v (CleansUp s) = None
+filter_refusal t v (Receives m) = None
+filter_refusal t v (TimesOut seq) = None
+filter_refusal t v Disconnects = None
+filter_refusal t v Restarts = if v.boot == greatest then Some fault.BootSpent else None

@@ -1,0 +1,11 @@
+pub mod Again
+pub mod Bounds
+pub mod Call
+pub mod Changing
+pub mod Conduct
+pub mod Ending
+pub mod Fit
+pub mod Opening
+pub mod Reaction
+pub mod Ready
+pub mod Receiving

@@ -1,0 +1,15 @@
+//! The filter: it holds each open until the present content of its stream is known to be clean under a signature set that
+//! is new enough, or answers it for a cause. One function an event; specs/Conduct.antt says what each does.
+#![tactic(auto)]
+
+mod asking_again;
+mod changing;
+mod closing;
+mod ending;
+pub mod fault;
+pub mod laws;
+pub mod note;
+pub mod out;
+mod receiving;
+mod running;
+mod timing_out;

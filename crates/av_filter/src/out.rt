@@ -1,0 +1,60 @@
+ghost use Rattle.std.specs.Prelude.{◌≡◌, ◌∷◌, [], IfOk, vec_len};
+ghost use Rattle.std.specs.Vec.{vec_capacity};
+ghost use Rattle.av_filter.specs.declared.note.Note.TheVariants.{Quiet};
+
+use crate::note::Note;
+use av_frame::message::Message;
+use av_pend::answer::Answer;
+use std::alloc::{AllocError, Global};
+
+/// What an event of the filter gives out: answers by their opens' order of submission, messages in the order in which they
+/// are to be sent, and a note.
+#[derive(Debug, Drop)]
+pub struct Out {
+    pub answers: Vec<Answer>,
+    pub messages: Vec<Message>,
+    pub note: Note,
+}
+
+impl Out {
+    // A note alone. Takes no memory.
+    pub(crate) fn says(alloc: Global, note: Note) -> Out
+        ensures answers { result.answers.items ≡ [] }
+        ensures messages { result.messages.items ≡ [] }
+        ensures note { result.note ≡ note }
+    {
+        Out {
+            answers: Vec::new(alloc),
+            messages: Vec::new(alloc),
+            note,
+        }
+    }
+
+    // One message alone.
+    pub(crate) fn sends(alloc: Global, message: Message) -> Result<Out, AllocError>
+        ensures answers { IfOk result (λ out. out.answers.items ≡ []) }
+        ensures messages { IfOk result (λ out. out.messages.items ≡ message ∷ []) }
+        ensures note { IfOk result (λ out. out.note ≡ Quiet) }
+    {
+        let mut messages = Vec::with_capacity(alloc, 1)?;
+        messages.push(message).unwrap();
+        Ok(Out {
+            answers: Vec::new(alloc),
+            messages,
+            note: Note::Quiet,
+        })
+    }
+
+    // Answers and messages.
+    pub(crate) fn gives(answers: Vec<Answer>, messages: Vec<Message>) -> Out
+        ensures answers { result.answers ≡ answers }
+        ensures messages { result.messages ≡ messages }
+        ensures note { result.note ≡ Quiet }
+    {
+        Out {
+            answers,
+            messages,
+            note: Note::Quiet,
+        }
+    }
+}

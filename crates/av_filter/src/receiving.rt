@@ -1,0 +1,149 @@
+ghost use Rattle.std.specs.Prelude.{◌≡◌, ◌≤◌, ◌<◌, IfOk, drop, length, take};
+ghost use Rattle.av_filter.specs.Call.{MeetsAlways, Reacts};
+ghost use Rattle.av_filter.specs.Ready.{IsReady};
+ghost use Rattle.av_filter.specs.Receiving.{greeted, reads, receives, replies};
+ghost use Rattle.av_filter_table.specs.Table.{question_at};
+ghost use Rattle.av_frame.specs.Message.{IsInRange, IsPart};
+ghost use Rattle.av_frame.specs.declared.message.Body.TheVariants.{Read};
+
+use crate::asking_again::ask_again;
+use crate::closing::{refuse, settle};
+use crate::note::Note;
+use crate::out::Out;
+use crate::running::running_at;
+use av_base::byte_list::ByteList;
+use av_base::cause::Cause;
+use av_base::message_id::MessageId;
+use av_base::number::Version;
+use av_filter_table::filter_table::FilterTable;
+use av_frame::cause::NoChunkCause;
+use av_frame::message::{Body, Message};
+use av_frame::outcome::Outcome;
+use av_store::volume::Volume;
+use std::alloc::{AllocError, Global};
+use std::cmp::min;
+
+// A message of the scanning service.
+#[tactic(auto, unfolding(crate::specs::Receiving::receives))]
+pub(crate) fn receive(
+    table: &mut FilterTable,
+    alloc: Global,
+    volume: &Volume,
+    message: &Message,
+) -> Result<Out, AllocError>
+    requires { IsReady table.old volume.now }
+    ensures { MeetsAlways table.old volume.now table.new volume.now result (receives table.old volume.now message.now) }
+{
+    match message.body() {
+        Body::Hello {
+            volume: number,
+            version,
+        } => Ok(greet(table, alloc, volume, *number, *version)),
+        Body::Updated { version } => {
+            table.raise(*version);
+            Ok(Out::says(alloc, Note::Quiet))
+        }
+        Body::Read { id, offset, count } => read(table, alloc, volume, *id, *offset, *count),
+        Body::Reply { id, outcome } => reply(table, alloc, volume, *id, *outcome),
+        _ => Ok(Out::says(alloc, Note::Ignored)),
+    }
+}
+
+// The service greets.
+#[tactic(auto, unfolding(crate::specs::Receiving::greeted))]
+fn greet(
+    table: &mut FilterTable,
+    alloc: Global,
+    volume: &Volume,
+    number: u64,
+    version: Version,
+) -> Out
+    ensures { Reacts result table.new volume.now (greeted table.old volume.now number version) }
+{
+    if number != volume.number() {
+        return Out::says(alloc, Note::WrongVolume);
+    }
+    if table.connected() {
+        return Out::says(alloc, Note::Connected);
+    }
+    if version.get() < table.floor().get() {
+        return Out::says(alloc, Note::OldVersion);
+    }
+    table.set_connected(true);
+    table.raise(version);
+    Out::says(alloc, Note::Welcome)
+}
+
+// The service reads content of a question.
+#[tactic(auto, unfolding(crate::specs::Receiving::reads))]
+fn read(
+    table: &FilterTable,
+    alloc: Global,
+    volume: &Volume,
+    id: MessageId,
+    offset: u64,
+    count: u32,
+) -> Result<Out, AllocError>
+    requires ready { IsReady table.now volume.now }
+    requires asked { IsInRange (Read id offset count) }
+    ensures { IfOk result (λ out. Reacts out table.now volume.now (reads table.now volume.now id offset count (question_at id table.now.questions))) }
+{
+    let Some(question) = running_at(table, id) else {
+        return Out::sends(
+            alloc,
+            Message::no_chunk(id, offset, NoChunkCause::NoQuestion),
+        );
+    };
+    let Some(bytes) = volume.content(question.stream) else {
+        return Out::sends(alloc, Message::no_chunk(id, offset, NoChunkCause::PastEnd));
+    };
+    if bytes.len() as u64 <= offset {
+        return Out::sends(alloc, Message::no_chunk(id, offset, NoChunkCause::PastEnd));
+    }
+    let most = min(u64::from(count), table.limits().values().chunk);
+    let chunk = part(alloc, bytes, offset, most)?;
+    Out::sends(alloc, Message::chunk(id, offset, chunk))
+}
+
+// The service replies.
+#[tactic(auto, unfolding(crate::specs::Receiving::replies))]
+fn reply(
+    table: &mut FilterTable,
+    alloc: Global,
+    volume: &Volume,
+    id: MessageId,
+    outcome: Outcome,
+) -> Result<Out, AllocError>
+    requires { IsReady table.old volume.now }
+    ensures { MeetsAlways table.old volume.now table.new volume.now result (replies table.old volume.now outcome (question_at id table.old.questions)) }
+{
+    let Some(question) = running_at(table, id) else {
+        return Ok(Out::says(alloc, Note::NoWaiter));
+    };
+    match outcome {
+        Outcome::Failed { .. } => {
+            let answers = refuse(table, alloc, volume, &question, Cause::ScanFailed)?;
+            Ok(Out::gives(answers, Vec::new(alloc)))
+        }
+        Outcome::Judged { version, verdict } => {
+            if version.get() < table.floor().get() {
+                return ask_again(table, alloc, volume, &question);
+            }
+            let answers = settle(table, alloc, &question, version, verdict)?;
+            Ok(Out::gives(answers, Vec::new(alloc)))
+        }
+    }
+}
+
+// Bytes of a content from a place in it on, at most so many of them.
+fn part(alloc: Global, bytes: &[u8], offset: u64, most: u64) -> Result<ByteList, AllocError>
+    requires inside { offset < length bytes.now }
+    requires size { length bytes.now ≤ 1048576 }
+    requires most { (1 ≤ most) × (most ≤ 4096) }
+    ensures bytes { IfOk result (λ chunk. chunk ≡ take most (drop offset bytes.now)) }
+    ensures part { IfOk result (λ chunk. IsPart offset chunk) }
+{
+    let rest = &bytes[offset as usize..];
+    let count = min(most as usize, rest.len());
+    ByteList::copied(alloc, &rest[..count])
+}

@@ -1,0 +1,14 @@
+pub mod AgainLemmas
+pub mod ChainLemmas
+pub mod ContextLemmas
+pub mod CountLemmas
+pub mod DetachLemmas
+pub mod EndingLemmas
+pub mod MapLemmas
+pub mod MovingLemmas
+pub mod NumberedLemmas
+pub mod PlainLemmas
+pub mod SettlingLemmas
+pub mod TableLemmas
+pub mod RewritingLemmas
+pub mod WalkLemmas

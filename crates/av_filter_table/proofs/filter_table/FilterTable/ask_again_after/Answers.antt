@@ -1,0 +1,257 @@
+use Rattle.std.proofs.Common.{◌≡◌, ◌≤◌, ◌<◌, ◌^◌, ◌+◌, ◌++◌, IfSome, IsSome, IsSomeAnd, Option, None, Some, length, vec_len, vec_capacity, filter, arith, refl, sym, ap, subst, ◌∙◌}
+use Rattle.std.specs.Option.{option_map}
+use Rattle.av_base.specs.declared.cause.Cause.TheVariants.{Unsettled}
+use Rattle.av_context.specs.Contexts.{at, PutsAt}
+use Rattle.av_context.specs.declared.context_state.ContextState.TheVariants.{Scanning}
+use Rattle.av_filter_table.specs.Asking.{asks, is_lost}
+use Rattle.av_filter_table.specs.Chains.{of, plains, essence}
+use Rattle.av_filter_table.specs.Answering.{by_mode, present_generation}
+use Rattle.av_filter_table.specs.FilterTable.{id_of, asked_of, questions_of, pended_of, IsConsistent}
+use Rattle.av_filter_table.specs.StreamContexts.{states, held_of as held_out}
+use Rattle.av_filter_table.specs.Table.{Table, question_at, opens_of}
+use Rattle.av_filter_table.specs.declared.question.Question.{Question}
+use Rattle.av_filter_table.proofs.AgainLemmas.{asks_again, chained-new, same-key, undone-again, held-again, lost-refused}
+use Rattle.av_filter_table.proofs.MapLemmas.{if_some_at, not_there, is_there, puts-ascends, put_back, row_found}
+use Rattle.av_filter_table.proofs.PlainLemmas.{there-kept}
+use Rattle.av_filter_table.proofs.TableLemmas.{question-there, question-found, new-question, new_row, known-at, opens-of, length-held, all-at}
+use Rattle.av_filter_table.proofs.RewritingLemmas.{as_it_was, raised_by}
+use Rattle.av_filter_table.proofs.filter_table.FilterTable.ask_again_after.Goals as goal
+
+pub unreachable-requires : goal.unreachable-requires
+unreachable-requires c =
+    no_row (at c.self.inside.questions c.args.question) (sym c.in_default.ensures)
+    (question-there c.self.inside.boot c.args.question c.self.inside.questions c.len-numbers_ascend.ensures.ascend
+    (subst (λ t. IsSome (question_at (id_of t.boot c.args.question) t.questions)) (sym c.self.view_is) c.requires.there))
+  where
+    no_row : {A B : Type 0} (o : Option (A × B)) → option_map (λ y. y.0) o ≡ None → IsSome o → ⊥
+    no_row None none some = absurd (cc)
+    no_row (Some y) none some = absurd (cc)
+
+pub insert-requires : goal.insert-requires
+insert-requires c = new-question c.self.inside.boot c.self.inside.sequence c.self.inside.questions c.self.inside.pended c.self.inside.contexts c.self.invariant.rows
+
+pub invariant_of-self-in-Err : goal.invariant_of-self-in-Err
+invariant_of-self-in-Err c = record {
+  rows = (let t = c.self.inside in
+      let n = c.args.question in
+      let m = t.sequence + 1 in
+      let s = c.in-Some.asked.stream in
+      let found = row_found (at t.questions n) c.in-Some.asked c.in-Some.ensures in
+      let before = known-at t.boot t.sequence n t.questions t.pended t.contexts c.in-Some.asked found.0 c.self.invariant.rows found.1 in
+      let key_is = held-again t.boot t.sequence n t.contexts s found.0 c.in_ok-context.context before c.in_ok-context.ensures.same in
+      let same = undone-again t.boot n t.contexts c.hold.new.self c.give_back.new.self s found.0 _ c.in_ok-context.ensures.ascend before (sym key_is) refl c.in_ok-context.ensures.ok c.give_back.ensures.puts in
+      subst (λ q. IsConsistent t.boot t.sequence q t.pended c.give_back.new.self) (sym c.in-Err.ensures.err) (subst (IsConsistent t.boot t.sequence t.questions t.pended) (sym same) c.self.invariant.rows));
+  mounted = c.self.invariant.mounted;
+  sized = c.self.invariant.sized;
+}
+
+pub returns-in-Err-clause-err : goal.returns-in-Err-clause-err
+returns-in-Err-clause-err c =
+    let t = c.self.inside in
+    let n = c.args.question in
+    let m = t.sequence + 1 in
+    let s = c.in-Some.asked.stream in
+    let found = row_found (at t.questions n) c.in-Some.asked c.in-Some.ensures in
+    let before = known-at t.boot t.sequence n t.questions t.pended t.contexts c.in-Some.asked found.0 c.self.invariant.rows found.1 in
+    let key_is = held-again t.boot t.sequence n t.contexts s found.0 c.in_ok-context.context before c.in_ok-context.ensures.same in
+    let same = undone-again t.boot n t.contexts c.hold.new.self c.give_back.new.self s found.0 _ c.in_ok-context.ensures.ascend before (sym key_is) refl c.in_ok-context.ensures.ok c.give_back.ensures.puts in (
+      rw (← c.self.view_is)
+          (λ i. record {
+            mode = t.mode;
+            limits = t.limits;
+            boot = t.boot;
+            sequence = t.sequence;
+            connected = t.connected;
+            floor = t.floor;
+            contexts = states (same i);
+            questions = questions_of t.boot (c.in-Err.ensures.err i);
+            pended = pended_of t.boot t.pended;
+            cache = t.cache.entries;
+          }),
+      refl,
+      refl,
+    )
+
+pub move_opens-requires-clause-apart : goal.move_opens-requires-clause-apart
+move_opens-requires-clause-apart c = λ e.
+    let t = c.self.inside in
+    let found = row_found (at t.questions c.args.question) c.in-Some.asked c.in-Some.ensures in
+    let low : c.args.question ≤ t.sequence = all-at (λ j. j ≤ t.sequence) t.questions c.args.question c.self.invariant.rows.asked (is_there (at t.questions c.args.question) (c.in-Some.asked, found.0) found.1) in
+    absurd (omega arith)
+
+pub move_opens-requires-clause-chained : goal.move_opens-requires-clause-chained
+move_opens-requires-clause-chained c =
+    let t = c.self.inside in
+    chained-new t.boot t.sequence c.in-Some.asked.stream c.new-generation.result c.in_ok-context.context t.questions c.insert.new.self t.pended t.contexts c.self.invariant.rows c.in_default-insert.ensures.ok
+
+pub move_opens-requires-clause-room : goal.move_opens-requires-clause-room
+move_opens-requires-clause-room c =
+    let t = c.self.inside in
+    let n = c.args.question in
+    let count : length (opens_of (id_of t.boot n) (pended_of t.boot t.pended)) ≡ length (of n (plains t.pended)) = ap length (opens-of t.boot n (plains t.pended)) ∙ length-held t.boot (of n (plains t.pended)) in
+    subst (λ l. vec_len c.args.answers.now + l ≤ vec_capacity c.args.answers.now) count
+    (subst (λ u. vec_len c.args.answers.now + length (opens_of (id_of u.boot n) u.pended) ≤ vec_capacity c.args.answers.now) (sym c.self.view_is) c.requires.room)
+
+pub unreachable-requires-in_default-remove-2 : goal.unreachable-requires-in_default-remove-2
+unreachable-requires-in_default-remove-2 c =
+    let t = c.self.inside in
+    let n = c.args.question in
+    let found = row_found (at t.questions n) c.in-Some.asked c.in-Some.ensures in
+    let low : n ≤ t.sequence = all-at (λ j. j ≤ t.sequence) t.questions n c.self.invariant.rows.asked (is_there (at t.questions n) (c.in-Some.asked, found.0) found.1) in
+    let old : at c.insert.new.self n ≡ Some (c.in-Some.asked, found.0) = c.in_default-insert.ensures.ok.others n (λ e. absurd (omega arith)) ∙ found.1 in
+    not_there (at c.move_opens.new.questions n) (sym c.in_default-remove-2.ensures.value) (there-kept c.insert.new.self c.move_opens.new.questions n c.move_opens.ensures.same (is_there (at c.insert.new.self n) (c.in-Some.asked, found.0) old))
+
+pub release-requires : goal.release-requires
+release-requires c =
+    let t = c.self.inside in
+    let n = c.args.question in
+    let m = t.sequence + 1 in
+    let s = c.in-Some.asked.stream in
+    let found = row_found (at t.questions n) c.in-Some.asked c.in-Some.ensures in
+    let before = known-at t.boot t.sequence n t.questions t.pended t.contexts c.in-Some.asked found.0 c.self.invariant.rows found.1 in
+    let key_is = held-again t.boot t.sequence n t.contexts s found.0 c.in_ok-context.context before c.in_ok-context.ensures.same in
+    let low : n ≤ t.sequence = all-at (λ j. j ≤ t.sequence) t.questions n c.self.invariant.rows.asked (is_there (at t.questions n) (c.in-Some.asked, found.0) found.1) in
+    let old : at c.insert.new.self n ≡ Some (c.in-Some.asked, found.0) = c.in_default-insert.ensures.ok.others n (λ e. absurd (omega arith)) ∙ found.1 in
+    let same : c.in-Some-remove-2.context ≡ found.0 = same-key n c.insert.new.self c.move_opens.new.questions c.in-Some.asked c.in-Some-remove-2._ended found.0 c.in-Some-remove-2.context c.move_opens.ensures.same old c.in-Some-remove-2.ensures.value in
+    subst (λ o. IsSomeAnd o (λ m. (m.key ≡ c.in-Some-remove-2.context) × (1 ≤ m.held))) (sym c.in_ok-context.ensures.ok.here) (sym key_is ∙ sym same, omega arith)
+
+pub invariant_of-self-2 : goal.invariant_of-self-2
+invariant_of-self-2 c = record {
+  rows = (let t = c.self.inside in
+      let n = c.args.question in
+      let m = t.sequence + 1 in
+      let s = c.in-Some.asked.stream in
+      let found = row_found (at t.questions n) c.in-Some.asked c.in-Some.ensures in
+      let before = known-at t.boot t.sequence n t.questions t.pended t.contexts c.in-Some.asked found.0 c.self.invariant.rows found.1 in
+      let key_is = held-again t.boot t.sequence n t.contexts s found.0 c.in_ok-context.context before c.in_ok-context.ensures.same in
+      let v = c.apply.new.volume in
+      let a = asks_again t.boot t.sequence n (present_generation v s) t.questions c.insert.new.self c.move_opens.new.questions c.remove-2.new.self t.pended c.move_opens.new.pended t.contexts c.hold.new.self c.release.new.self c.in-Some.asked found.0
+      c.self.invariant.rows c.len-numbers_ascend.ensures.ascend c.in_ok-context.ensures.ascend found.1
+      (subst (λ j. PutsAt t.contexts c.hold.new.self s (Some (record { key = j; state = Scanning (id_of t.boot m); held = held_out (at t.contexts s) + 1 }))) (sym key_is) c.in_ok-context.ensures.ok)
+      (subst (λ g. PutsAt t.questions c.insert.new.self m (Some (new_row s g, found.0))) (c.new-generation.ensures ∙ ap (λ g. g + 1) (c.get.ensures ∙ c.generation_now.ensures) ∙ sym (raised_by c.args.volume.now v s c.args.rewriting c.in-Ok.ensures)) (subst (λ j. PutsAt t.questions c.insert.new.self m (Some (new_row s c.new-generation.result, j))) (sym key_is) c.in_default-insert.ensures.ok))
+      c.move_opens.ensures.same c.move_opens.ensures.chained (c.move_opens.ensures.numbered c.self.invariant.rows.numbered) c.move_opens.ensures.moved c.remove-2.ensures.puts c.release.ensures in
+      a.consistent);
+  mounted = c.self.invariant.mounted;
+  sized = c.self.invariant.sized;
+}
+
+pub returns-clause-answers : goal.returns-clause-answers
+returns-clause-answers c =
+    let t = c.self.inside in
+    let n = c.args.question in
+    let v = c.apply.new.volume in
+    let view : Table = record {
+      mode = t.mode;
+      limits = t.limits;
+      boot = t.boot;
+      sequence = t.sequence;
+      connected = t.connected;
+      floor = t.floor;
+      contexts = states t.contexts;
+      questions = questions_of t.boot t.questions;
+      pended = pended_of t.boot t.pended;
+      cache = t.cache.entries;
+    } in
+    subst (λ u. c.move_opens.new.answers.items ≡ c.args.answers.now.items ++ by_mode u v Unsettled (filter (is_lost (id_of u.boot n)) u.pended)) c.self.view_is
+    (c.move_opens.ensures.answers ∙ ap (λ l. c.args.answers.now.items ++ l) (lost-refused view v Unsettled t.boot n (plains t.pended)))
+
+pub returns-clause-ok : goal.returns-clause-ok
+unfolding asks
+returns-clause-ok c =
+    let t = c.self.inside in
+    let n = c.args.question in
+    let m = t.sequence + 1 in
+    let s = c.in-Some.asked.stream in
+    let found = row_found (at t.questions n) c.in-Some.asked c.in-Some.ensures in
+    let before = known-at t.boot t.sequence n t.questions t.pended t.contexts c.in-Some.asked found.0 c.self.invariant.rows found.1 in
+    let key_is = held-again t.boot t.sequence n t.contexts s found.0 c.in_ok-context.context before c.in_ok-context.ensures.same in
+    let v = c.apply.new.volume in
+    let a = asks_again t.boot t.sequence n (present_generation v s) t.questions c.insert.new.self c.move_opens.new.questions c.remove-2.new.self t.pended c.move_opens.new.pended t.contexts c.hold.new.self c.release.new.self c.in-Some.asked found.0
+    c.self.invariant.rows c.len-numbers_ascend.ensures.ascend c.in_ok-context.ensures.ascend found.1
+    (subst (λ j. PutsAt t.contexts c.hold.new.self s (Some (record { key = j; state = Scanning (id_of t.boot m); held = held_out (at t.contexts s) + 1 }))) (sym key_is) c.in_ok-context.ensures.ok)
+    (subst (λ g. PutsAt t.questions c.insert.new.self m (Some (new_row s g, found.0))) (c.new-generation.ensures ∙ ap (λ g. g + 1) (c.get.ensures ∙ c.generation_now.ensures) ∙ sym (raised_by c.args.volume.now v s c.args.rewriting c.in-Ok.ensures)) (subst (λ j. PutsAt t.questions c.insert.new.self m (Some (new_row s c.new-generation.result, j))) (sym key_is) c.in_default-insert.ensures.ok))
+    c.move_opens.ensures.same c.move_opens.ensures.chained (c.move_opens.ensures.numbered c.self.invariant.rows.numbered) c.move_opens.ensures.moved c.remove-2.ensures.puts c.release.ensures in
+    rw (← c.self.view_is, question-found t.boot n t.questions c.len-numbers_ascend.ensures.ascend ∙ ap (option_map (λ y. asked_of t.boot (n, essence y))) found.1)
+    (λ i. record {
+      mode = t.mode;
+      limits = t.limits;
+      boot = t.boot;
+      sequence = t.sequence + 1;
+      connected = t.connected;
+      floor = t.floor;
+      contexts = a.contexts i;
+      questions = a.questions i;
+      pended = a.pended i;
+      cache = t.cache.entries;
+    })
+
+pub overflow_add-get : goal.overflow_add-get
+overflow_add-get c =
+    let t = c.self.inside in
+    let n = c.args.question in
+    let v = c.args.volume.now in
+    let found = row_found (at t.questions n) c.in-Some.asked c.in-Some.ensures in
+    let is = question-found t.boot n t.questions c.len-numbers_ascend.ensures.ascend ∙ ap (option_map (λ y. asked_of t.boot (n, essence y))) found.1 in
+    let P = λ (q : Question). present_generation v q.stream + 1 < 2 ^ 64 in
+    let next : present_generation v c.in-Some.asked.stream + 1 < 2 ^ 64 =
+    if_some_at P (question_at (id_of t.boot n) (questions_of t.boot t.questions)) (asked_of t.boot (n, essence (c.in-Some.asked, found.0)))
+    (subst (λ u. IfSome (question_at (id_of u.boot n) u.questions) P) (sym c.self.view_is) c.requires.next) is in
+    let low : c.get.result ≡ present_generation v c.in-Some.asked.stream = c.get.ensures ∙ c.generation_now.ensures in
+    omega arith
+
+-- the rows are as they were before the new one came in
+rows_same : (c : goal.After-give_back-in_default-apply) → c.remove.new.self ≡ c.self.inside.questions
+rows_same c =
+    let t = c.self.inside in
+    let m = t.sequence + 1 in
+    let put = c.in_default-insert.ensures.ok in
+    let up = c.len-numbers_ascend.ensures.ascend in
+    put_back t.questions c.insert.new.self c.remove.new.self m (Some (new_row c.in-Some.asked.stream c.new-generation.result, c.in_ok-context.context)) up
+    (puts-ascends c.insert.new.self c.remove.new.self m None c.remove.ensures.puts (puts-ascends t.questions c.insert.new.self m _ put up)) put
+    (subst (λ o. PutsAt c.insert.new.self c.remove.new.self m o) (sym (new-question t.boot t.sequence t.questions t.pended t.contexts c.self.invariant.rows)) c.remove.ensures.puts)
+
+-- and so are the contexts
+contexts_same : (c : goal.After-give_back-in_default-apply) → c.give_back-in_default-apply.new.self ≡ c.self.inside.contexts
+contexts_same c =
+    let t = c.self.inside in
+    let n = c.args.question in
+    let s = c.in-Some.asked.stream in
+    let found = row_found (at t.questions n) c.in-Some.asked c.in-Some.ensures in
+    let before = known-at t.boot t.sequence n t.questions t.pended t.contexts c.in-Some.asked found.0 c.self.invariant.rows found.1 in
+    let key_is = held-again t.boot t.sequence n t.contexts s found.0 c.in_ok-context.context before c.in_ok-context.ensures.same in
+    undone-again t.boot n t.contexts c.hold.new.self c.give_back-in_default-apply.new.self s found.0 _ c.in_ok-context.ensures.ascend before (sym key_is) refl c.in_ok-context.ensures.ok c.give_back-in_default-apply.ensures.puts
+
+pub invariant_of-self-in_default-apply : goal.invariant_of-self-in_default-apply
+invariant_of-self-in_default-apply c = record {
+  rows = (let t = c.self.inside in
+      subst (λ q. IsConsistent t.boot t.sequence q t.pended c.give_back-in_default-apply.new.self) (sym (rows_same c)) (subst (IsConsistent t.boot t.sequence t.questions t.pended) (sym (contexts_same c)) c.self.invariant.rows));
+  mounted = c.self.invariant.mounted;
+  sized = c.self.invariant.sized;
+}
+
+pub returns-in_default-apply-clause-err : goal.returns-in_default-apply-clause-err
+returns-in_default-apply-clause-err c =
+    let t = c.self.inside in (
+      rw (← c.self.view_is)
+          (λ i. record {
+            mode = t.mode;
+            limits = t.limits;
+            boot = t.boot;
+            sequence = t.sequence;
+            connected = t.connected;
+            floor = t.floor;
+            contexts = states (contexts_same c i);
+            questions = questions_of t.boot (rows_same c i);
+            pended = pended_of t.boot t.pended;
+            cache = t.cache.entries;
+          }),
+      refl,
+      as_it_was _ _ _ _ c.in_default-apply.ensures,
+    )
+
+pub returns-clause-volume : goal.returns-clause-volume
+returns-clause-volume c =
+    let t = c.self.inside in
+    let n = c.args.question in
+    let found = row_found (at t.questions n) c.in-Some.asked c.in-Some.ensures in
+    rw (← c.self.view_is, question-found t.boot n t.questions c.len-numbers_ascend.ensures.ascend ∙ ap (option_map (λ y. asked_of t.boot (n, essence y))) found.1) c.in-Ok.ensures

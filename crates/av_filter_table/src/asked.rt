@@ -1,0 +1,46 @@
+ghost use Rattle.std.specs.Prelude.{◌≡◌, ◌<◌, ◌≤◌, ◌^◌};
+ghost use Rattle.av_filter_table.specs.Chains.{longer, shorter};
+
+use av_base::number::{Generation, StreamId};
+
+/// The row of a question: the content that it is of, and its opens, as a chain of so many from the first to the last.
+#[derive(Clone, Copy, Debug, PartialEq, Eq)]
+pub struct Asked {
+    pub stream: StreamId,
+    pub generation: Generation,
+    pub first: Option<u64>,
+    pub last: Option<u64>,
+    pub opens: usize,
+}
+
+impl Asked {
+    // With an open behind the others.
+    pub(crate) fn longer(self, number: u64) -> Asked
+        requires { self.opens < 2 ^ 63 }
+        ensures { result ≡ longer self number }
+    {
+        Asked {
+            first: self.first.or(Some(number)),
+            last: Some(number),
+            opens: self.opens + 1,
+            ..self
+        }
+    }
+
+    // With its first open gone, which named this one as the next.
+    pub(crate) fn shorter(self, next: Option<u64>) -> Asked
+        requires { 1 ≤ self.opens }
+        ensures { result ≡ shorter self next }
+    {
+        let last = match next {
+            None => None,
+            Some(_) => self.last,
+        };
+        Asked {
+            first: next,
+            last,
+            opens: self.opens - 1,
+            ..self
+        }
+    }
+}

@@ -1,0 +1,190 @@
+ghost use Rattle.av_context.specs.Contexts.{set_at};
+ghost use Rattle.av_context.specs.declared.context_state.ContextState.TheVariants.{Scanning};
+ghost use Rattle.std.specs.Prelude.{◌+◌, ◌^◌, IfOk, ◌≡◌, ◌++◌, ◌∷◌, ◌<◌, [], None, Some, IsSome, IfSome, IfNone, OnOk, OnErr, IfErr};
+ghost use Rattle.std.specs.List.{AllByRecursion};
+ghost use Rattle.av_filter_table.specs.Asking.{ended};
+ghost use Rattle.av_filter_table.specs.Numbered.{IsAscending};
+ghost use Rattle.av_filter_table.specs.Table.{next_id, question_of, question_at, opens_of};
+ghost use Rattle.av_filter_table.specs.FilterTable.{id_of, open_numbers};
+
+use super::FilterTable;
+use crate::asked::Asked;
+use crate::chains;
+use crate::question::Question;
+use av_base::message_id::MessageId;
+use av_base::number::{Generation, StreamId};
+use av_context::context_state::ContextState;
+use av_pend::pended_open::PendedOpen;
+use std::alloc::{AllocError, AllocFailed};
+
+impl FilterTable {
+    /// The question of an id, if it runs. The cost grows with the logarithm of the count of questions.
+    pub fn question_at(&self, id: MessageId) -> Option<Question>
+        ensures { result ≡ question_at id self.now.questions }
+    {
+        let _numbers_ascend = self.questions.len();
+        if id.boot != self.boot {
+            return None;
+        }
+        let asked = self.questions.row(id.seq)?;
+        Some(Question {
+            id,
+            stream: asked.stream,
+            generation: asked.generation,
+        })
+    }
+
+    /// The question that runs of a stream, if there is one: the stream's context names it. The cost grows with the logarithms
+    /// of the counts of streams and of questions.
+    pub fn question_of(&self, stream: StreamId) -> Option<Question>
+        ensures { result ≡ question_of stream self.now.questions }
+    {
+        let _numbers_ascend = self.questions.len();
+        let state = self.contexts.state_of(stream)?;
+        let ContextState::Scanning(id) = state else {
+            return None;
+        };
+        let question = self.question_at(id)?;
+        let named = question.stream.get();
+        let wanted = stream.get();
+        if named != wanted {
+            return None;
+        }
+        Some(question)
+    }
+
+    /// Asks for a scan of a stream that none runs of: a new question, which no open waits for yet. Where memory is refused
+    /// nothing changes.
+    pub fn ask(&mut self, stream: StreamId, generation: Generation) -> Result<MessageId, AllocError>
+        requires none { question_of stream self.old.questions ≡ None }
+        requires left { self.old.sequence + 1 < 2 ^ 64 }
+        ensures id { IfOk result (λ id. id ≡ next_id self.old) }
+        ensures ok { OnOk result (self.new ≡ record self.old { sequence = self.old.sequence + 1; contexts = set_at self.old.contexts stream (Some (Scanning (next_id self.old))); questions = self.old.questions ++ record { id = next_id self.old; stream = stream; generation = generation } ∷ [] }) }
+        ensures err { OnErr result (self.new ≡ self.old) }
+    {
+        let seq = self.sequence + 1;
+        let id = MessageId {
+            boot: self.boot,
+            seq,
+        };
+        let old = self.contexts.state_of(stream);
+        let context = self.contexts.hold(stream, ContextState::Scanning(id))?;
+        let row = Asked {
+            stream,
+            generation,
+            first: None,
+            last: None,
+            opens: 0,
+        };
+        if let Err(failed) = self.questions.insert(seq, row, context) {
+            let AllocFailed { value } = failed;
+            self.contexts.undo_hold(stream, value, old);
+            return Err(AllocError);
+        }
+        self.sequence = seq;
+        Ok(id)
+    }
+
+    /// Asks for a scan of a stream that none runs of, for an open that waits for it. Where memory is refused nothing changes,
+    /// and the open comes back.
+    pub fn ask_for(
+        &mut self,
+        stream: StreamId,
+        generation: Generation,
+        held: PendedOpen,
+    ) -> Result<MessageId, AllocFailed<PendedOpen>>
+        requires none { question_of stream self.old.questions ≡ None }
+        requires left { self.old.sequence + 1 < 2 ^ 64 }
+        requires last { AllByRecursion (λ n. n < held.open_id) (open_numbers self.old.pended) }
+        ensures id { IfOk result (λ id. id ≡ next_id self.old) }
+        ensures ok { OnOk result (self.new ≡ record self.old { sequence = self.old.sequence + 1; contexts = set_at self.old.contexts stream (Some (Scanning (next_id self.old))); questions = self.old.questions ++ record { id = next_id self.old; stream = stream; generation = generation } ∷ []; pended = self.old.pended ++ record { question = next_id self.old; held = held } ∷ [] }) }
+        ensures err { OnErr result (self.new ≡ self.old) }
+        ensures back { IfErr result (λ failed. failed.value ≡ held) }
+    {
+        let _numbers_ascend = self.questions.len();
+        let seq = self.sequence + 1;
+        let id = MessageId {
+            boot: self.boot,
+            seq,
+        };
+        let number = held.open_id().get();
+        let old = self.contexts.state_of(stream);
+        let Ok(context) = self.contexts.hold(stream, ContextState::Scanning(id)) else {
+            return Err(AllocFailed { value: held });
+        };
+        let row = Asked {
+            stream,
+            generation,
+            first: None,
+            last: None,
+            opens: 0,
+        };
+        if let Err(failed) = self.questions.insert(seq, row, context) {
+            let AllocFailed { value } = failed;
+            self.contexts.undo_hold(stream, value, old);
+            return Err(AllocFailed { value: held });
+        }
+        if let Err(failed) = chains::append(
+            &mut self.questions,
+            &mut self.pended,
+            seq,
+            number,
+            held,
+        ) {
+            let Some((_asked, context)) = self.questions.remove(seq) else {
+                unreachable!()
+            };
+            self.contexts.undo_hold(stream, context, old);
+            return Err(failed);
+        }
+        self.sequence = seq;
+        Ok(id)
+    }
+
+    /// Ends a question that no open waits for. The context of its stream has this state from now on.
+    pub fn end_question(&mut self, question: u64, state: ContextState)
+        requires there { IsSome (question_at (id_of self.old.boot question) self.old.questions) }
+        requires none { opens_of (id_of self.old.boot question) self.old.pended ≡ [] }
+        ensures { IfSome (question_at (id_of self.old.boot question) self.old.questions) (λ q. self.new ≡ ended self.old q (Some state)) }
+    {
+        let _numbers_ascend = self.questions.len();
+        let Some((asked, context)) = self.questions.remove(question) else {
+            unreachable!()
+        };
+        self.contexts.give_back(asked.stream, context, state);
+    }
+
+    /// Ends a question that no open waits for, and whose stream is gone: it has no context from now on.
+    pub fn end_removed(&mut self, question: u64)
+        requires there { IsSome (question_at (id_of self.old.boot question) self.old.questions) }
+        requires none { opens_of (id_of self.old.boot question) self.old.pended ≡ [] }
+        ensures { IfSome (question_at (id_of self.old.boot question) self.old.questions) (λ q. self.new ≡ ended self.old q None) }
+    {
+        let _numbers_ascend = self.questions.len();
+        let Some((asked, context)) = self.questions.remove(question) else {
+            unreachable!()
+        };
+        self.contexts.forget(asked.stream, context);
+    }
+
+    /// Ends the first of all questions, where no open waits any more. The context of its stream has this state from now on. The
+    /// cost grows with the logarithms of the counts of streams and of questions.
+    pub fn pop_question(&mut self, state: ContextState) -> Option<Question>
+        requires { self.old.pended ≡ [] }
+        ensures none { IfNone result ((self.old.questions ≡ []) × (self.new ≡ self.old)) }
+        ensures some { IfSome result (λ q. (self.old.questions ≡ q ∷ self.new.questions) × (self.new ≡ record self.old { contexts = set_at self.old.contexts q.stream (Some state); questions = self.new.questions })) }
+        ensures ascend { IfSome result (λ _. IsAscending self.old.contexts) }
+    {
+        let _numbers_ascend = self.questions.len();
+        let (seq, asked, context) = self.questions.pop_first()?;
+        self.contexts.give_back(asked.stream, context, state);
+        Some(Question {
+            id: MessageId {
+                boot: self.boot,
+                seq,
+            },
+            stream: asked.stream,
+            generation: asked.generation,
+        })
+    }
+}

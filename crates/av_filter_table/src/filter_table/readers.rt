@@ -1,0 +1,102 @@
+ghost use Rattle.std.specs.Prelude.{◌≡◌, length, ◌≤◌};
+ghost use Rattle.av_base.specs.Limits.{AreInRange};
+ghost use Rattle.av_filter_table.specs.Numbered.{IsAscending};
+ghost use Rattle.av_filter_table.specs.Table.{mounted, raised};
+
+use super::FilterTable;
+use av_base::limits::Limits;
+use av_base::mode::Mode;
+use av_base::number::Version;
+use av_cache::cache::VerdictCache;
+
+impl FilterTable {
+    /// What becomes of an open that can't be judged.
+    pub fn mode(&self) -> Mode
+        ensures { result ≡ self.now.mode }
+    {
+        self.mode
+    }
+
+    /// The limits, all in range.
+    pub fn limits(&self) -> Limits
+        ensures value { result ≡ self.now.limits }
+        ensures in_range { AreInRange self.now.limits }
+    {
+        let _in_range = self.limits.values();
+        self.limits
+    }
+
+    /// The number of the boot, which each id of a question has.
+    pub fn boot(&self) -> u64
+        ensures value { result ≡ self.now.boot }
+        ensures mounted { 1 ≤ self.now.boot }
+    {
+        self.boot
+    }
+
+    /// The number of the last question.
+    pub fn sequence(&self) -> u64
+        ensures { result ≡ self.now.sequence }
+    {
+        self.sequence
+    }
+
+    /// Whether the service is connected.
+    pub fn connected(&self) -> bool
+        ensures { result ≡ self.now.connected }
+    {
+        self.connected
+    }
+
+    /// Notes that the service is connected, or is not.
+    pub fn set_connected(&mut self, connected: bool)
+        ensures { self.new ≡ record self.old { connected = connected } }
+    {
+        self.connected = connected;
+    }
+
+    /// The floor: no version below it grants.
+    pub fn floor(&self) -> Version
+        ensures { result ≡ self.now.floor }
+    {
+        self.floor
+    }
+
+    /// Raises the floor to a version, where that is higher.
+    pub fn raise(&mut self, version: Version)
+        ensures { self.new ≡ raised version self.old }
+    {
+        if self.floor.get() < version.get() {
+            self.floor = version;
+        }
+    }
+
+    /// The verdicts that were kept, to be read.
+    pub fn cache(&self) -> &VerdictCache
+        ensures { result.now ≡ record { capacity = self.now.limits.cache; entries = self.now.cache } }
+    {
+        &self.cache
+    }
+
+    /// How many streams have a context. At once.
+    pub fn context_count(&self) -> usize
+        ensures len { result ≡ length self.now.contexts }
+        ensures ascend { IsAscending self.now.contexts }
+    {
+        self.contexts.len()
+    }
+
+    /// How many questions run.
+    pub fn question_count(&self) -> usize
+        ensures { result ≡ length self.now.questions }
+    {
+        self.questions.len()
+    }
+
+    /// How many opens are held.
+    pub fn pended_count(&self) -> usize
+        ensures { result ≡ length self.now.pended }
+    {
+        self.pended.len()
+    }
+}
