@@ -13,6 +13,7 @@ use av_base::message_id::MessageId;
 use av_base::number::{Generation, StreamId, Version};
 use av_base::refusal::Refusal;
 use av_base::verdict::Verdict;
+use av_fakes::{may_refuse, refuse_no_more};
 use bodies::BODIES;
 use std::alloc::Global;
 use std::test::Fail;
@@ -304,5 +305,45 @@ fn messages_are_made_of_their_fields(rt: HostRuntime) -> Result<(), Fail> {
     ] {
         assert_eq!(rt; words(alloc, &message)?.as_str(), wanted);
     }
+    Ok(())
+}
+
+// A chunk of three bytes of the question 1.1, as a frame.
+const CHUNK: &str = "0000001c 02 [1] [1] [0] 414243";
+
+#[test]
+fn refused_or_not_a_frame_is_read_and_written(rt: HostRuntime) -> Result<(), Fail> {
+    let alloc = rt.alloc();
+    let frame = bytes_of(alloc, CHUNK)?;
+    let body = &frame[4..];
+    let mut feed = Feed::new(alloc);
+    may_refuse(alloc);
+    let decoded = decode(alloc, body);
+    let pushed = feed.push(&frame);
+    refuse_no_more(alloc);
+    let message = match decoded {
+        Err(Refusal::NoMemory) => decode(alloc, body)?,
+        other => other?,
+    };
+    if pushed == Err(Refusal::NoMemory) {
+        assert_eq!(rt; next_words(alloc, &mut feed)?.as_str(), "nothing");
+        feed.push(&frame)?;
+    }
+    may_refuse(alloc);
+    let given = feed.next();
+    refuse_no_more(alloc);
+    if given.err() == Some(Refusal::NoMemory) {
+        assert_eq!(rt; next_words(alloc, &mut feed)?.as_str(), "chunk 1.1 offset 0 bytes 3");
+    }
+    assert_eq!(rt; next_words(alloc, &mut feed)?.as_str(), "nothing");
+    let mut out = Vec::new(alloc);
+    may_refuse(alloc);
+    let encoded = encode_into(&message, &mut out);
+    refuse_no_more(alloc);
+    if encoded.is_err() {
+        assert!(rt; out.is_empty());
+        encode_into(&message, &mut out)?;
+    }
+    assert_eq!(rt; out.as_slice(), frame.as_slice());
     Ok(())
 }

@@ -11,11 +11,11 @@
 pub mod catalogue;
 pub mod fault;
 pub mod hexadecimal;
-pub mod judge;
+mod judge;
 pub mod law;
-pub mod line;
-pub mod made;
-pub mod read;
+mod line;
+mod made;
+mod read;
 pub mod set;
 pub mod signature;
 #[cfg(test)]

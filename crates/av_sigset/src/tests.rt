@@ -3,6 +3,7 @@ use crate::fault::{CatalogueFault, SetFault, SetFaultKind};
 use crate::set::SignatureSet;
 use av_base::number::Version;
 use av_base::refusal::Refusal;
+use av_fakes::{may_refuse, refuse_no_more};
 use std::alloc::{AllocError, Global};
 use std::test::Fail;
 
@@ -123,5 +124,44 @@ fn a_full_catalogue_refuses_the_next_set(rt: HostRuntime) -> Result<(), Fail> {
         }
         Ok(()) => panic!(rt; "accepted"),
     }
+    Ok(())
+}
+
+#[test]
+fn refused_or_not_a_set_is_read_and_published(rt: HostRuntime) -> Result<(), Fail> {
+    let alloc = rt.alloc();
+    let file = b"avsig 1\nversion 7\nt.a 4142\nb 4a4B\n".as_slice();
+    let mut catalogue = Catalogue::new(alloc);
+    may_refuse(alloc);
+    let read = SignatureSet::read(alloc, file);
+    let made = empty_set(alloc, 9);
+    let room = catalogue.room(Version::new(7));
+    refuse_no_more(alloc);
+    let set = match read {
+        Err(Refusal::NoMemory) => SignatureSet::read(alloc, file)?,
+        other => other?,
+    };
+    assert_eq!(rt; set.len(), 2);
+    if room == Err(Refusal::NoMemory) {
+        assert_eq!(rt; catalogue.len(), 0);
+        catalogue.room(Version::new(7))?;
+    }
+    may_refuse(alloc);
+    let published = catalogue.publish(set);
+    refuse_no_more(alloc);
+    assert!(rt; published.is_ok());
+    let later = match made {
+        Err(Refusal::NoMemory) => empty_set(alloc, 9)?,
+        other => other?,
+    };
+    may_refuse(alloc);
+    let published = catalogue.publish(later);
+    refuse_no_more(alloc);
+    if let Err(refused) = published {
+        assert_eq!(rt; refused.why, Refusal::NoMemory);
+        assert_eq!(rt; catalogue.latest(), Some(Version::new(7)));
+        assert!(rt; catalogue.publish(refused.value).is_ok());
+    }
+    assert_eq!(rt; catalogue.latest(), Some(Version::new(9)));
     Ok(())
 }

@@ -3,6 +3,7 @@ use crate::volume::Volume;
 use av_base::limits::{LimitValues, Limits};
 use av_base::number::{Generation, OpenId, StreamId};
 use av_base::refusal::Refusal;
+use av_fakes::{may_refuse, refuse_no_more};
 use std::test::Fail;
 
 fn limits(streams: u64) -> Result<Limits, Fail> {
@@ -84,5 +85,56 @@ fn boots_and_open_numbers_count_from_one(rt: HostRuntime) -> Result<(), Fail> {
     assert_eq!(rt; copy.cut(id, 1), Ok(()));
     assert_eq!(rt; copy.length(id), Some(1));
     assert_eq!(rt; volume.length(id), Some(0));
+    Ok(())
+}
+
+// What readers tell of a stream.
+fn seen(volume: &Volume) -> (Option<StreamId>, Option<Generation>, Option<u64>, u64) {
+    let id = StreamId::new(1);
+    (
+        volume.find(b"two"),
+        volume.generation(id),
+        volume.length(id),
+        volume.opens_left(),
+    )
+}
+
+#[test]
+fn refused_or_not_a_volume_is_as_it_was_or_changed(rt: HostRuntime) -> Result<(), Fail> {
+    let alloc = rt.alloc();
+    let id = StreamId::new(1);
+    let mut volume = Volume::new(alloc, 7, limits(2)?);
+    volume.create(alloc, b"one")?;
+    volume.write(id, 0, b"abc")?;
+    let before = seen(&volume);
+    may_refuse(alloc);
+    let created = volume.create(alloc, b"two");
+    refuse_no_more(alloc);
+    if created == Err(Refusal::NoMemory) {
+        assert_eq!(rt; seen(&volume), before);
+        volume.create(alloc, b"two")?;
+    }
+    assert_eq!(rt; volume.find(b"two"), Some(StreamId::new(2)));
+    let before = seen(&volume);
+    may_refuse(alloc);
+    let written = volume.write(id, 3, b"defghijklmnop");
+    refuse_no_more(alloc);
+    if written == Err(Refusal::NoMemory) {
+        assert_eq!(rt; seen(&volume), before);
+        volume.write(id, 3, b"defghijklmnop")?;
+    }
+    assert_eq!(rt; volume.length(id), Some(16));
+    may_refuse(alloc);
+    let read = volume.read(alloc, id, 2, 2);
+    let copy = volume.copy();
+    refuse_no_more(alloc);
+    match read {
+        Ok(bytes) => assert_eq!(rt; bytes.as_slice(), b"cd".as_slice()),
+        Err(refusal) => assert_eq!(rt; refusal, Refusal::NoMemory),
+    }
+    match copy {
+        Ok(copy) => assert_eq!(rt; seen(&copy), seen(&volume)),
+        Err(_) => assert_eq!(rt; seen(&volume.copy()?), seen(&volume)),
+    }
     Ok(())
 }

@@ -1,8 +1,18 @@
 //! Bodies and what each is: a message, as scripts print it, or a fault. Every field stands at each end of its range and
-//! one past it, and every kind has a body of one byte too few and of one too many.
+//! one past it, every kind has a body of one byte too few and of one too many, and one whose fields are all different.
 
 /// A line for each body. A word is bytes in hexadecimal; [n] is n in eight bytes, and 41*3 is the byte 41 three times.
-pub const BODIES: &str = "01 [1] [1] [1] [1] [0] = scan 1.1 stream 1 generation 1 length 0
+pub const BODIES: &str = "01 [11] [12] [13] [14] [15] = scan 11.12 stream 13 generation 14 length 15
+02 [21] [22] [23] 2425 = chunk 21.22 offset 23 bytes 2
+03 [31] [32] [33] 02 = nochunk 31.32 offset 33 cause 2
+04 [41] [42] = abort 41.42
+05 [51] [52] = hello volume 51 version 52
+06 [61] [62] [63] 00000040 = read 61.62 offset 63 count 64
+07 [71] [72] 00 [73] = reply 71.72 version 73 clean
+07 [81] [82] 01 [83] 00000054 [85] = reply 81.82 version 83 infected 84 end 85
+07 [91] [92] 02 02 = reply 91.92 failed 2
+08 [99] = updated 99
+01 [1] [1] [1] [1] [0] = scan 1.1 stream 1 generation 1 length 0
 01 [1] [1] [1] [2] [3] = scan 1.1 stream 1 generation 2 length 3
 01 [0] [1] [1] [1] [0] = Range
 01 [1] [0] [1] [1] [0] = Range
