@@ -333,7 +333,10 @@ fn refused_or_not_a_frame_is_read_and_written(rt: HostRuntime) -> Result<(), Fai
     let given = feed.next();
     refuse_no_more(alloc);
     if given.err() == Some(Refusal::NoMemory) {
-        assert_eq!(rt; next_words(alloc, &mut feed)?.as_str(), "chunk 1.1 offset 0 bytes 3");
+        assert_eq!(rt;
+            next_words(alloc, &mut feed)?.as_str(),
+            "chunk 1.1 offset 0 bytes 3"
+        );
     }
     assert_eq!(rt; next_words(alloc, &mut feed)?.as_str(), "nothing");
     let mut out = Vec::new(alloc);

@@ -1,4 +1,4 @@
-ghost use Rattle.std.specs.Prelude.{◌≡◌, is_ok, IfErr, IfSome, OnOk, OnErr};
+ghost use Rattle.std.specs.Prelude.{◌≡◌, ◌≤◌, is_ok, length, IfErr, IfSome, OnOk, OnErr};
 ghost use Rattle.std.specs.Io.KnownBytes.{Appends};
 ghost use Rattle.av_base.specs.Device.{AppendsPrefix};
 ghost use Rattle.av_world.specs.Output.{IsLate, IsTrueOf, KeepsEarly, Prints, PrintsFront};
@@ -49,6 +49,7 @@ pub fn run_script<R: Read, W: Write>(
     turns: u64,
 ) -> Result<(), RunFault>
     ensures ok { OnOk result (IfSome (R.remaining reader.old) (Prints (W.contents writer.old) (W.contents writer.new))) }
+    ensures bound { OnOk result (IfSome (R.remaining reader.old) (λ input. length input ≤ 1048576)) }
     ensures err { OnErr result (IfSome (R.remaining reader.old) (PrintsFront (W.contents writer.old) (W.contents writer.new))) }
     ensures fault { IfErr result (λ f. IfSome (R.remaining reader.old) (IsTrueOf f)) }
     ensures early { IfErr result (λ f. KeepsEarly f (W.contents writer.old) (W.contents writer.new)) }

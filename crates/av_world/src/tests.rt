@@ -11,9 +11,11 @@ use av_base::mode::Mode;
 use av_base::number::{Generation, StreamId, Version};
 use av_base::refusal::Refusal;
 use av_base::verdict::Verdict;
+use av_fakes::{FakeReader, FakeWriter, Fault, may_refuse, refuse_no_more};
 use av_sigset::signature::Pattern;
 use av_store::fault::StoreFault;
 use std::alloc::{AllocError, Global};
+use std::collections::VecDeque;
 use std::test::Fail;
 
 fn bytes(alloc: Global, text: &[u8]) -> Result<ByteList, AllocError> {
@@ -176,5 +178,97 @@ fn a_script_is_read_and_run(rt: HostRuntime) -> Result<(), Fail> {
         run_script(alloc, &mut again, &mut output, 1),
         Err(RunFault::Read)
     );
+    Ok(())
+}
+
+const SCRIPT: &[u8] = b"volume 1 closed\ncreate a\ncreate a\n";
+const LINES: &[u8] = b"boot 1\nstream 1 generation 1\nrefused Exists\n";
+
+#[test]
+fn a_script_prints_the_same_however_reads_and_writes_are_cut(rt: HostRuntime) -> Result<(), Fail> {
+    for piece in 1..40 {
+        let mut reader = FakeReader::new(SCRIPT).in_pieces_of(piece);
+        let mut writer = FakeWriter::new(rt.alloc()).in_pieces_of(piece);
+        assert_eq!(rt; run_script(rt.alloc(), &mut reader, &mut writer, 99), Ok(()));
+        assert_eq!(rt; writer.taken(), LINES, "in pieces of {piece}");
+        assert_eq!(rt; writer.flushed(), LINES.len(), "in pieces of {piece}");
+    }
+    Ok(())
+}
+
+#[test]
+fn a_failing_read_writes_nothing(rt: HostRuntime) -> Result<(), Fail> {
+    for read in 1..36 {
+        let mut reader = FakeReader::new(SCRIPT).in_pieces_of(1).failing_at(read);
+        let mut writer = FakeWriter::new(rt.alloc());
+        let ended = run_script(rt.alloc(), &mut reader, &mut writer, 99);
+        assert_eq!(rt; ended, Err(RunFault::Read), "at read {read}");
+        assert!(rt; writer.taken().is_empty(), "at read {read}");
+    }
+    let mut reader = FakeReader::new(SCRIPT).in_pieces_of(1);
+    let mut writer = FakeWriter::new(rt.alloc());
+    let ended = run_script(rt.alloc(), &mut reader, &mut writer, 34);
+    assert_eq!(rt; ended, Err(RunFault::Read));
+    Ok(())
+}
+
+#[test]
+fn a_failing_write_leaves_a_front_of_the_lines(rt: HostRuntime) -> Result<(), Fail> {
+    for write in 1..45 {
+        for fault in [Fault::Fails { write }, Fault::TakesNothing { write }] {
+            let mut reader = SCRIPT;
+            let mut writer = FakeWriter::new(rt.alloc()).in_pieces_of(1).with(fault);
+            let ended = run_script(rt.alloc(), &mut reader, &mut writer, 9);
+            assert_eq!(rt; ended, Err(RunFault::Write), "{fault:?}");
+            let front = usize::try_from(write)?.saturating_sub(1);
+            assert_eq!(rt; writer.taken(), &LINES[..front.min(LINES.len())], "{fault:?}");
+        }
+    }
+    let mut reader = SCRIPT;
+    let mut writer = FakeWriter::new(rt.alloc()).with(Fault::KeepsUnflushed);
+    let ended = run_script(rt.alloc(), &mut reader, &mut writer, 9);
+    assert_eq!(rt; ended, Err(RunFault::Write));
+    Ok(())
+}
+
+#[test]
+fn refused_or_not_a_step_happens_or_is_handed_back(rt: HostRuntime) -> Result<(), Fail> {
+    let alloc = rt.alloc();
+    let mut world = World::new(alloc, 1, Mode::FailClosed, Limits::greatest());
+    let mut events = VecDeque::new(alloc);
+    events.push_back(create(alloc)?)?;
+    events.push_back(write(alloc, 0, b"xAB")?)?;
+    events.push_back(publish(alloc, 3, b"AB")?)?;
+    for _ in 0..6 {
+        let Some(event) = events.pop_front() else {
+            break;
+        };
+        let before = world.history().len();
+        may_refuse(alloc);
+        let stepped = world.step(alloc, event);
+        refuse_no_more(alloc);
+        match stepped {
+            Ok(_) => assert_eq!(rt; world.history().len(), before.saturating_add(1)),
+            Err(refused) => {
+                assert_eq!(rt; refused.why, Refusal::NoMemory);
+                assert_eq!(rt; world.history().len(), before);
+                events.push_front(refused.value)?;
+            }
+        }
+    }
+    let judged = world.judge(b"a").ok().ok_or("it is judged")?;
+    assert_eq!(rt; judged.verdict, Verdict::Infected { index: 0, end_at: 3 });
+    may_refuse(alloc);
+    let parsed = parse_script(alloc, SCRIPT);
+    let mut reader = SCRIPT;
+    let mut writer = FakeWriter::new(alloc);
+    let ended = run_script(alloc, &mut reader, &mut writer, 9);
+    refuse_no_more(alloc);
+    assert!(rt; parsed.is_ok() || parsed.err() == Some(Refusal::NoMemory));
+    assert!(rt; LINES.starts_with(writer.taken()));
+    match ended {
+        Ok(()) => assert_eq!(rt; writer.taken(), LINES),
+        Err(fault) => assert!(rt; fault == RunFault::NoMemory || fault == RunFault::Write),
+    }
     Ok(())
 }

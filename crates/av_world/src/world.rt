@@ -142,6 +142,13 @@ impl World {
         self.history.as_slice()
     }
 
+    /// Whether what can't be judged is denied or let through.
+    pub fn mode(&self) -> Mode
+        ensures { result ≡ self.now.mode }
+    {
+        self.mode
+    }
+
     /// Ends the world.
     pub fn close(self) {}
 }

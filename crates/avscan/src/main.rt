@@ -6,6 +6,8 @@ mod run;
 mod scan;
 mod scanner;
 mod status;
+#[cfg(test)]
+mod tests;
 mod words;
 
 use av_base::device::read_into;
