@@ -11,7 +11,7 @@ failed=0
 # crate and module of the type, the type, and the crates that its crate stands on
 must_be_spent() {
     crate=$1 module=$2 type=$3 below=$4
-    copy="$work/$crate"
+    copy="$work/$type"
     mkdir -p "$copy/crates"
     cp HANDLES "$copy/"
     : > "$copy/crates.txt"
