@@ -23,7 +23,7 @@ try: kit
 	@cd crates/avscan && rt try -- run "$(CURDIR)/$(EXAMPLE)"
 
 test: kit
-	@tests/gate.sh
+	@if [ -n "$(CRATE)" ]; then tests/crate.sh "$(CRATE)"; else tests/gate.sh; fi
 
 bench: build
 	@bench/run.sh

@@ -3,6 +3,7 @@
 # case of tests/ on the program as it was built. The last line counts them all.
 set -u
 cd "$(dirname "$0")/.."
+begun=$(date +%s)
 echo "gate: proving every crate from nothing, with its tests and must-fail edits (rt ci)"
 log=$(mktemp)
 trap 'rm -f "$log"' EXIT
@@ -10,32 +11,39 @@ rt ci 2>&1 | tee "$log"
 last=$(tail -n 1 "$log")
 passed=$(echo "$last" | sed -n 's/^\([0-9][0-9]*\) passed, [0-9][0-9]* failed$/\1/p')
 failed=$(echo "$last" | sed -n 's/^[0-9][0-9]* passed, \([0-9][0-9]*\) failed$/\1/p')
+echo "gate: $(($(date +%s) - begun)) s since the start"
 if [ -z "$passed" ]; then
     echo "gate: rt ci gave no count"
     echo "0 passed, 1 failed"
     exit 1
 fi
-count() { # the last line of a step, as counted by its own
-    passed=$((passed + $(echo "$1" | sed -n 's/^\([0-9][0-9]*\) passed.*/\1/p')))
-    failed=$((failed + $(echo "$1" | sed -n 's/.*passed, \([0-9][0-9]*\) failed$/\1/p')))
+program=crates/avscan/out/avscan
+step() { # runs a command, whose last line counts what passed and failed
+    said=$("$@")
+    echo "$said"
+    last=$(echo "$said" | tail -n 1)
+    case $last in
+    *" passed, "*" failed")
+        passed=$((passed + ${last%% passed*}))
+        last=${last##*passed, }
+        failed=$((failed + ${last%% failed}))
+        ;;
+    *)
+        echo "gate: $1 gave no count"
+        failed=$((failed + 1))
+        ;;
+    esac
+    echo "gate: $(($(date +%s) - begun)) s since the start"
 }
 echo "gate: values that must be spent"
-if tests/must-be-spent.sh; then count "1 passed, 0 failed"; else count "0 passed, 1 failed"; fi
+step tests/must-be-spent.sh
 echo "gate: refused memory"
-refusals=$(tests/refused-memory.sh $(grep -l refused_or_not_ -r crates/*/src | cut -d / -f 2 | sort -u))
-echo "$refusals"
-count "$(echo "$refusals" | tail -n 1)"
+step tests/refused-memory.sh $(grep -l refused_or_not_ -r crates/*/src | cut -d / -f 2 | sort -u)
 echo "gate: the cases of tests/ on the built program"
-cases=$(tests/run.py crates/avscan/out/avscan tests/scripts tests/words tests/scan)
-echo "$cases"
-count "$(echo "$cases" | tail -n 1)"
+step tests/run.py "$program" tests/scripts tests/words tests/scan
 echo "gate: the tables of cases"
-tables=$(tests/tables.py crates/avscan/out/avscan)
-echo "$tables"
-count "$(echo "$tables" | tail -n 1)"
+step tests/tables.py "$program"
 echo "gate: the program over devices that fail, without memory, and in the order of its faults"
-program=$(tests/program.py crates/avscan/out/avscan)
-echo "$program"
-count "$(echo "$program" | tail -n 1)"
+step tests/program.py "$program"
 echo "$passed passed, $failed failed"
 [ "$failed" = 0 ]
