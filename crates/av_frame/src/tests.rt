@@ -126,7 +126,7 @@ fn reply_words(alloc: Global, id: MessageId, outcome: Outcome) -> Result<String,
 
 // What decoding answers, in words.
 fn decoded_words(alloc: Global, body: &[u8]) -> Result<String, Fail> {
-    match decode(alloc, body) {
+    match decode(alloc, &body) {
         Ok(message) => words(alloc, &message),
         Err(refusal) => Ok(format!(in alloc; "{refusal}")?),
     }
@@ -308,21 +308,21 @@ fn messages_are_made_of_their_fields(rt: HostRuntime) -> Result<(), Fail> {
     Ok(())
 }
 
-// A chunk of three bytes of the question 1.1, as a frame.
-const CHUNK: &str = "0000001c 02 [1] [1] [0] 414243";
+// A chunk of three bytes of the question 1.1, as a body.
+const CHUNK: &str = "02 [1] [1] [0] 414243";
 
 #[test]
 fn refused_or_not_a_frame_is_read_and_written(rt: HostRuntime) -> Result<(), Fail> {
     let alloc = rt.alloc();
-    let frame = bytes_of(alloc, CHUNK)?;
-    let body = &frame[4..];
+    let body = bytes_of(alloc, CHUNK)?;
+    let frame = framed(alloc, &body)?;
     let mut feed = Feed::new(alloc);
     may_refuse(alloc);
-    let decoded = decode(alloc, body);
+    let decoded = decode(alloc, &body);
     let pushed = feed.push(&frame);
     refuse_no_more(alloc);
     let message = match decoded {
-        Err(Refusal::NoMemory) => decode(alloc, body)?,
+        Err(Refusal::NoMemory) => decode(alloc, &body)?,
         other => other?,
     };
     if pushed == Err(Refusal::NoMemory) {

@@ -182,6 +182,7 @@ fn a_script_is_read_and_run(rt: HostRuntime) -> Result<(), Fail> {
 }
 
 const SCRIPT: &[u8] = b"volume 1 closed\ncreate a\ncreate a\n";
+
 const LINES: &[u8] = b"boot 1\nstream 1 generation 1\nrefused Exists\n";
 
 #[test]
@@ -189,7 +190,10 @@ fn a_script_prints_the_same_however_reads_and_writes_are_cut(rt: HostRuntime) ->
     for piece in 1..40 {
         let mut reader = FakeReader::new(SCRIPT).in_pieces_of(piece);
         let mut writer = FakeWriter::new(rt.alloc()).in_pieces_of(piece);
-        assert_eq!(rt; run_script(rt.alloc(), &mut reader, &mut writer, 99), Ok(()));
+        assert_eq!(rt;
+            run_script(rt.alloc(), &mut reader, &mut writer, 99),
+            Ok(())
+        );
         assert_eq!(rt; writer.taken(), LINES, "in pieces of {piece}");
         assert_eq!(rt; writer.flushed(), LINES.len(), "in pieces of {piece}");
     }
@@ -221,7 +225,11 @@ fn a_failing_write_leaves_a_front_of_the_lines(rt: HostRuntime) -> Result<(), Fa
             let ended = run_script(rt.alloc(), &mut reader, &mut writer, 9);
             assert_eq!(rt; ended, Err(RunFault::Write), "{fault:?}");
             let front = usize::try_from(write)?.saturating_sub(1);
-            assert_eq!(rt; writer.taken(), &LINES[..front.min(LINES.len())], "{fault:?}");
+            assert_eq!(rt;
+                writer.taken(),
+                &LINES[..front.min(LINES.len())],
+                "{fault:?}"
+            );
         }
     }
     let mut reader = SCRIPT;
@@ -257,7 +265,13 @@ fn refused_or_not_a_step_happens_or_is_handed_back(rt: HostRuntime) -> Result<()
         }
     }
     let judged = world.judge(b"a").ok().ok_or("it is judged")?;
-    assert_eq!(rt; judged.verdict, Verdict::Infected { index: 0, end_at: 3 });
+    assert_eq!(rt;
+        judged.verdict,
+        Verdict::Infected {
+            index: 0,
+            end_at: 3
+        }
+    );
     may_refuse(alloc);
     let parsed = parse_script(alloc, SCRIPT);
     let mut reader = SCRIPT;
