@@ -1,5 +1,5 @@
 -- Questions: how one is asked, ends, and is asked again.
-use Rattle.std.specs.Prelude.{ℕ, ◌+◌, Bool, not, ◌&&◌, nat_le, List, [], ◌∷◌, ◌++◌, length, map, filter, Option, Some, if◌then◌else◌}
+use Rattle.std.specs.Prelude.{ℕ, ◌+◌, Bool, not, ◌&&◌, nat_le, List, [], ◌∷◌, ◌++◌, map, filter, Option, Some, if◌then◌else◌}
 use Rattle.av_base.specs.declared.cause.Cause.{Cause}
 use Rattle.av_base.specs.declared.cause.Cause.TheVariants.{Unsettled, Busy}
 use Rattle.av_base.specs.declared.message_id.MessageId.{MessageId}
@@ -11,7 +11,7 @@ use Rattle.av_context.specs.declared.context_state.ContextState.TheVariants.{Mod
 use Rattle.av_filter_table.specs.declared.pended.Pended.{Pended}
 use Rattle.av_filter_table.specs.declared.question.Question.{Question}
 use Rattle.av_filter_table.specs.Answering.{present_generation}
-use Rattle.av_filter_table.specs.Table.{Table, next_id, sequence_left, without_question, waits_for, opens_of, other_opens}
+use Rattle.av_filter_table.specs.Table.{Table, next_id, without_question, waits_for, other_opens}
 use Rattle.av_store.specs.Store.{Store}
 
 -- the next question is of the present content of a stream
