@@ -16,7 +16,8 @@ use av_pend::pended_open::PendedOpen;
 use av_store::volume::Volume;
 use std::alloc::{AllocError, Global};
 
-/// Answers the opens of a question that can't be judged, in order, and takes them out.
+/// Answers the opens of a question that can't be judged, in order, and takes them out. The cost grows with their count, and a
+/// logarithm for each; so it does in each call of this module that names a question.
 pub fn refuse_opens(
     table: &mut FilterTable,
     volume: &Volume,
@@ -58,6 +59,7 @@ pub fn refuse_question(
 }
 
 /// Answers all opens, which can't be judged, in the order of their numbers, and takes them out. So does the loss of the service.
+/// The cost grows with their count, and a logarithm for each.
 pub fn refuse_all(table: &mut FilterTable, volume: &Volume, answers: &mut Vec<Answer>, cause: Cause)
     requires { vec_len answers.old + length table.old.pended ≤ vec_capacity answers.old }
     ensures answers { answers.new.items ≡ answers.old.items ++ by_mode table.old volume.now cause table.old.pended }
@@ -86,7 +88,7 @@ pub fn judge_opens(
     ensures answers { answers.new.items ≡ answers.old.items ++ all_judged verdict generation version (opens_of (id_of table.old.boot question) table.old.pended) }
     ensures table { table.new ≡ record table.old { pended = other_opens (id_of table.old.boot question) table.old.pended } }
 {
-    'opens: while let Some(held) = table.take_open(question) {
+    'judged: while let Some(held) = table.take_open(question) {
         answers.push_reserved(judge(held, generation, version, verdict));
     }
 }
@@ -143,9 +145,10 @@ pub fn lose_questions(table: &mut FilterTable)
     'questions: while let Some(_ended) = table.pop_question(ContextState::Modified) {}
 }
 
-/// Ends a table at the end of the program: each open that is held is denied, and nobody hears of it.
+/// Ends a table at the end of the program: each open that is held is denied, and nobody hears of it. The cost grows with the
+/// counts of opens, of questions and of contexts, and a logarithm for each.
 pub fn abandon(mut table: FilterTable) {
-    'opens: while let Some(held) = table.pop_open() {
+    'denied: while let Some(held) = table.pop_open() {
         let _unheard = held.deny(Cause::FilterRestart);
     }
     lose_questions(&mut table);
