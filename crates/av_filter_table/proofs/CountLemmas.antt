@@ -1,5 +1,5 @@
 -- A table in which each context is attached once has as many contexts as attachments.
-use Rattle.std.proofs.Common.{◌≡◌, ◌≢◌, ℕ, ◌+◌, ◌==◌, length, List, [], ◌∷◌, is_some, Option, Some, None, IfSome, unwrap_or, cond, refl, sym, ap, subst, ◌∙◌, inl, inr, arith}
+use Rattle.std.proofs.Common.{◌≡◌, ◌≢◌, ℕ, ◌+◌, ◌==◌, length, List, [], ◌∷◌, is_some, Option, Some, None, unwrap_or, cond, refl, sym, ap, subst, ◌∙◌, inl, inr, arith}
 use Rattle.std.specs.List.{sum_by}
 use Rattle.std.specs.Map.{values_of}
 use Rattle.std.specs.Option.{option_map}
@@ -11,10 +11,10 @@ use Rattle.std.proofs.lemmas.List.Sums.{sum_by-cons}
 use Rattle.std.proofs.lemmas.Map.Entries.{sum_by-remove_entry}
 use Rattle.av_context.specs.declared.context.Context.{Context}
 use Rattle.av_context.specs.Contexts.{Contexts, at, without, attachments_to, CountsAgree}
-use Rattle.av_filter_table.specs.Numbered.{IsAscending, joined}
+use Rattle.av_filter_table.specs.Numbered.{IsAscending}
 use Rattle.av_filter_table.specs.StreamContexts.{known, known_at, known_of, AreAttached}
 use Rattle.av_filter_table.proofs.ContextLemmas.{context-of}
-use Rattle.av_filter_table.proofs.MapLemmas.{if_some_at, none_some, is_there, at-same, at-without, at-without_other, without-ascends}
+use Rattle.av_filter_table.proofs.MapLemmas.{if_some_at, is_there, at-same, at-without, at-without_other, without-ascends}
 use Rattle.av_filter_table.proofs.NumberedLemmas.{length-joined}
 
 abbrev one : {X : Type 0} → X → ℕ
@@ -35,7 +35,7 @@ length-without m k x found =
 abbrev is_key : ℕ → ℕ → ℕ
 is_key k key = cond (key == k) 1 0
 
-count-cons : (e : ℕ × ℕ) (a : List (ℕ × ℕ)) (k : ℕ) → is_key k e.1 + attachments_to a k ≡ attachments_to (e ∷ a) k
+pub count-cons : (e : ℕ × ℕ) (a : List (ℕ × ℕ)) (k : ℕ) → is_key k e.1 + attachments_to a k ≡ attachments_to (e ∷ a) k
 count-cons e a k = sym (sum_by-cons (is_key k) e.1 (values_of a))
 
 zero-one : {P : Type 0} (n : ℕ) → n ≡ 0 → n ≡ 1 → P

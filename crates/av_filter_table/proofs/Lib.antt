@@ -1,5 +1,6 @@
 pub mod AgainLemmas
 pub mod ChainLemmas
+pub mod ClearLemmas
 pub mod ContextLemmas
 pub mod CountLemmas
 pub mod DetachLemmas

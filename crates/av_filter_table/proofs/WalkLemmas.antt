@@ -1,5 +1,5 @@
 -- A walk along the opens of a question: from each to the next one that it names.
-use Rattle.std.proofs.Common.{◌≡◌, ℕ, ◌+◌, ◌<◌, ◌==◌, ◌&&◌, ◌||◌, not, Bool, true, false, List, [], ◌∷◌, Option, Some, None, cond, refl, sym, ap, subst, ◌∙◌, arith}
+use Rattle.std.proofs.Common.{◌≡◌, ℕ, ◌+◌, ◌<◌, ◌&&◌, ◌||◌, not, Bool, true, false, List, [], ◌∷◌, Option, Some, None, cond, refl, sym, ap, ◌∙◌, arith}
 use Rattle.std.specs.List.{list_any}
 use Rattle.std.specs.Option.{option_map}
 use Rattle.av_context.specs.Contexts.{at}
@@ -12,7 +12,7 @@ use Rattle.av_filter_table.proofs.MapLemmas.{none_some, some_same, row_found, if
 use Rattle.av_pend.specs.Waiting.{Waiting}
 
 -- what is behind the first of a map is in the map
-at-later : {X : Type 0} (d : ℕ × X) (m : List (ℕ × X)) (k : ℕ) (x : X) → IsAscending (d ∷ m) → at m k ≡ Some x → at (d ∷ m) k ≡ Some x
+pub at-later : {X : Type 0} (d : ℕ × X) (m : List (ℕ × X)) (k : ℕ) (x : X) → IsAscending (d ∷ m) → at m k ≡ Some x → at (d ∷ m) k ≡ Some x
 at-later d m k x up found = at-apart m d.0 k d.1 (λ e. none_some (sym (at-none m d.0 (head-above d m up)) ∙ (ap (at m) (sym e) ∙ found))) ∙ found
 
 -- the first open of a question, and what is behind it

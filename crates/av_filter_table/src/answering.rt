@@ -86,7 +86,7 @@ pub fn judge_opens(
     ensures answers { answers.new.items ≡ answers.old.items ++ all_judged verdict generation version (opens_of (id_of table.old.boot question) table.old.pended) }
     ensures table { table.new ≡ record table.old { pended = other_opens (id_of table.old.boot question) table.old.pended } }
 {
-    'opens: while let Some(held) = table.take_open(question) {
+    'judged: while let Some(held) = table.take_open(question) {
         answers.push_reserved(judge(held, generation, version, verdict));
     }
 }
@@ -145,7 +145,7 @@ pub fn lose_questions(table: &mut FilterTable)
 
 /// Ends a table at the end of the program: each open that is held is denied, and nobody hears of it.
 pub fn abandon(mut table: FilterTable) {
-    'opens: while let Some(held) = table.pop_open() {
+    'denied: while let Some(held) = table.pop_open() {
         let _unheard = held.deny(Cause::FilterRestart);
     }
     lose_questions(&mut table);

@@ -85,7 +85,7 @@ impl FilterTable {
         })
     }
 
-    /// Lets the table go, where no question runs and no open waits.
+    /// Ends the table, where no question runs and no open waits, and with it every context.
     pub fn end(self)
         requires questions { self.questions ≡ [] }
         requires pended { self.pended ≡ [] }
@@ -97,11 +97,12 @@ impl FilterTable {
             sequence: _,
             connected: _,
             floor: _,
-            contexts: _,
+            contexts,
             questions,
             pended,
             cache: _,
         } = self;
+        contexts.end();
         questions.end();
         pended.end();
     }

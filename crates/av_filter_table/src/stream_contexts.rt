@@ -1,4 +1,4 @@
-ghost use Rattle.std.specs.Prelude.{◌≡◌, length, ◌+◌, ◌-◌, ◌<◌, ◌≤◌, ◌^◌, [], Some, None, IsSomeAnd, IfSome, IfOk, OnErr};
+ghost use Rattle.std.specs.Prelude.{◌≡◌, ℕ, length, ◌+◌, ◌-◌, ◌<◌, ◌≤◌, ◌^◌, [], Some, None, IsSomeAnd, IfSome, IfOk, OnErr};
 ghost use Rattle.std.specs.Option.{option_map};
 ghost use Rattle.av_context.specs.Contexts.{at, PutsAt};
 ghost use Rattle.av_filter_table.specs.Numbered.{IsAscending};
@@ -108,6 +108,17 @@ impl StreamContexts {
     {
         let _none_is_gone_already = self.table.delete(stream);
         let _is_sound = self.table.len();
+    }
+
+    /// Ends every attachment, and so every context: no reference is out.
+    pub fn end(self)
+        requires { (s : ℕ) → held_of (at self s) ≡ 0 }
+    {
+        let StreamContexts { mut table } = self;
+        table.delete_all();
+        if table.len() != 0 {
+            unreachable!()
+        }
     }
 
     /// How many streams have a context. At once.

@@ -177,13 +177,14 @@ impl FilterTable {
     {
         let _numbers_ascend = self.questions.len();
         let (seq, asked, context) = self.questions.pop_first()?;
-        self.contexts.give_back(asked.stream, context, state);
+        let stream = asked.stream;
+        self.contexts.give_back(stream, context, state);
         Some(Question {
             id: MessageId {
                 boot: self.boot,
                 seq,
             },
-            stream: asked.stream,
+            stream,
             generation: asked.generation,
         })
     }

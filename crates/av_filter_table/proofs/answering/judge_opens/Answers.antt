@@ -6,8 +6,8 @@ use Rattle.av_filter_table.proofs.answering.judge_opens.Goals as goal
 
 pub returns-clause-table : goal.returns-clause-table
 returns-clause-table c =
-    let now = c.opens.table in
+    let now = c.judged.table in
     let old = c.args.table.now in
     let all : now.pended ≡ other_opens (id_of old.boot c.args.question) old.pended =
-    sym (all-others (id_of now.boot c.args.question) now.pended c.in_default.ensures.none) ∙ c.opens.invariant.others in
-    c.in_default.ensures.unchanged ∙ (c.opens.invariant.rest ∙ ap {B = Table} (λ ps. record old { pended = ps }) all)
+    sym (all-others (id_of now.boot c.args.question) now.pended c.in_default.ensures.none) ∙ c.judged.invariant.others in
+    c.in_default.ensures.unchanged ∙ (c.judged.invariant.rest ∙ ap {B = Table} (λ ps. record old { pended = ps }) all)

@@ -6,8 +6,8 @@ use Rattle.av_filter_table.proofs.answering.judge_opens.Given as goal
 
 -- the answers so far and those to come are all, the version may judge those to come, there is room for them, and nothing else
 -- has changed
-abbrev pub invariant-opens : goal.invariant-opens
-invariant-opens l = record {
+abbrev pub invariant-judged : goal.invariant-judged
+invariant-judged l = record {
   answers : l.answers.items ++ all_judged l.verdict l.generation l.version (opens_of (id_of l.table.boot l.question) l.table.pended)
       ≡ l.initial.answers.items ++ all_judged l.verdict l.generation l.version (opens_of (id_of l.initial.table.boot l.question) l.initial.table.pended);
   others : other_opens (id_of l.table.boot l.question) l.table.pended ≡ other_opens (id_of l.initial.table.boot l.question) l.initial.table.pended;
@@ -16,5 +16,5 @@ invariant-opens l = record {
   room : vec_len l.answers + length (opens_of (id_of l.table.boot l.question) l.table.pended) ≤ vec_capacity l.answers;
 }
 
-abbrev pub decreases-opens : goal.decreases-opens
-decreases-opens l = length (opens_of (id_of l.table.boot l.question) l.table.pended)
+abbrev pub decreases-judged : goal.decreases-judged
+decreases-judged l = length (opens_of (id_of l.table.boot l.question) l.table.pended)

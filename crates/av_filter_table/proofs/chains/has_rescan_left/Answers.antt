@@ -1,7 +1,6 @@
-use Rattle.std.proofs.Common.{◌≡◌, ◌≤◌, ◌<◌, ◌+◌, ℕ, Bool, true, false, nat_le, Option, Some, None, refl, sym, ap, subst, ◌∙◌, arith}
+use Rattle.std.proofs.Common.{◌≡◌, ◌≤◌, ◌<◌, ◌+◌, ℕ, true, false, nat_le, sym, ap, subst, ◌∙◌, arith}
 use Rattle.std.specs.Option.{option_map}
 use Rattle.std.proofs.lemmas.Bool.Decides.{nat_tests}
-use Rattle.av_filter_table.specs.Chains.{is_spent}
 use Rattle.av_filter_table.proofs.MapLemmas.{none_some, some_same}
 use Rattle.av_filter_table.proofs.WalkLemmas.{Walks, starts, more, goes, ends-walk}
 use Rattle.av_filter_table.proofs.chains.has_rescan_left.Goals as goal

@@ -1,4 +1,4 @@
-use Rattle.std.proofs.Common.{◌≡◌, ◌≤◌, ◌∷◌, IsSomeAnd, arith, refl, sym, ap, subst, ◌∙◌}
+use Rattle.std.proofs.Common.{◌≡◌, ◌≤◌, IsSomeAnd, arith, refl, sym, ap, subst, ◌∙◌}
 use Rattle.av_context.specs.Contexts.{at}
 use Rattle.av_filter_table.specs.Numbered.{IsAscending}
 use Rattle.av_filter_table.specs.FilterTable.{questions_of, pended_of}

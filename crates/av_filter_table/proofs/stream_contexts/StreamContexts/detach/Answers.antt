@@ -1,6 +1,3 @@
-use Rattle.std.proofs.Common.{◌≡◌, subst, sym}
-use Rattle.av_context.specs.Contexts.{at}
-use Rattle.av_filter_table.specs.StreamContexts.{held_of}
 use Rattle.av_filter_table.proofs.DetachLemmas.{detaches}
 use Rattle.av_filter_table.proofs.stream_contexts.StreamContexts.detach.Goals as goal
 
