@@ -54,6 +54,7 @@ const FULL: (LimitField, u64) = (LimitField::Pended, 4_096);
 
 // The content is written, the service greets, and an open waits for the first question.
 const WELCOME: &str = "note Welcome";
+
 const ASKED: &str = "scan 1.1 stream 1 generation 2 length 3, number 1";
 
 const ROWS: [Row<'static>; 18] = [
@@ -93,10 +94,7 @@ const ROWS: [Row<'static>; 18] = [
             ),
             (Step::Clean(1, 1, 1), "note NoWaiter"),
             (Step::Read(1, 0, 3), "nochunk 1.1 offset 0 cause 1"),
-            (
-                Step::Read(2, 0, 9),
-                "chunk 1.2 offset 0 bytes 65 66 67 68",
-            ),
+            (Step::Read(2, 0, 9), "chunk 1.2 offset 0 bytes 65 66 67 68"),
             (Step::Read(2, 1, 2), "chunk 1.2 offset 1 bytes 66 67"),
             (Step::Read(2, 4, 1), "nochunk 1.2 offset 4 cause 2"),
             (
@@ -381,10 +379,7 @@ const ROWS: [Row<'static>; 18] = [
             (Step::Cleanup(1), ""),
             (Step::Hello(1, 1), WELCOME),
             (Step::Cleanup(2), ""),
-            (
-                Step::Cleanup(1),
-                "scan 1.1 stream 1 generation 2 length 3",
-            ),
+            (Step::Cleanup(1), "scan 1.1 stream 1 generation 2 length 3"),
             (Step::Cleanup(1), ""),
             (Step::Open(1, 0), "number 1"),
             (Step::Open(1, 0), "open 2 denied cause 4, number 2"),
@@ -497,7 +492,11 @@ fn run_row(alloc: Global, row: &Row<'_>) -> Result<Option<usize>, Fail> {
             next.abandon();
             let same = said?.as_str() == want;
             let restart = if same { None } else { Some(100) };
-            Ok(before?.or(restart).or(after?.map(|i| i.saturating_add(101))))
+            Ok(
+                before?
+                    .or(restart)
+                    .or(after?.map(|i| i.saturating_add(101))),
+            )
         }
         Err(refused) => {
             let Refused { value, why: _ } = refused;
@@ -670,13 +669,26 @@ fn answer_line(alloc: Global, answer: Answer) -> Result<String, AllocError> {
             stream,
             generation,
             version,
-        } => format!(in alloc; "open {} granted stream {} generation {} version {} least {}", open_id.get(), stream.get(), generation.get(), version.get(), least.get()),
+        } => format!(in alloc;
+            "open {} granted stream {} generation {} version {} least {}",
+            open_id.get(),
+            stream.get(),
+            generation.get(),
+            version.get(),
+            least.get()
+        ),
         Answer::Unscanned {
             open_id,
             stream,
             generation,
             cause,
-        } => format!(in alloc; "open {} unscanned stream {} generation {} cause {}", open_id.get(), stream.get(), generation.get(), cause.number()),
+        } => format!(in alloc;
+            "open {} unscanned stream {} generation {} cause {}",
+            open_id.get(),
+            stream.get(),
+            generation.get(),
+            cause.number()
+        ),
         Answer::Denied { open_id, cause } => {
             format!(in alloc; "open {} denied cause {}", open_id.get(), cause.number())
         }
@@ -690,17 +702,27 @@ fn message_line(alloc: Global, message: &Message) -> Result<String, AllocError> 
             stream,
             generation,
             length,
-        } => format!(in alloc; "scan {}.{} stream {} generation {} length {length}", id.boot, id.seq, stream.get(), generation.get()),
+        } => format!(in alloc;
+            "scan {}.{} stream {} generation {} length {length}",
+            id.boot,
+            id.seq,
+            stream.get(),
+            generation.get()
+        ),
         Body::Chunk { id, offset, bytes } => {
-            let mut text =
-                format!(in alloc; "chunk {}.{} offset {offset} bytes", id.boot, id.seq)?;
+            let mut text = format!(in alloc; "chunk {}.{} offset {offset} bytes", id.boot, id.seq)?;
             for byte in bytes.as_slice() {
                 text.push_str(format!(in alloc; " {byte}")?.as_str())?;
             }
             Ok(text)
         }
         Body::NoChunk { id, offset, cause } => {
-            format!(in alloc; "nochunk {}.{} offset {offset} cause {}", id.boot, id.seq, cause.number())
+            format!(in alloc;
+                "nochunk {}.{} offset {offset} cause {}",
+                id.boot,
+                id.seq,
+                cause.number()
+            )
         }
         Body::Abort { id } => format!(in alloc; "abort {}.{}", id.boot, id.seq),
         _ => format!(in alloc; "a message of the service"),
