@@ -31,6 +31,12 @@ fn an_entry_that_was_looked_at_outlives_one_that_was_not(rt: HostRuntime) -> Res
     assert_eq!(rt; put(&mut cache, clean(1, 1, 1)), Ok(()));
     assert_eq!(rt; put(&mut cache, clean(1, 2, 1)), Ok(()));
     assert_eq!(rt; cache.entry(0), Some(clean(1, 2, 1)));
+    let first = clean(1, 1, 1);
+    assert_eq!(rt;
+        cache.peek(first.stream, first.generation, first.version),
+        Some(Verdict::Clean)
+    );
+    assert_eq!(rt; cache.entry(0), Some(clean(1, 2, 1)));
     assert_eq!(rt; look(&mut cache, clean(1, 1, 1)), Some(Verdict::Clean));
     assert_eq!(rt; cache.entry(0), Some(clean(1, 1, 1)));
     assert_eq!(rt; put(&mut cache, clean(2, 1, 1)), Ok(()));

@@ -192,7 +192,7 @@ fit t v boots w asked leasts taken = record {
   taken = taken;
 }
 
-abbrev FitsAfter : Reaction → Type 0
+abbrev pub FitsAfter : Reaction → Type 0
 FitsAfter r = Fits r.table r.volume
 
 -- a question whose stream is left out ends, or is asked anew, at a volume that has as many opens
@@ -288,7 +288,7 @@ unfolding open_found
 found_fits t v f s least low None at = f
 found_fits t v f s least low (Some x) at = judged_fits t v f s least low x at _
 
-opened_fits : (t : Table) (v : Store) → Fits t v → (s least : ℕ) → FitsAfter (opened t v s least)
+pub opened_fits : (t : Table) (v : Store) → Fits t v → (s least : ℕ) → FitsAfter (opened t v s least)
 unfolding opened
 opened_fits t v f s least =
     let higher : Each (Least (max t.floor least)) t.pended = each_weaker (Least t.floor) (Least (max t.floor least)) (λ p le. omega arith) t.pended f.leasts in

@@ -6,3 +6,5 @@ pub mod FitLemmas
 pub mod BoundLemmas
 pub mod ReadyLemmas
 pub mod ClosingLemmas
+pub mod OpeningLemmas
+pub mod FilterLemmas

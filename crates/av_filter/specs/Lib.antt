@@ -1,4 +1,5 @@
 pub mod Again
+pub mod Arriving
 pub mod Bounds
 pub mod Call
 pub mod Changing
@@ -9,3 +10,4 @@ pub mod Opening
 pub mod Reaction
 pub mod Ready
 pub mod Receiving
+pub mod Verdict

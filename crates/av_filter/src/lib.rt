@@ -6,10 +6,15 @@ mod asking_again;
 mod changing;
 mod closing;
 mod ending;
+mod ending_all;
 pub mod fault;
+pub mod filter;
 pub mod laws;
 pub mod note;
+mod opening;
 pub mod out;
 mod receiving;
 mod running;
+#[cfg(test)]
+mod tests;
 mod timing_out;

@@ -1,8 +1,9 @@
 ghost use Rattle.std.specs.Prelude.{◌≡◌, ◌∷◌, [], IfOk, vec_len};
 ghost use Rattle.std.specs.Vec.{vec_capacity};
-ghost use Rattle.av_filter.specs.declared.note.Note.TheVariants.{Quiet};
+ghost use Rattle.av_filter.specs.declared.note.Note.TheVariants.{Quiet, Submitted};
 
 use crate::note::Note;
+use av_base::number::OpenId;
 use av_frame::message::Message;
 use av_pend::answer::Answer;
 use std::alloc::{AllocError, Global};
@@ -55,6 +56,41 @@ impl Out {
             answers,
             messages,
             note: Note::Quiet,
+        }
+    }
+
+    // The answer to the open of this number.
+    pub(crate) fn answers(alloc: Global, answers: Vec<Answer>, open_id: OpenId) -> Out
+        ensures answers { result.answers ≡ answers }
+        ensures messages { result.messages.items ≡ [] }
+        ensures note { result.note ≡ Submitted open_id }
+    {
+        Out {
+            answers,
+            messages: Vec::new(alloc),
+            note: Note::Submitted { open_id },
+        }
+    }
+
+    // The open of this number waits, for a question that runs.
+    pub(crate) fn pends(alloc: Global, open_id: OpenId) -> Out
+        ensures answers { result.answers.items ≡ [] }
+        ensures messages { result.messages.items ≡ [] }
+        ensures note { result.note ≡ Submitted open_id }
+    {
+        Out::asks(alloc, Vec::new(alloc), open_id)
+    }
+
+    // The open of this number waits, for a question that is asked now.
+    pub(crate) fn asks(alloc: Global, messages: Vec<Message>, open_id: OpenId) -> Out
+        ensures answers { result.answers.items ≡ [] }
+        ensures messages { result.messages ≡ messages }
+        ensures note { result.note ≡ Submitted open_id }
+    {
+        Out {
+            answers: Vec::new(alloc),
+            messages,
+            note: Note::Submitted { open_id },
         }
     }
 }

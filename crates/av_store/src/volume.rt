@@ -1,4 +1,4 @@
-ghost use Rattle.std.specs.Prelude.{◌≡◌, ◌-◌, ◌<◌, None, IfNone, IfOk, length};
+ghost use Rattle.std.specs.Prelude.{◌≡◌, ◌-◌, ◌<◌, ◌≤◌, None, IfNone, IfOk, length};
 ghost use Rattle.std.specs.Option.{option_map, option_copied};
 ghost use Rattle.av_base.specs.Answers.{Answers, AnswersAtOnce, Steps, StepsAtOnce, Reads};
 ghost use Rattle.av_store.specs.Content.{fault_of};
@@ -223,7 +223,8 @@ impl Volume {
 
     /// How many open numbers `take_open_number` can still give. It takes no memory.
     pub fn opens_left(&self) -> u64
-        ensures { result ≡ greatest - self.now.opens }
+        ensures left { result ≡ greatest - self.now.opens }
+        ensures within { self.now.opens ≤ greatest }
     {
         u64::MAX - self.opens
     }

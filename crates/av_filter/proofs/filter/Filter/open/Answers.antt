@@ -1,0 +1,9 @@
+use Rattle.std.proofs.Common.{sym, subst}
+use Rattle.av_filter.proofs.FilterLemmas.{fits_opened}
+use Rattle.av_filter.specs.Fit.{Fits}
+use Rattle.av_filter.proofs.filter.Filter.open.Goals as goal
+
+pub returns-clause-fits : goal.returns-clause-fits
+returns-clause-fits c =
+    let v = c.args.volume.now in
+    fits_opened c.in_ok-out.out c.self.inside.table v c.open.new.table c.take_number.new.volume c.args.stream c.args.least (subst (λ t. Fits t v) (sym c.self.view_is) c.requires.fits) c.take_number.ensures c.in_ok-out.ensures.ok

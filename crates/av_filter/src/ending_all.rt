@@ -1,0 +1,79 @@
+ghost use Rattle.std.specs.Prelude.{◌≡◌, ◌≢◌, Ok, Err, IfErr, IfOk};
+ghost use Rattle.av_base.specs.Answers.{Reads};
+ghost use Rattle.av_filter.specs.Call.{MeetsAlways, Reacts};
+ghost use Rattle.av_filter.specs.Conduct.{disconnects, restarts};
+ghost use Rattle.av_store.specs.Store.{greatest, mount_of};
+
+use crate::out::Out;
+use av_base::cause::Cause;
+use av_base::refusal::{Refusal, Refused};
+use av_filter_table::answering::{lose_questions, refuse_all};
+use av_filter_table::filter_table::FilterTable;
+use av_store::fault::BootSpent;
+use av_store::volume::Volume;
+use std::alloc::{AllocError, Global};
+
+// The service is lost.
+#[tactic(auto, unfolding(crate::specs::Conduct::disconnects))]
+pub(crate) fn disconnect(
+    table: &mut FilterTable,
+    alloc: Global,
+    volume: &Volume,
+) -> Result<Out, AllocError>
+    ensures { MeetsAlways table.old volume.now table.new volume.now result (disconnects table.old volume.now) }
+{
+    let mut answers = Vec::with_capacity(alloc, table.pended_count())?;
+    refuse_all(table, volume, &mut answers, Cause::PortDisconnected);
+    lose_questions(table);
+    table.set_connected(false);
+    Ok(Out::gives(answers, Vec::new(alloc)))
+}
+
+// The filter is mounted anew.
+#[tactic(auto, unfolding(crate::specs::Conduct::restarts))]
+pub(crate) fn restart(
+    table: FilterTable,
+    alloc: Global,
+    volume: &mut Volume,
+) -> Result<(FilterTable, Out), Refused<FilterTable, BootSpent>>
+    ensures ok { IfOk result (λ r. Reacts r.1 r.0 volume.new (restarts table volume.old)) }
+    ensures err { IfErr result (λ e. (e.value ≡ table) × (volume.new ≡ volume.old)) }
+    ensures why { IfErr result (λ e. Reads (Err e.why) (mount_of volume.old)) }
+{
+    let mut table = table;
+    let last = volume.boot();
+    if last == u64::MAX {
+        return Err(Refused {
+            value: table,
+            why: Refusal::Fault(BootSpent),
+        });
+    }
+    let Ok(mut answers) = Vec::with_capacity(alloc, table.pended_count()) else {
+        return Err(Refused {
+            value: table,
+            why: Refusal::NoMemory,
+        });
+    };
+    let Ok(fresh) = FilterTable::new(alloc, table.mode(), table.limits(), last + 1) else {
+        return Err(Refused {
+            value: table,
+            why: Refusal::NoMemory,
+        });
+    };
+    refuse_all(&mut table, volume, &mut answers, Cause::FilterRestart);
+    lose_questions(&mut table);
+    table.end();
+    mount_next(volume);
+    Ok((fresh, Out::gives(answers, Vec::new(alloc))))
+}
+
+// The volume's next boot.
+pub(crate) fn mount_next(volume: &mut Volume)
+    requires { volume.old.boot ≢ greatest }
+    ensures { mount_of volume.old ≡ Ok (volume.new.boot, volume.new) }
+{
+    match volume.mount() {
+        Ok(_boot) => {}
+        Err(_) => unreachable!(),
+    }
+}
