@@ -44,6 +44,8 @@ must_be_spent() {
 
 must_be_spent av_pend pended_open:PendedOpen
 must_be_spent av_context context_ref:ContextRef
+must_be_spent av_filter_table filter_table:FilterTable
+must_be_spent av_filter filter:Filter
 must_be_spent av_service work:Work done:Done out:ServiceOut
 echo "$passed passed, $failed failed"
 [ "$failed" = 0 ]
