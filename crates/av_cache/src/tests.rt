@@ -4,6 +4,7 @@ use crate::cache::VerdictCache;
 use crate::entry::Entry;
 use av_base::number::{Generation, StreamId, Version};
 use av_base::verdict::Verdict;
+use av_fakes::{may_refuse, refuse_no_more};
 use std::alloc::AllocError;
 use std::test::Fail;
 
@@ -127,5 +128,31 @@ fn a_cache_of_one_keeps_step_with_a_plain_list(rt: HostRuntime) -> Result<(), Fa
 #[test]
 fn a_cache_of_thousands_keeps_step_with_a_plain_list(rt: HostRuntime) -> Result<(), Fail> {
     assert_eq!(rt; keeps_step_with_a_plain_list(&rt, 4096)?, true);
+    Ok(())
+}
+
+#[test]
+fn refused_or_not_an_entry_is_put_in_front(rt: HostRuntime) -> Result<(), Fail> {
+    let alloc = rt.alloc();
+    may_refuse(alloc);
+    let new = VerdictCache::new(alloc, 2);
+    refuse_no_more(alloc);
+    let mut cache = match new {
+        Ok(cache) => cache,
+        Err(_) => VerdictCache::new(alloc, 2)?,
+    };
+    for stream in 1..4 {
+        let before = (cache.len(), cache.entry(0));
+        may_refuse(alloc);
+        let done = put(&mut cache, clean(stream, 1, 1));
+        refuse_no_more(alloc);
+        if done.is_err() {
+            assert_eq!(rt; (cache.len(), cache.entry(0)), before);
+            put(&mut cache, clean(stream, 1, 1))?;
+        }
+        assert_eq!(rt; cache.entry(0), Some(clean(stream, 1, 1)));
+    }
+    assert_eq!(rt; cache.entry(1), Some(clean(2, 1, 1)));
+    assert_eq!(rt; cache.len(), 2);
     Ok(())
 }

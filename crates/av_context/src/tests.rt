@@ -6,6 +6,7 @@ use crate::context_state::ContextState;
 use crate::context_table::ContextTable;
 use av_base::number::{StreamId, Version};
 use av_base::verdict::Verdict;
+use av_fakes::{may_refuse, refuse_no_more};
 use std::process::Abort;
 use std::test::Fail;
 
@@ -295,6 +296,44 @@ fn a_thousand_calls_keep_step_with_plain_counts(rt: HostRuntime) -> Result<(), F
     table.delete_all();
     release_all(&rt, &mut table, held);
     assert_eq!(rt; agreed?, true);
+    assert_eq!(rt; table.len(), 0);
+    Ok(())
+}
+
+#[test]
+fn refused_or_not_a_context_is_attached(rt: HostRuntime) -> Result<(), Fail> {
+    let alloc = rt.alloc();
+    let stream = StreamId::new(5);
+    let mut table = ContextTable::new(alloc);
+    may_refuse(alloc);
+    let allocated = table.allocate(ContextState::Modified);
+    refuse_no_more(alloc);
+    let context = match allocated {
+        Ok(context) => context,
+        Err(_) => {
+            assert_eq!(rt; table.len(), 0);
+            allocate(&rt, &mut table, ContextState::Modified)
+        }
+    };
+    assert!(rt; table.holds(&context));
+    may_refuse(alloc);
+    let kept = table.set_keep(stream, &context);
+    refuse_no_more(alloc);
+    match kept {
+        Ok(Set::Attached) => {}
+        Ok(Set::AlreadyDefined(_defined)) => panic!(rt; "the stream had a context"),
+        Err(_) => {
+            assert_eq!(rt; table.state_of(stream), None);
+            assert_eq!(rt; references(&rt, &table, &context), 1);
+            match set_keep(&rt, &mut table, 5, &context) {
+                None => {}
+                Some(_defined) => panic!(rt; "the stream had a context"),
+            }
+        }
+    }
+    assert_eq!(rt; references(&rt, &table, &context), 2);
+    assert_eq!(rt; table.delete(stream), Ok(()));
+    release(&rt, &mut table, context);
     assert_eq!(rt; table.len(), 0);
     Ok(())
 }
