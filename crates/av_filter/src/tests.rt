@@ -517,7 +517,8 @@ fn volume_of_two(alloc: Global) -> Result<Volume, Fail>
     Ok(volume)
 }
 
-// The place of the first step that is answered otherwise.
+// The place of the first step that is answered otherwise. A step that memory refuses has changed nothing that the readers
+// tell, and is taken again.
 fn run_steps(
     alloc: Global,
     filter: &mut Filter,
@@ -529,21 +530,39 @@ fn run_steps(
     ensures bounds { AreInBounds volume.new }
 {
     for (i, (step, want)) in steps.iter().enumerate() {
-        let said = answer(alloc, filter, volume, *step)?;
-        if said.as_str() != *want {
+        let before = seen(filter, volume);
+        let mut outcome = happen(alloc, filter, volume, *step);
+        if let Err(Refusal::NoMemory) = outcome {
+            if seen(filter, volume) != before {
+                return Ok(Some(i));
+            }
+            outcome = happen(alloc, filter, volume, *step);
+        }
+        if said(alloc, outcome)?.as_str() != *want {
             return Ok(Some(i));
         }
     }
     Ok(None)
 }
 
+// What the readers tell: floor, connection, questions, held opens, open numbers.
+fn seen(filter: &Filter, volume: &Volume) -> (u64, bool, usize, usize, u64) {
+    (
+        filter.floor().get(),
+        filter.connected(),
+        filter.question_count(),
+        filter.pended_count(),
+        volume.opens_left(),
+    )
+}
+
 // What a filter gives out at a step.
-fn answer(
+fn happen(
     alloc: Global,
     filter: &mut Filter,
     volume: &mut Volume,
     step: Step<'_>,
-) -> Result<String, AllocError>
+) -> Result<Out, Refusal<FilterFault>>
     requires fits { Fits filter.old volume.old }
     requires bounds { AreInBounds volume.old }
     ensures fits { Fits filter.new volume.new }
@@ -552,29 +571,19 @@ fn answer(
     match step {
         Step::Open(stream, least) => {
             let (stream, least) = (StreamId::new(stream), Version::new(least));
-            said(alloc, filter.open(alloc, volume, stream, least))
+            filter.open(alloc, volume, stream, least)
         }
         Step::Write(stream, offset, bytes) => {
-            let stream = StreamId::new(stream);
-            said(alloc, filter.write(alloc, volume, stream, offset, bytes))
+            filter.write(alloc, volume, StreamId::new(stream), offset, bytes)
         }
-        Step::Cut(stream, length) => {
-            let stream = StreamId::new(stream);
-            said(alloc, filter.cut(alloc, volume, stream, length))
-        }
-        Step::Remove(stream) => {
-            let stream = StreamId::new(stream);
-            said(alloc, filter.remove(alloc, volume, stream))
-        }
-        Step::Cleanup(stream) => {
-            let stream = StreamId::new(stream);
-            told_if(alloc, filter.cleanup(alloc, volume, stream))
-        }
-        Step::Timeout(seq) => told_if(alloc, filter.timeout(alloc, volume, seq)),
-        Step::Disconnect => told_if(alloc, filter.disconnect(alloc, volume)),
+        Step::Cut(stream, length) => { filter.cut(alloc, volume, StreamId::new(stream), length) }
+        Step::Remove(stream) => filter.remove(alloc, volume, StreamId::new(stream)),
+        Step::Cleanup(stream) => Ok(filter.cleanup(alloc, volume, StreamId::new(stream))?),
+        Step::Timeout(seq) => Ok(filter.timeout(alloc, volume, seq)?),
+        Step::Disconnect => Ok(filter.disconnect(alloc, volume)?),
         _ => match message_of(step) {
-            Some(message) => told_if(alloc, filter.message(alloc, volume, &message)),
-            None => format!(in alloc; "no message"),
+            Some(message) => Ok(filter.message(alloc, volume, &message)?),
+            None => Ok(Out::says(alloc, Note::Ignored)),
         },
     }
 }
@@ -629,16 +638,12 @@ fn message_of(step: Step<'_>) -> Option<Message> {
 }
 
 // What an event gives out, or why it is refused.
-fn said(alloc: Global, answer: Result<Out, Refusal<FilterFault>>) -> Result<String, AllocError> {
-    match answer {
+fn said(alloc: Global, outcome: Result<Out, Refusal<FilterFault>>) -> Result<String, AllocError> {
+    match outcome {
         Ok(out) => told(alloc, &out),
         Err(Refusal::Fault(fault)) => format!(in alloc; "refused {fault}"),
         Err(Refusal::NoMemory) => Err(AllocError),
     }
-}
-
-fn told_if(alloc: Global, answer: Result<Out, AllocError>) -> Result<String, AllocError> {
-    told(alloc, &answer?)
 }
 
 // The answers, the messages and the note, as scripts print them.
