@@ -16,7 +16,8 @@ use av_pend::pended_open::PendedOpen;
 use av_store::volume::Volume;
 use std::alloc::{AllocError, Global};
 
-/// Answers the opens of a question that can't be judged, in order, and takes them out.
+/// Answers the opens of a question that can't be judged, in order, and takes them out. The cost grows with their count, and a
+/// logarithm for each; so it does in each call of this module that names a question.
 pub fn refuse_opens(
     table: &mut FilterTable,
     volume: &Volume,
@@ -58,6 +59,7 @@ pub fn refuse_question(
 }
 
 /// Answers all opens, which can't be judged, in the order of their numbers, and takes them out. So does the loss of the service.
+/// The cost grows with their count, and a logarithm for each.
 pub fn refuse_all(table: &mut FilterTable, volume: &Volume, answers: &mut Vec<Answer>, cause: Cause)
     requires { vec_len answers.old + length table.old.pended ≤ vec_capacity answers.old }
     ensures answers { answers.new.items ≡ answers.old.items ++ by_mode table.old volume.now cause table.old.pended }
@@ -143,7 +145,8 @@ pub fn lose_questions(table: &mut FilterTable)
     'questions: while let Some(_ended) = table.pop_question(ContextState::Modified) {}
 }
 
-/// Ends a table at the end of the program: each open that is held is denied, and nobody hears of it.
+/// Ends a table at the end of the program: each open that is held is denied, and nobody hears of it. The cost grows with the
+/// counts of opens, of questions and of contexts, and a logarithm for each.
 pub fn abandon(mut table: FilterTable) {
     'denied: while let Some(held) = table.pop_open() {
         let _unheard = held.deny(Cause::FilterRestart);

@@ -85,7 +85,8 @@ impl FilterTable {
         })
     }
 
-    /// Ends the table, where no question runs and no open waits, and with it every context.
+    /// Ends the table, where no question runs and no open waits, and with it every context. The cost grows with the count of
+    /// contexts, and a logarithm for each.
     pub fn end(self)
         requires questions { self.questions ≡ [] }
         requires pended { self.pended ≡ [] }

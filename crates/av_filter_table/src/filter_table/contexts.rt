@@ -11,15 +11,15 @@ use av_context::context_state::ContextState;
 use std::alloc::AllocError;
 
 impl FilterTable {
-    /// The state of a stream's context, where it has one.
+    /// The state of a stream's context, where it has one. The cost grows with the logarithm of the count of streams.
     pub fn state_of(&self, stream: StreamId) -> Option<ContextState>
         ensures { result ≡ context_of self.now.contexts stream }
     {
         self.contexts.state_of(stream)
     }
 
-    /// Sets the state of the context of a stream that no question runs of; a stream with none gets one. Where memory is refused
-    /// nothing changes.
+    /// Sets the state of the context of a stream that no question runs of; a stream with none gets one, and only that takes
+    /// memory. The cost grows with the logarithm of the count of streams. Where memory is refused nothing changes.
     pub fn set_state(&mut self, stream: StreamId, state: ContextState) -> Result<(), AllocError>
         requires { question_of stream self.old.questions ≡ None }
         ensures ok { OnOk result (self.new ≡ record self.old { contexts = set_at self.old.contexts stream (Some state) }) }
@@ -39,7 +39,8 @@ impl FilterTable {
         self.contexts.detach(stream);
     }
 
-    /// The verdict that the cache has of a content under a version; a hit becomes the most recent.
+    /// The verdict that the cache has of a content under a version; a hit becomes the most recent. The cost does not depend on
+    /// how many there are.
     pub fn look(
         &mut self,
         stream: StreamId,

@@ -20,7 +20,8 @@ use av_store::volume::Volume;
 use std::alloc::{AllocError, AllocFailed};
 
 impl FilterTable {
-    /// Holds an open under a question that runs. Where memory is refused the open comes back.
+    /// Holds an open under a question that runs. The cost grows with the logarithms of the counts of questions and of opens.
+    /// Where memory is refused nothing changes, and the open comes back.
     pub fn add_open(
         &mut self,
         question: u64,
@@ -43,7 +44,8 @@ impl FilterTable {
         )
     }
 
-    /// Takes the first open of a question that runs out.
+    /// Takes the first open of a question that runs out. The cost grows with the logarithms of the counts of questions and of
+    /// opens.
     pub fn take_open(&mut self, question: u64) -> Option<PendedOpen>
         requires { IsSome (question_at (id_of self.old.boot question) self.old.questions) }
         ensures none { IfNone result (opens_of (id_of self.old.boot question) self.old.pended ≡ []) }
@@ -56,7 +58,8 @@ impl FilterTable {
         chains::take_first(&mut self.questions, &mut self.pended, question)
     }
 
-    /// Takes the first of all opens out, whatever it waits for.
+    /// Takes the first of all opens out, whatever it waits for. The cost grows with the logarithms of the counts of questions
+    /// and of opens.
     pub fn pop_open(&mut self) -> Option<PendedOpen>
         ensures none { IfNone result ((self.old.pended ≡ []) × (self.new ≡ self.old)) }
         ensures some { IfSome result (λ held. (id : MessageId) × (self.old.pended ≡ record { question = id; held = held } ∷ self.new.pended)) }
@@ -88,7 +91,8 @@ impl FilterTable {
     }
 
     /// Asks anew for a question that runs: it ends, and its opens wait for a new question, of the present content of its stream,
-    /// each with one rescan more. Those with no rescan left are answered. Where memory is refused nothing changes.
+    /// each with one rescan more. Those with no rescan left are answered. The cost grows with the count of its opens, and a
+    /// logarithm for each. Where memory is refused nothing changes.
     pub fn ask_again(
         &mut self,
         volume: &Volume,

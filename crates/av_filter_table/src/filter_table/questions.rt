@@ -53,8 +53,8 @@ impl FilterTable {
         Some(question)
     }
 
-    /// Asks for a scan of a stream that none runs of: a new question, which no open waits for yet. Where memory is refused
-    /// nothing changes.
+    /// Asks for a scan of a stream that none runs of: a new question, which no open waits for yet. The cost grows with the
+    /// logarithms of the counts of streams and of questions. Where memory is refused nothing changes.
     pub fn ask(&mut self, stream: StreamId, generation: Generation) -> Result<MessageId, AllocError>
         requires none { question_of stream self.old.questions ≡ None }
         requires left { self.old.sequence + 1 < 2 ^ 64 }
@@ -85,8 +85,8 @@ impl FilterTable {
         Ok(id)
     }
 
-    /// Asks for a scan of a stream that none runs of, for an open that waits for it. Where memory is refused nothing changes,
-    /// and the open comes back.
+    /// Asks for a scan of a stream that none runs of, for an open that waits for it. The cost grows with the logarithms of the
+    /// counts of streams, of questions and of opens. Where memory is refused nothing changes, and the open comes back.
     pub fn ask_for(
         &mut self,
         stream: StreamId,
@@ -141,7 +141,8 @@ impl FilterTable {
         Ok(id)
     }
 
-    /// Ends a question that no open waits for. The context of its stream has this state from now on.
+    /// Ends a question that no open waits for. The context of its stream has this state from now on. The cost grows with the
+    /// logarithm of the count of questions.
     pub fn end_question(&mut self, question: u64, state: ContextState)
         requires there { IsSome (question_at (id_of self.old.boot question) self.old.questions) }
         requires none { opens_of (id_of self.old.boot question) self.old.pended ≡ [] }
@@ -154,7 +155,8 @@ impl FilterTable {
         self.contexts.give_back(asked.stream, context, state);
     }
 
-    /// Ends a question that no open waits for, and whose stream is gone: it has no context from now on.
+    /// Ends a question that no open waits for, and whose stream is gone: it has no context from now on. The cost grows with the
+    /// logarithms of the counts of streams and of questions.
     pub fn end_removed(&mut self, question: u64)
         requires there { IsSome (question_at (id_of self.old.boot question) self.old.questions) }
         requires none { opens_of (id_of self.old.boot question) self.old.pended ≡ [] }
