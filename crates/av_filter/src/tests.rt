@@ -1,7 +1,10 @@
+mod plain;
+
 ghost use Rattle.std.specs.Prelude.{OnOk, IfOk};
 ghost use Rattle.av_filter.specs.Bounds.{AreInBounds};
 ghost use Rattle.av_filter.specs.Fit.{Fits};
 
+use self::plain::Plain;
 use crate::fault::FilterFault;
 use crate::filter::Filter;
 use crate::note::Note;
@@ -739,5 +742,74 @@ fn note_line(alloc: Global, note: Note) -> Result<String, AllocError> {
         Note::Quiet => format!(in alloc; ""),
         Note::Submitted { open_id } => format!(in alloc; "number {}", open_id.get()),
         other => format!(in alloc; "note {other:?}"),
+    }
+}
+
+// Twenty thousand steps of a fixed generator, in each mode, beside the plain lists.
+#[test]
+fn a_filter_keeps_step_with_plain_lists(rt: HostRuntime) -> Result<(), Fail> {
+    for mode in [Mode::FailClosed, Mode::FailOpen] {
+        assert_eq!(rt; first_apart(rt.alloc(), mode)?, None);
+    }
+    Ok(())
+}
+
+// The first step at which a filter and the plain lists differ.
+fn first_apart(alloc: Global, mode: Mode) -> Result<Option<u64>, Fail> {
+    let values = LimitValues::greatest()
+        .with(LimitField::Questions, 2)
+        .with(LimitField::Pended, 3);
+    let limits = Limits::check(values)?;
+    let mut volume = volume_of_two(alloc)?;
+    let mut plain = Plain::new(alloc, mode)?;
+    let mut filter = Filter::mount(alloc, &mut volume, mode, limits)?;
+    let apart = run_beside(alloc, &mut filter, &mut volume, &mut plain);
+    filter.abandon();
+    Ok(apart?)
+}
+
+fn run_beside(
+    alloc: Global,
+    filter: &mut Filter,
+    volume: &mut Volume,
+    plain: &mut Plain,
+) -> Result<Option<u64>, AllocError>
+    requires fits { Fits filter.old volume.old }
+    requires bounds { AreInBounds volume.old }
+{
+    let mut x: u64 = 20_261_122;
+    for i in 0..20_000u64 {
+        x = x
+            .wrapping_mul(6_364_136_223_846_793_005)
+            .wrapping_add(1_442_695_040_888_963_407);
+        let step = step_of(x >> 20, plain.last());
+        let said = said(alloc, happen(alloc, filter, volume, step))?;
+        let want = plain.take(step)?;
+        let counts = (filter.question_count(), filter.pended_count());
+        if said.as_str() != want.as_str() || counts != plain.counts() {
+            return Ok(Some(i));
+        }
+    }
+    Ok(None)
+}
+
+// One step for a number: opens most often, replies to one of the last three questions, and versions that rise now and then.
+fn step_of(x: u64, last: u64) -> Step<'static> {
+    let stream = (x >> 8) % 3 + 1;
+    let small = (x >> 16) % 4;
+    let version = (x >> 24) % 3 + 1;
+    let seq = last.saturating_sub((x >> 30) % 3).max(1);
+    match x % 16 {
+        0..=4 => Step::Open(stream, small),
+        5 => Step::Write(stream, small, b"AB"),
+        6 => Step::Cut(stream, small),
+        7 => Step::Cleanup(stream),
+        8 => Step::Hello(1, version),
+        9 => Step::Updated(version),
+        10 => Step::Disconnect,
+        11 => Step::Timeout(seq),
+        12 => Step::Failed(seq),
+        13 => Step::Infected(seq, version),
+        _ => Step::Clean(1, seq, version),
     }
 }
