@@ -1,5 +1,5 @@
 -- Questions that end: their opens are out, and the others are left.
-use Rattle.std.proofs.Common.{◌≡◌, true, false, Bool, cond, List, [], ◌∷◌, Option, Some, None, IfSome, refl, sym, ap, ◌∙◌, subst}
+use Rattle.std.proofs.Common.{◌≡◌, true, false, Bool, cond, List, [], ◌∷◌, Option, IfSome, refl, sym, ap, ◌∙◌, subst}
 use Rattle.av_base.specs.declared.message_id.MessageId.{MessageId}
 use Rattle.av_context.specs.declared.context_state.ContextState.{ContextState}
 use Rattle.av_filter.specs.Ready.{IsRunning}

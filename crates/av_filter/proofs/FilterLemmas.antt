@@ -1,14 +1,13 @@
 -- What each call of a filter keeps, from what it answers.
-use Rattle.std.proofs.Common.{◌≡◌, ℕ, None, Option, OnOk, Result, Ok, Err, sym, subst}
+use Rattle.std.proofs.Common.{◌≡◌, ℕ, None, OnOk, Result, Ok, Err, sym, subst}
 use Rattle.av_base.specs.declared.limits.LimitValues.{LimitValues}
 use Rattle.av_base.specs.declared.mode.Mode.{Mode}
 use Rattle.av_base.specs.declared.refusal.Refusal.{Refusal}
-use Rattle.av_base.specs.declared.refusal.Refusal.TheVariants.{Fault, NoMemory}
 use Rattle.av_filter.proofs.BoundLemmas.{keeps_bounds}
 use Rattle.av_filter.proofs.FitLemmas.{event_fits, mounted_fits, opened_fits}
 use Rattle.av_filter.specs.Bounds.{AreInBounds}
 use Rattle.av_filter.specs.Call.{Meets, MeetsAlways, Reacts}
-use Rattle.av_filter.specs.Conduct.{FilterEvent, Restarts, booted, filter_refusal, filter_step, restarts}
+use Rattle.av_filter.specs.Conduct.{FilterEvent, booted, filter_refusal, filter_step, restarts}
 use Rattle.av_filter.specs.Fit.{Fits}
 use Rattle.av_filter.specs.Opening.{opened, taken}
 use Rattle.av_filter.specs.Reaction.{Reaction}

@@ -1,5 +1,5 @@
 -- What becomes of an open, case by case.
-use Rattle.std.proofs.Common.{◌≡◌, ◌++◌, IfOk, Result, Ok, Err, ℕ, ◌+◌, ◌<◌, ◌≤◌, ◌∷◌, [], true, false, max, not, Option, None, Some, map, refl, sym, ap, ◌∙◌, subst, arith}
+use Rattle.std.proofs.Common.{◌≡◌, ◌++◌, IfOk, Result, Ok, Err, ℕ, ◌+◌, ◌<◌, ◌≤◌, ◌∷◌, [], true, false, max, Option, None, Some, refl, sym, ap, ◌∙◌, subst, arith}
 use Rattle.std.specs.List.{AllByRecursion as Each}
 use Rattle.std.specs.Option.{option_map}
 use Rattle.av_base.specs.declared.cause.Cause.{Cause}

@@ -1,5 +1,5 @@
 -- What events rest on, at one stream and at one question.
-use Rattle.std.proofs.Common.{◌≡◌, ℕ, ◌+◌, ◌&&◌, Result, Ok, Err, OnOk, ◌≤◌, ◌<◌, ◌^◌, ◌==◌, Bool, true, false, cond, find, List, [], ◌∷◌, ◌++◌, Option, Some, None, IfSome, length, refl, sym, ap, ◌∙◌, subst, arith}
+use Rattle.std.proofs.Common.{◌≡◌, ℕ, ◌+◌, ◌&&◌, Result, Ok, Err, OnOk, ◌≤◌, ◌<◌, ◌^◌, ◌==◌, Bool, true, false, cond, find, List, [], ◌∷◌, Option, Some, None, IfSome, length, refl, sym, ap, ◌∙◌, subst, arith}
 use Rattle.std.proofs.lemmas.Bool.{eqb-true}
 use Rattle.std.proofs.lemmas.Bool.Decides.{nat_tests}
 use Rattle.std.specs.List.{AllByRecursion as Each}
@@ -10,14 +10,14 @@ use Rattle.std.specs.declared.cmp.Ordering.{Ordering}
 use Rattle.std.specs.declared.cmp.Ordering.TheVariants.{Less, Equal, Greater}
 use Rattle.av_base.specs.declared.message_id.MessageId.{MessageId}
 use Rattle.av_context.specs.declared.context_state.ContextState.{ContextState}
-use Rattle.av_context.specs.declared.context_state.ContextState.TheVariants.{Modified, Scanning, Judged}
-use Rattle.av_filter.proofs.EachLemmas.{each_weaker, find_each, find_passes}
+use Rattle.av_context.specs.declared.context_state.ContextState.TheVariants.{Scanning}
+use Rattle.av_filter.proofs.EachLemmas.{find_each, find_passes}
 use Rattle.av_filter.proofs.ClosingLemmas.{own_id}
 use Rattle.av_filter.proofs.VolumeLemmas.{there_after}
-use Rattle.av_filter.proofs.QuestionLemmas.{found_own, same_id-refl, same_id-true}
+use Rattle.av_filter.proofs.QuestionLemmas.{found_own}
 use Rattle.av_filter.specs.Bounds.{AreInBounds, IsInBounds}
 use Rattle.av_filter.specs.Fit.{AreInOrder, Fits, IsGiven, IsPresent, IsScanned, IsThere}
-use Rattle.av_filter.specs.Ready.{IsReady, IsRunning}
+use Rattle.av_filter.specs.Ready.{IsRunning}
 use Rattle.av_filter_table.specs.Answering.{present_generation, stream_generation}
 use Rattle.av_filter_table.specs.FilterTable.{id_of}
 use Rattle.av_filter_table.specs.Rewriting.{change_by}
@@ -27,7 +27,6 @@ use Rattle.av_store.specs.Files.{Write, Cut}
 use Rattle.av_store.specs.Seen.{change_of}
 use Rattle.av_filter_table.specs.Table.{Table, context_of, is_modified, question_at, question_of}
 use Rattle.av_filter_table.specs.declared.question.Question.{Question}
-use Rattle.av_frame.specs.Message.{IsId}
 use Rattle.av_store.specs.Rows.{Streams, is_number, stream_at}
 use Rattle.av_store.specs.Store.{Store}
 use Rattle.av_store.specs.declared.stream.Stream.{Stream}

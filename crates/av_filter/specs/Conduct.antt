@@ -1,5 +1,5 @@
 -- The filter's conduct: what each event does, and why it may be refused.
-use Rattle.std.specs.Prelude.{ℕ, ◌+◌, false, ◌==◌, List, [], ◌∷◌, Option, Some, None, if◌then◌else◌}
+use Rattle.std.specs.Prelude.{ℕ, ◌+◌, false, ◌==◌, [], ◌∷◌, Option, Some, None, if◌then◌else◌}
 use Rattle.std.specs.Option.{option_map}
 use Rattle.av_base.specs.declared.cause.Cause.TheVariants.{TimedOut, PortDisconnected, FilterRestart}
 use Rattle.av_context.specs.declared.context_state.ContextState.TheVariants.{Modified}

@@ -1,7 +1,10 @@
+mod plain;
+
 ghost use Rattle.std.specs.Prelude.{OnOk, IfOk};
 ghost use Rattle.av_filter.specs.Bounds.{AreInBounds};
 ghost use Rattle.av_filter.specs.Fit.{Fits};
 
+use self::plain::Plain;
 use crate::fault::FilterFault;
 use crate::filter::Filter;
 use crate::note::Note;
@@ -517,7 +520,8 @@ fn volume_of_two(alloc: Global) -> Result<Volume, Fail>
     Ok(volume)
 }
 
-// The place of the first step that is answered otherwise.
+// The place of the first step that is answered otherwise. A step that memory refuses has changed nothing that the readers
+// tell, and is taken again.
 fn run_steps(
     alloc: Global,
     filter: &mut Filter,
@@ -529,21 +533,39 @@ fn run_steps(
     ensures bounds { AreInBounds volume.new }
 {
     for (i, (step, want)) in steps.iter().enumerate() {
-        let said = answer(alloc, filter, volume, *step)?;
-        if said.as_str() != *want {
+        let before = seen(filter, volume);
+        let mut outcome = happen(alloc, filter, volume, *step);
+        if let Err(Refusal::NoMemory) = outcome {
+            if seen(filter, volume) != before {
+                return Ok(Some(i));
+            }
+            outcome = happen(alloc, filter, volume, *step);
+        }
+        if said(alloc, outcome)?.as_str() != *want {
             return Ok(Some(i));
         }
     }
     Ok(None)
 }
 
+// What the readers tell: floor, connection, questions, held opens, open numbers.
+fn seen(filter: &Filter, volume: &Volume) -> (u64, bool, usize, usize, u64) {
+    (
+        filter.floor().get(),
+        filter.connected(),
+        filter.question_count(),
+        filter.pended_count(),
+        volume.opens_left(),
+    )
+}
+
 // What a filter gives out at a step.
-fn answer(
+fn happen(
     alloc: Global,
     filter: &mut Filter,
     volume: &mut Volume,
     step: Step<'_>,
-) -> Result<String, AllocError>
+) -> Result<Out, Refusal<FilterFault>>
     requires fits { Fits filter.old volume.old }
     requires bounds { AreInBounds volume.old }
     ensures fits { Fits filter.new volume.new }
@@ -552,29 +574,19 @@ fn answer(
     match step {
         Step::Open(stream, least) => {
             let (stream, least) = (StreamId::new(stream), Version::new(least));
-            said(alloc, filter.open(alloc, volume, stream, least))
+            filter.open(alloc, volume, stream, least)
         }
         Step::Write(stream, offset, bytes) => {
-            let stream = StreamId::new(stream);
-            said(alloc, filter.write(alloc, volume, stream, offset, bytes))
+            filter.write(alloc, volume, StreamId::new(stream), offset, bytes)
         }
-        Step::Cut(stream, length) => {
-            let stream = StreamId::new(stream);
-            said(alloc, filter.cut(alloc, volume, stream, length))
-        }
-        Step::Remove(stream) => {
-            let stream = StreamId::new(stream);
-            said(alloc, filter.remove(alloc, volume, stream))
-        }
-        Step::Cleanup(stream) => {
-            let stream = StreamId::new(stream);
-            told_if(alloc, filter.cleanup(alloc, volume, stream))
-        }
-        Step::Timeout(seq) => told_if(alloc, filter.timeout(alloc, volume, seq)),
-        Step::Disconnect => told_if(alloc, filter.disconnect(alloc, volume)),
+        Step::Cut(stream, length) => { filter.cut(alloc, volume, StreamId::new(stream), length) }
+        Step::Remove(stream) => filter.remove(alloc, volume, StreamId::new(stream)),
+        Step::Cleanup(stream) => Ok(filter.cleanup(alloc, volume, StreamId::new(stream))?),
+        Step::Timeout(seq) => Ok(filter.timeout(alloc, volume, seq)?),
+        Step::Disconnect => Ok(filter.disconnect(alloc, volume)?),
         _ => match message_of(step) {
-            Some(message) => told_if(alloc, filter.message(alloc, volume, &message)),
-            None => format!(in alloc; "no message"),
+            Some(message) => Ok(filter.message(alloc, volume, &message)?),
+            None => Ok(Out::says(alloc, Note::Ignored)),
         },
     }
 }
@@ -629,16 +641,12 @@ fn message_of(step: Step<'_>) -> Option<Message> {
 }
 
 // What an event gives out, or why it is refused.
-fn said(alloc: Global, answer: Result<Out, Refusal<FilterFault>>) -> Result<String, AllocError> {
-    match answer {
+fn said(alloc: Global, outcome: Result<Out, Refusal<FilterFault>>) -> Result<String, AllocError> {
+    match outcome {
         Ok(out) => told(alloc, &out),
         Err(Refusal::Fault(fault)) => format!(in alloc; "refused {fault}"),
         Err(Refusal::NoMemory) => Err(AllocError),
     }
-}
-
-fn told_if(alloc: Global, answer: Result<Out, AllocError>) -> Result<String, AllocError> {
-    told(alloc, &answer?)
 }
 
 // The answers, the messages and the note, as scripts print them.
@@ -734,5 +742,74 @@ fn note_line(alloc: Global, note: Note) -> Result<String, AllocError> {
         Note::Quiet => format!(in alloc; ""),
         Note::Submitted { open_id } => format!(in alloc; "number {}", open_id.get()),
         other => format!(in alloc; "note {other:?}"),
+    }
+}
+
+// Twenty thousand steps of a fixed generator, in each mode, beside the plain lists.
+#[test]
+fn a_filter_keeps_step_with_plain_lists(rt: HostRuntime) -> Result<(), Fail> {
+    for mode in [Mode::FailClosed, Mode::FailOpen] {
+        assert_eq!(rt; first_apart(rt.alloc(), mode)?, None);
+    }
+    Ok(())
+}
+
+// The first step at which a filter and the plain lists differ.
+fn first_apart(alloc: Global, mode: Mode) -> Result<Option<u64>, Fail> {
+    let values = LimitValues::greatest()
+        .with(LimitField::Questions, 2)
+        .with(LimitField::Pended, 3);
+    let limits = Limits::check(values)?;
+    let mut volume = volume_of_two(alloc)?;
+    let mut plain = Plain::new(alloc, mode)?;
+    let mut filter = Filter::mount(alloc, &mut volume, mode, limits)?;
+    let apart = run_beside(alloc, &mut filter, &mut volume, &mut plain);
+    filter.abandon();
+    Ok(apart?)
+}
+
+fn run_beside(
+    alloc: Global,
+    filter: &mut Filter,
+    volume: &mut Volume,
+    plain: &mut Plain,
+) -> Result<Option<u64>, AllocError>
+    requires fits { Fits filter.old volume.old }
+    requires bounds { AreInBounds volume.old }
+{
+    let mut x: u64 = 20_261_122;
+    for i in 0..20_000u64 {
+        x = x
+            .wrapping_mul(6_364_136_223_846_793_005)
+            .wrapping_add(1_442_695_040_888_963_407);
+        let step = step_of(x >> 20, plain.last());
+        let said = said(alloc, happen(alloc, filter, volume, step))?;
+        let want = plain.take(step)?;
+        let counts = (filter.question_count(), filter.pended_count());
+        if said.as_str() != want.as_str() || counts != plain.counts() {
+            return Ok(Some(i));
+        }
+    }
+    Ok(None)
+}
+
+// One step for a number: opens most often, replies to one of the last three questions, and versions that rise now and then.
+fn step_of(x: u64, last: u64) -> Step<'static> {
+    let stream = (x >> 8) % 3 + 1;
+    let small = (x >> 16) % 4;
+    let version = (x >> 24) % 3 + 1;
+    let seq = last.saturating_sub((x >> 30) % 3).max(1);
+    match x % 16 {
+        0..=4 => Step::Open(stream, small),
+        5 => Step::Write(stream, small, b"AB"),
+        6 => Step::Cut(stream, small),
+        7 => Step::Cleanup(stream),
+        8 => Step::Hello(1, version),
+        9 => Step::Updated(version),
+        10 => Step::Disconnect,
+        11 => Step::Timeout(seq),
+        12 => Step::Failed(seq),
+        13 => Step::Infected(seq, version),
+        _ => Step::Clean(1, seq, version),
     }
 }

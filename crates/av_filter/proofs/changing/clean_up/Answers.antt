@@ -1,5 +1,5 @@
-use Rattle.std.proofs.Common.{◌≡◌, true, rules, ap, sym, ◌∙◌}
-use Rattle.av_filter.proofs.ReadyLemmas.{and_left, there_if, unasked}
+use Rattle.std.proofs.Common.{◌≡◌, true, rules, sym, ◌∙◌}
+use Rattle.av_filter.proofs.ReadyLemmas.{and_left, unasked}
 use Rattle.av_filter_table.specs.Table.{can_ask, context_of, is_modified}
 use Rattle.av_filter.proofs.changing.clean_up.Goals as goal
 

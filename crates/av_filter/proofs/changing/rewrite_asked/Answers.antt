@@ -1,4 +1,4 @@
-use Rattle.std.proofs.Common.{◌≡◌, rules, arith, ap}
+use Rattle.std.proofs.Common.{rules, arith, ap}
 use Rattle.std.proofs.lemmas.Grind.{common_steps}
 use Rattle.av_filter.specs.Again.{again}
 use Rattle.av_filter.proofs.BoundLemmas.{change_in}

@@ -1,4 +1,4 @@
-use Rattle.std.proofs.Common.{◌≡◌, ◌++◌, ◌∷◌, [], false, true, rules, sym, ap, ◌∙◌}
+use Rattle.std.proofs.Common.{◌≡◌, ◌++◌, ◌∷◌, [], false, true, rules, ap, ◌∙◌}
 use Rattle.av_base.specs.declared.cause.Cause.TheVariants.{Busy}
 use Rattle.av_filter.proofs.OpeningLemmas.{answered, at_floor, if_ok, joined, numbers_below, opened_crowded, same_refusal}
 use Rattle.av_filter_table.specs.FilterTable.{id_of}

@@ -1,4 +1,4 @@
-use Rattle.std.proofs.Common.{◌≡◌, ◌+◌, Some, max, rules, sym, ap, ◌∙◌}
+use Rattle.std.proofs.Common.{◌≡◌, Some, max, sym, ap, ◌∙◌}
 use Rattle.av_base.specs.declared.cause.Cause.TheVariants.{NoStream}
 use Rattle.av_filter.proofs.OpeningLemmas.{answered, arrives, at_floor, if_ok, not_there, opened_away, opened_judged, same_verdict}
 use Rattle.av_filter.specs.Arriving.{IsArrival}

@@ -1,4 +1,4 @@
-use Rattle.std.proofs.Common.{◌≡◌, rules, ◌∷◌, [], ap, ◌∙◌}
+use Rattle.std.proofs.Common.{rules}
 use Rattle.av_filter.proofs.OpeningLemmas.{known}
 use Rattle.av_filter.proofs.opening.open_known.Goals as goal
 

@@ -1,4 +1,4 @@
-use Rattle.std.proofs.Common.{◌≡◌, ◌+◌, ◌++◌, ◌∷◌, [], Some, false, true, length, rules, sym, ap, ◌∙◌}
+use Rattle.std.proofs.Common.{◌≡◌, ◌+◌, ◌++◌, ◌∷◌, [], Some, false, true, length, rules, ap, ◌∙◌}
 use Rattle.av_base.specs.declared.cause.Cause.TheVariants.{Busy, NotConnected}
 use Rattle.av_filter.proofs.OpeningLemmas.{answered, asked, at_floor, cached_at, if_ok, numbers_below, opened_apart, opened_busy, opened_full, same_refusal}
 use Rattle.av_context.specs.Contexts.{set_at}

@@ -1,4 +1,4 @@
-use Rattle.std.proofs.Common.{◌≡◌, ◌≤◌, ◌<◌, ◌^◌, arith}
+use Rattle.std.proofs.Common.{◌<◌, ◌^◌, arith}
 use Rattle.av_base.specs.MessageId.{same_id}
 use Rattle.av_filter.proofs.ReadyLemmas.{running}
 use Rattle.av_filter.proofs.running.running_at.Goals as goal

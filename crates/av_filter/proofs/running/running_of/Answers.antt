@@ -1,4 +1,4 @@
-use Rattle.std.proofs.Common.{◌≡◌, ◌≤◌, ◌<◌, ◌^◌, ◌==◌, arith}
+use Rattle.std.proofs.Common.{◌<◌, ◌^◌, ◌==◌, arith}
 use Rattle.av_filter.proofs.ReadyLemmas.{running, of_stream}
 use Rattle.av_filter.proofs.running.running_of.Goals as goal
 

@@ -1,7 +1,6 @@
-use Rattle.std.proofs.Common.{◌≡◌, ◌≤◌, length, ap, sym, ◌∙◌, subst, arith}
-use Rattle.av_base.specs.Limits.{AreInRange}
+use Rattle.std.proofs.Common.{◌≡◌, length, ap, ◌∙◌, arith}
 use Rattle.av_filter.proofs.ReadyLemmas.{stream_in}
-use Rattle.av_filter_table.specs.Answering.{present_bytes, present_generation, stream_bytes, stream_generation}
+use Rattle.av_filter_table.specs.Answering.{stream_bytes, stream_generation}
 use Rattle.av_filter.proofs.running.scan_message.Goals as goal
 
 pub scan-requires-clause-stream : goal.scan-requires-clause-stream

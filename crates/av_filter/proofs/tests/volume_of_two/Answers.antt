@@ -1,4 +1,4 @@
-use Rattle.std.proofs.Common.{◌≡◌, ◌∷◌, [], ap, sym, ◌∙◌, subst}
+use Rattle.std.proofs.Common.{◌∷◌, [], ap, sym, ◌∙◌, subst}
 use Rattle.av_base.specs.Limits.{AreInRange}
 use Rattle.av_filter.proofs.BoundLemmas.{change_in, keeps_bounds}
 use Rattle.av_filter.specs.Bounds.{AreInBounds}
