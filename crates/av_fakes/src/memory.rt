@@ -5,6 +5,7 @@ use std::alloc::Global;
 
 // The sizes that tests/fail_nth.c knows.
 const COUNT: usize = 7_654_321;
+
 const COUNT_NO_MORE: usize = 7_654_322;
 
 /// From here on a request may be refused.
