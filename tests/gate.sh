@@ -45,5 +45,7 @@ echo "gate: the tables of cases"
 step tests/tables.py "$program"
 echo "gate: the program over devices that fail, without memory, and in the order of its faults"
 step tests/program.py "$program"
+echo "gate: what the documents name"
+step tests/docs.py "$program"
 echo "$passed passed, $failed failed"
 [ "$failed" = 0 ]
