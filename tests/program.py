@@ -3,7 +3,7 @@
 
 Standard output on a full device, closed, and a pipe that nobody reads, with one line and with thousands: the status is 4, or
 the process is ended by the signal, and never 0 with lines lost. Each request for memory refused in turn: one line, status 3,
-and a front of the output. A word that is not UTF-8 is named. The order of faults of `scan`: words, set, files.
+and a front of the output. Help texts, and one line for words that are not understood. A word that is not UTF-8 is named. The order of faults of `scan`: words, set, files.
 The last line says how many passed and how many failed."""
 import os, signal, subprocess, sys, tempfile
 
@@ -109,11 +109,25 @@ def order(cases, program):
         cases.check("200 files of a MiB in 64 MiB of memory", done.returncode == 0, f"{done.returncode} {done.stderr!r}")
 
 
+def helps(cases, program):
+    texts = [(["--help"], [b"avscan run examples/judge.avs", b"avscan scan examples/test.avsig", b"Exit status: 0 all done, 1 input refused, 2 usage, 3 memory, 4 device."]),
+             (["run", "--help"], [b"SCRIPT", b"volume 1 closed", b"docs/FORMATS.md"]),
+             (["scan", "--help"], [b"SET", b"FILE", b"avsig 1", b"1,048,576 bytes", b"docs/FORMATS.md"])]
+    for words, wanted in texts:
+        done = run([program] + words, stdout=subprocess.PIPE)
+        for text in wanted:
+            cases.check(f"avscan {' '.join(words)}", done.returncode == 0 and text in done.stdout and done.stderr == b"", f"no {text!r}")
+    for words in (["scan"], ["scan", SET], ["run"], ["run", "a", "b"], ["judge"], ["--nothing"]):
+        done = run([program] + words, stdout=subprocess.PIPE)
+        one_line = done.stderr.startswith(b"avscan: ") and done.stderr.count(b"\n") == 1 and done.stderr.endswith(b"\n")
+        cases.check(f"avscan {' '.join(words)}", (done.returncode, done.stdout) == (2, b"") and one_line, f"{done}")
+
+
 def main():
     if len(sys.argv) != 2:
         sys.exit("usage: tests/program.py PROGRAM")
     cases = Cases()
-    for part in (devices, memory, words, order):
+    for part in (devices, memory, words, order, helps):
         try:
             part(cases, os.path.abspath(sys.argv[1]))
         except Exception as fault:

@@ -73,10 +73,11 @@ SCRIPTS = [
      ["version 1 signatures 1", "stream 1 generation 1", "stream 1 generation 2 length 2", "judge 1 generation 2 version 1 infected 0 end 2"]),
 ]
 
+LIMITS = [("streams", 65536), ("length", MIB), ("generation", HIGH), ("questions", 1024), ("pended", 4096), ("jobs", 256), ("cache", 4096), ("chunk", 4096), ("audit", MIB)]
+SCRIPTS += [(f"limit {field} {number}\nvolume 1 open\n", []) for field, most in LIMITS for number in (1, most)]
+
 # a whole script | the number of its first bad line
-BAD_SCRIPTS = [(f"limit {field} {number}\nvolume 1 closed\n", 2 if number else 2)
-               for field, most in [("streams", 65536), ("length", MIB), ("generation", HIGH), ("questions", 1024), ("pended", 4096), ("jobs", 256), ("cache", 4096), ("chunk", 4096), ("audit", MIB)]
-               for number in (0, most + 1)]
+BAD_SCRIPTS = [(f"limit {field} {number}\nvolume 1 closed\n", 2) for field, most in LIMITS for number in (0, most + 1)]
 BAD_SCRIPTS += [
     (f"limit {word} 1\nvolume 1 closed\n", 1) for word in ("stream", "Streams", "lengths", "version", "opens", "limit", "1")
 ] + [
@@ -91,10 +92,13 @@ BAD_SCRIPTS += [
 ]
 
 NAMES = [f"n{i}" for i in range(1025)]
+SIGNS = "ABCDEFGHIJKLMNOPQRSTUVWXYZabcdefghijklmnopqrstuvwxyz0123456789._-"
+OTHER_SIGNS = [chr(byte) for byte in range(256) if chr(byte) not in SIGNS + "\n "]
 
 # lines behind the head | (signatures, None), or (bad line, kind)
 SETS = [
     (["A 41", "z 41", "0 41", ". 41", "_ 41", "- 41"], (6, None)),
+    ([f"{sign} 41" for sign in SIGNS], (65, None)),
     (["n" * 32 + " 41"], (1, None)),
     (["n" * 33 + " 41"], (3, 3)),
     ([" 41"], (3, 3)), ([""], (3, 3)), (["a"], (3, 3)), (["a+b 41"], (3, 3)), (["a/b 41"], (3, 3)), (["a: 41"], (3, 3)), (["@ 41"], (3, 3)), (["[ 41"], (3, 3)), (["` 41"], (3, 3)),
@@ -114,6 +118,8 @@ SETS = [
     # the first bad line counts, whatever follows
     (["a 4", "+ 41"], (3, 4)), (["a 41", "b "], (4, 5)),
 ]
+
+SETS += [([f"a{sign} 41"], (3, 3)) for sign in OTHER_SIGNS]
 
 # a whole signature file | (bad line, kind)
 FILES = [
