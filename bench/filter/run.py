@@ -125,6 +125,10 @@ def table(took, asked, few):
             print(f"{name:42}{line}")
 
 
+def goal(what, value, most, unit):
+    print(f"{'met   ' if value <= most else 'MISSED'} {what}: {value:.2f}{unit}, goal at most {most}{unit}")
+
+
 def goals(took, asked, few):
     which = ", the same 16" if few else ""
     for streams in STREAMS:
