@@ -7,7 +7,7 @@ ROOT = os.path.dirname(os.path.dirname(os.path.abspath(__file__)))
 PAGES = ["README.md", "bench/README.md"] + [f"docs/{name}.md" for name in ("ARCHITECTURE", "CONDUCT", "DECISIONS", "FORMATS", "PROMISES")]
 # words of the language, of std and of formats that stand in backticks too
 OUTSIDE = set("make test run install scan rt clang slab lru bytes hex clap thiserror itoa std memchr Drop Display Error From Ok Err Some None "
-              "true false requires ensures main malloc grep yara clamscan cargo valgrind".split())
+              "true false requires ensures main malloc grep yara clamscan clamonacc clamd cargo valgrind".split())
 
 
 def text_of(path):
