@@ -1,30 +1,31 @@
-use Rattle.std.specs.Prelude.{ℕ, ◌≤◌, ◌==◌, Result, Ok, Err, if◌then◌else◌, nat_lt}
+use Rattle.std.specs.Prelude.{ℕ, ◌≤◌, ◌==◌, List, [], ◌∷◌, Result, Ok, Err, if◌then◌else◌, nat_lt}
 use Rattle.av_base.specs.declared.limits.LimitValues.{LimitValues}
 use Rattle.av_base.specs.declared.limits.LimitFault.{LimitFault}
 use Rattle.av_base.specs.declared.limits.LimitFault.TheVariants.{LimitZero, LimitTooLarge}
 use Rattle.av_base.specs.declared.limits.LimitField.{LimitField}
+use Rattle.av_base.specs.declared.limits.TheConstants.{MAX_AUDIT, MAX_CACHE, MAX_CHUNK, MAX_GENERATION, MAX_JOBS, MAX_LENGTH, MAX_PENDED, MAX_QUESTIONS, MAX_STREAMS}
 use Rattle.av_base.specs.declared.limits.LimitField.TheVariants.{Streams, Length, Generation, Questions, Pended, Jobs, Cache, Chunk, Audit}
 
 -- each limit is in its range
 pub record AreInRange (v : LimitValues) : Type 0 where
   pub streams_low : 1 ≤ v.streams
-  pub streams_high : v.streams ≤ 65536
+  pub streams_high : v.streams ≤ MAX_STREAMS
   pub length_low : 1 ≤ v.length
-  pub length_high : v.length ≤ 1048576
+  pub length_high : v.length ≤ MAX_LENGTH
   pub generation_low : 1 ≤ v.generation
-  pub generation_high : v.generation ≤ 281474976710655
+  pub generation_high : v.generation ≤ MAX_GENERATION
   pub questions_low : 1 ≤ v.questions
-  pub questions_high : v.questions ≤ 1024
+  pub questions_high : v.questions ≤ MAX_QUESTIONS
   pub pended_low : 1 ≤ v.pended
-  pub pended_high : v.pended ≤ 4096
+  pub pended_high : v.pended ≤ MAX_PENDED
   pub jobs_low : 1 ≤ v.jobs
-  pub jobs_high : v.jobs ≤ 256
+  pub jobs_high : v.jobs ≤ MAX_JOBS
   pub cache_low : 1 ≤ v.cache
-  pub cache_high : v.cache ≤ 4096
+  pub cache_high : v.cache ≤ MAX_CACHE
   pub chunk_low : 1 ≤ v.chunk
-  pub chunk_high : v.chunk ≤ 4096
+  pub chunk_high : v.chunk ≤ MAX_CHUNK
   pub audit_low : 1 ≤ v.audit
-  pub audit_high : v.audit ≤ 1048576
+  pub audit_high : v.audit ≤ MAX_AUDIT
 
 -- one field: 0 comes before too large
 abbrev pub field_checked : LimitField → ℕ → ℕ → Result (Unit {0}) LimitFault
@@ -32,37 +33,46 @@ field_checked which value greatest =
     if value == 0 then Err (LimitZero which) else
     (if nat_lt greatest value then Err (LimitTooLarge which) else Ok tt)
 
+-- one result after another, the first fault wins
 abbrev pub then_check : {A : Type 0} → Result (Unit {0}) LimitFault → Result A LimitFault → Result A LimitFault
 then_check (Ok x) r = r
 then_check (Err e) r = Err e
 
+-- the fields in the order in which they are judged, each with its value and its greatest value
+abbrev pub fields_of : LimitValues → List (LimitField × ℕ × ℕ)
+fields_of v =
+    (Streams, v.streams, MAX_STREAMS) ∷
+    (Length, v.length, MAX_LENGTH) ∷
+    (Generation, v.generation, MAX_GENERATION) ∷
+    (Questions, v.questions, MAX_QUESTIONS) ∷
+    (Pended, v.pended, MAX_PENDED) ∷
+    (Jobs, v.jobs, MAX_JOBS) ∷
+    (Cache, v.cache, MAX_CACHE) ∷
+    (Chunk, v.chunk, MAX_CHUNK) ∷
+    (Audit, v.audit, MAX_AUDIT) ∷ []
+
+-- the values, where each of these fields is in its range; else the first fault
+abbrev pub judged : List (LimitField × ℕ × ℕ) → LimitValues → Result LimitValues LimitFault
+judged [] v = Ok v
+judged (f ∷ fs) v = then_check (field_checked f.0 f.1 f.2) (judged fs v)
+
 -- the fields in order, the first fault wins
 abbrev pub checked : LimitValues → Result LimitValues LimitFault
-checked v =
-    (then_check (field_checked Streams v.streams 65536)
-    (then_check (field_checked Length v.length 1048576)
-    (then_check (field_checked Generation v.generation 281474976710655)
-    (then_check (field_checked Questions v.questions 1024)
-    (then_check (field_checked Pended v.pended 4096)
-    (then_check (field_checked Jobs v.jobs 256)
-    (then_check (field_checked Cache v.cache 4096)
-    (then_check (field_checked Chunk v.chunk 4096)
-    (then_check (field_checked Audit v.audit 1048576)
-    (Ok v))))))))))
+checked v = judged (fields_of v) v
 
 -- the greatest value of each field
 abbrev pub greatest_values : LimitValues
 greatest_values =
     record {
-      streams = 65536;
-      length = 1048576;
-      generation = 281474976710655;
-      questions = 1024;
-      pended = 4096;
-      jobs = 256;
-      cache = 4096;
-      chunk = 4096;
-      audit = 1048576;
+      streams = MAX_STREAMS;
+      length = MAX_LENGTH;
+      generation = MAX_GENERATION;
+      questions = MAX_QUESTIONS;
+      pended = MAX_PENDED;
+      jobs = MAX_JOBS;
+      cache = MAX_CACHE;
+      chunk = MAX_CHUNK;
+      audit = MAX_AUDIT;
     }
 
 -- the values with another one in one field

@@ -248,10 +248,16 @@ fn parts_of_a_line_are_written_in_their_order(rt: HostRuntime) -> Result<(), Fai
         Part::Number(0),
         Part::Text(b" ".as_slice()),
         Part::Number(u64::MAX),
+        Part::Text(b" bytes ".as_slice()),
+        Part::Hexadecimal(b"\x00\x09\x0a\x9f\xf0\xff".as_slice()),
+        Part::Hexadecimal(b"".as_slice()),
     ];
     let mut slow = FakeWriter::new(rt.alloc()).in_pieces_of(1);
     assert_eq!(rt; write_parts(&mut slow, parts.as_slice()), Ok(()));
-    assert_eq!(rt; slow.taken(), b"stream 0 18446744073709551615".as_slice());
+    assert_eq!(rt;
+        slow.taken(),
+        b"stream 0 18446744073709551615 bytes 00090a9ff0ff".as_slice()
+    );
     Ok(())
 }
 
