@@ -45,9 +45,11 @@ changed f zero (x ∷ xs) = x ∷ xs
 changed f (suc zero) (x ∷ xs) = f x ∷ xs
 changed f (suc (suc n)) (x ∷ xs) = x ∷ changed f (suc n) xs
 
+-- a file with other bytes, one generation on
 abbrev pub set_bytes : List ℕ → File → File
 set_bytes c f = record { name = f.name; here = f.here; generation = suc f.generation; bytes = c }
 
+-- a file that was removed
 abbrev pub gone : File → File
 gone f = record { name = f.name; here = false; generation = f.generation; bytes = f.bytes }
 
@@ -58,6 +60,7 @@ files_after fs (Write s o b) = changed (λ f. set_bytes (written o b f.bytes) f)
 files_after fs (Cut s n) = changed (λ f. set_bytes (take n f.bytes) f) s fs
 files_after fs (Remove s) = changed gone s fs
 
+-- a file that was not removed
 abbrev pub if_here : Option File → Option File
 if_here None = None
 if_here (Some f) = if f.here then Some f else None
@@ -66,14 +69,16 @@ if_here (Some f) = if f.here then Some f else None
 abbrev pub file_of : List File → ℕ → Option File
 file_of fs s = if_here (numbered fs s)
 
--- the number of the stream under a name that is there, else 0
+-- a file that is there has this name
 abbrev pub has_name : List ℕ → File → Bool
 has_name name f = f.here && same_bytes f.name name
 
+-- the number of the present file of a name, counting from this one; 0 where there is none
 unfoldable pub number_from : ℕ → List ℕ → List File → ℕ
 number_from k name [] = 0
 number_from k name (f ∷ fs) = if has_name name f then k else number_from (suc k) name fs
 
+-- the number of the stream under a name that is there, else 0
 abbrev pub number_of : List ℕ → List File → ℕ
 number_of name fs = number_from 1 name fs
 

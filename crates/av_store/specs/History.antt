@@ -10,6 +10,7 @@ pub record StreamHistory : Type 0 where
   pub bytes : List ℕ
   pub earlier : List (List ℕ)
 
+-- a stream with a newer content
 abbrev pub add_content : List ℕ → StreamHistory → StreamHistory
 add_content c s = record { name = s.name; here = s.here; first = s.first; bytes = c; earlier = s.bytes ∷ s.earlier }
 
@@ -30,6 +31,7 @@ unfoldable pub content_of : ℕ → List (List ℕ) → ℕ → Option (List ℕ
 content_of first [] g = None
 content_of first (c ∷ cs) g = if g == generation_after first cs then Some c else content_of first cs g
 
+-- the content of a generation, and the present generation, of a stream that may not be there
 abbrev pub content_in : Option StreamHistory → ℕ → Option (List ℕ)
 content_in None g = None
 content_in (Some x) g = content_of x.first (x.bytes ∷ x.earlier) g

@@ -8,6 +8,7 @@ use Rattle.av_store.specs.Files.{Change, File, Create, Write, Cut, Remove, files
 use Rattle.av_store.specs.Rows.{Streams, stream_at, number_named}
 use Rattle.av_store.specs.Store.{Store, empty_store, create_of, write_of, cut_of, remove_of}
 
+-- a file as a stream of the volume
 abbrev pub stream_of : File → Stream
 stream_of f = record { name = f.name; generation = f.generation; bytes = f.bytes }
 
@@ -16,6 +17,7 @@ unfoldable pub seen_from : ℕ → List File → Streams
 seen_from k [] = []
 seen_from k (f ∷ fs) = if f.here then (k, stream_of f) ∷ seen_from (suc k) fs else seen_from (suc k) fs
 
+-- the files that are there, numbered from 1
 abbrev pub seen : List File → Streams
 seen fs = seen_from 1 fs
 
@@ -24,6 +26,7 @@ pub record Keeps (v : Store) (fs : List File) : Type 0 where
   pub streams : v.streams ≡ seen fs
   pub last : v.last ≡ length fs
 
+-- the volume alone of what a call gives
 abbrev pub volume_of : {A : Type 0} → Result (A × Store) StoreFault → Result Store StoreFault
 volume_of (Ok p) = Ok p.1
 volume_of (Err e) = Err e
@@ -35,10 +38,12 @@ change_of v (Write s o b) = write_of v s o b
 change_of v (Cut s n) = cut_of v s n
 change_of v (Remove s) = remove_of v s
 
+-- this value, where there is no fault
 abbrev pub unless : {A : Type 0} → Option StoreFault → A → Result A StoreFault
 unless None x = Ok x
 unless (Some e) x = Err e
 
+-- the volume after a change, or as it was where the change was refused
 abbrev pub kept_or : Store → Result Store StoreFault → Store
 kept_or v (Ok w) = w
 kept_or v (Err e) = v
@@ -48,6 +53,7 @@ unfoldable pub run_of : Store → List Change → Store
 run_of v [] = v
 run_of v (c ∷ cs) = run_of (kept_or v (change_of v c)) cs
 
+-- the files after a change, or as they were where it is refused
 abbrev pub files_or : List File → Option StoreFault → List File → List File
 files_or fs None gs = gs
 files_or fs (Some e) gs = fs

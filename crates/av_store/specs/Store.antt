@@ -18,6 +18,7 @@ pub record Store : Type 0 where
   pub limits : LimitValues
   pub streams : Streams
 
+-- the greatest number of eight bytes
 abbrev pub greatest : ℕ
 greatest = 2 ^ 64 - 1
 

@@ -1,4 +1,4 @@
-ghost use Rattle.std.specs.Prelude.{◌≡◌, ◌-◌, ◌<◌, ◌≤◌, None, IfNone, IfOk, length};
+ghost use Rattle.std.specs.Prelude.{◌≡◌, ◌-◌, ◌<◌, ◌≤◌, None, IfNone, IfOk, length, map};
 ghost use Rattle.std.specs.Option.{option_map, option_copied};
 ghost use Rattle.av_base.specs.Answers.{Answers, AnswersAtOnce, Steps, StepsAtOnce, Reads};
 ghost use Rattle.av_store.specs.Content.{fault_of};
@@ -150,6 +150,16 @@ impl Volume {
         table::remove(&mut self.rows, &mut self.names, id.get())
     }
 
+    /// The fault that `remove` would answer, where there is one. It takes no memory.
+    pub fn remove_refusal(&self, id: StreamId) -> Option<StoreFault>
+        ensures { result ≡ fault_of (remove_of self.now id) }
+    {
+        match self.rows.get(&id.get()) {
+            Some(_) => None,
+            None => Some(StoreFault::NoStream),
+        }
+    }
+
     /// A copy of the bytes that are there from `offset` on, at most `count`: NoStream, Hole where `offset` is past the
     /// end, NoMemory. It costs the bytes that it gives.
     pub fn read(
@@ -197,6 +207,23 @@ impl Volume {
     {
         let stream = self.rows.get(&id.get())?;
         Some(stream.bytes.len() as u64)
+    }
+
+    /// The stream that was created last, removed or not; 0 where none was. It takes no memory.
+    pub fn last_created(&self) -> StreamId
+        ensures { result ≡ self.now.last }
+    {
+        StreamId::new(self.last)
+    }
+
+    /// Each stream that is there with its present generation, in the order of their numbers. It costs their count.
+    pub fn generations(&self, alloc: Global) -> Result<Vec<(StreamId, Generation)>, AllocError>
+        ensures { IfOk result (λ all. all.items ≡ map (λ x. (x.0, x.1.generation)) self.now.streams) }
+    {
+        self.rows
+            .iter()
+            .map(|(number, stream)| (StreamId::new(*number), stream.generation))
+            .collect(alloc)
     }
 
     /// The next boot, counted from 1: BootSpent at 2^64 - 1. It takes no memory.
