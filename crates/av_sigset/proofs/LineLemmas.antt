@@ -1,4 +1,4 @@
-use Rattle.std.proofs.Common.{ℕ, ◌≡◌, true, false, cond, List, [], ◌∷◌, None, Err, refl, ap, nat_eq}
+use Rattle.std.proofs.Common.{ℕ, ◌≡◌, cond, List, ◌∷◌, None, Err, ap}
 use Rattle.av_base.specs.Line.{pieces_of}
 use Rattle.av_base.proofs.LineLemmas.{pieces_some}
 use Rattle.av_sigset.specs.Judge.{signature_of, version_of, is_name}

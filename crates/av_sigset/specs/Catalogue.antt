@@ -5,6 +5,7 @@ use Rattle.av_base.specs.declared.refusal.Refusal.{Refusal}
 use Rattle.av_base.specs.declared.refusal.Refusal.TheVariants.{Fault, NoMemory}
 use Rattle.av_base.specs.declared.refusal.Refused.{Refused}
 use Rattle.av_sigset.specs.Set.{NumberedSet}
+use Rattle.av_sigset.specs.declared.catalogue.TheConstants.{MAX_SETS}
 use Rattle.av_sigset.specs.declared.fault.CatalogueFault.{CatalogueFault}
 use Rattle.av_sigset.specs.declared.fault.CatalogueFault.TheVariants.{OldVersion, CatalogueFull}
 
@@ -34,7 +35,7 @@ IsFalling (s ∷ sets) = AllByRecursion (λ t. t.version < s.version) sets × Is
 
 -- whether a set of this version may be published
 abbrev pub may_publish : List NumberedSet → ℕ → Result (Unit {0}) CatalogueFault
-may_publish sets version = if nat_le version (latest sets) then Err OldVersion else if nat_le 4096 (length sets) then Err CatalogueFull else Ok tt
+may_publish sets version = if nat_le version (latest sets) then Err OldVersion else if nat_le MAX_SETS (length sets) then Err CatalogueFull else Ok tt
 
 -- a refused publication changes nothing; memory is refused only where none was reserved
 abbrev pub Refuses : Published → Published → Refusal CatalogueFault → Result (Unit {0}) CatalogueFault → Type 0
@@ -62,7 +63,7 @@ IsRising sets = (i j : ℕ) → i < j → j < length sets → version_at sets i 
 pub record IsKept (sets : List NumberedSet) : Type 0 where
   pub rising : IsRising sets
   pub falling : IsFalling (reverse sets)
-  pub count : length sets ≤ 4096
+  pub count : length sets ≤ MAX_SETS
 
 -- a place has this version, or none has
 abbrev pub IsPlaceOf : List NumberedSet → ℕ → Option ℕ → Type 0

@@ -7,6 +7,9 @@ use Rattle.av_base.specs.Line.{pieces_of}
 use Rattle.hex.specs.Hex.{decode_of}
 use Rattle.hex.specs.declared.error.FromHexError.{FromHexError}
 use Rattle.av_sigset.specs.Set.{NumberedSet, patterns_of, byte_count}
+use Rattle.av_sigset.specs.declared.line.TheConstants.{MAX_NAME}
+use Rattle.av_sigset.specs.declared.set.TheConstants.{MAX_BYTES, MAX_SIGNATURES}
+use Rattle.av_sigset.specs.declared.signature.TheConstants.{MAX_PATTERN}
 use Rattle.av_sigset.specs.declared.fault.SetFault.{SetFault}
 use Rattle.av_sigset.specs.declared.fault.SetFaultKind.{SetFaultKind}
 use Rattle.av_sigset.specs.declared.fault.SetFaultKind.TheVariants.{Header, Version, Name, Hex, Length, Duplicate, TooMany, Unended}
@@ -22,13 +25,13 @@ is_name_byte b = (nat_le 97 b && nat_le b 122) || (nat_le 65 b && nat_le b 90) |
 
 -- a name has 1 to 32 of these
 abbrev pub is_name : List ℕ → Bool
-is_name word = nat_le 1 (length word) && nat_le (length word) 32 && list_all is_name_byte word
+is_name word = nat_le 1 (length word) && nat_le (length word) MAX_NAME && list_all is_name_byte word
 
 -- the signature of a name and of bytes, where they may be a pattern
 abbrev pub signature_under : List ℕ → Result (List ℕ) FromHexError → Result Signature SetFaultKind
 signature_under name (Err e) = Err Hex
 signature_under name (Ok bytes) =
-    if nat_le 1 (length bytes) && nat_le (length bytes) 64 then Ok (record { name = name; pattern = record { bytes = bytes } }) else Err Length
+    if nat_le 1 (length bytes) && nat_le (length bytes) MAX_PATTERN then Ok (record { name = name; pattern = record { bytes = bytes } }) else Err Length
 
 -- the first of the words of a line
 abbrev pub first_of : List (List ℕ) → List ℕ
@@ -49,7 +52,7 @@ signature_of (name ∷ digits ∷ other ∷ rest) = if is_name name then Err Hex
 abbrev pub signatures_within : List Signature → Result Signature SetFaultKind → Result (List Signature) SetFaultKind
 signatures_within before (Err kind) = Err kind
 signatures_within before (Ok s) =
-    if nat_le 1024 (length before) || nat_lt 16384 (byte_count (patterns_of before) + length s.pattern.bytes) then Err TooMany
+    if nat_le MAX_SIGNATURES (length before) || nat_lt MAX_BYTES (byte_count (patterns_of before) + length s.pattern.bytes) then Err TooMany
     else Ok (before ++ s ∷ [])
 
 -- no name stands twice

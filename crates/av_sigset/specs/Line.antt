@@ -4,6 +4,8 @@ use Rattle.av_base.specs.declared.refusal.Refusal.TheVariants.{Fault, NoMemory}
 use Rattle.hex.specs.Hex.{decode_of}
 use Rattle.av_sigset.specs.Judge.{signatures_with}
 use Rattle.av_sigset.specs.Set.{patterns_of, byte_count}
+use Rattle.av_sigset.specs.declared.set.TheConstants.{MAX_BYTES, MAX_SIGNATURES}
+use Rattle.av_sigset.specs.declared.signature.TheConstants.{MAX_PATTERN}
 use Rattle.av_sigset.specs.declared.fault.SetFaultKind.{SetFaultKind}
 use Rattle.av_sigset.specs.declared.signature.Signature.{Signature}
 
@@ -12,7 +14,7 @@ pub record SpellsPattern (digits : List ℕ) : Type 0 where
   pub bytes : List ℕ
   pub decoded : decode_of digits ≡ Ok bytes
   pub low : 1 ≤ length bytes
-  pub high : length bytes ≤ 64
+  pub high : length bytes ≤ MAX_PATTERN
   pub twice : length digits ≡ 2 * length bytes
 
 -- a name and such digits make this signature
@@ -23,8 +25,8 @@ pub record AreWordsOf (name digits : List ℕ) (signature : Result Signature Set
 -- a line's signature may stand behind these
 pub record JoinsAs (before : List Signature) (name digits : List ℕ) (signature : Result Signature SetFaultKind) : Type 0 where
   pub spells : SpellsPattern digits
-  pub few : length before < 1024
-  pub short : byte_count (patterns_of before) + length spells.bytes ≤ 16384
+  pub few : length before < MAX_SIGNATURES
+  pub short : byte_count (patterns_of before) + length spells.bytes ≤ MAX_BYTES
   pub joined : signatures_with before signature ≡ Ok (before ++ record { name = name; pattern = record { bytes = spells.bytes } } ∷ [])
 
 -- a call stops at the fault that is wanted, or for memory where none is

@@ -2,6 +2,8 @@
 use Rattle.std.specs.Prelude.{ℕ, ◌+◌, ◌==◌, ◌||◌, nat_le, nat_lt, ◌∷◌, [], ◌++◌, List, length, codes, decimal, Option, None, Some, Result, Ok, Err, if◌then◌else◌}
 use Rattle.av_sigset.specs.Judge.{bad_line}
 use Rattle.av_sigset.specs.Set.{NumberedSet}
+use Rattle.av_sigset.specs.declared.set.TheConstants.{MAX_BYTES, MAX_SIGNATURES}
+use Rattle.av_sigset.specs.declared.signature.TheConstants.{MAX_PATTERN}
 use Rattle.av_sigset.specs.declared.fault.SetFault.{SetFault}
 use Rattle.av_sigset.specs.declared.fault.SetFaultKind.TheVariants.{Version, Length, TooMany}
 use Rattle.av_sigset.specs.declared.signature.Signature.{Signature}
@@ -19,8 +21,8 @@ serial_signatures i (p ∷ patterns) = serial_signature i p ∷ serial_signature
 unfoldable pub fault_in : ℕ → ℕ → List (List ℕ) → Option SetFault
 fault_in count bytes [] = None
 fault_in count bytes (p ∷ patterns) =
-    if length p == 0 || nat_lt 64 (length p) then Some (record { line = count + 3; kind = Length })
-    else if nat_le 1024 count || nat_lt 16384 (bytes + length p) then Some (record { line = count + 3; kind = TooMany })
+    if length p == 0 || nat_lt MAX_PATTERN (length p) then Some (record { line = count + 3; kind = Length })
+    else if nat_le MAX_SIGNATURES count || nat_lt MAX_BYTES (bytes + length p) then Some (record { line = count + 3; kind = TooMany })
     else fault_in (count + 1) (bytes + length p) patterns
 
 -- a fault, or this set

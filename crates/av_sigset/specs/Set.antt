@@ -1,5 +1,7 @@
 use Rattle.std.specs.Prelude.{ℕ, ◌≤◌, List, length, map, sum_by}
 use Rattle.std.specs.List.{AllByRecursion}
+use Rattle.av_sigset.specs.declared.set.TheConstants.{MAX_BYTES, MAX_SIGNATURES}
+use Rattle.av_sigset.specs.declared.signature.TheConstants.{MAX_PATTERN}
 use Rattle.av_sigset.specs.declared.signature.Pattern.{Pattern}
 use Rattle.av_sigset.specs.declared.signature.Signature.{Signature}
 
@@ -14,7 +16,7 @@ patterns_of signatures = map (λ s. s.pattern) signatures
 
 -- a pattern has 1 to 64 bytes
 abbrev pub HasRightLength : Pattern → Type 0
-HasRightLength p = (1 ≤ length p.bytes) × (length p.bytes ≤ 64)
+HasRightLength p = (1 ≤ length p.bytes) × (length p.bytes ≤ MAX_PATTERN)
 
 -- the bytes of all patterns
 abbrev pub byte_count : List Pattern → ℕ
@@ -22,9 +24,9 @@ byte_count patterns = sum_by (λ p. length p.bytes) patterns
 
 -- at most 1,024 patterns, each of 1 to 64 bytes, of at most 16,384 bytes in all
 pub record AreInRange (patterns : List Pattern) : Type 0 where
-  pub count : length patterns ≤ 1024
+  pub count : length patterns ≤ MAX_SIGNATURES
   pub lengths : AllByRecursion HasRightLength patterns
-  pub bytes : byte_count patterns ≤ 16384
+  pub bytes : byte_count patterns ≤ MAX_BYTES
 
 -- a set has a version from 1 on, and patterns in their ranges
 pub record IsSet (s : NumberedSet) : Type 0 where

@@ -10,7 +10,8 @@ use av_base::refusal::{Refusal, Refused};
 use std::alloc::Global;
 use std::marker::Model;
 
-const GREATEST_COUNT: usize = 4096;
+/// The most sets of a catalogue.
+pub const MAX_SETS: usize = 4_096;
 
 /// The sets that were published, each under a version above those before it; 4,096 of them at most.
 #[derive(Debug, Drop)]
@@ -108,7 +109,7 @@ impl Catalogue {
     /// How many sets were published.
     pub fn len(&self) -> usize
         ensures len { result ≡ length self.now.sets }
-        ensures most { result ≤ 4096 }
+        ensures most { result ≤ MAX_SETS }
         ensures falling { IsFalling self.now.sets }
     {
         self.sets.len()
@@ -126,7 +127,7 @@ fn refusal_of(sets: &[SignatureSet], version: Version) -> Option<CatalogueFault>
     if version.get() <= latest {
         return Some(CatalogueFault::OldVersion);
     }
-    if sets.len() >= GREATEST_COUNT {
+    if sets.len() >= MAX_SETS {
         return Some(CatalogueFault::CatalogueFull);
     }
     None

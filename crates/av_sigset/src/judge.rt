@@ -7,6 +7,7 @@ ghost use Rattle.av_sigset.specs.Judge.{signatures_from, first_word};
 
 use crate::fault::{SetFault, SetFaultKind, bad_line};
 use crate::line::{SPACE, words_of};
+use crate::set::{MAX_BYTES, MAX_SIGNATURES};
 use av_base::line::{LF, first_piece};
 
 /// The first bad one of these lines. Looks for a name in each line above it, so it serves where memory is refused.
@@ -29,7 +30,7 @@ pub fn fault_in(lines: &[u8]) -> Option<SetFault>
         if begins_one_of(lines, count, words.name) {
             return Some(bad_line(number, SetFaultKind::Duplicate));
         }
-        if count >= 1024 || total + words.digits.len() / 2 > 16384 {
+        if count >= MAX_SIGNATURES || total + words.digits.len() / 2 > MAX_BYTES {
             return Some(bad_line(number, SetFaultKind::TooMany));
         }
         total += words.digits.len() / 2;

@@ -82,11 +82,14 @@ pub fn version_of(line: &[u8]) -> Option<u64>
     Some(version)
 }
 
+// The most bytes of a signature's name.
+pub const MAX_NAME: usize = 32;
+
 // Whether a word is 1 to 32 letters, digits, `.`, `_` or `-`.
 fn is_name(word: &[u8]) -> bool
     ensures { result ≡ is_name word.now }
 {
-    !word.is_empty() && word.len() <= 32 && are_name_bytes(word)
+    !word.is_empty() && word.len() <= MAX_NAME && are_name_bytes(word)
 }
 
 fn are_name_bytes(word: &[u8]) -> bool

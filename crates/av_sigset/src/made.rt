@@ -3,7 +3,8 @@ ghost use Rattle.std.specs.Prelude.{◌≡◌, ◌++◌, ◌∷◌, length, map,
 ghost use Rattle.av_sigset.specs.Made.{fault_in, serial_signatures, serial_signature};
 
 use crate::fault::{SetFault, SetFaultKind, bad_line};
-use crate::signature::{Pattern, Signature};
+use crate::set::{MAX_BYTES, MAX_SIGNATURES};
+use crate::signature::{MAX_PATTERN, Pattern, Signature};
 use av_base::byte_list::ByteList;
 use itoa::Buffer;
 use std::alloc::{AllocError, Global};
@@ -18,10 +19,10 @@ pub fn fault_in<P: AsSlice<u8>>(patterns: &[P]) -> Option<SetFault>
     for index in 0..patterns.len() {
         let length = patterns[index].as_slice().len();
         let line = index as u64 + 3;
-        if length == 0 || length > 64 {
+        if length == 0 || length > MAX_PATTERN {
             return Some(bad_line(line, SetFaultKind::Length));
         }
-        if index >= 1024 || bytes + length > 16384 {
+        if index >= MAX_SIGNATURES || bytes + length > MAX_BYTES {
             return Some(bad_line(line, SetFaultKind::TooMany));
         }
         bytes += length;

@@ -11,6 +11,7 @@ ghost use Rattle.av_sigset.specs.Set.{AreInRange, patterns_of, byte_count};
 use crate::fault::{SetFault, SetFaultKind, bad_line};
 use crate::judge::fault_in;
 use crate::line::{Words, version_of, words_of};
+use crate::set::{MAX_BYTES, MAX_SIGNATURES};
 use crate::signature::{Pattern, Signature};
 use av_base::byte_list::ByteList;
 use av_base::line::{LF, first_piece};
@@ -90,7 +91,7 @@ fn words_behind<'a>(
     line: &'a [u8],
 ) -> Result<Words<'a>, SetFaultKind>
     requires total { total ≡ byte_count (patterns_of signatures.now) }
-    requires within { total ≤ 16384 }
+    requires within { total ≤ MAX_BYTES }
     ensures words { IfOk result (λ w. JoinsAs signatures.now w.name.now w.digits.now (signature_of (pieces_of 32 line.now))) }
     ensures fault { IfErr result (λ kind. signatures_with signatures.now (signature_of (pieces_of 32 line.now)) ≡ Err kind) }
 {
@@ -101,7 +102,7 @@ fn words_behind<'a>(
     if stands_in(signatures, words.name) {
         return Err(SetFaultKind::Duplicate);
     }
-    if signatures.len() >= 1024 || total + words.digits.len() / 2 > 16384 {
+    if signatures.len() >= MAX_SIGNATURES || total + words.digits.len() / 2 > MAX_BYTES {
         return Err(SetFaultKind::TooMany);
     }
     Ok(words)

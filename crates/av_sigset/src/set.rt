@@ -15,6 +15,12 @@ use std::alloc::Global;
 use std::convert::AsSlice;
 use std::marker::Model;
 
+/// The most signatures of a set.
+pub const MAX_SIGNATURES: usize = 1_024;
+
+/// The most bytes of all patterns of a set.
+pub const MAX_BYTES: usize = 16_384;
+
 /// Signatures under a version: at most 1,024 patterns of 1 to 64 bytes, 16,384 bytes in all. A version is 1 or more.
 #[derive(Debug, Drop)]
 pub struct SignatureSet {

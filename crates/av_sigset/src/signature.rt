@@ -1,7 +1,10 @@
 use av_base::byte_list::ByteList;
 use std::convert::AsSlice;
 
-/// What a signature looks for: these bytes, 1 to 64 of them, one behind the other.
+/// The most bytes of a pattern.
+pub const MAX_PATTERN: usize = 64;
+
+/// What a signature looks for: these bytes, 1 to `MAX_PATTERN` of them, one behind the other.
 #[derive(Clone, Debug, Drop)]
 pub struct Pattern {
     pub bytes: ByteList,

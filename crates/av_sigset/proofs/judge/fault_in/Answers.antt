@@ -4,7 +4,7 @@ use Rattle.av_base.specs.Line.{rest_of}
 use Rattle.av_sigset.proofs.JudgeLemmas.{all_judged, unended, wordless, repeated, crowded, one_judged}
 use Rattle.av_sigset.proofs.ReadLemmas.{empty_of, some_of}
 use Rattle.av_sigset.proofs.judge.fault_in.Goals as goal
-use Rattle.av_sigset.proofs.judge.fault_in.Goals.{then-count-ge1024-via-then-count-ge1024, then-count-ge1024-via-else-count-ge1024+then-total-words-gt16384}
+use Rattle.av_sigset.proofs.judge.fault_in.Goals.{then-count-ge-MAX_SIGNATURES-via-then-count-ge-MAX_SIGNATURES, then-count-ge-MAX_SIGNATURES-via-else-count-ge-MAX_SIGNATURES+then-total-words-gt-MAX_BYTES}
 
 pub overflow_add-number : goal.overflow_add-number
 overflow_add-number c = omega (arith, c.lines.invariant.few)
@@ -24,13 +24,13 @@ returns-then-begins_one_of c =
     repeated _ _ _ _ c.lines.invariant c.first_piece.result.0.now c.in-Some.below.now (c.first_piece.ensures.pieces ∙ ap (λ o. c.first_piece.result.0.now ∷ rest_of 10 (option_copied o)) c.in-Some.is)
     c.in-Ok.words.name.now c.in-Ok.words.digits.now c.in-Ok.ensures.words (sym c.begins_one_of.ensures ∙ c.if-begins_one_of.true) ∙ search rules
 
-pub returns-then-count-ge1024 : goal.returns-then-count-ge1024
-returns-then-count-ge1024 c =
+pub returns-then-count-ge-MAX_SIGNATURES : goal.returns-then-count-ge-MAX_SIGNATURES
+returns-then-count-ge-MAX_SIGNATURES c =
     let crowd = crowded _ _ _ _ c.lines.invariant c.first_piece.result.0.now c.in-Some.below.now (c.first_piece.ensures.pieces ∙ ap (λ o. c.first_piece.result.0.now ∷ rest_of 10 (option_copied o)) c.in-Some.is)
     c.in-Ok.words.name.now c.in-Ok.words.digits.now c.in-Ok.ensures.words (sym c.begins_one_of.ensures ∙ c.if-begins_one_of.false) in
-    elim c.then-count-ge1024.branch [
-      | then-count-ge1024-via-then-count-ge1024 w ↦ crowd (inl (omega arith)) ∙ search rules
-      | then-count-ge1024-via-else-count-ge1024+then-total-words-gt16384 w ↦ crowd (inr (omega arith)) ∙ search rules
+    elim c.then-count-ge-MAX_SIGNATURES.branch [
+      | then-count-ge-MAX_SIGNATURES-via-then-count-ge-MAX_SIGNATURES w ↦ crowd (inl (omega arith)) ∙ search rules
+      | then-count-ge-MAX_SIGNATURES-via-else-count-ge-MAX_SIGNATURES+then-total-words-gt-MAX_BYTES w ↦ crowd (inr (omega arith)) ∙ search rules
     ]
 
 pub lines-preserved : goal.lines-preserved
