@@ -49,6 +49,19 @@ fn an_entry_that_was_looked_at_outlives_one_that_was_not(rt: HostRuntime) -> Res
     Ok(())
 }
 
+#[test]
+fn all_entries_are_given_the_most_recent_first(rt: HostRuntime) -> Result<(), Fail> {
+    let mut cache = VerdictCache::new(rt.alloc(), 2)?;
+    put(&mut cache, clean(1, 1, 1))?;
+    put(&mut cache, clean(2, 1, 1))?;
+    let entries = cache.entries(rt.alloc())?;
+    assert_eq!(rt;
+        entries.as_slice(),
+        [clean(2, 1, 1), clean(1, 1, 1)].as_slice()
+    );
+    Ok(())
+}
+
 // A cache as a plain list, most recent first.
 fn plain_look(list: &mut Vec<Entry>, wanted: Entry) -> Result<Option<Verdict>, AllocError> {
     let Some(place) = list.iter().position(|entry| same_key(entry, &wanted)) else {

@@ -43,6 +43,7 @@ abbrev pub changed : {X : Type 0} → (X → Option X) → List (ℕ × X) → �
 changed f m k None = m
 changed f m k (Some x) = set_at m k (f x)
 
+-- one element of a map changed or taken out
 abbrev pub change : {X : Type 0} → (X → Option X) → List (ℕ × X) → ℕ → List (ℕ × X)
 change f m k = changed f m k (at m k)
 

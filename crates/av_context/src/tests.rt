@@ -301,39 +301,79 @@ fn a_thousand_calls_keep_step_with_plain_counts(rt: HostRuntime) -> Result<(), F
 }
 
 #[test]
-fn refused_or_not_a_context_is_attached(rt: HostRuntime) -> Result<(), Fail> {
-    let alloc = rt.alloc();
-    let stream = StreamId::new(5);
-    let mut table = ContextTable::new(alloc);
-    may_refuse(alloc);
-    let allocated = table.allocate(ContextState::Modified);
-    refuse_no_more(alloc);
-    let context = match allocated {
+fn refused_or_not_a_context_is_allocated(rt: HostRuntime) -> Result<(), Fail> {
+    let mut table = ContextTable::new(rt.alloc());
+    may_refuse(rt.alloc());
+    let first = table.allocate(ContextState::Modified);
+    refuse_no_more(rt.alloc());
+    let context = match first {
         Ok(context) => context,
         Err(_) => {
             assert_eq!(rt; table.len(), 0);
             allocate(&rt, &mut table, ContextState::Modified)
         }
     };
+    release(&rt, &mut table, context);
+    assert_eq!(rt; table.len(), 0);
+    Ok(())
+}
+
+#[test]
+fn refused_or_not_a_context_is_attached(rt: HostRuntime) -> Result<(), Fail> {
+    let mut table = ContextTable::new(rt.alloc());
+    let context = allocate(&rt, &mut table, ContextState::Modified);
     assert!(rt; table.holds(&context));
-    may_refuse(alloc);
-    let kept = table.set_keep(stream, &context);
-    refuse_no_more(alloc);
-    match kept {
+    may_refuse(rt.alloc());
+    let first = table.set_keep(StreamId::new(5), &context);
+    refuse_no_more(rt.alloc());
+    match first {
         Ok(Set::Attached) => {}
         Ok(Set::AlreadyDefined(_defined)) => panic!(rt; "the stream had a context"),
         Err(_) => {
-            assert_eq!(rt; table.state_of(stream), None);
-            assert_eq!(rt; references(&rt, &table, &context), 1);
+            assert_unattached(&rt, &table, &context);
             match set_keep(&rt, &mut table, 5, &context) {
                 None => {}
                 Some(_defined) => panic!(rt; "the stream had a context"),
             }
         }
     }
-    assert_eq!(rt; references(&rt, &table, &context), 2);
-    assert_eq!(rt; table.delete(stream), Ok(()));
-    release(&rt, &mut table, context);
-    assert_eq!(rt; table.len(), 0);
+    end_attached(&rt, table, context);
     Ok(())
+}
+
+#[test]
+fn refused_or_not_a_context_replaces_none(rt: HostRuntime) -> Result<(), Fail> {
+    let mut table = ContextTable::new(rt.alloc());
+    let context = allocate(&rt, &mut table, ContextState::Modified);
+    assert!(rt; table.holds(&context));
+    may_refuse(rt.alloc());
+    let first = table.set_replace(StreamId::new(5), &context);
+    refuse_no_more(rt.alloc());
+    match first {
+        Ok(None) => {}
+        Ok(Some(_replaced)) => panic!(rt; "the stream had a context"),
+        Err(_) => {
+            assert_unattached(&rt, &table, &context);
+            match set_replace(&rt, &mut table, 5, &context) {
+                None => {}
+                Some(_replaced) => panic!(rt; "the stream had a context"),
+            }
+        }
+    }
+    end_attached(&rt, table, context);
+    Ok(())
+}
+
+// The stream 5 has no context, and this one has the reference that is out alone.
+fn assert_unattached(rt: &impl Abort, table: &ContextTable, context: &ContextRef) {
+    assert!(rt; table.state_of(StreamId::new(5)).is_none());
+    assert!(rt; references(rt, table, context) == 1);
+}
+
+// A context that is attached to the stream 5 alone, and a reference to it: both go, and the context with them.
+fn end_attached(rt: &impl Abort, mut table: ContextTable, context: ContextRef) {
+    assert!(rt; references(rt, &table, &context) == 2);
+    assert!(rt; table.delete(StreamId::new(5)) == Ok(()));
+    release(rt, &mut table, context);
+    assert!(rt; table.len() == 0);
 }

@@ -1,6 +1,7 @@
 use Rattle.std.specs.Prelude.{ℕ, ◌≡◌, ◌+◌, ◌==◌, ◌||◌, Bool, true, false, List, ◌++◌, length, take, drop, Option, None, Some, Result, Ok, Err, nat_lt, if◌then◌else◌}
 use Rattle.av_base.specs.declared.refusal.Refusal.{Refusal}
 use Rattle.av_base.specs.declared.refusal.Refusal.TheVariants.{Fault, NoMemory}
+use Rattle.av_frame.specs.declared.decode.TheConstants.{MAX_BODY}
 use Rattle.av_frame.specs.declared.fault.FrameFault.{FrameFault}
 use Rattle.av_frame.specs.declared.fault.FrameFault.TheVariants.{Length}
 use Rattle.av_frame.specs.declared.fault.FeedFault.{FeedFault}
@@ -21,11 +22,11 @@ with_size size (Ok m) = Ok (Some (m, size))
 with_size size (Err f) = Err f
 
 -- what stands at the front: a message, nothing as long as its frame isn't whole, or a fault. A length of 0 or of more
--- than 4,121 is a fault as soon as its four bytes are there, every other fault is one once the whole body is.
+-- than a body has at most is a fault as soon as its four bytes are there, every other fault is one once the whole body is.
 unfoldable pub front_of : List ℕ → Result (Option (Body × ℕ)) FrameFault
 front_of rest =
     if nat_lt (length rest) 4 then Ok None else
-    (if number4 rest 0 == 0 || nat_lt 4121 (number4 rest 0) then Err Length else
+    (if number4 rest 0 == 0 || nat_lt MAX_BODY (number4 rest 0) then Err Length else
     (if nat_lt (length rest) (4 + number4 rest 0) then Ok None else
     with_size (4 + number4 rest 0) (decoded (take (number4 rest 0) (drop 4 rest)))))
 

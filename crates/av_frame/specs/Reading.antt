@@ -4,6 +4,7 @@ use Rattle.av_base.specs.declared.message_id.MessageId.{MessageId}
 use Rattle.av_base.specs.declared.verdict.Verdict.TheVariants.{Clean, Infected}
 use Rattle.av_frame.specs.declared.cause.NoChunkCause.{NoChunkCause}
 use Rattle.av_frame.specs.declared.cause.FailCause.{FailCause}
+use Rattle.av_frame.specs.declared.decode.TheConstants.{MAX_BODY}
 use Rattle.av_frame.specs.declared.fault.FrameFault.{FrameFault}
 use Rattle.av_frame.specs.declared.fault.FrameFault.TheVariants as fault
 use Rattle.av_frame.specs.declared.outcome.Outcome.TheVariants.{Judged, Failed}
@@ -34,6 +35,7 @@ scan_of body =
 unfoldable pub chunk_of : List ℕ → Result Body FrameFault
 chunk_of body = if nat_le 26 (length body) then checked (Chunk (id_at body) (number8 body 17) (drop 25 body)) else Err fault.Shape
 
+-- a NoChunk with a cause that its number names, or Range
 abbrev pub no_chunk_with : MessageId → ℕ → Option NoChunkCause → Result Body FrameFault
 no_chunk_with id offset None = Err fault.Range
 no_chunk_with id offset (Some cause) = checked (NoChunk id offset cause)
@@ -58,6 +60,7 @@ unfoldable pub infected_of : List ℕ → Result Body FrameFault
 infected_of body =
     if length body == 38 then checked (Reply (id_at body) (Judged (number8 body 18) (Infected (number4 body 26) (number8 body 30)))) else Err fault.Shape
 
+-- a failed reply with a cause that its number names, or Range
 abbrev pub failed_with : MessageId → Option FailCause → Result Body FrameFault
 failed_with id None = Err fault.Range
 failed_with id (Some cause) = checked (Reply id (Failed cause))
@@ -90,7 +93,7 @@ plain_of body =
 -- the message of a body, or the fault
 unfoldable pub decoded : List ℕ → Result Body FrameFault
 decoded body =
-    if length body == 0 || nat_lt 4121 (length body) then Err fault.Length else
+    if length body == 0 || nat_lt MAX_BODY (length body) then Err fault.Length else
     (if slice_index body 0 == 2 then chunk_of body else plain_of body)
 
 -- how many bytes a body of each kind has; a reply has those up to its status
@@ -112,7 +115,7 @@ fits_status status size =
 -- What is wrong with bytes that spell no message: the first that applies.
 abbrev pub fault_by : (size kind status : ℕ) → FrameFault
 fault_by size kind status =
-    if size == 0 || nat_lt 4121 size then fault.Length else
+    if size == 0 || nat_lt MAX_BODY size then fault.Length else
     (if kind == 0 || nat_lt 8 kind then fault.Kind else
     (if not (fits_kind kind size) then fault.Shape else
     (if kind == 7 && nat_lt 2 status then fault.Range else

@@ -11,14 +11,15 @@ use crate::fields::{u32_at, u64_at};
 use crate::message::{Body, Message, is_chunk};
 use crate::outcome::Outcome;
 use av_base::byte_list::ByteList;
+use av_base::limits::MAX_CHUNK;
 use av_base::message_id::MessageId;
 use av_base::number::{Generation, StreamId, Version};
 use av_base::refusal::Refusal;
 use av_base::verdict::Verdict;
 use std::alloc::Global;
 
-/// The most bytes of a body.
-pub const MAX_BODY: usize = 4_121;
+/// The most bytes of a body: those of a chunk's kind, question and offset, and the chunk's.
+pub const MAX_BODY: usize = 25 + MAX_CHUNK as usize;
 
 /// The message that a body spells, all of its bytes, or the first fault. A chunk's bytes are copied once; no other
 /// message takes memory.

@@ -1,11 +1,14 @@
-ghost use Rattle.std.specs.Prelude.{◌≡◌, ◌+◌, ◌≤◌, ◌++◌, OnOk, OnErr, vec_len, vec_capacity};
+ghost use Rattle.std.specs.Prelude.{◌≡◌, ◌+◌, ◌≤◌, ◌++◌, ◌∷◌, OnOk, OnErr, vec_len, vec_capacity};
 ghost use Rattle.av_frame.specs.Message.{IsInRange};
-ghost use Rattle.av_frame.specs.Spelling.{frame, id_fields, outcome_fields, outcome_size, size_of, spelling};
+ghost use Rattle.av_frame.specs.declared.message.Body.TheVariants.{Scan};
+ghost use Rattle.av_frame.specs.Spelling.{field8, frame, id_fields, outcome_fields, outcome_size, size_of, spelling};
 
+use crate::decode::MAX_BODY;
 use crate::fields::{put1, put4, put8};
 use crate::message::{Body, Message};
 use crate::outcome::Outcome;
 use av_base::message_id::MessageId;
+use av_base::number::{Generation, StreamId};
 use av_base::verdict::Verdict;
 use std::alloc::AllocError;
 
@@ -27,7 +30,7 @@ pub fn encode_into(message: &Message, out: &mut Vec<u8>) -> Result<(), AllocErro
 fn size(body: &Body) -> usize
     requires { IsInRange body.now }
     ensures size { result ≡ size_of body.now }
-    ensures small { result ≤ 4121 }
+    ensures small { result ≤ MAX_BODY }
 {
     match body {
         Body::Scan { .. } => 41,
@@ -63,43 +66,27 @@ fn put_body(out: &mut Vec<u8>, body: &Body)
             stream,
             generation,
             length,
-        } => {
-            put1(out, 1);
-            put_id(out, *id);
-            put8(out, stream.get());
-            put8(out, generation.get());
-            put8(out, *length);
-        }
+        } => put_scan(out, *id, *stream, *generation, *length),
         Body::Chunk { id, offset, bytes } => {
-            put1(out, 2);
-            put_id(out, *id);
-            put8(out, *offset);
+            put_place(out, 2, *id, *offset);
             out.extend_from_slice(bytes.as_slice()).unwrap();
         }
         Body::NoChunk { id, offset, cause } => {
-            put1(out, 3);
-            put_id(out, *id);
-            put8(out, *offset);
+            put_place(out, 3, *id, *offset);
             put1(out, cause.number());
         }
-        Body::Abort { id } => {
-            put1(out, 4);
-            put_id(out, *id);
-        }
+        Body::Abort { id } => put_head(out, 4, *id),
         Body::Hello { volume, version } => {
             put1(out, 5);
             put8(out, *volume);
             put8(out, version.get());
         }
         Body::Read { id, offset, count } => {
-            put1(out, 6);
-            put_id(out, *id);
-            put8(out, *offset);
+            put_place(out, 6, *id, *offset);
             put4(out, *count);
         }
         Body::Reply { id, outcome } => {
-            put1(out, 7);
-            put_id(out, *id);
+            put_head(out, 7, *id);
             put_outcome(out, *outcome);
         }
         Body::Updated { version } => {
@@ -109,12 +96,35 @@ fn put_body(out: &mut Vec<u8>, body: &Body)
     }
 }
 
-fn put_id(out: &mut Vec<u8>, id: MessageId)
-    requires { vec_len out.old + 16 ≤ vec_capacity out.old }
-    ensures bytes { out.new.items ≡ out.old.items ++ id_fields id }
-    ensures len { vec_len out.new ≡ vec_len out.old + 16 }
+fn put_scan(out: &mut Vec<u8>, id: MessageId, stream: StreamId, generation: Generation, length: u64)
+    requires { vec_len out.old + 41 ≤ vec_capacity out.old }
+    ensures { out.new.items ≡ out.old.items ++ spelling (Scan id stream generation length) }
+{
+    put_head(out, 1, id);
+    put8(out, stream.get());
+    put8(out, generation.get());
+    put8(out, length);
+}
+
+// A kind, a question's id, and a place in its content.
+fn put_place(out: &mut Vec<u8>, kind: u8, id: MessageId, offset: u64)
+    requires { vec_len out.old + 25 ≤ vec_capacity out.old }
+    ensures bytes { out.new.items ≡ out.old.items ++ kind ∷ (id_fields id ++ field8 offset) }
+    ensures len { vec_len out.new ≡ vec_len out.old + 25 }
     ensures capacity { vec_capacity out.old ≤ vec_capacity out.new }
 {
+    put_head(out, kind, id);
+    put8(out, offset);
+}
+
+// A kind and a question's id.
+fn put_head(out: &mut Vec<u8>, kind: u8, id: MessageId)
+    requires { vec_len out.old + 17 ≤ vec_capacity out.old }
+    ensures bytes { out.new.items ≡ out.old.items ++ kind ∷ id_fields id }
+    ensures len { vec_len out.new ≡ vec_len out.old + 17 }
+    ensures capacity { vec_capacity out.old ≤ vec_capacity out.new }
+{
+    put1(out, kind);
     put8(out, id.boot);
     put8(out, id.seq);
 }

@@ -112,12 +112,16 @@ mod tests {
         let mut feed = Feed::new(rt.alloc());
         feed.push(&frame[..7])?;
         for _ in 0..10_000u32 {
-            feed.push(&frame[7..])?;
-            feed.push(&frame[..7])?;
-            assert!(rt; feed.next()?.is_some());
-            assert!(rt; feed.next()?.is_none());
+            assert!(rt; gives_one(&mut feed, &frame[7..], &frame[..7])?);
         }
         assert!(rt; feed.rest.capacity() < 1_000);
         Ok(())
+    }
+
+    // Whether one message comes where a frame ends and the next one begins.
+    fn gives_one(feed: &mut Feed, rest: &[u8], front: &[u8]) -> Result<bool, Fail> {
+        feed.push(rest)?;
+        feed.push(front)?;
+        Ok(feed.next()?.is_some() && feed.next()?.is_none())
     }
 }

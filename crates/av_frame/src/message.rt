@@ -88,8 +88,8 @@ impl Message {
     pub fn scan(id: MessageId, stream: StreamId, generation: Generation, length: u64) -> Message
         requires id { IsId id }
         requires stream { 1 ≤ stream }
-        requires generation { (1 ≤ generation) × (generation ≤ 281474976710655) }
-        requires length { length ≤ 1048576 }
+        requires generation { (1 ≤ generation) × (generation ≤ MAX_GENERATION) }
+        requires length { length ≤ MAX_LENGTH }
         ensures { result ≡ Scan id stream generation length }
     {
         let stream = StreamId::new(stream.get());
@@ -113,7 +113,7 @@ impl Message {
     /// No content comes from that offset.
     pub fn no_chunk(id: MessageId, offset: u64, cause: NoChunkCause) -> Message
         requires id { IsId id }
-        requires offset { offset ≤ 1048576 }
+        requires offset { offset ≤ MAX_LENGTH }
         ensures { result ≡ NoChunk id offset cause }
     {
         Message::new(Body::NoChunk { id, offset, cause })
@@ -139,8 +139,8 @@ impl Message {
     /// Send that content.
     pub fn read(id: MessageId, offset: u64, count: u32) -> Message
         requires id { IsId id }
-        requires offset { offset ≤ 1048576 }
-        requires count { (1 ≤ count) × (count ≤ 4096) }
+        requires offset { offset ≤ MAX_LENGTH }
+        requires count { (1 ≤ count) × (count ≤ MAX_CHUNK) }
         ensures { result ≡ Read id offset count }
     {
         Message::new(Body::Read { id, offset, count })

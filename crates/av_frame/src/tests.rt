@@ -1,4 +1,5 @@
 mod bodies;
+mod text;
 
 use crate::cause::{FailCause, NoChunkCause};
 use crate::decode::decode;
@@ -6,236 +7,120 @@ use crate::encode::encode_into;
 use crate::fault::FeedFault;
 use crate::feed::Feed;
 use crate::frames::read_frames;
-use crate::message::{Body, Message};
+use crate::message::Message;
 use crate::outcome::Outcome;
+use crate::tests::bodies::BODIES;
+use crate::tests::text::{bytes_of, decoded_words, framed, next_words, words};
 use av_base::byte_list::ByteList;
 use av_base::message_id::MessageId;
 use av_base::number::{Generation, StreamId, Version};
 use av_base::refusal::Refusal;
 use av_base::verdict::Verdict;
 use av_fakes::{may_refuse, refuse_no_more};
-use bodies::BODIES;
 use std::alloc::Global;
 use std::test::Fail;
 
-// The bytes that a text of the tables stands for.
-fn bytes_of(alloc: Global, text: &str) -> Result<Vec<u8>, Fail> {
-    let mut bytes = Vec::new(alloc);
-    for word in text.split(' ') {
-        if let Some((_, rest)) = word.split_once('[') {
-            let (number, _) = rest.split_once(']').ok_or("a number ends with ]")?;
-            bytes.extend_from_slice(&number.parse::<u64>()?.to_be_bytes())?;
-        } else if let Some((byte, count)) = word.split_once('*') {
-            for _ in 0..count.parse::<u64>()? {
-                put_digits(&mut bytes, byte)?;
-            }
-        } else {
-            put_digits(&mut bytes, word)?;
-        }
-    }
-    Ok(bytes)
-}
-
-fn put_digits(bytes: &mut Vec<u8>, word: &str) -> Result<(), Fail> {
-    let mut high = None;
-    for b in word.as_bytes() {
-        let digit = match *b {
-            b'0'..=b'9' => *b - b'0',
-            b'a'..=b'f' => *b - b'a' + 10,
-            _ => return Err("no hexadecimal digit".into()),
-        };
-        match high {
-            None => high = Some(digit),
-            Some(first) => {
-                bytes.push(first.wrapping_mul(16).wrapping_add(digit))?;
-                high = None;
-            }
-        }
-    }
-    Ok(())
-}
-
-// A message as scripts print it, but for a chunk's bytes, of which it says how many there are.
-fn words(alloc: Global, message: &Message) -> Result<String, Fail> {
-    Ok(match message.body() {
-        Body::Scan {
-            id,
-            stream,
-            generation,
-            length,
-        } => {
-            let (stream, generation) = (stream.get(), generation.get());
-            format!(in alloc;
-                "scan {}.{} stream {stream} generation {generation} length {length}",
-                id.boot, id.seq
-            )?
-        }
-        Body::Chunk { id, offset, bytes } => {
-            format!(in alloc;
-                "chunk {}.{} offset {offset} bytes {}",
-                id.boot,
-                id.seq,
-                bytes.len()
-            )?
-        }
-        Body::NoChunk { id, offset, cause } => {
-            format!(in alloc;
-                "nochunk {}.{} offset {offset} cause {}",
-                id.boot,
-                id.seq,
-                cause.number()
-            )?
-        }
-        Body::Abort { id } => format!(in alloc; "abort {}.{}", id.boot, id.seq)?,
-        Body::Hello { volume, version } => {
-            format!(in alloc; "hello volume {volume} version {}", version.get())?
-        }
-        Body::Read { id, offset, count } => {
-            format!(in alloc; "read {}.{} offset {offset} count {count}", id.boot, id.seq)?
-        }
-        Body::Reply { id, outcome } => reply_words(alloc, *id, *outcome)?,
-        Body::Updated { version } => format!(in alloc; "updated {}", version.get())?,
-    })
-}
-
-fn reply_words(alloc: Global, id: MessageId, outcome: Outcome) -> Result<String, Fail> {
-    Ok(match outcome {
-        Outcome::Judged { version, verdict } => match verdict {
-            Verdict::Clean => {
-                format!(in alloc;
-                    "reply {}.{} version {} clean",
-                    id.boot,
-                    id.seq,
-                    version.get()
-                )?
-            }
-            Verdict::Infected { index, end_at } => {
-                format!(in alloc;
-                    "reply {}.{} version {} infected {index} end {end_at}",
-                    id.boot,
-                    id.seq,
-                    version.get()
-                )?
-            }
-        },
-        Outcome::Failed { cause } => {
-            format!(in alloc; "reply {}.{} failed {}", id.boot, id.seq, cause.number())?
-        }
-    })
-}
-
-// What decoding answers, in words.
-fn decoded_words(alloc: Global, body: &[u8]) -> Result<String, Fail> {
-    match decode(alloc, &body) {
-        Ok(message) => words(alloc, &message),
-        Err(refusal) => Ok(format!(in alloc; "{refusal}")?),
-    }
-}
-
-// What a feed answers next, in words.
-fn next_words(alloc: Global, feed: &mut Feed) -> Result<String, Fail> {
-    match feed.next() {
-        Ok(Some(message)) => words(alloc, &message),
-        Ok(None) => Ok(format!(in alloc; "nothing")?),
-        Err(refusal) => Ok(format!(in alloc; "{refusal}")?),
-    }
-}
-
-// A body with its length in front.
-fn framed(alloc: Global, body: &[u8]) -> Result<Vec<u8>, Fail> {
-    let mut frame = Vec::new(alloc);
-    frame.extend_from_slice(&u32::try_from(body.len())?.to_be_bytes())?;
-    frame.extend_from_slice(body)?;
-    Ok(frame)
+// The bytes of a body, and what it is.
+fn parts<'a>(alloc: Global, line: &'a str) -> Result<(Vec<u8>, &'a str), Fail> {
+    let (text, wanted) = line.split_once(" = ").ok_or("a body is something")?;
+    Ok((bytes_of(alloc, text)?, wanted))
 }
 
 #[test]
 fn each_body_is_its_message_or_its_fault(rt: HostRuntime) -> Result<(), Fail> {
-    let alloc = rt.alloc();
     for line in BODIES.lines() {
-        let (text, wanted) = line.split_once(" = ").ok_or("a body is something")?;
-        let body = bytes_of(alloc, text)?;
-        assert_eq!(rt; decoded_words(alloc, &body)?.as_str(), wanted, "of {text}");
-        if let Ok(message) = decode(alloc, &body) {
-            let mut out = Vec::new(alloc);
-            out.push(7)?;
-            encode_into(&message, &mut out)?;
-            let frame = framed(alloc, &body)?;
-            assert_eq!(rt; &out[1..], frame.as_slice(), "of {text}");
-        }
+        assert!(rt; is_what_it_is(rt.alloc(), line)?, "of {line}");
     }
     Ok(())
+}
+
+fn is_what_it_is(alloc: Global, line: &str) -> Result<bool, Fail> {
+    let (body, wanted) = parts(alloc, line)?;
+    Ok(decoded_words(alloc, &body)?.as_str() == wanted && is_written(alloc, &body)?)
+}
+
+// A body that is a message is written as its frame, behind what was there.
+fn is_written(alloc: Global, body: &[u8]) -> Result<bool, Fail> {
+    let Ok(message) = decode(alloc, &body) else {
+        return Ok(true);
+    };
+    let mut out = Vec::new(alloc);
+    out.push(7)?;
+    encode_into(&message, &mut out)?;
+    Ok(&out[1..] == framed(alloc, body)?.as_slice())
 }
 
 #[test]
 fn a_frame_comes_once_it_is_whole_however_it_is_cut(rt: HostRuntime) -> Result<(), Fail> {
-    let alloc = rt.alloc();
     for line in BODIES.lines() {
-        let (text, wanted) = line.split_once(" = ").ok_or("a body is something")?;
-        let frame = framed(alloc, &bytes_of(alloc, text)?)?;
-        if wanted == "Length" {
-            continue;
-        }
-        let mut bytewise = Feed::new(alloc);
-        for cut in 0..frame.len() {
-            let (front, rest) = frame.split_at(cut);
-            let mut feed = Feed::new(alloc);
-            feed.push(front)?;
-            assert_eq!(rt;
-                next_words(alloc, &mut feed)?.as_str(),
-                "nothing",
-                "of {text}"
-            );
-            feed.push(rest)?;
-            assert_eq!(rt; next_words(alloc, &mut feed)?.as_str(), wanted, "of {text}");
-            assert_eq!(rt;
-                next_words(alloc, &mut bytewise)?.as_str(),
-                "nothing",
-                "of {text}"
-            );
-            bytewise.push(&frame[cut..cut + 1])?;
-        }
-        assert_eq!(rt;
-            next_words(alloc, &mut bytewise)?.as_str(),
-            wanted,
-            "of {text}"
-        );
+        assert!(rt; comes_whole(rt.alloc(), line)?, "of {line}");
     }
     Ok(())
 }
 
+fn comes_whole(alloc: Global, line: &str) -> Result<bool, Fail> {
+    let (body, wanted) = parts(alloc, line)?;
+    if wanted == "Length" {
+        return Ok(true);
+    }
+    comes_however_it_is_cut(alloc, &framed(alloc, &body)?, wanted)
+}
+
+fn comes_however_it_is_cut(alloc: Global, frame: &[u8], wanted: &str) -> Result<bool, Fail> {
+    let mut bytewise = Feed::new(alloc);
+    for cut in 0..frame.len() {
+        let (front, rest) = frame.split_at(cut);
+        if !comes_in_two(alloc, front, rest, wanted)?
+            || !next_is(alloc, &mut bytewise, "nothing")?
+        {
+            return Ok(false);
+        }
+        bytewise.push(&frame[cut..cut + 1])?;
+    }
+    next_is(alloc, &mut bytewise, wanted)
+}
+
+fn comes_in_two(alloc: Global, front: &[u8], rest: &[u8], wanted: &str) -> Result<bool, Fail> {
+    let mut feed = Feed::new(alloc);
+    feed.push(front)?;
+    if !next_is(alloc, &mut feed, "nothing")? {
+        return Ok(false);
+    }
+    feed.push(rest)?;
+    next_is(alloc, &mut feed, wanted)
+}
+
+fn next_is(alloc: Global, feed: &mut Feed, wanted: &str) -> Result<bool, Fail> {
+    Ok(next_words(alloc, feed)?.as_str() == wanted)
+}
+
+const FAULTS: [(&str, &str); 6] = [
+    ("00000000", "Length"),
+    ("0000101a", "Length"),
+    ("ffffffff", "Length"),
+    ("0000000109", "Kind"),
+    ("00000001 07", "Shape"),
+    ("00000012 07 [1] [1] 03", "Range"),
+];
+
 #[test]
 fn a_fault_is_told_once_and_breaks_the_feed(rt: HostRuntime) -> Result<(), Fail> {
-    let alloc = rt.alloc();
-    for (text, fault) in [
-        ("00000000", "Length"),
-        ("0000101a", "Length"),
-        ("ffffffff", "Length"),
-        ("0000000109", "Kind"),
-        ("00000001 07", "Shape"),
-        ("00000012 07 [1] [1] 03", "Range"),
-    ] {
-        let mut feed = Feed::new(alloc);
-        feed.push(&bytes_of(alloc, "00000009 08 [1]")?)?;
-        feed.push(&bytes_of(alloc, text)?)?;
-        assert_eq!(rt;
-            next_words(alloc, &mut feed)?.as_str(),
-            "updated 1",
-            "of {text}"
-        );
-        assert_eq!(rt; next_words(alloc, &mut feed)?.as_str(), fault, "of {text}");
-        assert_eq!(rt;
-            next_words(alloc, &mut feed)?.as_str(),
-            "Broken",
-            "of {text}"
-        );
-        assert_eq!(rt;
-            feed.push(&[]),
-            Err(Refusal::Fault(FeedFault::Broken)),
-            "of {text}"
-        );
+    for (text, fault) in FAULTS {
+        assert!(rt; is_told_once(rt.alloc(), text, fault)?, "of {text}");
     }
     Ok(())
+}
+
+fn is_told_once(alloc: Global, text: &str, fault: &str) -> Result<bool, Fail> {
+    let mut feed = Feed::new(alloc);
+    feed.push(&bytes_of(alloc, "00000009 08 [1]")?)?;
+    feed.push(&bytes_of(alloc, text)?)?;
+    Ok(
+        next_is(alloc, &mut feed, "updated 1")?
+            && next_is(alloc, &mut feed, fault)?
+            && next_is(alloc, &mut feed, "Broken")?
+            && feed.push(&[]) == Err(Refusal::Fault(FeedFault::Broken)),
+    )
 }
 
 const STREAM: &str =
@@ -243,19 +128,31 @@ const STREAM: &str =
 
 #[test]
 fn a_stream_is_the_same_frames_in_any_pieces(rt: HostRuntime) -> Result<(), Fail> {
-    let alloc = rt.alloc();
-    let stream = bytes_of(alloc, STREAM)?;
-    let mut bytewise = Vec::new(alloc);
+    let stream = bytes_of(rt.alloc(), STREAM)?;
     for cut in 0..stream.len() {
         let (front, rest) = stream.split_at(cut);
-        let mut pieces = Vec::new(alloc);
-        pieces.push(ByteList::copied(alloc, front)?)?;
-        pieces.push(ByteList::copied(alloc, rest)?)?;
-        bytewise.push(ByteList::copied(alloc, &stream[cut..cut + 1])?)?;
-        assert_eq!(rt; story(alloc, &pieces)?.as_str(), STORY, "at {cut}");
+        assert!(rt; tells_the_story(rt.alloc(), &[front, rest])?, "at {cut}");
     }
-    assert_eq!(rt; story(alloc, &bytewise)?.as_str(), STORY);
     Ok(())
+}
+
+#[test]
+fn a_stream_is_the_same_frames_byte_by_byte(rt: HostRuntime) -> Result<(), Fail> {
+    let stream = bytes_of(rt.alloc(), STREAM)?;
+    let mut pieces = Vec::new(rt.alloc());
+    for byte in &stream {
+        pieces.push(ByteList::copied(rt.alloc(), &[*byte])?)?;
+    }
+    assert_eq!(rt; story(rt.alloc(), &pieces)?.as_str(), STORY);
+    Ok(())
+}
+
+fn tells_the_story(alloc: Global, parts: &[&[u8]]) -> Result<bool, Fail> {
+    let mut pieces = Vec::new(alloc);
+    for part in parts {
+        pieces.push(ByteList::copied(alloc, *part)?)?;
+    }
+    Ok(story(alloc, &pieces)?.as_str() == STORY)
 }
 
 const STORY: &str =
@@ -277,16 +174,15 @@ fn story(alloc: Global, pieces: &[ByteList]) -> Result<String, Fail> {
 
 #[test]
 fn messages_are_made_of_their_fields(rt: HostRuntime) -> Result<(), Fail> {
-    let alloc = rt.alloc();
     let id = MessageId { boot: 1, seq: 2 };
     let (version, verdict) = (Version::new(3), Verdict::Clean);
     let judged = Outcome::Judged { version, verdict };
     let failed = Outcome::Failed {
         cause: FailCause::PastLength,
     };
-    let bytes = ByteList::copied(alloc, b"abc")?;
+    let bytes = ByteList::copied(rt.alloc(), b"abc")?;
     assert_eq!(rt; bytes.len(), 3);
-    for (message, wanted) in [
+    let made = [
         (
             Message::scan(id, StreamId::new(4), Generation::new(5), 6),
             "scan 1.2 stream 4 generation 5 length 6",
@@ -302,51 +198,96 @@ fn messages_are_made_of_their_fields(rt: HostRuntime) -> Result<(), Fail> {
         (Message::reply(id, failed), "reply 1.2 failed 2"),
         (Message::updated(version), "updated 3"),
         (Message::chunk(id, 11, bytes), "chunk 1.2 offset 11 bytes 3"),
-    ] {
-        assert_eq!(rt; words(alloc, &message)?.as_str(), wanted);
-    }
+    ];
+    assert_eq!(rt; first_other(rt.alloc(), &made)?, None);
     Ok(())
 }
 
-// A chunk of three bytes of the question 1.1, as a body.
+// The place of the first message that has other words.
+fn first_other(alloc: Global, made: &[(Message, &str)]) -> Result<Option<usize>, Fail> {
+    for (i, (message, wanted)) in made.iter().enumerate() {
+        if words(alloc, message)?.as_str() != *wanted {
+            return Ok(Some(i));
+        }
+    }
+    Ok(None)
+}
+
+// A chunk of three bytes of the question 1.1, as a body, and its words.
 const CHUNK: &str = "02 [1] [1] [0] 414243";
 
+const CHUNK_WORDS: &str = "chunk 1.1 offset 0 bytes 3";
+
 #[test]
-fn refused_or_not_a_frame_is_read_and_written(rt: HostRuntime) -> Result<(), Fail> {
-    let alloc = rt.alloc();
-    let body = bytes_of(alloc, CHUNK)?;
-    let frame = framed(alloc, &body)?;
-    let mut feed = Feed::new(alloc);
-    may_refuse(alloc);
-    let decoded = decode(alloc, &body);
-    let pushed = feed.push(&frame);
-    refuse_no_more(alloc);
-    let message = match decoded {
-        Err(Refusal::NoMemory) => decode(alloc, &body)?,
+fn refused_or_not_a_body_is_decoded(rt: HostRuntime) -> Result<(), Fail> {
+    let body = bytes_of(rt.alloc(), CHUNK)?;
+    may_refuse(rt.alloc());
+    let first = decode(rt.alloc(), &body);
+    refuse_no_more(rt.alloc());
+    let message = match first {
+        Err(Refusal::NoMemory) => decode(rt.alloc(), &body)?,
         other => other?,
     };
-    if pushed == Err(Refusal::NoMemory) {
-        assert_eq!(rt; next_words(alloc, &mut feed)?.as_str(), "nothing");
+    assert_eq!(rt; words(rt.alloc(), &message)?.as_str(), CHUNK_WORDS);
+    Ok(())
+}
+
+#[test]
+fn refused_or_not_a_feed_takes_a_frame(rt: HostRuntime) -> Result<(), Fail> {
+    let frame = framed(rt.alloc(), &bytes_of(rt.alloc(), CHUNK)?)?;
+    let mut feed = Feed::new(rt.alloc());
+    may_refuse(rt.alloc());
+    let pushed = feed.push(&frame);
+    refuse_no_more(rt.alloc());
+    if pushed.is_err() {
+        assert!(rt; pushed == Err(Refusal::NoMemory));
+        assert!(rt; next_is(rt.alloc(), &mut feed, "nothing")?);
         feed.push(&frame)?;
     }
-    may_refuse(alloc);
+    assert!(rt; next_is(rt.alloc(), &mut feed, CHUNK_WORDS)?);
+    Ok(())
+}
+
+#[test]
+fn refused_or_not_a_feed_gives_a_frame(rt: HostRuntime) -> Result<(), Fail> {
+    let mut feed = Feed::new(rt.alloc());
+    feed.push(&framed(rt.alloc(), &bytes_of(rt.alloc(), CHUNK)?)?)?;
+    may_refuse(rt.alloc());
     let given = feed.next();
-    refuse_no_more(alloc);
+    refuse_no_more(rt.alloc());
     if given.err() == Some(Refusal::NoMemory) {
-        assert_eq!(rt;
-            next_words(alloc, &mut feed)?.as_str(),
-            "chunk 1.1 offset 0 bytes 3"
-        );
+        assert!(rt; next_is(rt.alloc(), &mut feed, CHUNK_WORDS)?);
     }
-    assert_eq!(rt; next_words(alloc, &mut feed)?.as_str(), "nothing");
-    let mut out = Vec::new(alloc);
-    may_refuse(alloc);
-    let encoded = encode_into(&message, &mut out);
-    refuse_no_more(alloc);
-    if encoded.is_err() {
+    assert!(rt; next_is(rt.alloc(), &mut feed, "nothing")?);
+    Ok(())
+}
+
+#[test]
+fn refused_or_not_a_message_is_written(rt: HostRuntime) -> Result<(), Fail> {
+    let body = bytes_of(rt.alloc(), CHUNK)?;
+    let message = decode(rt.alloc(), &body)?;
+    let mut out = Vec::new(rt.alloc());
+    may_refuse(rt.alloc());
+    let written = encode_into(&message, &mut out);
+    refuse_no_more(rt.alloc());
+    if written.is_err() {
         assert!(rt; out.is_empty());
         encode_into(&message, &mut out)?;
     }
-    assert_eq!(rt; out.as_slice(), frame.as_slice());
+    assert_eq!(rt; out.as_slice(), framed(rt.alloc(), &body)?.as_slice());
+    Ok(())
+}
+
+#[test]
+fn refused_or_not_a_stream_is_read(rt: HostRuntime) -> Result<(), Fail> {
+    let stream = bytes_of(rt.alloc(), STREAM)?;
+    let pieces = [ByteList::copied(rt.alloc(), &stream)?];
+    may_refuse(rt.alloc());
+    let first = read_frames(rt.alloc(), &pieces);
+    refuse_no_more(rt.alloc());
+    if let Ok(read) = first {
+        assert_eq!(rt; read.messages.len(), 5);
+    }
+    assert_eq!(rt; story(rt.alloc(), &pieces)?.as_str(), STORY);
     Ok(())
 }
