@@ -1,9 +1,15 @@
 pub mod Lanes
+pub mod Leaps
 pub mod Longest
 pub mod Match
 pub mod Part
+pub mod Passed
+pub mod Places
 pub mod Reach
 pub mod Scanning
 pub mod Search
+pub mod Shifts
+pub mod Shorts
 pub mod Step
+pub mod Tables
 pub mod Words

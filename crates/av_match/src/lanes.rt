@@ -3,21 +3,21 @@
 ghost use Rattle.std.specs.Prelude.{◌≡◌, ◌+◌, ◌*◌, ◌<◌, ◌≤◌, length, take, drop, slice_index, IfSome};
 ghost use Rattle.std.specs.Bool.{OnTrue};
 ghost use Rattle.av_match.specs.Lanes.{AreInside, AreSilent, AreWithin};
-ghost use Rattle.av_match.specs.Part.{IsClosed, IsTable};
-ghost use Rattle.av_match.specs.Reach.{reach, place_of};
+ghost use Rattle.av_match.specs.Part.{IsClosed};
+ghost use Rattle.av_match.specs.Reach.{reach};
+ghost use Rattle.av_match.specs.Tables.{AreTables};
 ghost use Rattle.av_match.specs.Words.{run, AllBytes};
 ghost use Rattle.av_match.specs.declared.cells.Reached.TheVariants.{Through};
 
-use crate::cells::{Reached, reach_of};
+use crate::cells::Reached;
+use crate::reach::{Position, reach_of};
+use crate::tables::Tables;
 
 /// How many bytes a part is begun early: one less than the longest pattern has.
 const EARLY: usize = 63;
 
 /// Below this length six parts cost more than one.
 const LEAST: usize = 1024;
-
-/// The most bytes of one piece. After a hit a piece is read again from its start, by one part.
-const PIECE: usize = 12288;
 
 /// The states to which six parts lead.
 #[derive(Clone, Copy)]
@@ -30,65 +30,39 @@ pub struct SixStates {
     pub f: usize,
 }
 
-/// Where the bytes of a chunk lead from a state.
-pub fn reach_in_pieces(cells: &[u16], outputs: &[u16], from: u16, chunk: &[u8]) -> Reached
-    requires table { IsTable cells.now outputs.now }
-    requires inside { from < length outputs.now }
-    requires silent { slice_index outputs.now from ≡ 0 }
-    ensures reach { result ≡ reach cells.now outputs.now from 0 chunk.now }
-    ensures place { place_of result ≤ length chunk.now }
-    ensures bytes { AllBytes chunk.now }
-{
-    let mut state = from;
-    let mut start = 0usize;
-    'pieces: while start < chunk.len() {
-        let end = chunk.len().min(start + PIECE);
-        match through_piece(cells, outputs, state, &chunk[start..end]) {
-            Some(next) => {
-                state = next;
-                start = end;
-            }
-            None => return reach_of(cells, outputs, state, chunk, start),
-        }
-    }
-    Reached::Through { state }
-}
-
-// The state to which a piece leads, where it is long and nothing is given out on the way.
-fn through_piece(cells: &[u16], outputs: &[u16], from: u16, piece: &[u8]) -> Option<u16>
-    requires table { IsTable cells.now outputs.now }
-    requires inside { from < length outputs.now }
-    requires silent { slice_index outputs.now from ≡ 0 }
-    ensures { IfSome result (λ t. reach cells.now outputs.now from 0 piece.now ≡ Through t) }
+/// The state to which a piece leads, where it is long and nothing is given out on the way.
+pub fn through_piece(tables: &Tables<'_>, from: u16, piece: &[u8]) -> Option<u16>
+    requires set { AreTables tables.now }
+    requires inside { from < length tables.now.outputs.now }
+    requires silent { slice_index tables.now.outputs.now from ≡ 0 }
+    ensures { IfSome result (λ t. reach tables.now.cells.now tables.now.outputs.now from 0 piece.now ≡ Through t) }
 {
     if piece.len() < LEAST {
         return None;
     }
     let step = (piece.len() - EARLY) / 6;
-    let state = through_parts(cells, outputs, from, piece, step)?;
-    match reach_of(cells, outputs, state, piece, 6 * step + EARLY) {
+    let state = through_parts(tables, from, piece, step)?;
+    let last = Position {
+        state,
+        place: 6 * step + EARLY,
+    };
+    match reach_of(tables, last, piece) {
         Reached::Through { state } => Some(state),
         Reached::Hit { .. } => None,
     }
 }
 
 // The state to which six parts of a piece lead, where nothing is given out in them.
-fn through_parts(
-    cells: &[u16],
-    outputs: &[u16],
-    from: u16,
-    piece: &[u8],
-    step: usize,
-) -> Option<u16>
-    requires table { IsTable cells.now outputs.now }
-    requires inside { from < length outputs.now }
-    requires silent { slice_index outputs.now from ≡ 0 }
+fn through_parts(tables: &Tables<'_>, from: u16, piece: &[u8], step: usize) -> Option<u16>
+    requires set { AreTables tables.now }
+    requires inside { from < length tables.now.outputs.now }
+    requires silent { slice_index tables.now.outputs.now from ≡ 0 }
     requires room { 6 * step + 63 ≤ length piece.now }
-    ensures { IfSome result (λ t. reach cells.now outputs.now from 0 (take (6 * step + 63) piece.now) ≡ Through t) }
+    ensures { IfSome result (λ t. reach tables.now.cells.now tables.now.outputs.now from 0 (take (6 * step + 63) piece.now) ≡ Through t) }
 {
     let count = step + EARLY;
     let states = six_lanes(
-        cells,
+        tables.cells,
         from as usize,
         part(piece, 0, count),
         part(piece, step, count),
@@ -97,7 +71,7 @@ fn through_parts(
         part(piece, 4 * step, count),
         part(piece, 5 * step, count),
     );
-    if are_silent(outputs, states) {
+    if are_silent(tables.outputs, states) {
         Some(states.f as u16)
     } else {
         None

@@ -10,12 +10,23 @@
 
 pub mod automaton;
 mod cells;
+mod credit;
 mod lanes;
 pub mod law;
+mod leaps;
+mod parts;
+mod pieces;
 pub mod plain;
+mod reach;
 mod rows;
 pub mod scan;
+mod shifts;
+mod shorts;
+mod skim;
 pub mod step;
+mod tables;
 #[cfg(test)]
 mod tests;
 mod trie;
+mod walks;
+mod windows;

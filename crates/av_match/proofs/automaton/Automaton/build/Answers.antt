@@ -1,11 +1,12 @@
 use Rattle.std.proofs.Common.{◌≡◌, length, map, arith, sym, ap, ap₂, subst, ◌∙◌}
 use Rattle.std.proofs.lemmas.List.{length-map}
 use Rattle.av_sigset.specs.Set.{patterns_of}
-use Rattle.av_match.specs.Part.{ArePatterns, IsAutomaton, IsSettled, output_of}
+use Rattle.av_match.specs.Part.{ArePatterns, AtMost, IsAutomaton, IsSettled, output_of}
 use Rattle.av_match.specs.Scanning.{Compiled, as_pattern}
 use Rattle.av_match.specs.Search.{bytes_of}
+use Rattle.av_match.specs.Shifts.{IsSkimmer}
 use Rattle.av_match.specs.Words.{words_of}
-use Rattle.av_match.proofs.GrowLemmas.{upto_few}
+use Rattle.av_match.proofs.GrowLemmas.{upto_few, upto_most}
 use Rattle.av_match.proofs.TableLemmas.{set_patterns, build_is, as_bytes}
 use Rattle.av_match.proofs.automaton.Automaton.build.Goals as goal
 
@@ -25,6 +26,13 @@ settle-requires-clause-few c =
     let few = upto_few 64 ps in
     omega (arith, count, ap length words, few, (set_patterns c.args.set.now c.signatures.ensures.set).2)
 
+pub skimmer_of-requires-clause-most : goal.skimmer_of-requires-clause-most
+skimmer_of-requires-clause-most c =
+    let same : c.as_slice.result.now ≡ bytes_of (patterns_of c.args.set.now.signatures) =
+    c.as_slice.ensures.value ∙ c.in_ok-patterns.ensures ∙ ap (λ ss. bytes_of (patterns_of ss)) c.signatures.ensures.signatures in
+    let words : c.as_slice-6.result.now ≡ words_of (bytes_of (patterns_of c.args.set.now.signatures)) = c.as_slice-6.ensures.value ∙ c.in_ok-trie.ensures.words ∙ ap words_of same in
+    subst (λ ws. AtMost ws 64) (sym words) (upto_most 64 (bytes_of (patterns_of c.args.set.now.signatures)))
+
 pub invariant_of-result : goal.invariant_of-result
 invariant_of-result c =
     let ps = bytes_of (patterns_of c.args.set.now.signatures) in
@@ -33,9 +41,11 @@ invariant_of-result c =
     let gives : c.in_ok-outputs.outputs.items ≡ map (λ w. output_of ps w) c.as_slice-2.result.now =
     c.in_ok-outputs.ensures ∙ ap₂ (λ ss ws. map (λ w. output_of (bytes_of (patterns_of ss)) w) ws) c.signatures-2.ensures.signatures (c.as_slice-3.ensures.value ∙ sym c.as_slice-2.ensures.value) in
     let settled : IsSettled c.finish.new.next.items c.in_ok-outputs.outputs.items (length c.in_ok-outputs.outputs.items) c.settle.new.next.items =
-    subst (λ o. IsSettled c.finish.new.next.items o (length o) c.settle.new.next.items) c.as_slice-4.ensures.value c.settle.ensures in
-    subst (λ qs. IsAutomaton qs c.settle.new.next.items c.in_ok-outputs.outputs.items) (sym items)
-    (build_is ps c.as_slice-2.result.now c.finish.new.next.items c.settle.new.next.items c.in_ok-outputs.outputs.items (set_patterns c.args.set.now c.signatures.ensures.set) words c.finish.ensures gives settled)
+    subst (λ o. IsSettled c.finish.new.next.items o (length o) c.settle.new.next.items) c.as_slice-4.ensures.value c.settle.ensures in (
+      subst (λ qs. IsAutomaton qs c.settle.new.next.items c.in_ok-outputs.outputs.items) (sym items)
+          (build_is ps c.as_slice-2.result.now c.finish.new.next.items c.settle.new.next.items c.in_ok-outputs.outputs.items (set_patterns c.args.set.now c.signatures.ensures.set) words c.finish.ensures gives settled),
+      subst (λ qs. IsSkimmer qs c.in_ok-skimmer.skimmer.depths.items c.in_ok-skimmer.skimmer.window c.in_ok-skimmer.skimmer.shifts.items c.in_ok-skimmer.skimmer.shorts.items) c.as_slice-5.ensures.value c.in_ok-skimmer.ensures,
+    )
 
 pub returns : goal.returns
 returns c =
