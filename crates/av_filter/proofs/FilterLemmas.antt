@@ -1,5 +1,5 @@
 -- What each call of a filter keeps, from what it answers.
-use Rattle.std.proofs.Common.{◌≡◌, ℕ, None, OnOk, Result, Ok, Err, sym, subst}
+use Rattle.std.proofs.Common.{◌≡◌, ℕ, None, IfOk, OnOk, Result, Ok, Err, sym, subst}
 use Rattle.av_base.specs.declared.limits.LimitValues.{LimitValues}
 use Rattle.av_base.specs.declared.mode.Mode.{Mode}
 use Rattle.av_base.specs.declared.refusal.Refusal.{Refusal}
@@ -43,6 +43,11 @@ fits_mounted t v mode limits is = subst (λ u. Fits u v) (sym is) (mounted_fits 
 pub fits_restarted : (out : Out) (t t' : Table) (v v' : Store) → Reacts out t' v' (restarts t v) → Fits t' v'
 unfolding restarts
 fits_restarted out t t' v v' is = fits_where out t' v' (restarts t v) is (mounted_fits t.mode t.limits (booted v))
+
+-- what holds of each table and volume that a restart leads to, where it succeeds
+pub on_restart : {E : Type 0} (P : Type 0) (r : Result Out E) (t t' : Table) (v v' : Store) → ((out : Out) → Reacts out t' v' (restarts t v) → P) → IfOk r (λ out. Reacts out t' v' (restarts t v)) → OnOk r P
+on_restart P (Ok out) t t' v v' f h = f out h
+on_restart P (Err e) t t' v v' f h = tt
 
 pub bounds_restarted : (out : Out) (t t' : Table) (v v' : Store) → AreInBounds v → Reacts out t' v' (restarts t v) → AreInBounds v'
 unfolding restarts

@@ -15,6 +15,7 @@ pub record IsInBounds (limits : LimitValues) (s : ℕ × Stream) : Type 0 where
   pub high : s.1.generation ≤ limits.generation
   pub size : length s.1.bytes ≤ limits.length
 
+-- the limits are in range, and so is each stream under them
 pub record AreInBounds (v : Store) : Type 0 where
   pub limits : AreInRange v.limits
   pub streams : AllByRecursion (IsInBounds v.limits) v.streams

@@ -30,6 +30,7 @@ unfoldable pub removed : Table → Store → ℕ → Option Question → Reactio
 removed t v s None = only (record t { contexts = set_at t.contexts s None }) v Quiet
 removed t v s (Some q) = record { table = ended t q None; volume = v; answers = map (λ p. denied StreamRemoved p.held) (opens_of q.id t.pended); messages = Abort q.id ∷ []; note = Quiet }
 
+-- what a change of the volume that was accepted does: a creation nothing, the others end what is known of the stream
 unfoldable pub changes : Table → Store → Change → Reaction
 changes t v (Create name) = only t (changed_volume v (Create name)) Quiet
 changes t v (Write s o b) = rewritten t (changed_volume v (Write s o b)) s (question_of s t.questions)

@@ -22,6 +22,7 @@ use Rattle.av_store.specs.Seen.{change_of}
 use Rattle.av_store.specs.Store.{Store, greatest}
 use Rattle.av_store.specs.Rows.{stream_at}
 
+-- what can happen to a filter
 pub data FilterEvent : Type 0 where
   Opens : (stream least : ℕ) → FilterEvent
   Changes : (change : Change) → FilterEvent
@@ -50,6 +51,7 @@ disconnects t v =
 abbrev pub booted : Store → Store
 booted v = record v { boot = v.boot + 1 }
 
+-- a restart: every open is answered by the mode, and a filter just mounted goes on, in the next boot
 unfoldable pub restarts : Table → Store → Reaction
 restarts t v = record { table = mounted t.mode t.limits (v.boot + 1); volume = booted v; answers = by_mode t v FilterRestart t.pended; messages = []; note = Quiet }
 

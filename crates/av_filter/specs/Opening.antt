@@ -64,5 +64,6 @@ unfoldable pub open_found : Table → Store → ℕ → ℕ → Option Stream �
 open_found t v s least None = answers_with t v (denied NoStream (new_open v s least))
 open_found t v s least (Some x) = open_judged t v s least x (current (context_of t.contexts s) t.floor)
 
+-- an open takes its number and raises the floor to its least version, and is then looked up by its stream
 unfoldable pub opened : Table → Store → ℕ → ℕ → Reaction
 opened t v s least = open_found (raised least t) (taken v) s least (stream_at s v.streams)

@@ -19,5 +19,6 @@ pub record Reaction : Type 0 where
 abbrev pub only : Table → Store → Note → Reaction
 only t v note = record { table = t; volume = v; answers = []; messages = []; note = note }
 
+-- one message, and nothing else changes
 abbrev pub sends : Table → Store → Body → Reaction
 sends t v m = record { table = t; volume = v; answers = []; messages = m ∷ []; note = Quiet }

@@ -29,6 +29,7 @@ greeted t v number version =
 abbrev pub chunk_of : Table → List ℕ → ℕ → ℕ → List ℕ
 chunk_of t bytes offset count = take (min count t.limits.chunk) (drop offset bytes)
 
+-- a read of a question: its content from the offset on, or why there is none
 unfoldable pub reads : Table → Store → MessageId → ℕ → ℕ → Option Question → Reaction
 reads t v id offset count None = sends t v (NoChunk id offset NoQuestion)
 reads t v id offset count (Some q) =
@@ -43,6 +44,7 @@ replies t v (Judged version r) (Some q) =
     if nat_lt version t.floor then again t v q []
     else record { table = settled t q version r; volume = v; answers = all_judged r q.generation version (opens_of q.id t.pended); messages = []; note = Quiet }
 
+-- what each message does; those that only a filter sends do nothing
 unfoldable pub receives : Table → Store → Body → Reaction
 receives t v (Hello number version) = greeted t v number version
 receives t v (Updated version) = only (raised version t) v Quiet

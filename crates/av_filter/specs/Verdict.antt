@@ -10,6 +10,7 @@ verdict_in Modified = None
 verdict_in (Scanning id) = None
 verdict_in (Judged version verdict) = Some (version, verdict)
 
+-- the same of a stream's context, where it has one
 abbrev pub verdict_of : Option ContextState → Option (ℕ × Verdict)
 verdict_of None = None
 verdict_of (Some c) = verdict_in c

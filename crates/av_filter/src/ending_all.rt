@@ -1,4 +1,4 @@
-ghost use Rattle.std.specs.Prelude.{◌≡◌, ◌≢◌, Ok, Err, IfErr, IfOk};
+ghost use Rattle.std.specs.Prelude.{◌≡◌, ◌≢◌, Ok, Err, IfErr, IfOk, OnErr};
 ghost use Rattle.av_base.specs.Answers.{Reads};
 ghost use Rattle.av_filter.specs.Call.{MeetsAlways, Reacts};
 ghost use Rattle.av_filter.specs.Conduct.{disconnects, restarts};
@@ -6,12 +6,13 @@ ghost use Rattle.av_store.specs.Store.{greatest, mount_of};
 
 use crate::out::Out;
 use av_base::cause::Cause;
-use av_base::refusal::{Refusal, Refused};
+use av_base::refusal::Refusal;
 use av_filter_table::answering::{lose_questions, refuse_all};
 use av_filter_table::filter_table::FilterTable;
 use av_store::fault::BootSpent;
 use av_store::volume::Volume;
 use std::alloc::{AllocError, Global};
+use std::mem;
 
 // The service is lost.
 #[tactic(auto, unfolding(crate::specs::Conduct::disconnects))]
@@ -31,40 +32,26 @@ pub(crate) fn disconnect(
 
 // The filter is mounted anew.
 #[tactic(auto, unfolding(crate::specs::Conduct::restarts))]
-pub(crate) fn restart(
-    table: FilterTable,
+pub(crate) fn remount(
+    table: &mut FilterTable,
     alloc: Global,
     volume: &mut Volume,
-) -> Result<(FilterTable, Out), Refused<FilterTable, BootSpent>>
-    ensures ok { IfOk result (λ r. Reacts r.1 r.0 volume.new (restarts table volume.old)) }
-    ensures err { IfErr result (λ e. (e.value ≡ table) × (volume.new ≡ volume.old)) }
-    ensures why { IfErr result (λ e. Reads (Err e.why) (mount_of volume.old)) }
+) -> Result<Out, Refusal<BootSpent>>
+    ensures ok { IfOk result (λ out. Reacts out table.new volume.new (restarts table.old volume.old)) }
+    ensures err { OnErr result ((table.new ≡ table.old) × (volume.new ≡ volume.old)) }
+    ensures why { IfErr result (λ e. Reads (Err e) (mount_of volume.old)) }
 {
-    let mut table = table;
     let last = volume.boot();
     if last == u64::MAX {
-        return Err(Refused {
-            value: table,
-            why: Refusal::Fault(BootSpent),
-        });
+        return Err(Refusal::Fault(BootSpent));
     }
-    let Ok(mut answers) = Vec::with_capacity(alloc, table.pended_count()) else {
-        return Err(Refused {
-            value: table,
-            why: Refusal::NoMemory,
-        });
-    };
-    let Ok(fresh) = FilterTable::new(alloc, table.mode(), table.limits(), last + 1) else {
-        return Err(Refused {
-            value: table,
-            why: Refusal::NoMemory,
-        });
-    };
-    refuse_all(&mut table, volume, &mut answers, Cause::FilterRestart);
-    lose_questions(&mut table);
-    table.end();
+    let mut answers = Vec::with_capacity(alloc, table.pended_count())?;
+    let fresh = FilterTable::new(alloc, table.mode(), table.limits(), last + 1)?;
+    refuse_all(table, volume, &mut answers, Cause::FilterRestart);
+    lose_questions(table);
+    mem::replace(table, fresh).end();
     mount_next(volume);
-    Ok((fresh, Out::gives(answers, Vec::new(alloc))))
+    Ok(Out::gives(answers, Vec::new(alloc)))
 }
 
 // The volume's next boot.

@@ -210,8 +210,20 @@ impl Filter {
         ending_all::disconnect(&mut self.table, alloc, volume)
     }
 
-    /// Mounts the filter anew: BootSpent, NoMemory, the filter handed back. Every open is answered by the mode, and nothing
-    /// is known any more. It costs a logarithm for each open and question, and a new cache.
+    /// Mounts the filter anew, in its place: BootSpent, NoMemory. Every open is answered by the mode, and nothing is known
+    /// any more. It costs a logarithm for each open and question, and a new cache.
+    pub fn remount(&mut self, alloc: Global, volume: &mut Volume) -> Result<Out, Refusal<BootSpent>>
+        requires { AreInBounds volume.old }
+        ensures ok { IfOk result (λ out. Reacts out self.new volume.new (restarts self.old volume.old)) }
+        ensures err { OnErr result ((self.new ≡ self.old) × (volume.new ≡ volume.old)) }
+        ensures why { IfErr result (λ e. Reads (Err e) (mount_of volume.old)) }
+        ensures fits { OnOk result (Fits self.new volume.new) }
+        ensures bounds { OnOk result (AreInBounds volume.new) }
+    {
+        ending_all::remount(&mut self.table, alloc, volume)
+    }
+
+    /// Mounts the filter anew, as `remount` does: BootSpent, NoMemory, the filter handed back.
     pub fn restart(
         self,
         alloc: Global,
@@ -224,13 +236,10 @@ impl Filter {
         ensures fits { IfOk result (λ r. Fits r.0 volume.new) }
         ensures bounds { OnOk result (AreInBounds volume.new) }
     {
-        let Filter { table } = self;
-        match ending_all::restart(table, alloc, volume) {
-            Ok((table, out)) => Ok((Filter { table }, out)),
-            Err(Refused { value, why }) => Err(Refused {
-                value: Filter { table: value },
-                why,
-            }),
+        let mut filter = self;
+        match filter.remount(alloc, volume) {
+            Ok(out) => Ok((filter, out)),
+            Err(why) => Err(Refused { value: filter, why }),
         }
     }
 
@@ -250,6 +259,20 @@ impl Filter {
     pub fn abandon(self) {
         let Filter { table } = self;
         abandon(table);
+    }
+
+    /// Whether what can't be judged is denied or let through.
+    pub fn mode(&self) -> Mode
+        ensures { result ≡ self.now.mode }
+    {
+        self.table.mode()
+    }
+
+    /// The limits that it keeps to.
+    pub fn limits(&self) -> Limits
+        ensures { result ≡ self.now.limits }
+    {
+        self.table.limits()
     }
 
     /// The floor: no version below it grants an open.

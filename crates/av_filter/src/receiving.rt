@@ -1,4 +1,5 @@
 ghost use Rattle.std.specs.Prelude.{◌≡◌, ◌≤◌, ◌<◌, IfOk, drop, length, take};
+ghost use Rattle.av_base.specs.declared.limits.TheConstants.{MAX_CHUNK, MAX_LENGTH};
 ghost use Rattle.av_filter.specs.Call.{MeetsAlways, Reacts};
 ghost use Rattle.av_filter.specs.Ready.{IsReady};
 ghost use Rattle.av_filter.specs.Receiving.{greeted, reads, receives, replies};
@@ -138,8 +139,8 @@ fn reply(
 // Bytes of a content from a place in it on, at most so many of them.
 fn part(alloc: Global, bytes: &[u8], offset: u64, most: u64) -> Result<ByteList, AllocError>
     requires inside { offset < length bytes.now }
-    requires size { length bytes.now ≤ 1048576 }
-    requires most { (1 ≤ most) × (most ≤ 4096) }
+    requires size { length bytes.now ≤ MAX_LENGTH }
+    requires most { (1 ≤ most) × (most ≤ MAX_CHUNK) }
     ensures bytes { IfOk result (λ chunk. chunk ≡ take most (drop offset bytes.now)) }
     ensures part { IfOk result (λ chunk. IsPart offset chunk) }
 {

@@ -54,6 +54,7 @@ is_lost id p = waits_for id p && is_spent p
 abbrev pub again_under : MessageId → Pended → Pended
 again_under id p = record { question = id; held = record { open_id = p.held.open_id; stream = p.held.stream; least = p.held.least; rescans = p.held.rescans + 1 } }
 
+-- an open of the old question waits for the new one; any other stays
 abbrev pub moved : MessageId → MessageId → Pended → Pended
 moved old new p = if waits_for old p then again_under new p else p
 

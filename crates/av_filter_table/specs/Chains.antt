@@ -10,6 +10,7 @@ use Rattle.av_pend.specs.Waiting.{Waiting}
 abbrev pub Questions : Type 0
 Questions = List (ℕ × (Asked × ℕ))
 
+-- the held opens by number, each with what its row says and what waits
 abbrev pub Opens : Type 0
 Opens = List (ℕ × (Waits × Waiting))
 
@@ -41,6 +42,7 @@ pub record IsChain (x : Asked) (n : ℕ) (p : Opens) : Type 0 where
   pub last : x.last ≡ last_of n p
   pub opens : x.opens ≡ count_of n p
 
+-- each row names the next, and each question the ends of its chain
 pub record AreChained (q : Questions) (p : Opens) : Type 0 where
   pub linked : AreLinked p
   pub ends : (n : ℕ) → IfSome (at q n) (λ x. IsChain x.0 n p)
@@ -53,6 +55,7 @@ plain e = (e.1.0.question, e.1.1)
 abbrev pub plains : Opens → List (ℕ × Waiting)
 plains p = map plain p
 
+-- an open waits for the question of this number
 abbrev pub is_of : ℕ → ℕ × Waiting → Bool
 is_of n x = x.0 == n
 
@@ -66,6 +69,7 @@ others n xs = filter (λ x. not (is_of n x)) xs
 abbrev pub longer : Asked → ℕ → Asked
 longer x number = record x { first = option_or x.first (Some number); last = Some number; opens = x.opens + 1 }
 
+-- the last open of a question whose first one is gone: none where that one named no next
 abbrev pub last_after : Option ℕ → Option ℕ → Option ℕ
 last_after None last = None
 last_after (Some k) last = last
@@ -77,6 +81,7 @@ shorter x next = record x { first = next; last = last_after next x.last; opens =
 abbrev pub essence : Asked × ℕ → ℕ × (ℕ × ℕ)
 essence x = (x.0.stream, (x.0.generation, x.1))
 
+-- the same of each question
 abbrev pub essences : Questions → List (ℕ × (ℕ × (ℕ × ℕ)))
 essences q = map (λ e. (e.0, essence e.1)) q
 
@@ -84,6 +89,7 @@ essences q = map (λ e. (e.0, essence e.1)) q
 abbrev pub first_waiting : ℕ → List (ℕ × Waiting) → Option (ℕ × Waiting)
 first_waiting n xs = find (is_of n) xs
 
+-- the opens without the first one of this question
 abbrev pub without_first : ℕ → List (ℕ × Waiting) → List (ℕ × Waiting)
 without_first n [] = []
 without_first n (x ∷ xs) = if is_of n x then xs else x ∷ without_first n xs
@@ -102,6 +108,7 @@ abbrev pub after_first : ℕ → List (ℕ × Waiting) → List (ℕ × Waiting)
 after_first n [] = []
 after_first n (x ∷ xs) = if is_of n x then xs else after_first n xs
 
+-- behind the first open of the old question, none waits for the new one
 abbrev pub IsBehind : ℕ → ℕ → List (ℕ × Waiting) → Type 0
 IsBehind old new xs = of new (after_first old xs) ≡ []
 

@@ -20,9 +20,11 @@ id_of boot n = record { boot = boot; seq = n }
 abbrev pub asked_of : ℕ → ℕ × (ℕ × (ℕ × ℕ)) → Question
 asked_of boot e = record { id = id_of boot e.0; stream = e.1.0; generation = e.1.1.0 }
 
+-- a held open as the table has it, with the id of its question
 abbrev pub held_of : ℕ → ℕ × Waiting → Pended
 held_of boot x = record { question = id_of boot x.0; held = x.1 }
 
+-- the questions and the held opens as the table has them
 abbrev pub questions_of : ℕ → Questions → List Question
 questions_of boot q = map (asked_of boot) (essences q)
 
@@ -33,6 +35,7 @@ pended_of boot p = map (held_of boot) (plains p)
 abbrev pub number_of : ℕ × Waiting → ℕ
 number_of x = x.1.open_id
 
+-- each held open stands at its own number
 abbrev pub AreNumbered : Opens → Type 0
 AreNumbered p = keys_of p ≡ map number_of (plains p)
 

@@ -12,9 +12,11 @@ pub record Known : Type 0 where
   pub state : ContextState
   pub held : ℕ
 
+-- a context at its key: the references that are not attachments were given out
 abbrev pub known : ℕ → Context → Known
 known k c = record { key = k; state = c.state; held = c.references - c.attached }
 
+-- what is known of the context at a key
 abbrev pub known_at : List (ℕ × Context) → ℕ → Option Known
 known_at contexts k = option_map (known k) (at contexts k)
 

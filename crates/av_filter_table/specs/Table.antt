@@ -13,6 +13,7 @@ use Rattle.av_filter_table.specs.declared.pended.Pended.{Pended}
 use Rattle.av_filter_table.specs.declared.question.Question.{Question}
 use Rattle.av_store.specs.Store.{greatest}
 
+-- all that a filter knows but its volume
 pub record Table : Type 0 where
   pub mode : Mode
   pub limits : LimitValues
@@ -39,6 +40,7 @@ judged_under version Modified = None
 judged_under version (Scanning id) = None
 judged_under version (Judged v r) = if v == version then Some r else None
 
+-- the verdict of a stream's context under the floor
 abbrev pub current : Option ContextState → ℕ → Option Verdict
 current None floor = None
 current (Some c) floor = judged_under floor c
@@ -77,6 +79,7 @@ other_opens id ps = filter (λ p. not (waits_for id p)) ps
 abbrev pub next_id : Table → MessageId
 next_id t = record { boot = t.boot; seq = t.sequence + 1 }
 
+-- one question more can have a number
 abbrev pub sequence_left : Table → Bool
 sequence_left t = nat_lt t.sequence greatest
 

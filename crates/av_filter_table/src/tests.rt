@@ -166,8 +166,40 @@ fn end(rt: &impl Abort, table: FilterTable) {
     table.end();
 }
 
-fn state_of(table: &FilterTable, stream: u64) -> Option<ContextState> {
-    table.state_of(StreamId::new(stream))
+fn assert_state(rt: &impl Abort, table: &FilterTable, stream: u64, state: Option<ContextState>) {
+    assert!(rt; table.state_of(StreamId::new(stream)) == state);
+}
+
+// Questions, opens, contexts.
+fn assert_counts(rt: &impl Abort, table: &FilterTable, counts: (usize, usize, usize)) {
+    assert!(rt; table.question_count() == counts.0);
+    assert!(rt; table.pended_count() == counts.1);
+    assert!(rt; table.context_count() == counts.2);
+}
+
+// The opens that are left come out by these numbers, and then none.
+fn assert_pops(rt: &impl Abort, table: &mut FilterTable, numbers: &[u64]) {
+    for number in numbers {
+        assert!(rt; pop_number(table) == Some(*number));
+    }
+    assert!(rt; pop_number(table).is_none());
+}
+
+// The opens of a question come out by these numbers and rescans, and then none.
+fn assert_takes(rt: &impl Abort, table: &mut FilterTable, question: u64, seen: &[(u64, u8)]) {
+    for each in seen {
+        assert!(rt; take(rt, table, question) == Some(*each));
+    }
+    assert!(rt; take(rt, table, question).is_none());
+}
+
+fn assert_answers(rt: &impl Abort, answers: &[Answer], wanted: &[Answer]) {
+    assert!(rt; answers == wanted);
+}
+
+fn assert_question(rt: &impl Abort, table: &FilterTable, boot: u64, seq: u64, stream: Option<u64>) {
+    let id = MessageId { boot, seq };
+    assert!(rt; table.question_at(id).map(|q| q.stream.get()) == stream);
 }
 
 #[test]
@@ -176,16 +208,12 @@ fn opens_of_several_streams_come_out_in_the_order_of_their_numbers(
 ) -> Result<(), Fail> {
     let mut table = mounted(&rt, rt.alloc(), Mode::FailClosed, Limits::greatest());
     hold_each(&rt, &mut table, &[(7, 0), (8, 0), (7, 0)]);
-    assert_eq!(rt; table.question_count(), 2);
-    assert_eq!(rt; table.pended_count(), 3);
-    assert_eq!(rt; pop_number(&mut table), Some(1));
-    assert_eq!(rt; pop_number(&mut table), Some(2));
-    assert_eq!(rt; pop_number(&mut table), Some(3));
-    assert_eq!(rt; pop_number(&mut table), None);
+    assert_counts(&rt, &table, (2, 3, 2));
+    assert_pops(&rt, &mut table, &[1, 2, 3]);
     lose(&rt, &mut table);
-    assert_eq!(rt; state_of(&table, 7), Some(ContextState::Modified));
-    assert_eq!(rt; state_of(&table, 8), Some(ContextState::Modified));
-    assert_eq!(rt; table.context_count(), 2);
+    assert_state(&rt, &table, 7, Some(ContextState::Modified));
+    assert_state(&rt, &table, 8, Some(ContextState::Modified));
+    assert_counts(&rt, &table, (0, 0, 2));
     end(&rt, table);
     Ok(())
 }
@@ -249,9 +277,9 @@ fn ask_again(
     }
 }
 
-fn has_rescan_left(rt: &impl Abort, table: &FilterTable, question: u64) -> bool {
+fn assert_rescan_left(rt: &impl Abort, table: &FilterTable, question: u64, is_left: bool) {
     assert_runs(rt, table, question);
-    table.has_rescan_left(question)
+    assert!(rt; table.has_rescan_left(question) == is_left);
 }
 
 #[test]
@@ -262,28 +290,27 @@ fn asking_again_moves_opens_with_a_rescan_left_and_answers_the_others(
     let mut answers = room(&rt, rt.alloc());
     let mut table = mounted(&rt, rt.alloc(), Mode::FailOpen, Limits::greatest());
     hold_each(&rt, &mut table, &[(1, 8), (1, 0), (2, 0), (1, 8), (1, 7)]);
-    assert!(rt; has_rescan_left(&rt, &table, 1));
-    assert_eq!(rt; ask_again(&rt, &mut table, &volume, 1, &mut answers), 3);
-    assert_eq!(rt;
-        answers.as_slice(),
-        [
-            unscanned(1, 1, 1, Cause::Unsettled),
-            unscanned(4, 1, 1, Cause::Unsettled),
-        ]
-        .as_slice()
-    );
-    assert_eq!(rt;
-        state_of(&table, 1),
-        Some(ContextState::Scanning(MessageId { boot: 1, seq: 3 }))
-    );
-    assert_eq!(rt; table.question_at(MessageId { boot: 1, seq: 1 }), None);
-    assert_eq!(rt; take(&rt, &mut table, 3), Some((2, 1)));
-    assert!(rt; !has_rescan_left(&rt, &table, 3));
-    assert_eq!(rt; take(&rt, &mut table, 3), Some((5, 8)));
-    assert_eq!(rt; take(&rt, &mut table, 3), None);
-    assert_eq!(rt; take(&rt, &mut table, 2), Some((3, 0)));
+    assert_rescan_left(&rt, &table, 1, true);
+    let next = ask_again(&rt, &mut table, &volume, 1, &mut answers);
+    assert_eq!(rt; next, 3);
+    let lost = [
+        unscanned(1, 1, 1, Cause::Unsettled),
+        unscanned(4, 1, 1, Cause::Unsettled),
+    ];
+    assert_answers(&rt, &answers, &lost);
+    let id = MessageId { boot: 1, seq: 3 };
+    assert_state(&rt, &table, 1, Some(ContextState::Scanning(id)));
+    assert_question(&rt, &table, 1, 1, None);
+    assert_first_and_others(&rt, &mut table);
     answering::abandon(table);
     Ok(())
+}
+
+fn assert_first_and_others(rt: &impl Abort, table: &mut FilterTable) {
+    assert!(rt; take(rt, table, 3) == Some((2, 1)));
+    assert_rescan_left(rt, table, 3, false);
+    assert_takes(rt, table, 3, &[(5, 8)]);
+    assert_takes(rt, table, 2, &[(3, 0)]);
 }
 
 fn end_question(rt: &impl Abort, table: &mut FilterTable, question: u64, state: ContextState) {
@@ -298,42 +325,36 @@ fn end_removed(rt: &impl Abort, table: &mut FilterTable, question: u64) {
     table.end_removed(question);
 }
 
-// The first question of the first boot.
-fn first_id() -> MessageId {
-    MessageId { boot: 1, seq: 1 }
-}
-
-fn first_of_stream(stream: u64) -> Question {
-    Question {
-        id: first_id(),
-        stream: StreamId::new(stream),
-        generation: Generation::new(1),
-    }
+// The question that runs of a stream is this one, of its generation 1.
+fn assert_runs_of(rt: &impl Abort, table: &FilterTable, stream: u64, id: Option<MessageId>) {
+    let stream = StreamId::new(stream);
+    let generation = Generation::new(1);
+    let wanted = id.map(|id| Question {
+        id,
+        stream,
+        generation,
+    });
+    assert!(rt; table.question_of(stream) == wanted);
 }
 
 #[test]
 fn a_question_that_no_open_waits_for_is_asked_and_ends(rt: HostRuntime) -> Result<(), Fail> {
     let mut table = mounted(&rt, rt.alloc(), Mode::FailClosed, Limits::greatest());
+    let first = MessageId { boot: 1, seq: 1 };
     assert_eq!(rt; ask(&rt, &mut table, 7), 1);
     assert_eq!(rt; table.sequence(), 1);
-    assert_eq!(rt;
-        table.question_of(StreamId::new(7)),
-        Some(first_of_stream(7))
-    );
-    assert_eq!(rt; table.question_of(StreamId::new(8)), None);
-    assert_eq!(rt; table.question_at(first_id()), Some(first_of_stream(7)));
-    assert_eq!(rt; table.question_at(MessageId { boot: 2, seq: 1 }), None);
-    assert_eq!(rt;
-        state_of(&table, 7),
-        Some(ContextState::Scanning(first_id()))
-    );
+    assert_runs_of(&rt, &table, 7, Some(first));
+    assert_runs_of(&rt, &table, 8, None);
+    assert_question(&rt, &table, 1, 1, Some(7));
+    assert_question(&rt, &table, 2, 1, None);
+    assert_state(&rt, &table, 7, Some(ContextState::Scanning(first)));
     end_question(&rt, &mut table, 1, ContextState::Modified);
-    assert_eq!(rt; table.question_of(StreamId::new(7)), None);
-    assert_eq!(rt; state_of(&table, 7), Some(ContextState::Modified));
+    assert_runs_of(&rt, &table, 7, None);
+    assert_state(&rt, &table, 7, Some(ContextState::Modified));
     assert_eq!(rt; ask(&rt, &mut table, 7), 2);
     end_removed(&rt, &mut table, 2);
-    assert_eq!(rt; state_of(&table, 7), None);
-    assert_eq!(rt; table.context_count(), 0);
+    assert_state(&rt, &table, 7, None);
+    assert_counts(&rt, &table, (0, 0, 0));
     end(&rt, table);
     Ok(())
 }
@@ -368,12 +389,12 @@ fn a_stream_has_a_context_from_its_first_state_until_it_is_forgotten(
     set_state(&rt, &mut table, 7, ContextState::Modified);
     set_state(&rt, &mut table, 7, judged(3, Verdict::Clean));
     set_state(&rt, &mut table, 5, ContextState::Modified);
-    assert_eq!(rt; state_of(&table, 7), Some(judged(3, Verdict::Clean)));
-    assert_eq!(rt; table.context_count(), 2);
+    assert_state(&rt, &table, 7, Some(judged(3, Verdict::Clean)));
+    assert_counts(&rt, &table, (0, 0, 2));
     forget_context(&rt, &mut table, 7);
-    assert_eq!(rt; state_of(&table, 7), None);
-    assert_eq!(rt; state_of(&table, 5), Some(ContextState::Modified));
-    assert_eq!(rt; table.context_count(), 1);
+    assert_state(&rt, &table, 7, None);
+    assert_state(&rt, &table, 5, Some(ContextState::Modified));
+    assert_counts(&rt, &table, (0, 0, 1));
     end(&rt, table);
     Ok(())
 }
@@ -392,12 +413,19 @@ fn put(rt: &impl Abort, table: &mut FilterTable, stream: u64, verdict: Verdict) 
     }
 }
 
-fn look(table: &mut FilterTable, stream: u64, version: u64) -> Option<Verdict> {
-    table.look(
+fn assert_kept(
+    rt: &impl Abort,
+    table: &mut FilterTable,
+    stream: u64,
+    version: u64,
+    verdict: Option<Verdict>,
+) {
+    let found = table.look(
         StreamId::new(stream),
         Generation::new(1),
         Version::new(version),
-    )
+    );
+    assert!(rt; found == verdict);
 }
 
 #[test]
@@ -405,18 +433,14 @@ fn a_table_keeps_as_many_verdicts_as_its_limits_say(rt: HostRuntime) -> Result<(
     let Ok(limits) = Limits::check(LimitValues::greatest().with(LimitField::Cache, 2)) else {
         panic!(rt; "refused");
     };
-    let infected = Verdict::Infected {
-        index: 4,
-        end_at: 9,
-    };
     let mut table = mounted(&rt, rt.alloc(), Mode::FailClosed, limits);
-    put(&rt, &mut table, 7, infected);
+    put(&rt, &mut table, 7, infected());
     put(&rt, &mut table, 8, Verdict::Clean);
-    assert_eq!(rt; look(&mut table, 7, 1), None);
-    assert_eq!(rt; look(&mut table, 7, 2), Some(infected));
+    assert_kept(&rt, &mut table, 7, 1, None);
+    assert_kept(&rt, &mut table, 7, 2, Some(infected()));
     put(&rt, &mut table, 9, Verdict::Clean);
-    assert_eq!(rt; look(&mut table, 8, 2), None);
-    assert_eq!(rt; look(&mut table, 7, 2), Some(infected));
+    assert_kept(&rt, &mut table, 8, 2, None);
+    assert_kept(&rt, &mut table, 7, 2, Some(infected()));
     assert_eq!(rt; table.cache().len(), 2);
     assert_eq!(rt; table.cache().capacity(), 2);
     assert_eq!(rt; table.limits(), limits);
@@ -448,12 +472,12 @@ fn settle_one(rt: &impl Abort, alloc: Global, verdict: Verdict, answers: &[Answe
     let mut table = mounted(rt, alloc, Mode::FailOpen, Limits::greatest());
     hold_each(rt, &mut table, &[(7, 0), (8, 0), (7, 8)]);
     let given = settle(rt, alloc, &mut table, 1, 5, verdict);
-    assert!(rt; given.as_slice() == answers);
-    assert!(rt; state_of(&table, 7) == Some(judged(5, verdict)));
-    assert!(rt; look(&mut table, 7, 5) == Some(verdict));
+    assert_answers(rt, &given, answers);
+    assert_state(rt, &table, 7, Some(judged(5, verdict)));
+    assert_kept(rt, &mut table, 7, 5, Some(verdict));
     assert!(rt; table.floor() == Version::new(5));
-    assert!(rt; table.question_count() == 1);
-    assert!(rt; pop_number(&mut table) == Some(2));
+    assert_counts(rt, &table, (1, 1, 2));
+    assert_pops(rt, &mut table, &[2]);
     answering::abandon(table);
 }
 
@@ -503,43 +527,38 @@ fn refuse(
     }
 }
 
+// A question of two opens of three, on a stream of a volume of one, whose time is up: what its opens are answered.
+fn time_out_one(
+    rt: &impl Abort,
+    alloc: Global,
+    volume: &Volume,
+    mode: Mode,
+    stream: u64,
+    answers: &[Answer],
+) {
+    let mut table = mounted(rt, alloc, mode, Limits::greatest());
+    hold_each(rt, &mut table, &[(stream, 0), (9, 0), (stream, 1)]);
+    let given = refuse(rt, alloc, &mut table, volume, 1);
+    assert_answers(rt, &given, answers);
+    assert_state(rt, &table, stream, Some(ContextState::Modified));
+    assert!(rt; table.mode() == mode);
+    assert_pops(rt, &mut table, &[2]);
+    answering::abandon(table);
+}
+
 #[test]
 fn a_question_that_cannot_be_judged_answers_its_opens_by_the_mode(
     rt: HostRuntime,
 ) -> Result<(), Fail> {
-    let volume = volume_of_one(&rt, rt.alloc());
-    let rows = [
-        (
-            Mode::FailClosed,
-            1,
-            denied(1, Cause::TimedOut),
-            denied(3, Cause::TimedOut),
-        ),
-        (
-            Mode::FailOpen,
-            1,
-            unscanned(1, 1, 1, Cause::TimedOut),
-            unscanned(3, 1, 1, Cause::TimedOut),
-        ),
-        (
-            Mode::FailOpen,
-            7,
-            unscanned(1, 7, 0, Cause::TimedOut),
-            unscanned(3, 7, 0, Cause::TimedOut),
-        ),
-    ];
-    for (mode, stream, first, second) in rows {
-        let mut table = mounted(&rt, rt.alloc(), mode, Limits::greatest());
-        hold_each(&rt, &mut table, &[(stream, 0), (9, 0), (stream, 1)]);
-        assert_eq!(rt;
-            refuse(&rt, rt.alloc(), &mut table, &volume, 1).as_slice(),
-            [first, second].as_slice()
-        );
-        assert_eq!(rt; state_of(&table, stream), Some(ContextState::Modified));
-        assert_eq!(rt; table.mode(), mode);
-        assert_eq!(rt; pop_number(&mut table), Some(2));
-        answering::abandon(table);
-    }
+    let alloc = rt.alloc();
+    let volume = volume_of_one(&rt, alloc);
+    let cause = Cause::TimedOut;
+    let closed = [denied(1, cause), denied(3, cause)];
+    time_out_one(&rt, alloc, &volume, Mode::FailClosed, 1, &closed);
+    let open = [unscanned(1, 1, 1, cause), unscanned(3, 1, 1, cause)];
+    time_out_one(&rt, alloc, &volume, Mode::FailOpen, 1, &open);
+    let gone = [unscanned(1, 7, 0, cause), unscanned(3, 7, 0, cause)];
+    time_out_one(&rt, alloc, &volume, Mode::FailOpen, 7, &gone);
     Ok(())
 }
 
@@ -562,42 +581,48 @@ fn a_table_that_is_mounted_again_has_nothing_of_the_one_before(
     let mut answers = room(&rt, rt.alloc());
     let mut table = mounted(&rt, rt.alloc(), Mode::FailClosed, Limits::greatest());
     hold_each(&rt, &mut table, &[(7, 0), (8, 0), (7, 0)]);
-    table.set_connected(true);
-    table.raise(Version::new(3));
-    table.raise(Version::new(2));
-    assert_eq!(rt; table.floor(), Version::new(3));
-    assert!(rt; table.connected());
+    raise(&rt, &mut table);
     refuse_all(&rt, &mut table, &volume, &mut answers);
-    assert_eq!(rt;
-        answers.as_slice(),
-        [
-            denied(1, Cause::FilterRestart),
-            denied(2, Cause::FilterRestart),
-            denied(3, Cause::FilterRestart),
-        ]
-        .as_slice()
-    );
+    let cause = Cause::FilterRestart;
+    let wanted = [denied(1, cause), denied(2, cause), denied(3, cause)];
+    assert_answers(&rt, &answers, &wanted);
     lose(&rt, &mut table);
     // Each reference came back: with its stream's attachment a context is gone.
     forget_context(&rt, &mut table, 7);
     forget_context(&rt, &mut table, 8);
-    assert_eq!(rt; table.context_count(), 0);
-    let limits = table.limits();
-    let boot = table.boot();
-    let mode = table.mode();
-    assert!(rt; boot < 100);
-    end(&rt, table);
-    let Ok(table) = FilterTable::new(rt.alloc(), mode, limits, boot + 1) else {
-        panic!(rt; "no memory");
-    };
-    assert_eq!(rt; table.boot(), 2);
-    assert_eq!(rt; table.sequence(), 0);
-    assert_eq!(rt; table.floor(), Version::new(0));
-    assert!(rt; !table.connected());
-    assert_eq!(rt; table.context_count(), 0);
-    assert_eq!(rt; table.cache().len(), 0);
-    end(&rt, table);
+    assert_counts(&rt, &table, (0, 0, 0));
+    let next = mounted_again(&rt, rt.alloc(), table);
+    assert_as_mounted(&rt, &next);
+    end(&rt, next);
     Ok(())
+}
+
+fn raise(rt: &impl Abort, table: &mut FilterTable) {
+    table.set_connected(true);
+    table.raise(Version::new(3));
+    table.raise(Version::new(2));
+    assert!(rt; table.floor() == Version::new(3));
+    assert!(rt; table.connected());
+}
+
+// Ends a table, and gives the one of the next boot.
+fn mounted_again(rt: &impl Abort, alloc: Global, table: FilterTable) -> FilterTable {
+    let (mode, limits, boot) = (table.mode(), table.limits(), table.boot());
+    assert!(rt; boot < 100);
+    end(rt, table);
+    match FilterTable::new(alloc, mode, limits, boot + 1) {
+        Ok(next) => next,
+        Err(_) => panic!(rt; "no memory"),
+    }
+}
+
+fn assert_as_mounted(rt: &impl Abort, table: &FilterTable) {
+    assert!(rt; table.boot() == 2);
+    assert!(rt; table.sequence() == 0);
+    assert!(rt; table.floor() == Version::new(0));
+    assert!(rt; !table.connected());
+    assert!(rt; table.cache().len() == 0);
+    assert_counts(rt, table, (0, 0, 0));
 }
 
 #[test]

@@ -1,6 +1,6 @@
 //! A filter as plain lists, written anew from docs/CONDUCT.md for the tests: it shares no code with the filter. It has no
-//! cache, which no sequence of events without a restart can tell.
-use super::Step;
+//! cache, which no sequence of events can tell: within one boot the floor only rises, and a restart empties the cache.
+use crate::tests::steps::Step;
 use av_base::mode::Mode;
 use std::alloc::{AllocError, Global};
 
@@ -17,7 +17,7 @@ enum Known {
 struct PlainStream {
     id: u64,
     generation: u64,
-    length: u64,
+    bytes: Vec<u8>,
     known: Known,
 }
 
@@ -41,6 +41,7 @@ struct PlainOpen {
 pub(crate) struct Plain {
     alloc: Global,
     mode: Mode,
+    boot: u64,
     seq: u64,
     opens: u64,
     connected: bool,
@@ -58,13 +59,14 @@ impl Plain {
             streams.push(PlainStream {
                 id,
                 generation: 1,
-                length: 0,
+                bytes: Vec::new(alloc),
                 known: Known::Nothing,
             })?;
         }
         Ok(Plain {
             alloc,
             mode,
+            boot: 1,
             seq: 0,
             opens: 0,
             connected: false,
@@ -73,6 +75,10 @@ impl Plain {
             questions: Vec::new(alloc),
             waiting: Vec::new(alloc),
         })
+    }
+
+    pub(crate) fn boot(&self) -> u64 {
+        self.boot
     }
 
     // The number of the last question.
@@ -85,24 +91,79 @@ impl Plain {
         (self.questions.len(), self.waiting.len())
     }
 
+    // Whether an open of the stream waits.
+    pub(crate) fn waits_for(&self, stream: u64) -> bool {
+        self.waiting.iter().any(|w| w.stream == stream)
+    }
+
+    // Whether an open waits, and a verdict is known of a stream.
+    pub(crate) fn has_both(&self) -> bool {
+        let is_known = self.streams.iter().any(|s| matches!(
+            s.known,
+            Known::Judged {
+                version: _,
+                infected: _
+            }
+        ));
+        is_known && !self.waiting.is_empty()
+    }
+
     // What it gives out at a step, with limits of two questions and three held opens.
     pub(crate) fn take(&mut self, step: Step<'_>) -> Result<String, AllocError> {
         let mut text = String::new(self.alloc);
+        self.happen(step, &mut text)?;
+        Ok(text)
+    }
+
+    fn happen(&mut self, step: Step<'_>, text: &mut String) -> Result<(), AllocError> {
         match step {
-            Step::Open(stream, least) => self.open(stream, least, &mut text)?,
-            Step::Write(stream, offset, bytes) => self.write(stream, offset, bytes, &mut text)?,
-            Step::Cut(stream, length) => self.cut(stream, length, &mut text)?,
-            Step::Cleanup(stream) => self.cleanup(stream, &mut text)?,
-            Step::Hello(_, version) => self.hello(version, &mut text)?,
-            Step::Updated(version) => self.floor = self.floor.max(version),
-            Step::Clean(_, seq, version) => self.reply(seq, version, false, &mut text)?,
-            Step::Infected(seq, version) => self.reply(seq, version, true, &mut text)?,
-            Step::Failed(seq) => self.end_by_mode(seq, 7, false, &mut text)?,
-            Step::Timeout(seq) => self.end_by_mode(seq, 5, true, &mut text)?,
-            Step::Disconnect => self.disconnect(&mut text)?,
-            _ => {}
+            Step::Open(stream, least) => self.open(stream, least, text),
+            Step::Write(stream, offset, bytes) => self.write(stream, offset, bytes, text),
+            Step::Cut(stream, length) => self.cut(stream, length, text),
+            Step::Remove(stream) => self.remove(stream, text),
+            Step::Cleanup(stream) => self.cleanup(stream, text),
+            Step::Timeout(seq) => self.time_out(seq, text),
+            Step::Disconnect => self.disconnect(text),
+            _ => self.hear(step, text),
+        }
+    }
+
+    // A message of the service.
+    fn hear(&mut self, step: Step<'_>, text: &mut String) -> Result<(), AllocError> {
+        match step {
+            Step::Hello(_, version) => self.hello(version, text),
+            Step::Updated(version) => {
+                self.floor = self.floor.max(version);
+                Ok(())
+            }
+            Step::Read(boot, seq, offset, count) => self.read(boot, seq, offset, count, text),
+            Step::Clean(boot, seq, version) => self.reply(boot, seq, version, false, text),
+            Step::Infected(boot, seq, version) => self.reply(boot, seq, version, true, text),
+            Step::Failed(boot, seq) => self.fail(boot, seq, text),
+            _ => self.add(text, "note Ignored"),
+        }
+    }
+
+    // What it gives out at a restart.
+    pub(crate) fn restart(&mut self) -> Result<String, AllocError> {
+        let mut text = String::new(self.alloc);
+        self.refuse_all(10, &mut text)?;
+        self.boot = self.boot.wrapping_add(1);
+        self.seq = 0;
+        self.connected = false;
+        self.floor = 0;
+        for stream in self.streams.iter_mut() {
+            stream.known = Known::Nothing;
         }
         Ok(text)
+    }
+
+    // The question of a whole id, where it runs.
+    fn question_of(&self, boot: u64, seq: u64) -> Option<PlainQuestion> {
+        if boot != self.boot {
+            return None;
+        }
+        self.questions.iter().find(|q| q.seq == seq).copied()
     }
 
     fn generation_of(&self, stream: u64) -> u64 {
@@ -172,10 +233,10 @@ impl Plain {
     // A question is asked of the present content.
     fn ask(&mut self, stream: u64, text: &mut String) -> Result<(), AllocError> {
         self.seq = self.seq.wrapping_add(1);
-        let seq = self.seq;
+        let (boot, seq) = (self.boot, self.seq);
         let generation = self.generation_of(stream);
         let length = match self.streams.iter().find(|s| s.id == stream) {
-            Some(found) => found.length,
+            Some(found) => found.bytes.len(),
             None => 0,
         };
         self.questions.push(PlainQuestion {
@@ -185,7 +246,7 @@ impl Plain {
         })?;
         self.set_known(stream, Known::Scanning);
         let part = format!(in self.alloc;
-            "scan 1.{seq} stream {stream} generation {generation} length {length}"
+            "scan {boot}.{seq} stream {stream} generation {generation} length {length}"
         )?;
         self.add(text, part.as_str())
     }
@@ -255,10 +316,10 @@ impl Plain {
         let Some(found) = self.streams.iter_mut().find(|s| s.id == stream) else {
             return self.add(text, "refused NoStream");
         };
-        if offset > found.length {
+        if offset > found.bytes.len() as u64 {
             return self.add(text, "refused Hole");
         }
-        found.length = found.length.max(offset.saturating_add(bytes.len() as u64));
+        overwrite(&mut found.bytes, offset as usize, bytes)?;
         found.generation = found.generation.wrapping_add(1);
         self.changed(stream, text)
     }
@@ -267,12 +328,39 @@ impl Plain {
         let Some(found) = self.streams.iter_mut().find(|s| s.id == stream) else {
             return self.add(text, "refused NoStream");
         };
-        if length > found.length {
+        if length > found.bytes.len() as u64 {
             return self.add(text, "refused Hole");
         }
-        found.length = length;
+        found.bytes.truncate(length as usize);
         found.generation = found.generation.wrapping_add(1);
         self.changed(stream, text)
+    }
+
+    fn remove(&mut self, stream: u64, text: &mut String) -> Result<(), AllocError> {
+        if !self.streams.iter().any(|s| s.id == stream) {
+            return self.add(text, "refused NoStream");
+        }
+        self.streams.retain(|s| s.id != stream);
+        let Some(question) = self.questions.iter().find(|q| q.stream == stream).copied() else {
+            return Ok(());
+        };
+        let seq = question.seq;
+        self.questions.retain(|q| q.seq != seq);
+        for open in self.waiting.as_slice() {
+            if open.question == seq {
+                let id = open.id;
+                let part = format!(in self.alloc; "open {id} denied cause 9")?;
+                self.add(text, part.as_str())?;
+            }
+        }
+        self.waiting.retain(|w| w.question != seq);
+        self.abort(seq, text)
+    }
+
+    fn abort(&self, seq: u64, text: &mut String) -> Result<(), AllocError> {
+        let boot = self.boot;
+        let part = format!(in self.alloc; "abort {boot}.{seq}")?;
+        self.add(text, part.as_str())
     }
 
     fn changed(&mut self, stream: u64, text: &mut String) -> Result<(), AllocError> {
@@ -313,8 +401,7 @@ impl Plain {
             }
         }
         if abort {
-            let part = format!(in self.alloc; "abort 1.{old}")?;
-            self.add(text, part.as_str())?;
+            self.abort(old, text)?;
         }
         if held {
             return self.ask(question.stream, text);
@@ -345,14 +432,57 @@ impl Plain {
         self.add(text, "note Welcome")
     }
 
+    fn read(
+        &self,
+        boot: u64,
+        seq: u64,
+        offset: u64,
+        count: u32,
+        text: &mut String,
+    ) -> Result<(), AllocError> {
+        let Some(question) = self.question_of(boot, seq) else {
+            return self.no_chunk(boot, seq, offset, 1, text);
+        };
+        let Some(found) = self.streams.iter().find(|s| s.id == question.stream) else {
+            return self.add(text, "a question of no stream");
+        };
+        if offset >= found.bytes.len() as u64 {
+            return self.no_chunk(boot, seq, offset, 2, text);
+        }
+        let part = format!(in self.alloc; "chunk {boot}.{seq} offset {offset} bytes")?;
+        self.add(text, part.as_str())?;
+        for byte in found
+            .bytes
+            .iter()
+            .skip(offset as usize)
+            .take(count as usize)
+        {
+            text.push_str(format!(in self.alloc; " {byte}")?.as_str())?;
+        }
+        Ok(())
+    }
+
+    fn no_chunk(
+        &self,
+        boot: u64,
+        seq: u64,
+        offset: u64,
+        cause: u64,
+        text: &mut String,
+    ) -> Result<(), AllocError> {
+        let part = format!(in self.alloc; "nochunk {boot}.{seq} offset {offset} cause {cause}")?;
+        self.add(text, part.as_str())
+    }
+
     fn reply(
         &mut self,
+        boot: u64,
         seq: u64,
         version: u64,
         infected: bool,
         text: &mut String,
     ) -> Result<(), AllocError> {
-        let Some(question) = self.questions.iter().find(|q| q.seq == seq).copied() else {
+        let Some(question) = self.question_of(boot, seq) else {
             return self.add(text, "note NoWaiter");
         };
         if version < self.floor {
@@ -370,16 +500,28 @@ impl Plain {
         Ok(())
     }
 
-    fn end_by_mode(
-        &mut self,
-        seq: u64,
-        cause: u64,
-        abort: bool,
-        text: &mut String,
-    ) -> Result<(), AllocError> {
-        let Some(question) = self.questions.iter().find(|q| q.seq == seq).copied() else {
+    fn fail(&mut self, boot: u64, seq: u64, text: &mut String) -> Result<(), AllocError> {
+        let Some(question) = self.question_of(boot, seq) else {
             return self.add(text, "note NoWaiter");
         };
+        self.end_by_mode(question, 7, text)
+    }
+
+    fn time_out(&mut self, seq: u64, text: &mut String) -> Result<(), AllocError> {
+        let Some(question) = self.question_of(self.boot, seq) else {
+            return self.add(text, "note NoWaiter");
+        };
+        self.end_by_mode(question, 5, text)?;
+        self.abort(seq, text)
+    }
+
+    fn end_by_mode(
+        &mut self,
+        question: PlainQuestion,
+        cause: u64,
+        text: &mut String,
+    ) -> Result<(), AllocError> {
+        let seq = question.seq;
         self.questions.retain(|q| q.seq != seq);
         self.set_known(question.stream, Known::Modified);
         for open in self.waiting.as_slice() {
@@ -388,25 +530,39 @@ impl Plain {
             }
         }
         self.waiting.retain(|w| w.question != seq);
-        if abort {
-            let part = format!(in self.alloc; "abort 1.{seq}")?;
-            self.add(text, part.as_str())?;
-        }
         Ok(())
     }
 
     fn disconnect(&mut self, text: &mut String) -> Result<(), AllocError> {
         self.connected = false;
-        for open in self.waiting.as_slice() {
-            self.unjudged(open.id, open.stream, 6, text)?;
-        }
         for stream in self.streams.iter_mut() {
             if stream.known == Known::Scanning {
                 stream.known = Known::Modified;
             }
         }
+        self.refuse_all(6, text)
+    }
+
+    // Every question ends, and every open is answered by the mode.
+    fn refuse_all(&mut self, cause: u64, text: &mut String) -> Result<(), AllocError> {
+        for open in self.waiting.as_slice() {
+            self.unjudged(open.id, open.stream, cause, text)?;
+        }
         self.questions.clear();
         self.waiting.clear();
         Ok(())
     }
+}
+
+// Bytes over those from a place on, which is at most the length.
+fn overwrite(bytes: &mut Vec<u8>, offset: usize, new: &[u8]) -> Result<(), AllocError> {
+    for (i, byte) in new.iter().enumerate() {
+        let place = offset.saturating_add(i);
+        if place < bytes.len() {
+            bytes[place] = *byte;
+        } else {
+            bytes.push(*byte)?;
+        }
+    }
+    Ok(())
 }
