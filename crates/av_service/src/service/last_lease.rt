@@ -17,37 +17,38 @@ fn no_work_is_lent_behind_the_last_lease(rt: HostRuntime) -> Result<(), Fail> {
     Ok(())
 }
 
-// The place of the first step that is answered otherwise, with one lease left behind the second step.
+// What comes before that.
+const BEFORE: [(Step<'static>, &str); 2] = [
+    (Step::Publish(1, b"AB"), ""),
+    (Step::Connect, "hello volume 1 version 1"),
+];
+
+// What comes with one lease left.
+const STEPS: [(Step<'static>, &str); 11] = [
+    (Step::Scan(1, 1, 2), "read 1.1 offset 0 count 1"),
+    (
+        Step::Chunk(1, 0, b"A"),
+        "lease 18446744073709551615 1.1 version 1",
+    ),
+    (Step::Finish, "read 1.1 offset 1 count 1"),
+    (Step::Chunk(1, 1, b"B"), "note Ignored"),
+    (Step::Chunk(1, 1, b"BC"), "note Ignored"),
+    (Step::Restart, ""),
+    (Step::Connect, "hello volume 1 version 1"),
+    (Step::Scan(2, 1, 2), "read 1.2 offset 0 count 1"),
+    (Step::Chunk(2, 0, b"A"), "note Ignored"),
+    (Step::Scan(3, 3, 0), "reply 1.3 version 1 clean"),
+    (Step::Abort(2), ""),
+];
+
+// The place of the first step with one lease left that is answered otherwise.
 fn run_out(alloc: Global, works: &mut VecDeque<Work>) -> Result<Option<usize>, Fail> {
     let mut stand = Stand::new(alloc, (LimitField::Chunk, 1))?;
-    let steps = [
-        (Step::Publish(1, b"AB"), ""),
-        (Step::Connect, "hello volume 1 version 1"),
-        (Step::Scan(1, 1, 2), "read 1.1 offset 0 count 1"),
-        (
-            Step::Chunk(1, 0, b"A"),
-            "lease 18446744073709551615 1.1 version 1",
-        ),
-        (Step::Finish, "read 1.1 offset 1 count 1"),
-        (Step::Chunk(1, 1, b"B"), "note Ignored"),
-        (Step::Chunk(1, 1, b"BC"), "note Ignored"),
-        (Step::Restart, ""),
-        (Step::Connect, "hello volume 1 version 1"),
-        (Step::Scan(2, 1, 2), "read 1.2 offset 0 count 1"),
-        (Step::Chunk(2, 0, b"A"), "note Ignored"),
-        (Step::Scan(3, 3, 0), "reply 1.3 version 1 clean"),
-        (Step::Abort(2), ""),
-    ];
-    for (i, (step, want)) in steps.iter().enumerate() {
-        if i == 2 {
-            leave_one_lease(&mut stand.service);
-        }
-        let said = stand.answer(alloc, works, *step)?;
-        if said.as_str() != *want {
-            return Ok(Some(i));
-        }
+    if stand.first_wrong(alloc, works, &BEFORE)?.is_some() {
+        return Err(Fail::new("answered otherwise before that"));
     }
-    Ok(None)
+    leave_one_lease(&mut stand.service);
+    stand.first_wrong(alloc, works, &STEPS)
 }
 
 fn leave_one_lease(service: &mut Service) {

@@ -1,9 +1,9 @@
 // Whole courses of events, with what a service says at each, as scripts print it.
 use crate::tests::steps::{Stand, Step, discard_all};
-use crate::work::Work;
 use av_base::limits::LimitField;
 use std::alloc::Global;
 use std::collections::VecDeque;
+use std::process::Abort;
 use std::test::Fail;
 
 // A limit, and what a service says at each step.
@@ -259,28 +259,22 @@ const ROWS: [Row<'static>; 14] = [
 // refused in turn, too.
 #[test]
 fn refused_or_not_every_row_is_answered_as_written(rt: HostRuntime) -> Result<(), Fail> {
-    for row in &ROWS {
-        let mut works = VecDeque::new(rt.alloc());
-        let first_bad = run_row(rt.alloc(), row, &mut works);
-        discard_all(works);
+    run_all(rt.alloc(), &rt, &ROWS)
+}
+
+fn run_all(alloc: Global, rt: &impl Abort, rows: &[Row<'_>]) -> Result<(), Fail> {
+    for row in rows {
         let name = row.name;
-        assert_eq!(rt; first_bad?, None, "{name}");
+        assert_eq!(rt; first_wrong(alloc, row)?, None, "{name}");
     }
     Ok(())
 }
 
-// The place of the first step that is answered otherwise.
-fn run_row(
-    alloc: Global,
-    row: &Row<'_>,
-    works: &mut VecDeque<Work>,
-) -> Result<Option<usize>, Fail> {
+// The place of the first step of a row that is answered otherwise.
+fn first_wrong(alloc: Global, row: &Row<'_>) -> Result<Option<usize>, Fail> {
     let mut stand = Stand::new(alloc, row.limit)?;
-    for (i, (step, want)) in row.steps.iter().enumerate() {
-        let said = stand.answer(alloc, works, *step)?;
-        if said.as_str() != *want {
-            return Ok(Some(i));
-        }
-    }
-    Ok(None)
+    let mut works = VecDeque::new(alloc);
+    let first = stand.first_wrong(alloc, &mut works, row.steps);
+    discard_all(works);
+    first
 }

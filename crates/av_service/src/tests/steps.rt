@@ -76,6 +76,34 @@ impl Stand {
     }
 }
 
+impl Stand {
+    // Whether the service says this to a step.
+    pub fn says(
+        &mut self,
+        alloc: Global,
+        works: &mut VecDeque<Work>,
+        step: Step<'_>,
+        want: &str,
+    ) -> Result<bool, Fail> {
+        Ok(self.answer(alloc, works, step)?.as_str() == want)
+    }
+
+    // The place of the first step that is answered otherwise.
+    pub fn first_wrong(
+        &mut self,
+        alloc: Global,
+        works: &mut VecDeque<Work>,
+        steps: &[(Step<'_>, &str)],
+    ) -> Result<Option<usize>, Fail> {
+        for (i, (step, want)) in steps.iter().enumerate() {
+            if !self.says(alloc, works, *step, want)? {
+                return Ok(Some(i));
+            }
+        }
+        Ok(None)
+    }
+}
+
 pub fn discard_all(works: VecDeque<Work>) {
     let mut works = works;
     'each: while let Some(work) = works.pop_front() {
