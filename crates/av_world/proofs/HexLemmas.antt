@@ -4,7 +4,7 @@ use Rattle.std.proofs.lemmas.List.Sums.{AllPass-from_list_all, list_all-from_All
 use Rattle.std.specs.List.{list_all}
 use Rattle.hex.specs.Hex.{decode_of, decode_pairs, is_hex_digit}
 use Rattle.hex.proofs.HexLemmas.{decode_of-ok, decode_of-digits}
-use Rattle.av_world.specs.Grammar.{is_hex, spells_bytes}
+use Rattle.av_world.specs.Script.Grammar.{is_hex, spells_bytes}
 
 -- no digits spell nothing
 pub is_hex-empty : (word : List ℕ) → (length word == 0) ≡ true → is_hex word ≡ false

@@ -1,11 +1,11 @@
 use Rattle.std.proofs.Common.{ℕ, ◌≡◌, ◌+◌, ◌++◌, true, false, List, [], ◌∷◌, Some, Result, Ok, Err, refl, sym, ap, ◌∙◌, append_assoc, append-nil, length, ◌==◌, eqb-true, arith}
 use Rattle.std.specs.Option.{option_to_list}
 use Rattle.av_base.specs.Line.{lines_of}
-use Rattle.av_world.specs.declared.command.Command.{Command}
+use Rattle.av_world.specs.declared.script.command.Command.{Command}
 use Rattle.av_world.specs.declared.script.ScriptFault.{ScriptFault}
-use Rattle.av_world.specs.Grammar.{Line, Silent, Limit, Volume, Says, line_of}
+use Rattle.av_world.specs.Script.Grammar.{Line, Silent, Limit, Volume, Says, line_of}
 use Rattle.av_world.specs.Script.{command_then, line_then, commands_from, with_front}
-use Rattle.av_world.specs.Statement.{command_of, is_setting}
+use Rattle.av_world.specs.Script.Statement.{command_of, is_setting}
 
 -- one command more stands in front
 front_more : (front : List Command) (c : Command) (r : Result (List Command) ScriptFault) → with_front (front ++ c ∷ []) r ≡ with_front front (command_then c r)

@@ -1,4 +1,7 @@
 -- A script as its lines say it, or its first bad line.
+pub mod Grammar
+pub mod Statement
+pub mod Words
 use Rattle.std.specs.Prelude.{ℕ, ◌≡◌, ◌+◌, ◌++◌, List, [], ◌∷◌, Option, None, Some, Result, Ok, Err, IsOk}
 use Rattle.std.specs.declared.collections.VecDeque.{VecDeque}
 use Rattle.std.specs.declared.alloc.Global.{Global}
@@ -9,9 +12,9 @@ use Rattle.av_base.specs.Limits.{checked, greatest_values, with_field}
 use Rattle.av_base.specs.declared.limits.LimitValues.{LimitValues}
 use Rattle.av_base.specs.declared.limits.LimitFault.{LimitFault}
 use Rattle.av_base.specs.declared.mode.Mode.{Mode}
-use Rattle.av_world.specs.declared.command.Command.{Command}
+use Rattle.av_world.specs.declared.script.command.Command.{Command}
 use Rattle.av_world.specs.declared.script.ScriptFault.{ScriptFault}
-use Rattle.av_world.specs.Grammar.{Line, Silent, Limit, Volume, Says, line_of}
+use Rattle.av_world.specs.Script.Grammar.{Line, Silent, Limit, Volume, Says, line_of}
 
 -- a volume with its mode and limits, and the commands in their order
 pub record ScriptText : Type 0 where

@@ -1,60 +1,55 @@
 -- The lines that a script prints, apart from any way to print them.
-use Rattle.std.specs.Prelude.{ℕ, List, [], ◌∷◌, ◌++◌, Result, Ok, Err, codes, decimal}
+pub mod Answers
+pub mod Lines
+pub mod Messages
+pub mod Notes
+pub mod Refusals
+use Rattle.std.specs.Prelude.{ℕ, ◌+◌, List, [], ◌∷◌, ◌++◌, Option, Result, Ok, Err, codes}
+use Rattle.std.specs.List.{between}
 use Rattle.av_base.specs.Part.{spelt}
-use Rattle.av_base.specs.declared.verdict.Verdict.{Verdict}
-use Rattle.av_base.specs.declared.verdict.Verdict.TheVariants.{Clean, Infected}
-use Rattle.av_sigset.specs.declared.fault.CatalogueFault.TheVariants.{OldVersion, CatalogueFull}
-use Rattle.av_store.specs.declared.fault.StoreFault.TheVariants.{BadName, Exists, Full, NoStream, Hole, TooLarge, GenerationSpent}
-use Rattle.av_world.specs.declared.command.Command.{Command}
-use Rattle.av_world.specs.declared.command.Command.TheVariants.{Step, Judge}
-use Rattle.av_world.specs.declared.fault.StepFault.{StepFault}
-use Rattle.av_world.specs.declared.fault.StepFault.TheVariants.{NoSuchName, BadSet, Catalogue, Store}
+use Rattle.av_frame.specs.declared.message.Body.{Body}
+use Rattle.av_service.specs.Work.{WorkState}
 use Rattle.av_world.specs.declared.fault.JudgeFault.{JudgeFault}
-use Rattle.av_world.specs.declared.fault.JudgeFault.TheVariants as judge_fault
-use Rattle.av_world.specs.declared.report.Report.{Report}
-use Rattle.av_world.specs.declared.report.Report.TheVariants.{Published, Created, Changed}
+use Rattle.av_world.specs.declared.fault.StepFault.{StepFault}
+use Rattle.av_world.specs.declared.given.Given.{Given}
+use Rattle.av_world.specs.declared.output.message.Way.TheVariants.{Down, Up}
 use Rattle.av_world.specs.declared.report.Judged.{Judged}
+use Rattle.av_world.specs.declared.report.Report.{Report}
+use Rattle.av_world.specs.declared.script.command.Command.{Command}
+use Rattle.av_world.specs.declared.script.command.Command.TheVariants.{Step, Judge}
 use Rattle.av_world.specs.Judge.{judged_of}
 use Rattle.av_world.specs.Script.{ScriptText}
-use Rattle.av_world.specs.World.{WorldState, start, step_of, after}
+use Rattle.av_world.specs.Text.Answers.{answers_text, pended_text}
+use Rattle.av_world.specs.Text.Lines.{judged_text, line_text}
+use Rattle.av_world.specs.Text.Messages.{message_text, placed_text, work_text}
+use Rattle.av_world.specs.Text.Notes.{note_text}
+use Rattle.av_world.specs.Text.Refusals.{judge_word_of, refused_text, word_of}
+use Rattle.av_world.specs.World.{WorldState, after, start, step_of}
 
--- the word for a refused step
-abbrev pub word_of : StepFault → List ℕ
-word_of NoSuchName = codes "NoSuchName"
-word_of BadSet = codes "BadSet"
-word_of (Catalogue OldVersion) = codes "OldVersion"
-word_of (Catalogue CatalogueFull) = codes "CatalogueFull"
-word_of (Store BadName) = codes "BadName"
-word_of (Store Exists) = codes "Exists"
-word_of (Store Full) = codes "Full"
-word_of (Store NoStream) = codes "NoStream"
-word_of (Store Hole) = codes "Hole"
-word_of (Store TooLarge) = codes "TooLarge"
-word_of (Store GenerationSpent) = codes "GenerationSpent"
+-- what the answers that a step gave tell, and whether its open waits
+abbrev pub opens_text : Report → List Given → List ℕ
+opens_text r answers = let given = between r.before.answers r.after.answers answers in answers_text given ++ pended_text r.note given
 
-abbrev pub judge_word_of : JudgeFault → List ℕ
-judge_word_of judge_fault.NoSuchName = codes "NoSuchName"
-judge_word_of judge_fault.NoSignatures = codes "NoSignatures"
+-- what was sent and lent in a step, each by its place
+abbrev pub sent_text : Report → List Body → List Body → List (Option WorkState) → List ℕ
+sent_text r down up works =
+    spelt
+    (
+    placed_text (message_text Down) (r.before.down + 1) (between r.before.down r.after.down down)
+    ∷ placed_text (message_text Up) (r.before.up + 1) (between r.before.up r.after.up up)
+    ∷ placed_text work_text (r.before.works + 1) (between r.before.works r.after.works works) ∷ []
+    )
 
-abbrev pub refused_text : List ℕ → List ℕ
-refused_text word = spelt (codes "refused " ∷ word ∷ codes "\n" ∷ [])
+-- the lines of a step, by the world's lists after it: its own line, opens, messages, work, and its note
+abbrev pub told_text : Report → List Given → List Body → List Body → List (Option WorkState) → List ℕ
+told_text r answers down up works = spelt (line_text r.line ∷ opens_text r answers ∷ sent_text r down up works ∷ note_text r.note ∷ [])
 
--- an accepted step's own line
-abbrev pub report_text : Report → List ℕ
-report_text (Published v n) = spelt (codes "version " ∷ decimal v ∷ codes " signatures " ∷ decimal n ∷ codes "\n" ∷ [])
-report_text (Created s) = spelt (codes "stream " ∷ decimal s ∷ codes " generation 1\n" ∷ [])
-report_text (Changed s g n) = spelt (codes "stream " ∷ decimal s ∷ codes " generation " ∷ decimal g ∷ codes " length " ∷ decimal n ∷ codes "\n" ∷ [])
+abbrev pub report_text : WorldState → Report → List ℕ
+report_text w r = told_text r w.answers w.down w.up w.works
 
--- the last words of a judgement: clean, or which signature ends where first
-abbrev pub verdict_parts : Verdict → List (List ℕ)
-verdict_parts Clean = codes " clean\n" ∷ []
-verdict_parts (Infected i e) = codes " infected " ∷ decimal i ∷ codes " end " ∷ decimal e ∷ codes "\n" ∷ []
-
-abbrev pub judged_text : Judged → List ℕ
-judged_text j = spelt (codes "judge " ∷ decimal j.stream ∷ codes " generation " ∷ decimal j.generation ∷ codes " version " ∷ decimal j.version ∷ verdict_parts j.verdict)
-
-abbrev pub step_text : {A : Type 0} → Result (Report × A) StepFault → List ℕ
-step_text (Ok p) = report_text p.0
+-- what a step prints: its report over the next world, or why it is refused
+abbrev pub step_text : Result (Report × WorldState) StepFault → List ℕ
+step_text (Ok p) = report_text p.1 p.0
 step_text (Err f) = refused_text (word_of f)
 
 abbrev pub judge_text : Result Judged JudgeFault → List ℕ
@@ -75,6 +70,10 @@ abbrev pub commands_text : WorldState → List Command → List ℕ
 commands_text w [] = []
 commands_text w (c ∷ cs) = command_text w c ++ commands_text (command_world w c) cs
 
--- what a script prints: the boot of its volume, and then its commands
+-- the line of the volume: it was mounted once
+abbrev pub boot_text : List ℕ
+boot_text = codes "boot 1\n"
+
+-- what a script prints: the line of its volume, and then those of its commands
 abbrev pub script_text : ScriptText → List ℕ
-script_text s = codes "boot 1\n" ++ commands_text (start s.number s.mode s.limits) s.commands
+script_text s = boot_text ++ commands_text (start s.number s.mode s.limits) s.commands

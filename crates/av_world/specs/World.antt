@@ -1,89 +1,232 @@
--- A world: its history, its volume, and the signature sets that were published.
-use Rattle.std.specs.Prelude.{ℕ, ◌≡◌, ◌⊎◌, List, [], ◌∷◌, length, map, Option, None, Some, Result, Ok, Err, IsOk}
+-- A world: its history, one volume, the published sets, a filter, a service, and each message that they ever sent.
+use Rattle.std.specs.Prelude.{ℕ, zero, suc, pred, ◌≡◌, ◌⊎◌, List, [], ◌∷◌, ◌++◌, length, map, slice_get, slice_set, Option, None, Some, unwrap_or, Result, Ok, Err, IsOk}
+use Rattle.std.specs.Option.{option_map}
 use Rattle.av_base.specs.declared.limits.LimitValues.{LimitValues}
 use Rattle.av_base.specs.declared.mode.Mode.{Mode}
 use Rattle.av_base.specs.declared.refusal.Refusal.{Refusal}
 use Rattle.av_base.specs.declared.refusal.Refusal.TheVariants.{Fault, NoMemory}
 use Rattle.av_base.specs.declared.refusal.Refused.{Refused}
-use Rattle.av_sigset.specs.Catalogue.{may_publish}
+use Rattle.av_filter.specs.Conduct.{FilterEvent, Opens, Changes, CleansUp, TimesOut, filter_refusal, filter_step}
+use Rattle.av_filter.specs.Conduct as filter
+use Rattle.av_filter.specs.Reaction.{Reaction}
+use Rattle.av_filter_table.specs.Table.{Table, mounted}
+use Rattle.av_filter.specs.declared.fault.FilterFault.{FilterFault}
+use Rattle.av_filter.specs.declared.fault.FilterFault.TheVariants as filter_fault
+use Rattle.av_frame.specs.declared.message.Body.{Body}
+use Rattle.av_match.specs.Scanning.{ScanState, fitting, scanner}
+use Rattle.av_pend.specs.declared.answer.Answer.{Answer}
+use Rattle.av_service.specs.Conduct.{ServiceEvent, Finishes, connect_refusal, service_step}
+use Rattle.av_service.specs.Conduct as service
+use Rattle.av_service.specs.Desk.{Desk, just_started}
+use Rattle.av_service.specs.Response.{Response}
+use Rattle.av_service.specs.declared.fault.ConnectFault.{ConnectFault}
+use Rattle.av_service.specs.Work.{WorkState}
+use Rattle.av_sigset.specs.Catalogue.{latest, may_publish}
 use Rattle.av_sigset.specs.Made.{set_made}
 use Rattle.av_sigset.specs.Set.{NumberedSet}
 use Rattle.av_sigset.specs.declared.fault.CatalogueFault.{CatalogueFault}
 use Rattle.av_sigset.specs.declared.fault.SetFault.{SetFault}
 use Rattle.av_sigset.specs.declared.signature.Pattern.{Pattern}
+use Rattle.av_store.specs.Files as change
 use Rattle.av_store.specs.Rows.{stream_at, number_named}
-use Rattle.av_store.specs.Store.{Store, empty_store, create_of, write_of, cut_of}
-use Rattle.av_store.specs.declared.fault.StoreFault.{StoreFault}
+use Rattle.av_store.specs.Store.{Store, empty_store}
 use Rattle.av_store.specs.declared.stream.Stream.{Stream}
+use Rattle.av_world.specs.Publication.{Publication, publication_of, published_as}
 use Rattle.av_world.specs.declared.event.Event.{Event}
-use Rattle.av_world.specs.declared.event.Event.TheVariants.{Publish, Create, Write, Cut}
+use Rattle.av_world.specs.declared.event.Event.TheVariants.{Publish, Create, Write, Cut, Remove, Open, Cleanup, Down, Up, Run, Timeout, Connect, DisconnectFilter, DisconnectService, RestartFilter, RestartService}
 use Rattle.av_world.specs.declared.fault.StepFault.{StepFault}
 use Rattle.av_world.specs.declared.fault.StepFault.TheVariants as fault
+use Rattle.av_world.specs.declared.given.Given.{Given}
+use Rattle.av_world.specs.declared.report.Line.{Line}
+use Rattle.av_world.specs.declared.report.Line.TheVariants.{Silent, Published, Created, Changed, Removed, Booted}
+use Rattle.av_world.specs.declared.report.Note.{Note}
+use Rattle.av_world.specs.declared.report.Note.TheVariants as note
+use Rattle.av_world.specs.declared.report.Places.{Places}
 use Rattle.av_world.specs.declared.report.Report.{Report}
-use Rattle.av_world.specs.declared.report.Report.TheVariants.{Published, Created, Changed}
 
--- what an accepted event tells, and leaves
-pub record Effect : Type 0 where
-  pub report : Report
+pub record WorldState : Type 0 where
+  pub history : List Event  -- the accepted events, the newest first
   pub volume : Store
-  pub sets : List NumberedSet
+  pub sets : List NumberedSet  -- the published sets, the newest first
+  pub table : Table
+  pub desk : Desk
+  pub down : List Body  -- each message that was ever sent to the service, the oldest first
+  pub up : List Body  -- and to the filter
+  pub works : List (Option WorkState)  -- each piece of work that was lent, the oldest first, or none where it came back
+  pub answers : List Given
 
-abbrev pub created : List NumberedSet → Result (ℕ × Store) StoreFault → Result Effect StepFault
-created sets (Ok p) = Ok (record { report = Created p.0; volume = p.1; sets = sets })
-created sets (Err f) = Err (fault.Store f)
+-- at the start the volume is empty, and a filter was mounted on it; the service was started, with no set
+abbrev pub start : ℕ → Mode → LimitValues → WorldState
+start number mode limits =
+    record {
+      history = [];
+      volume = record (empty_store number limits) { boot = 1 };
+      sets = [];
+      table = mounted mode limits 1;
+      desk = just_started number limits 0;
+      down = [];
+      up = [];
+      works = [];
+      answers = [];
+    }
 
--- the stream's new generation and length are told
-abbrev pub change_report : ℕ → Option Stream → Report
-change_report id None = Changed id 0 0
-change_report id (Some s) = Changed id s.generation (length s.bytes)
+-- ---- what a step tells
 
-abbrev pub changed : List NumberedSet → ℕ → Result Store StoreFault → Result Effect StepFault
-changed sets id (Ok v) = Ok (record { report = change_report id (stream_at id v.streams); volume = v; sets = sets })
-changed sets id (Err f) = Err (fault.Store f)
+abbrev pub places_of : WorldState → Places
+places_of w = record { answers = length w.answers; down = length w.down; up = length w.up; works = length w.works }
 
--- a change of the stream that a name names
-abbrev pub named : List NumberedSet → Option ℕ → (ℕ → Result Store StoreFault) → Result Effect StepFault
-named sets None change = Err fault.NoSuchName
-named sets (Some id) change = changed sets id (change id)
+-- the report of a step from w to w'
+abbrev pub report_of : WorldState → WorldState → Line → Note → Report
+report_of w w' line note = record { line = line; before = places_of w; after = places_of w'; note = note }
 
-abbrev pub added : Store → List NumberedSet → NumberedSet → Result (Unit {0}) CatalogueFault → Result Effect StepFault
-added v sets s (Ok done) = Ok (record { report = Published s.version (length s.signatures); volume = v; sets = s ∷ sets })
-added v sets s (Err f) = Err (fault.Catalogue f)
+-- a stream's new generation and length are told
+abbrev pub change_line : ℕ → Option Stream → Line
+change_line id None = Changed id 0 0
+change_line id (Some s) = Changed id s.generation (length s.bytes)
 
--- a set is judged by itself before its version is
-abbrev pub published : Store → List NumberedSet → Result NumberedSet SetFault → Result Effect StepFault
-published v sets (Ok s) = added v sets s (may_publish sets s.version)
-published v sets (Err f) = Err fault.BadSet
+-- ---- one event of the filter, and one of the service
+
+abbrev pub given_at : ℕ → Answer → Given
+given_at n a = record { event = n; answer = a }
+
+abbrev pub reacted : WorldState → Event → Reaction → WorldState
+reacted w e r =
+    record w {
+      history = e ∷ w.history;
+      volume = r.volume;
+      table = r.table;
+      down = w.down ++ r.messages;
+      answers = w.answers ++ map (given_at (suc (length w.history))) r.answers;
+    }
+
+abbrev pub responded : WorldState → Event → Response → WorldState
+responded w e r = record w { history = e ∷ w.history; desk = r.desk; up = w.up ++ r.messages; works = w.works ++ map Some r.works }
+
+-- an answer of a step: its report, and the world after it
+abbrev pub Outcome : Type 0
+Outcome = Result (Report × WorldState) StepFault
+
+abbrev pub unless : Option StepFault → Report × WorldState → Outcome
+unless None x = Ok x
+unless (Some f) x = Err f
+
+abbrev pub step_fault : FilterFault → StepFault
+step_fault (filter_fault.Store f) = fault.Store f
+step_fault filter_fault.OpensSpent = fault.OpensSpent
+step_fault filter_fault.BootSpent = fault.BootSpent
+
+abbrev pub filter_outcome : WorldState → Event → (Store → Line) → Reaction → Report × WorldState
+filter_outcome w e line r = (report_of w (reacted w e r) (line r.volume) (note.Filter r.note), reacted w e r)
+
+abbrev pub filter_event : WorldState → Event → (Store → Line) → FilterEvent → Outcome
+filter_event w e line f = unless (option_map step_fault (filter_refusal w.table w.volume f)) (filter_outcome w e line (filter_step w.table w.volume f))
+
+abbrev pub service_outcome : WorldState → Event → Line → Response → Report × WorldState
+service_outcome w e line r = (report_of w (responded w e r) line (note.Service r.note), responded w e r)
+
+abbrev pub service_event : WorldState → Event → Line → ServiceEvent → Outcome
+service_event w e line s = Ok (service_outcome w e line (service_step w.desk s))
+
+-- nothing of the volume is told
+abbrev pub no_line : Store → Line
+no_line v = Silent
+
+-- ---- events by name
+
+-- an event of the stream that a name names
+abbrev pub named_event : WorldState → Event → (ℕ → Store → Line) → (ℕ → FilterEvent) → Option ℕ → Outcome
+named_event w e line f None = Err fault.NoSuchName
+named_event w e line f (Some s) = filter_event w e (line s) (f s)
+
+abbrev pub changed_line : ℕ → Store → Line
+changed_line s v = change_line s (stream_at s v.streams)
+
+-- ---- messages and work by place
+
+-- the member of a list that counts from 1
+abbrev pub member : {A : Type 0} → List A → ℕ → Option A
+member xs zero = None
+member xs (suc k) = slice_get xs k
+
+abbrev pub down_frame : WorldState → Event → Option Body → Outcome
+down_frame w e None = Err fault.NoSuchFrame
+down_frame w e (Some m) = service_event w e Silent (service.Receives m)
+
+abbrev pub up_frame : WorldState → Event → Option Body → Outcome
+up_frame w e None = Err fault.NoSuchFrame
+up_frame w e (Some m) = filter_event w e no_line (filter.Receives m)
+
+abbrev pub if_there : {A : Type 0} → Option (Option A) → Option A
+if_there None = None
+if_there (Some o) = o
+
+-- the work at a place, where it did not come back
+abbrev pub work_at : List (Option WorkState) → ℕ → Option WorkState
+work_at works k = if_there (member works k)
+
+abbrev pub or_none : Option (List Pattern) → List Pattern
+or_none None = []
+or_none (Some ps) = ps
+
+-- what the run of a work makes of its scan, with the bytes for which there is room, and the work done
+abbrev pub scan_after : List Publication → WorkState → ScanState
+scan_after sets k = scanner.run (or_none (published_as sets k.version)) k.scan (fitting k.scan k.chunk)
+
+abbrev pub done : List Publication → WorkState → ServiceEvent
+done sets k = Finishes k.lease (scan_after sets k) (scanner.hit (scan_after sets k))
+
+-- a work is run and finished, once
+abbrev pub back_at : WorldState → ℕ → WorldState
+back_at w k = record w { works = slice_set w.works (pred k) None }
+
+abbrev pub work_event : WorldState → Event → ℕ → Option WorkState → Outcome
+work_event w e k None = Err fault.NoSuchWork
+work_event w e k (Some x) = service_event (back_at w k) e Silent (done (map publication_of w.sets) x)
+
+-- ---- publications and connections
 
 abbrev pub bytes_of : List Pattern → List (List ℕ)
 bytes_of patterns = map (λ p. p.bytes) patterns
 
+abbrev pub with_set : WorldState → NumberedSet → WorldState
+with_set w s = record w { sets = s ∷ w.sets }
+
+abbrev pub added : WorldState → Event → NumberedSet → Result (Unit {0}) CatalogueFault → Outcome
+added w e s (Ok free) = service_event (with_set w s) e (Published s.version (length s.signatures)) (service.Publishes s.version)
+added w e s (Err f) = Err (fault.Catalogue f)
+
+-- a set is judged by itself before its version is
+abbrev pub published : WorldState → Event → Result NumberedSet SetFault → Outcome
+published w e (Ok s) = added w e s (may_publish w.sets s.version)
+published w e (Err f) = Err fault.BadSet
+
+abbrev pub connected : WorldState → Event → Option ConnectFault → Outcome
+connected w e None = service_event w e Silent service.Connects
+connected w e (Some f) = Err (fault.Connect f)
+
+-- ---- steps
+
 -- what an event does, or why it is refused
-abbrev pub effect : Store → List NumberedSet → Event → Result Effect StepFault
-effect v sets (Publish version patterns) = published v sets (set_made version (bytes_of patterns))
-effect v sets (Create name) = created sets (create_of v name)
-effect v sets (Write name offset bytes) = named sets (number_named name v.streams) (λ id. write_of v id offset bytes)
-effect v sets (Cut name n) = named sets (number_named name v.streams) (λ id. cut_of v id n)
-
-pub record WorldState : Type 0 where
-  pub history : List Event  -- the accepted events, the newest first
-  pub mode : Mode
-  pub volume : Store
-  pub sets : List NumberedSet  -- the published sets, the newest first
-
-abbrev pub stepped : WorldState → Event → Result Effect StepFault → Result (Report × WorldState) StepFault
-stepped w e (Ok x) = Ok (x.report, record w { history = e ∷ w.history; volume = x.volume; sets = x.sets })
-stepped w e (Err f) = Err f
+unfoldable pub step_of : WorldState → Event → Outcome
+step_of w (Publish version patterns) = published w (Publish version patterns) (set_made version (bytes_of patterns))
+step_of w (Create name) = filter_event w (Create name) (λ v. Created v.last) (Changes (change.Create name))
+step_of w (Write name offset bytes) = named_event w (Write name offset bytes) changed_line (λ s. Changes (change.Write s offset bytes)) (number_named name w.volume.streams)
+step_of w (Cut name n) = named_event w (Cut name n) changed_line (λ s. Changes (change.Cut s n)) (number_named name w.volume.streams)
+step_of w (Remove name) = named_event w (Remove name) (λ s v. Removed s) (λ s. Changes (change.Remove s)) (number_named name w.volume.streams)
+step_of w (Open name least) = filter_event w (Open name least) no_line (Opens (unwrap_or (number_named name w.volume.streams) 0) least)
+step_of w (Cleanup name) = named_event w (Cleanup name) (λ s. no_line) CleansUp (number_named name w.volume.streams)
+step_of w (Down k) = down_frame w (Down k) (member w.down k)
+step_of w (Up k) = up_frame w (Up k) (member w.up k)
+step_of w (Run k) = work_event w (Run k) k (work_at w.works k)
+step_of w (Timeout seq) = filter_event w (Timeout seq) no_line (TimesOut seq)
+step_of w Connect = connected w Connect (connect_refusal w.desk)
+step_of w DisconnectFilter = filter_event w DisconnectFilter no_line filter.Disconnects
+step_of w DisconnectService = service_event w DisconnectService Silent service.Disconnects
+step_of w RestartFilter = filter_event w RestartFilter (λ v. Booted v.boot) filter.Restarts
+step_of w RestartService = service_event w RestartService Silent (service.Restarts (latest w.sets))
 
 -- an accepted event joins the history; a refused one changes nothing
-abbrev pub step_of : WorldState → Event → Result (Report × WorldState) StepFault
-step_of w e = stepped w e (effect w.volume w.sets e)
-
--- at the start the volume is empty and was mounted once
-abbrev pub start : ℕ → Mode → LimitValues → WorldState
-start number mode limits = record { history = []; mode = mode; volume = record (empty_store number limits) { boot = 1 }; sets = [] }
-
-abbrev pub world_or : WorldState → Result (Report × WorldState) StepFault → WorldState
+abbrev pub world_or : WorldState → Outcome → WorldState
 world_or w (Ok p) = p.1
 world_or w (Err f) = w
 
@@ -112,16 +255,6 @@ abbrev pub Steps : WorldState → WorldState → Event → Result Report (Refuse
 Steps old new event (Ok report) = step_of old event ≡ Ok (report, new)
 Steps old new event (Err refused) = RefusesStep refused.why (step_of old event) × (new ≡ old) × (refused.value ≡ event)
 
--- the same of the parts of a world, where this effect is wanted
-abbrev pub Takes : Store → List NumberedSet → Store → List NumberedSet → Result Report (Refusal StepFault) → Result Effect StepFault → Type 0
-Takes v sets v' sets' (Ok report) wanted = wanted ≡ Ok (record { report = report; volume = v'; sets = sets' })
-Takes v sets v' sets' (Err why) wanted = RefusesStep why wanted × (v' ≡ v) × (sets' ≡ sets)
-
--- a volume's fault, or want of memory
-abbrev pub store_refusal_of : Option StoreFault → Refusal StepFault
-store_refusal_of None = NoMemory
-store_refusal_of (Some f) = Fault (fault.Store f)
-
--- an event that may happen does, but where memory refuses its step; a refused one is passed over
+-- an event that may happen does, and joins the history, but where memory refuses its step; a refused one is passed over
 abbrev pub Passes : WorldState → WorldState → Event → Type 0
-Passes old new event = (new ≡ old) ⊎ (IsOk (step_of old event) × (new ≡ after old event))
+Passes old new event = (new ≡ old) ⊎ (IsOk (step_of old event) × (new ≡ after old event) × (new.history ≡ event ∷ old.history))

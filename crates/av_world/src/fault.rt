@@ -1,6 +1,7 @@
 ghost use Rattle.std.specs.Prelude.{◌≡◌};
-ghost use Rattle.av_world.specs.Text.{word_of, judge_word_of};
+ghost use Rattle.av_world.specs.Text.Refusals.{word_of, judge_word_of};
 
+use av_service::fault::ConnectFault;
 use av_sigset::fault::CatalogueFault;
 use av_store::fault::StoreFault;
 use thiserror::Error;
@@ -11,6 +12,12 @@ pub enum StepFault {
     /// No stream that is there has the name.
     #[error("NoSuchName")]
     NoSuchName,
+    /// No message stands at that place.
+    #[error("NoSuchFrame")]
+    NoSuchFrame,
+    /// No piece of work stands at that place, or it came back.
+    #[error("NoSuchWork")]
+    NoSuchWork,
     /// The version is 0, or the patterns are no signature set.
     #[error("BadSet")]
     BadSet,
@@ -20,6 +27,15 @@ pub enum StepFault {
     /// The volume refuses the change.
     #[error("{0}")]
     Store(StoreFault),
+    /// The volume has given all its open numbers.
+    #[error("OpensSpent")]
+    OpensSpent,
+    /// The volume was mounted as often as it can be.
+    #[error("BootSpent")]
+    BootSpent,
+    /// The service does not connect.
+    #[error("{0}")]
+    Connect(ConnectFault),
 }
 
 impl StepFault {
@@ -29,6 +45,8 @@ impl StepFault {
     {
         match self {
             StepFault::NoSuchName => b"NoSuchName".as_slice(),
+            StepFault::NoSuchFrame => b"NoSuchFrame".as_slice(),
+            StepFault::NoSuchWork => b"NoSuchWork".as_slice(),
             StepFault::BadSet => b"BadSet".as_slice(),
             StepFault::Catalogue(CatalogueFault::OldVersion) => b"OldVersion".as_slice(),
             StepFault::Catalogue(CatalogueFault::CatalogueFull) => b"CatalogueFull".as_slice(),
@@ -39,6 +57,10 @@ impl StepFault {
             StepFault::Store(StoreFault::Hole) => b"Hole".as_slice(),
             StepFault::Store(StoreFault::TooLarge) => b"TooLarge".as_slice(),
             StepFault::Store(StoreFault::GenerationSpent) => b"GenerationSpent".as_slice(),
+            StepFault::OpensSpent => b"OpensSpent".as_slice(),
+            StepFault::BootSpent => b"BootSpent".as_slice(),
+            StepFault::Connect(ConnectFault::NoSignatures) => b"NoSignatures".as_slice(),
+            StepFault::Connect(ConnectFault::AlreadyConnected) => b"AlreadyConnected".as_slice(),
         }
     }
 }

@@ -1,13 +1,14 @@
-ghost use Rattle.std.specs.Prelude.{◌≡◌, ◌≤◌, is_ok, length, IfErr, IfSome, OnOk, OnErr};
+ghost use Rattle.std.specs.Prelude.{◌≡◌, ◌≤◌, ◌++◌, is_ok, length, IfErr, IfSome, OnOk, OnErr};
 ghost use Rattle.std.specs.Io.KnownBytes.{Appends};
 ghost use Rattle.av_base.specs.Device.{AppendsPrefix};
 ghost use Rattle.av_world.specs.Output.{IsLate, IsTrueOf, KeepsEarly, Prints, PrintsFront};
-ghost use Rattle.av_world.specs.Text.{command_text, command_world, commands_text, script_text, step_text};
+ghost use Rattle.av_world.specs.Text.{boot_text, command_text, command_world, commands_text, script_text, step_text};
 ghost use Rattle.av_world.specs.World.{after, step_of};
 
-use crate::command::Command;
 use crate::event::Event;
-use crate::print::{print_judged, print_refused};
+use crate::output::judgement::print_judged;
+use crate::output::refusal::print_refused;
+use crate::script::command::Command;
 use crate::script::{Script, parse_script};
 use crate::world::World;
 use av_base::device::{ReadFault, WriteFault, read_whole, write_text};
@@ -61,10 +62,7 @@ pub fn run_script<R: Read, W: Write>(
         Err(ReadFault::NoMemory) => return Err(RunFault::NoMemory),
     };
     match parse_script(alloc, &text) {
-        Ok(script) => match print_script(alloc, script, writer) {
-            Ok(()) => Ok(()),
-            Err(late) => Err(late),
-        },
+        Ok(script) => print_script(alloc, script, writer),
         Err(Refusal::Fault(fault)) => Err(RunFault::BadScript { line: fault.line }),
         Err(Refusal::NoMemory) => Err(RunFault::NoMemory),
     }
@@ -76,31 +74,44 @@ fn print_script<W: Write>(alloc: Global, script: Script, writer: &mut W) -> Resu
     ensures err { OnErr result (AppendsPrefix (W.contents writer.old) (W.contents writer.new) (script_text script)) }
     ensures late { IfErr result IsLate }
 {
-    let world = World::new(alloc, script.number(), script.mode(), script.limits());
-    if write_text(writer, b"boot 1\n".as_slice()).is_err() {
+    let Ok(mut world) = World::new(alloc, script.number(), script.mode(), script.limits()) else {
+        return Err(RunFault::NoMemory);
+    };
+    let ran = run_from_boot(alloc, &mut world, script.into_commands(), writer);
+    world.close();
+    ran
+}
+
+// Writes the line of the volume, runs commands in turn and writes their lines.
+fn run_from_boot<W: Write>(
+    alloc: Global,
+    world: &mut World,
+    commands: VecDeque<Command>,
+    writer: &mut W,
+) -> Result<(), RunFault>
+    ensures ok { OnOk result (Appends (W.contents writer.old) (W.contents writer.new) (boot_text ++ commands_text world.old commands.items)) }
+    ensures err { OnErr result (AppendsPrefix (W.contents writer.old) (W.contents writer.new) (boot_text ++ commands_text world.old commands.items)) }
+    ensures late { IfErr result IsLate }
+{
+    if write_text(writer, b"boot 1\n").is_err() {
         return Err(RunFault::Write);
     }
-    match run_commands(alloc, world, script.into_commands(), writer) {
-        Ok(()) => Ok(()),
-        Err(fault) => Err(fault),
-    }
+    run_commands(alloc, world, commands, writer)
 }
 
 // Runs commands in turn and writes their lines.
 fn run_commands<W: Write>(
     alloc: Global,
-    mut world: World,
+    world: &mut World,
     mut commands: VecDeque<Command>,
     writer: &mut W,
 ) -> Result<(), RunFault>
-    ensures ok { OnOk result (Appends (W.contents writer.old) (W.contents writer.new) (commands_text world commands.items)) }
-    ensures err { OnErr result (AppendsPrefix (W.contents writer.old) (W.contents writer.new) (commands_text world commands.items)) }
+    ensures ok { OnOk result (Appends (W.contents writer.old) (W.contents writer.new) (commands_text world.old commands.items)) }
+    ensures err { OnErr result (AppendsPrefix (W.contents writer.old) (W.contents writer.new) (commands_text world.old commands.items)) }
     ensures late { IfErr result IsLate }
 {
     'commands: while let Some(command) = commands.pop_front() {
-        if let Err(fault) = run_command(alloc, &mut world, command, writer) {
-            return Err(fault);
-        }
+        run_command(alloc, world, command, writer)?;
     }
     if writer.flush().is_err() {
         return Err(RunFault::Write);

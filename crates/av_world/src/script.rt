@@ -1,12 +1,21 @@
 ghost use Rattle.std.specs.Prelude.{ℕ, ◌≡◌, ◌+◌, ◌<◌, ◌^◌, ◌++◌, ◌≤◌, length, IfOk, IfErr, OnOk, Ok, Err};
 ghost use Rattle.std.specs.Option.{option_to_list};
-ghost use Rattle.av_world.specs.Statement.{meaning, command_of};
+ghost use Rattle.av_world.specs.Script.Statement.{meaning, command_of};
 ghost use Rattle.av_base.specs.Answers.{Reads};
 ghost use Rattle.av_base.specs.Line.{lines_of};
 ghost use Rattle.av_world.specs.Script.{ScriptText, script_of, heads, commands_from, Parses, Lacks};
 
-use crate::command::Command;
-use crate::statement::{Statement, read_statement};
+pub mod command;
+mod hexadecimal;
+mod reading;
+mod setting;
+mod statement;
+mod verb;
+mod words;
+
+use crate::script::command::Command;
+use crate::script::reading::read_statement;
+use crate::script::statement::Statement;
 use av_base::limits::{LimitValues, Limits};
 use av_base::line::first_line;
 use av_base::mode::Mode;

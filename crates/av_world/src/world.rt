@@ -1,81 +1,96 @@
-ghost use Rattle.std.specs.Prelude.{◌≡◌, reverse, IfOk, OnOk, OnErr};
+ghost use Rattle.std.specs.Prelude.{◌≡◌, ◌∷◌, reverse, IfOk, OnErr, OnOk};
 ghost use Rattle.std.specs.Io.KnownBytes.{Appends};
-ghost use Rattle.av_base.specs.Device.{AppendsPrefix};
 ghost use Rattle.std.specs.Option.{option_copied};
+ghost use Rattle.av_base.specs.Device.{AppendsPrefix};
+ghost use Rattle.av_world.specs.Headline.{AnswersOnce, GrantsOnlyClean, HoldsOneVerdict, NeverDiffers};
 ghost use Rattle.av_world.specs.Judge.{judged_of, latest_set};
 ghost use Rattle.av_world.specs.Past.{IsRight, IsTold, past};
+ghost use Rattle.av_world.specs.Reached.{KeepsPromise};
 ghost use Rattle.av_world.specs.Text.{report_text};
 ghost use Rattle.av_world.specs.World.{Gives, Passes, Steps, start, world_of};
 
+mod delivery;
+mod filtering;
+mod happening;
+mod holding;
+mod publishing;
+mod refusing;
+mod request;
+mod serving;
+mod stage;
+mod working;
+
 use crate::event::Event;
 use crate::fault::{JudgeFault, StepFault};
-use crate::happen::{happen, without_memory};
-use crate::print::print_report;
+use crate::given::Given;
+use crate::output::print_report;
 use crate::report::{Judged, Report};
 use av_base::device::WriteFault;
 use av_base::limits::Limits;
 use av_base::mode::Mode;
 use av_base::refusal::Refused;
+use av_frame::message::Message;
 use av_match::plain::plain_verdict;
 use av_sigset::catalogue::Catalogue;
 use av_sigset::set::SignatureSet;
-use av_store::volume::Volume;
-use std::alloc::Global;
+use stage::Stage;
+use std::alloc::{AllocError, Global};
 use std::io::Write;
 use std::marker::Model;
 
-/// A volume and the signature sets that were published, with the history of all that happened to them.
-#[derive(Drop)]
+/// One volume, the signature sets that were published, a filter and a scanning service, with the history of all that happened
+/// to them, each message that they ever sent, each piece of work, and each answer. A world holds opens that are owed an
+/// answer, so it can't be let go: `close` ends it.
 pub struct World {
     history: Vec<Event>,
-    mode: Mode,
-    volume: Volume,
-    catalogue: Catalogue,
+    stage: Stage,
 }
 
 impl Model for World {
     ghost use Rattle.std.specs.Prelude.{reverse};
-    ghost use Rattle.av_world.specs.Past.{IsTold};
+    ghost use Rattle.av_world.specs.Stage.{at_history};
+    ghost use Rattle.av_world.specs.Reached.{IsKept};
     ghost use Rattle.av_world.specs.World.{WorldState};
 
     ghost Value = { WorldState };
 
-    ghost view = { λ w. record { history = reverse w.history.items; mode = w.mode; volume = w.volume; sets = w.catalogue.sets } };
+    ghost view = { λ w. at_history (reverse w.history.items) w.stage };
 
-    ghost invariant = { λ w. IsTold (record { history = reverse w.history.items; mode = w.mode; volume = w.volume; sets = w.catalogue.sets }) };
+    ghost invariant = { λ w. IsKept (at_history (reverse w.history.items) w.stage) };
 }
 
 impl World {
-    /// A world with an empty volume of this number, mounted once, and no signature set. It takes no memory.
-    pub fn new(alloc: Global, number: u64, mode: Mode, limits: Limits) -> World
-        ensures { result ≡ start number mode limits }
+    /// A world with an empty volume of this number, a filter mounted on it once, and a service that is not connected.
+    pub fn new(alloc: Global, number: u64, mode: Mode, limits: Limits) -> Result<World, AllocError>
+        ensures { IfOk result (λ w. w ≡ start number mode limits) }
     {
-        let mut volume = Volume::new(alloc, number, limits);
-        let _ = volume.mount();
-        World {
+        let _ = limits.values();
+        let stage = Stage::new(alloc, number, mode, limits)?;
+        Ok(World {
             history: Vec::new(alloc),
-            mode,
-            volume,
-            catalogue: Catalogue::new(alloc),
-        }
+            stage,
+        })
     }
 
     /// Lets an event happen, and tells what it did. An event that is refused by its fault, or for memory where it has no
-    /// fault, changes nothing and is handed back.
+    /// fault, changes nothing and is handed back. After it, as before, the promise holds: what `run` says of the world that it
+    /// gives.
     pub fn step(&mut self, alloc: Global, event: Event) -> Result<Report, Refused<Event, StepFault>>
-        ensures { Steps self.old self.new event result }
+        ensures steps { Steps self.old self.new event result }
+        ensures joins { OnOk result (self.new.history ≡ event ∷ self.old.history) }
+        ensures promise { KeepsPromise self.new }
     {
         if self.history.reserve(1).is_err() {
-            let why = without_memory(&self.volume, &self.catalogue, &event);
+            let why = self.stage.why(&event);
             return Err(Refused { value: event, why });
         }
-        match happen(alloc, &mut self.volume, &mut self.catalogue, &event) {
-            Ok(report) => {
-                self.history.push(event).unwrap();
-                Ok(report)
-            }
-            Err(why) => Err(Refused { value: event, why }),
-        }
+        let happened = self.stage.happen(alloc, self.history.as_slice(), &event);
+        let Some(report) = happened else {
+            let why = self.stage.why(&event);
+            return Err(Refused { value: event, why });
+        };
+        self.history.push_reserved(event);
+        Ok(report)
     }
 
     /// The verdict of a stream's present content under the latest set: NoSuchName, NoSignatures. It takes no memory and
@@ -84,16 +99,17 @@ impl World {
         ensures exact { result ≡ judged_of self.now name.now }
         ensures right { IfOk result (IsRight (past self.now.history)) }
     {
-        let Some(stream) = self.volume.find(name) else {
+        let volume = &self.stage.volume;
+        let Some(stream) = volume.find(name) else {
             return Err(JudgeFault::NoSuchName);
         };
-        let Some(generation) = self.volume.generation(stream) else {
+        let Some(generation) = volume.generation(stream) else {
             return Err(JudgeFault::NoSuchName);
         };
-        let Some(content) = self.volume.content(stream) else {
+        let Some(content) = volume.content(stream) else {
             return Err(JudgeFault::NoSuchName);
         };
-        let Some(set) = latest_set(&self.catalogue) else {
+        let Some(set) = latest_set(&self.stage.catalogue) else {
             return Err(JudgeFault::NoSignatures);
         };
         Ok(Judged {
@@ -104,25 +120,45 @@ impl World {
         })
     }
 
-    /// Writes what a report tells, as its line in a script's output. Where that fails a front of the line was written. It
-    /// takes no memory.
+    /// Writes what a report of this world tells, as its lines in a script's output. Where that fails a front of the lines was
+    /// written. It takes no memory.
     pub fn print<W: Write>(&self, report: &Report, writer: &mut W) -> Result<(), WriteFault>
-        ensures ok { OnOk result (Appends (W.contents writer.old) (W.contents writer.new) (report_text report.now)) }
-        ensures err { OnErr result (AppendsPrefix (W.contents writer.old) (W.contents writer.new) (report_text report.now)) }
+        ensures ok { OnOk result (Appends (W.contents writer.old) (W.contents writer.new) (report_text self.now report.now)) }
+        ensures err { OnErr result (AppendsPrefix (W.contents writer.old) (W.contents writer.new) (report_text self.now report.now)) }
     {
-        print_report(report, writer)
+        print_report(
+            report,
+            self.answers(),
+            self.down(),
+            self.up(),
+            self.stage.works.as_slice(),
+            writer,
+        )
     }
 
     /// Lets events happen in turn to a new world and passes over those that are refused, also those that memory refuses.
-    pub fn run(alloc: Global, number: u64, mode: Mode, limits: Limits, events: &[Event]) -> World
-        ensures history { Gives (start number mode limits) (reverse events.now) result.history }
-        ensures world { result ≡ world_of (start number mode limits) result.history }
+    /// Wherever they lead, no two verdicts stand for one stream, generation and version; an open is granted only where the
+    /// stream's whole present content is clean under the version that the grant names; and each open that was submitted
+    /// waits or was answered, once.
+    pub fn run(
+        alloc: Global,
+        number: u64,
+        mode: Mode,
+        limits: Limits,
+        events: &[Event],
+    ) -> Result<World, AllocError>
+        ensures history { IfOk result (λ w. Gives (start number mode limits) (reverse events.now) w.history) }
+        ensures world { IfOk result (λ w. w ≡ world_of (start number mode limits) w.history) }
+        ensures one_verdict { IfOk result HoldsOneVerdict }
+        ensures never_differs { IfOk result NeverDiffers }
+        ensures only_clean { IfOk result (GrantsOnlyClean mode) }
+        ensures answers_once { IfOk result AnswersOnce }
     {
-        let mut world = World::new(alloc, number, mode, limits);
+        let mut world = World::new(alloc, number, mode, limits)?;
         for event in events {
             world.pass(alloc, event);
         }
-        world
+        Ok(world)
     }
 
     // Lets an event happen, where it is not refused.
@@ -142,15 +178,46 @@ impl World {
         self.history.as_slice()
     }
 
-    /// Whether what can't be judged is denied or let through.
-    pub fn mode(&self) -> Mode
-        ensures { result ≡ self.now.mode }
+    /// Each answer to an open, the oldest first.
+    pub fn answers(&self) -> &[Given]
+        ensures { result.now ≡ self.now.answers }
     {
-        self.mode
+        self.stage.answers.as_slice()
     }
 
-    /// Ends the world.
-    pub fn close(self) {}
+    /// Each message that was ever sent to the service, the oldest first.
+    pub fn down(&self) -> &[Message]
+        ensures { result.now ≡ self.now.down }
+    {
+        self.stage.down.as_slice()
+    }
+
+    /// Each message that was ever sent to the filter, the oldest first.
+    pub fn up(&self) -> &[Message]
+        ensures { result.now ≡ self.now.up }
+    {
+        self.stage.up.as_slice()
+    }
+
+    /// Whether what can't be judged is denied or let through.
+    pub fn mode(&self) -> Mode
+        ensures { result ≡ self.now.table.mode }
+    {
+        self.stage.filter.mode()
+    }
+
+    /// The limits that the filter keeps to.
+    pub fn limits(&self) -> Limits
+        ensures { result ≡ self.now.table.limits }
+    {
+        self.stage.filter.limits()
+    }
+
+    /// Ends the world. Opens that wait are let go, and nobody hears of it.
+    pub fn close(self) {
+        let World { history: _, stage } = self;
+        stage.close();
+    }
 }
 
 // The set of the newest version.

@@ -2,7 +2,7 @@ use Rattle.std.proofs.Common.{rules, arith, ◌≡◌, ◌+◌, ◌++◌, ap, sy
 use Rattle.std.specs.Option.{option_to_list}
 use Rattle.av_base.specs.Line.{lines_of}
 use Rattle.av_world.specs.Script.{commands_from, with_front}
-use Rattle.av_world.specs.Statement.{meaning, command_of}
+use Rattle.av_world.specs.Script.Statement.{meaning, command_of}
 use Rattle.av_world.proofs.ScriptLemmas.{all_read, line_passed}
 use Rattle.av_world.proofs.script.read_commands.Goals as goal
 

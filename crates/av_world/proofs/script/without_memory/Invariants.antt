@@ -1,6 +1,6 @@
 use Rattle.std.proofs.Common.{◌≡◌, ◌≤◌, ◌+◌, length, List}
 use Rattle.av_base.specs.Line.{lines_of}
-use Rattle.av_world.specs.declared.command.Command.{Command}
+use Rattle.av_world.specs.declared.script.command.Command.{Command}
 use Rattle.av_world.specs.Script.{commands_from, with_front}
 use Rattle.av_world.proofs.script.without_memory.Given as goal
 

@@ -1,0 +1,86 @@
+-- A work that is run and taken back is what its event asks for.
+use Rattle.std.proofs.Common.{◌≡◌, ℕ, zero, suc, List, [], ◌∷◌, ◌++◌, map, slice_get, slice_set, Option, None, Some, Ok, refl, sym, ap, ◌∙◌, subst, length}
+use Rattle.std.proofs.lemmas.List.{length-set}
+use Rattle.std.specs.Option.{option_to_list}
+use Rattle.av_frame.specs.declared.message.Body.{Body}
+use Rattle.av_match.specs.Scanning.{Compiled, ScanState, fitting, if_found, run}
+use Rattle.av_service.specs.Call.{Responds}
+use Rattle.av_service.specs.Conduct.{Finishes, ServiceEvent, service_step}
+use Rattle.av_service.specs.Desk.{Desk}
+use Rattle.av_service.specs.Work.{WorkState}
+use Rattle.av_service.specs.declared.out.ServiceOut.{ServiceOut}
+use Rattle.av_sigset.specs.Catalogue.{set_at}
+use Rattle.av_sigset.specs.Set.{NumberedSet, patterns_of}
+use Rattle.av_world.proofs.PublishLemmas.{found_published}
+use Rattle.av_world.specs.Prepared.{Compiles}
+use Rattle.av_world.specs.Publication.{publication_of, published_as}
+use Rattle.av_world.specs.World.{WorldState, back_at, done, or_none, places_of, responded, service_event, service_outcome, work_at, work_event}
+use Rattle.av_filter_table.specs.Table.{Table}
+use Rattle.av_store.specs.Store.{Store}
+use Rattle.av_world.specs.declared.event.Event.{Event}
+use Rattle.av_world.specs.declared.given.Given.{Given}
+use Rattle.av_world.specs.declared.report.Line.TheVariants.{Silent}
+use Rattle.av_world.specs.declared.report.Note.TheVariants as note
+use Rattle.av_world.specs.declared.report.Report.{Report}
+
+-- the automaton that was built of the set of a version is of that version
+pub compiled_as : (sets : List NumberedSet) (version : ℕ) (s : NumberedSet) (a : Compiled) → set_at sets version ≡ Some s → a ≡ record { version = s.version; patterns = patterns_of s.signatures } → Compiles (set_at sets a.version) a
+compiled_as sets version s a found built =
+    let named : a.version ≡ version = ap (λ (x : Compiled). x.version) built ∙ (found_published sets version s found).1 in
+    let there : set_at sets a.version ≡ Some s = ap (set_at sets) named ∙ found in
+    subst (λ o. Compiles o a) (sym there) (ap (λ (x : Compiled). x.patterns) built)
+
+-- what is taken from a place and put back leaves the list as it was
+pub put_back_same : {A : Type 0} (xs : List A) (i : ℕ) (x y : A) → slice_get xs i ≡ Some x → slice_set (slice_set xs i y) i x ≡ xs
+put_back_same [] i x y h = absurd cc
+put_back_same (z ∷ xs) zero x y h = cc
+put_back_same (z ∷ xs) (suc i) x y h = ap (λ zs. z ∷ zs) (put_back_same xs i x y h)
+
+-- the patterns of a work's version are those of its automaton
+patterns_run : (sets : List NumberedSet) (x : WorkState) (a : Compiled) (o : Option NumberedSet) → set_at sets x.version ≡ o → Compiles o a → or_none (published_as (map publication_of sets) x.version) ≡ a.patterns
+patterns_run sets x a None found of = absurd of
+patterns_run sets x a (Some s) found of = ap or_none (found_published sets x.version s found).0 ∙ sym of
+
+-- so what comes back is what its event says
+done_as : (sets : List NumberedSet) (x : WorkState) (a : Compiled) (lease : ℕ) (scan : ScanState) → Compiles (set_at sets x.version) a → lease ≡ x.lease → scan ≡ run a.patterns x.scan (fitting x.scan x.chunk)
+    → done (map publication_of sets) x ≡ Finishes lease scan (if_found scan)
+done_as sets x a lease scan of same is =
+    let ran : run (or_none (published_as (map publication_of sets) x.version)) x.scan (fitting x.scan x.chunk) ≡ scan = ap (λ ps. run ps x.scan (fitting x.scan x.chunk)) (patterns_run sets x a (set_at sets x.version) refl of) ∙ sym is in
+    ap (λ s. Finishes x.lease s (if_found s)) ran ∙ ap (λ l. Finishes l scan (if_found scan)) (sym same)
+
+-- the world that is left
+abbrev pub left : WorldState → Event → Desk → List Body → List (Option WorkState) → WorldState
+left w e d up works = record w { history = e ∷ w.history; desk = d; up = up; works = works }
+
+worked_at : (w : WorldState) (e : Event) (index : ℕ) (x : WorkState) (a : Compiled) (lease : ℕ) (scan : ScanState) (out : ServiceOut) (d : Desk) (up : List Body) (works : List (Option WorkState)) → slice_get w.works index ≡ Some (Some x)
+    → Compiles (set_at w.sets x.version) a → lease ≡ x.lease → scan ≡ run a.patterns x.scan (fitting x.scan x.chunk) → Responds out d (service_step w.desk (Finishes lease scan (if_found scan))) → up ≡ w.up ++ out.messages.items
+    → works ≡ slice_set w.works index None ++ map Some (option_to_list out.work)
+    → work_event w e (suc index) (work_at w.works (suc index)) ≡ Ok (record { line = Silent; before = places_of (back_at w (suc index)); after = places_of (left w e d up works); note = note.Service out.note }, left w e d up works)
+worked_at w e index x a lease scan out d up works there of same ran is ups more =
+    let f : ServiceEvent = Finishes lease scan (if_found scan) in
+    let r = service_step w.desk f in
+    let event : done (map publication_of w.sets) x ≡ f = done_as w.sets x a lease scan of same ran in
+    let start : work_event w e (suc index) (work_at w.works (suc index)) ≡ Ok (service_outcome (back_at w (suc index)) e Silent r) = rw there (ap (λ g. Ok (service_outcome (back_at w (suc index)) e Silent (service_step w.desk g))) event) in
+    let ups_is : w.up ++ r.messages ≡ up = ap (λ ms. w.up ++ ms) (sym is.messages) ∙ sym ups in
+    let works_is : slice_set w.works index None ++ map Some r.works ≡ works = ap (λ ks. slice_set w.works index None ++ map Some ks) (sym is.works) ∙ sym more in
+    let next : responded (back_at w (suc index)) e r ≡ left w e d up works =
+    ap (λ us. record w { history = e ∷ w.history; desk = r.desk; up = us; works = slice_set w.works index None ++ map Some r.works }) ups_is
+    ∙ ap (λ ks. record w { history = e ∷ w.history; desk = r.desk; up = up; works = ks }) works_is
+    ∙ ap (λ (dd : Desk). record w { history = e ∷ w.history; desk = dd; up = up; works = works }) (sym is.desk) in
+    start
+    ∙ ap (λ (u : WorldState). Ok (record { line = Silent; before = places_of (back_at w (suc index)); after = places_of u; note = note.Service r.note }, u)) next
+    ∙ ap (λ n. Ok (record { line = Silent; before = places_of (back_at w (suc index)); after = places_of (left w e d up works); note = note.Service n }, left w e d up works)) (sym is.note)
+
+pub worked : (w : WorldState) (e : Event) (k index : ℕ) (x : WorkState) (a : Compiled) (lease : ℕ) (scan : ScanState) (out : ServiceOut) (d : Desk) (up : List Body) (works : List (Option WorkState)) → k ≡ suc index → slice_get w.works index ≡ Some (Some x)
+    → Compiles (set_at w.sets x.version) a → lease ≡ x.lease → scan ≡ run a.patterns x.scan (fitting x.scan x.chunk) → Responds out d (service_step w.desk (Finishes lease scan (if_found scan))) → up ≡ w.up ++ out.messages.items
+    → works ≡ slice_set w.works index None ++ map Some (option_to_list out.work)
+    → work_event w e k (work_at w.works k) ≡ Ok (record { line = Silent; before = places_of w; after = places_of (left w e d up works); note = note.Service out.note }, left w e d up works)
+worked w e k index x a lease scan out d up works place there of same ran is ups more =
+    let kept : length (slice_set w.works index None) ≡ length w.works = length-set w.works index None in
+    subst (λ j. work_event w e j (work_at w.works j) ≡ Ok (record { line = Silent; before = places_of w; after = places_of (left w e d up works); note = note.Service out.note }, left w e d up works)) (sym place)
+    (worked_at w e index x a lease scan out d up works there of same ran is ups more
+    ∙ ap (λ n. Ok (record { line = Silent; before = record { answers = length w.answers; down = length w.down; up = length w.up; works = n }; after = places_of (left w e d up works); note = note.Service out.note }, left w e d up works)) kept)
+
+-- the stage of these parts
+abbrev pub stage : Store → List NumberedSet → Table → List Body → List Given → Desk → List Body → List (Option WorkState) → WorldState
+stage volume sets table down answers desk up works = record { history = []; volume = volume; sets = sets; table = table; desk = desk; down = down; up = up; works = works; answers = answers }

@@ -1,0 +1,14 @@
+use Rattle.std.proofs.Common.{reverse, subst}
+use Rattle.av_sigset.specs.Catalogue.{IsFalling}
+use Rattle.av_world.proofs.RequestLemmas.{happens, not_above}
+use Rattle.av_world.specs.Stage.{at_history}
+use Rattle.av_world.specs.World.{WorldState}
+use Rattle.av_world.proofs.world.stage.Stage.happen.Goals as goal
+
+pub answer-requires-clause-version : goal.answer-requires-clause-version
+answer-requires-clause-version c =
+    let falling : IsFalling c.args.self.now.sets = subst (λ (w : WorldState). IsFalling w.sets) c.self.view_is c.latest.ensures.falling in
+    not_above (at_history (reverse c.args.history.now) c.args.self.now) c.requires falling
+
+pub returns : goal.returns
+returns c = let h = reverse c.args.history.now in happens c.answer.result c.args.self.now c.answer.new.self h c.args.event.now c.in-Ok.request (c.in-Ok.ensures.asks h) (c.answer.ensures c.args.event.now)

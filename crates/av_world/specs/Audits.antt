@@ -1,0 +1,137 @@
+-- The audits of a filter and of a service, each legal by itself, and the headline of the two put together.
+use Rattle.std.specs.Prelude.{◌≡◌, ℕ, ◌+◌, ◌&&◌, nat_lt, nat_le, List, [], ◌∷◌, ◌++◌, map, None, if◌then◌else◌, All}
+use Rattle.av_base.specs.declared.limits.LimitValues.{LimitValues}
+use Rattle.av_base.specs.declared.mode.Mode.{Mode}
+use Rattle.av_filter.specs.Audit.{FilterEntry, IsFilterAudit, filter_end, answers_given, opens_taken, sent_down}
+use Rattle.av_filter.specs.Conduct.{FilterEvent}
+use Rattle.av_filter.specs.Conduct as filter
+use Rattle.av_filter_table.specs.Table.{Table, mounted}
+use Rattle.av_frame.specs.declared.message.Body.{Body}
+use Rattle.av_pend.specs.Pend.{open_of}
+use Rattle.av_service.specs.Conduct.{ServiceEvent, Connects, Disconnects, Receives, Finishes, Restarts, connect_refusal}
+use Rattle.av_service.specs.Conduct as service
+use Rattle.av_service.specs.Desk.{Desk, just_started}
+use Rattle.av_service.specs.Response.{Response}
+use Rattle.av_service.specs.declared.note.Note.{Note}
+use Rattle.av_service.specs.Work.{WorkState}
+use Rattle.av_store.specs.Files.{File}
+use Rattle.av_store.specs.Seen.{Keeps}
+use Rattle.av_store.specs.Store.{Store}
+use Rattle.av_world.specs.Headline.{IsJustified}
+use Rattle.av_world.specs.Held.{held_among, times}
+use Rattle.av_world.specs.Past.{Past, IsRightEntry}
+use Rattle.av_world.specs.Publication.{Publication, latest_as}
+use Rattle.av_world.specs.Safety.{Among}
+use Rattle.av_world.specs.Scene.{Answered, By, Call, IsCatalogue, IsNew, Publishes, opening_past, past_call, past_filter, respond, sets_after, told_at}
+use Rattle.av_world.specs.World.{done}
+
+-- The service's audit.
+pub record ServiceEntry : Type 0 where
+  pub call : Call
+  pub messages : List Body
+  pub works : List WorkState
+  pub note : Note
+
+pub record IsResponse (x : ServiceEntry) (r : Response) : Type 0 where
+  pub messages : x.messages ≡ r.messages
+  pub works : x.works ≡ r.works
+  pub note : x.note ≡ r.note
+
+abbrev pub IsAccepted : List Publication → Desk → Call → Type 0
+IsAccepted sets d (By Connects) = connect_refusal d ≡ None
+IsAccepted sets d (By Disconnects) = Unit {0}
+IsAccepted sets d (By (Receives m)) = Unit {0}
+IsAccepted sets d (By (Finishes lease scan hit)) = Unit {0}
+IsAccepted sets d (By (service.Publishes v)) = ⊥
+IsAccepted sets d (By (Restarts v)) = v ≡ latest_as sets
+IsAccepted sets d (Publishes v ps) = IsNew sets v ps
+
+abbrev pub IsServiceAudit : List Publication → Desk → List ServiceEntry → Type 0
+IsServiceAudit sets d [] = Unit {0}
+IsServiceAudit sets d (x ∷ xs) = IsAccepted sets d x.call × IsResponse x (respond d x.call) × IsServiceAudit (sets_after sets x.call) (respond d x.call).desk xs
+
+abbrev pub desk_end : Desk → List ServiceEntry → Desk
+desk_end d [] = d
+desk_end d (x ∷ xs) = desk_end (respond d x.call).desk xs
+
+abbrev pub sent_up : List Body → List ServiceEntry → List Body
+sent_up up [] = up
+sent_up up (x ∷ xs) = sent_up (up ++ x.messages) xs
+
+abbrev pub lent_by : List WorkState → List ServiceEntry → List WorkState
+lent_by works [] = works
+lent_by works (x ∷ xs) = lent_by (works ++ x.works) xs
+
+-- each work that comes back is one that this audit lent, run under the set of its version
+abbrev pub IsOfWorks : List Publication → List WorkState → Call → Type 0
+IsOfWorks sets works (By (Finishes lease scan hit)) = (k : WorkState) × Among k works × (Finishes lease scan hit ≡ done sets k)
+IsOfWorks sets works _ = Unit {0}
+
+abbrev pub FinishesItsWorks : List Publication → List WorkState → List ServiceEntry → Type 0
+FinishesItsWorks sets works [] = Unit {0}
+FinishesItsWorks sets works (x ∷ xs) = IsOfWorks sets works x.call × FinishesItsWorks (sets_after sets x.call) (works ++ x.works) xs
+
+-- Both, put together.
+pub data SideEntry : Type 0 where
+  OfFilter : (entry : FilterEntry) → SideEntry
+  OfService : (entry : ServiceEntry) → SideEntry
+
+abbrev pub filter_side : List SideEntry → List FilterEntry
+filter_side [] = []
+filter_side (OfFilter x ∷ es) = x ∷ filter_side es
+filter_side (OfService x ∷ es) = filter_side es
+
+abbrev pub service_side : List SideEntry → List ServiceEntry
+service_side [] = []
+service_side (OfFilter x ∷ es) = service_side es
+service_side (OfService x ∷ es) = x ∷ service_side es
+
+-- each message that came had been sent by the other side before
+abbrev pub CameUp : List Body → FilterEvent → Type 0
+CameUp up (filter.Receives m) = Among m up
+CameUp up _ = Unit {0}
+
+abbrev pub CameDown : List Body → Call → Type 0
+CameDown down (By (Receives m)) = Among m down
+CameDown down _ = Unit {0}
+
+abbrev pub IsDelivered : List Body → List Body → List SideEntry → Type 0
+IsDelivered down up [] = Unit {0}
+IsDelivered down up (OfFilter x ∷ es) = CameUp up x.event × IsDelivered (down ++ x.messages) up es
+IsDelivered down up (OfService x ∷ es) = CameDown down x.call × IsDelivered down (up ++ x.messages) es
+
+-- the past after it, and each answer with the past at its event
+abbrev pub past_end : Past → List SideEntry → Past
+past_end p [] = p
+past_end p (OfFilter x ∷ es) = past_end (past_filter p x.event) es
+past_end p (OfService x ∷ es) = past_end (past_call p x.call) es
+
+abbrev pub answers_in : Past → List SideEntry → List Answered
+answers_in p [] = []
+answers_in p (OfFilter x ∷ es) = map (told_at (past_filter p x.event)) x.answers ++ answers_in (past_filter p x.event) es
+answers_in p (OfService x ∷ es) = answers_in (past_call p x.call) es
+
+-- The headline of it. t, v: where the filter's audit opens; sets, d: where the service's does.
+abbrev pub AuditsHoldOneVerdict : List File → Table → Store → List Publication → Desk → List SideEntry → Type 0
+AuditsHoldOneVerdict fs t v sets d es =
+    let k = filter_end t v (filter_side es) in
+    All (IsRightEntry (past_end (opening_past fs sets) es)) (held_among k.table k.volume.streams (desk_end d (service_side es)) (sent_down [] (filter_side es)) (sent_up [] (service_side es)))
+
+abbrev pub AuditsGrantOnlyClean : Mode → List File → List Publication → List SideEntry → Type 0
+AuditsGrantOnlyClean mode fs sets es = All (λ a. IsJustified mode a.past a.answer) (answers_in (opening_past fs sets) es)
+
+-- open numbers are counted from the opening volume's last
+abbrev pub once_between : ℕ → ℕ → ℕ → ℕ
+once_between low high n = if nat_lt low n && nat_le n high then 1 else 0
+
+abbrev pub AuditAnswersOnce : Table → Store → List FilterEntry → Type 0
+AuditAnswersOnce t v xs = (n : ℕ) → times n (map (λ p. p.held.open_id) (filter_end t v xs).table.pended) + times n (map open_of (answers_given xs)) ≡ once_between v.opens (v.opens + opens_taken xs) n
+
+-- both audits are legal from their openings, a catalogue that publications made among these, and each message that came had been sent
+pub record AreLegal (mode : Mode) (limits : LimitValues) (number : ℕ) (service_limits : LimitValues) (fs : List File) (v : Store) (sets : List Publication) (es : List SideEntry) : Type 0 where
+  pub volume : Keeps v fs
+  pub catalogue : IsCatalogue sets
+  pub filter : IsFilterAudit (mounted mode limits v.boot) v (filter_side es)
+  pub service : IsServiceAudit sets (just_started number service_limits (latest_as sets)) (service_side es)
+  pub works : FinishesItsWorks sets [] (service_side es)
+  pub delivered : IsDelivered [] [] es

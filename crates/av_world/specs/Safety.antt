@@ -1,0 +1,122 @@
+-- The protocol's safety, beyond the headline: what jobs judge, at which floor opens are granted, and why others are not.
+use Rattle.std.specs.Prelude.{◌≡◌, ◌≢◌, ℕ, ◌<◌, ◌≤◌, ◌⊎◌, false, List, [], ◌∷◌, ◌++◌, length, drop, Option, Some, None, All}
+use Rattle.std.specs.List.{AllByRecursion}
+use Rattle.av_base.specs.declared.cause.Cause.{Cause}
+use Rattle.av_base.specs.declared.cause.Cause.TheVariants.{NoStream, NotConnected, Busy, TimedOut, PortDisconnected, ScanFailed, Unsettled, StreamRemoved, FilterRestart}
+use Rattle.av_base.specs.declared.cause.Cause.TheVariants as cause
+use Rattle.av_base.specs.declared.message_id.MessageId.{MessageId}
+use Rattle.av_base.specs.declared.verdict.Verdict.{Verdict}
+use Rattle.av_base.specs.declared.verdict.Verdict.TheVariants.{Infected}
+use Rattle.av_filter.specs.Conduct.{FilterEvent, Opens, Changes, Receives, TimesOut, Disconnects, Restarts}
+use Rattle.av_filter_table.specs.Table.{Table, question_at, question_of}
+use Rattle.av_filter_table.specs.declared.pended.Pended.{Pended}
+use Rattle.av_filter_table.specs.declared.question.Question.{Question}
+use Rattle.av_frame.specs.declared.cause.FailCause.{FailCause}
+use Rattle.av_frame.specs.declared.message.Body.{Body}
+use Rattle.av_frame.specs.declared.message.Body.TheVariants.{Reply}
+use Rattle.av_frame.specs.declared.outcome.Outcome.{Outcome}
+use Rattle.av_frame.specs.declared.outcome.Outcome.TheVariants.{Judged, Failed}
+use Rattle.av_match.specs.Scanning.{ScanState, scanner, scan_of}
+use Rattle.av_pend.specs.declared.answer.Answer.{Answer}
+use Rattle.av_pend.specs.declared.answer.Answer.TheVariants.{Granted, Unscanned, Denied}
+use Rattle.av_service.specs.declared.job.Job.{Job}
+use Rattle.av_service.specs.declared.job.Loan.{Loan}
+use Rattle.av_service.specs.Work.{WorkState}
+use Rattle.av_sigset.specs.declared.signature.Pattern.{Pattern}
+use Rattle.av_store.specs.Files.{Change}
+use Rattle.av_store.specs.Files as change
+use Rattle.av_store.specs.History.{content, generation_of}
+use Rattle.av_store.specs.Rows.{stream_at}
+use Rattle.av_store.specs.Store.{Store, greatest}
+use Rattle.av_world.specs.Cores.{IsFilterEvent}
+use Rattle.av_world.specs.Held.{asked}
+use Rattle.av_world.specs.Past.{Past, past, IsVerdictOf}
+use Rattle.av_world.specs.Publication.{published_as}
+use Rattle.av_world.specs.World.{WorldState}
+use Rattle.av_world.specs.declared.event.Event.{Event}
+
+-- a list begins another
+abbrev pub IsFront : List ℕ → List ℕ → Type 0
+IsFront xs ys = (rest : List ℕ) × (xs ++ rest ≡ ys)
+
+-- a work that was lent under the loan's lease goes on with this scan under this version, by bytes that come next
+abbrev pub IsWorkOf : ℕ → ScanState → List ℕ → Loan → WorkState → Type 0
+IsWorkOf version scan rest l k = k.lease ≡ l.lease → (k.scan ≡ scan) × (k.version ≡ version) × (length k.chunk ≡ l.count) × IsFront k.chunk rest
+
+abbrev pub LoanFits : List WorkState → ℕ → ℕ → ScanState → List ℕ → Option Loan → Type 0
+LoanFits works last version scan rest None = Unit {0}
+LoanFits works last version scan rest (Some l) = (l.lease ≤ last) × (l.count ≤ length rest) × AllByRecursion (IsWorkOf version scan rest l) works
+
+-- the works that did not come back
+abbrev pub works_of : List (Option WorkState) → List WorkState
+works_of [] = []
+works_of (None ∷ works) = works_of works
+works_of (Some k ∷ works) = k ∷ works_of works
+
+-- a job has judged a beginning of the content that its scan was asked about, as many bytes as its offset, and keeps their scan under the set of this version; what is lent goes on from there
+pub record JudgesItsContent (p : Past) (down : List Body) (works : List WorkState) (last version : ℕ) (j : Job) : Type 0 where
+  pub told : asked down j.id ≡ Some (record { stream = j.stream; generation = j.generation; length = j.length })
+  pub bytes : List ℕ
+  pub held : content p.streams j.stream j.generation ≡ Some bytes
+  pub size : length bytes ≡ j.length
+  pub judged : List ℕ
+  pub rest : List ℕ
+  pub front : judged ++ rest ≡ bytes
+  pub count : length judged ≡ j.offset
+  pub patterns : List Pattern
+  pub published : published_as p.sets version ≡ Some patterns
+  pub scanned : j.scan ≡ scan_of scanner version j.length patterns judged
+  pub loan : LoanFits works last version j.scan rest j.loan
+
+abbrev pub JudgesRightly : WorldState → Job → Type 0
+JudgesRightly w j = JudgesItsContent (past w.history) w.down (works_of w.works) w.desk.last_lease w.desk.version j
+
+abbrev pub JobsJudgeRightly : WorldState → Type 0
+JobsJudgeRightly w = All (JudgesRightly w) w.desk.jobs
+
+-- x is a member
+abbrev pub Among : {A : Type 0} → A → List A → Type 0
+Among x [] = ⊥
+Among x (y ∷ ys) = (x ≡ y) ⊎ Among x ys
+
+-- the open waits for the question of this id
+pub record Waits (t : Table) (id : MessageId) (n : ℕ) : Type 0 where
+  pub waiting : Pended
+  pub pended : Among waiting t.pended
+  pub number : waiting.held.open_id ≡ n
+  pub question : waiting.question ≡ id
+
+-- why an event at this table and volume leaves an open denied or unscanned; p: the past after the event
+pub data Explains (p : Past) (t : Table) (v : Store) : FilterEvent → ℕ → Cause → Type 0 where
+  no_stream : (s least n : ℕ) → stream_at s v.streams ≡ None → Explains p t v (Opens s least) n NoStream
+  judged_now : (s least n version index end_at : ℕ) → least ≤ version → IsVerdictOf p s (generation_of p.streams s) version (Infected index end_at) → Explains p t v (Opens s least) n cause.Infected
+  judged_late : (id : MessageId) (o : Outcome) (q : Question) (n version index end_at : ℕ) → question_at id t.questions ≡ Some q → (w : Waits t q.id n) → w.waiting.held.least ≤ version
+      → IsVerdictOf p q.stream (generation_of p.streams q.stream) version (Infected index end_at) → Explains p t v (Receives (Reply id o)) n cause.Infected
+  not_connected : (s least n : ℕ) → t.connected ≡ false → Explains p t v (Opens s least) n NotConnected
+  opens_full : (s least n : ℕ) → t.limits.pended ≤ length t.pended → Explains p t v (Opens s least) n Busy
+  questions_full : (s least n : ℕ) → t.limits.questions ≤ length t.questions → Explains p t v (Opens s least) n Busy
+  no_number : (s least n : ℕ) → greatest ≤ t.sequence → Explains p t v (Opens s least) n Busy
+  no_number_changed : (c : Change) (n : ℕ) → greatest ≤ t.sequence → Explains p t v (Changes c) n Busy
+  no_number_stale : (id : MessageId) (version : ℕ) (r : Verdict) (n : ℕ) → greatest ≤ t.sequence → Explains p t v (Receives (Reply id (Judged version r))) n Busy
+  timed_out : (seq n : ℕ) → Waits t (record { boot = t.boot; seq = seq }) n → Explains p t v (TimesOut seq) n TimedOut
+  disconnected : (n : ℕ) → Explains p t v Disconnects n PortDisconnected
+  failed : (id : MessageId) (why : FailCause) (n : ℕ) → Waits t id n → Explains p t v (Receives (Reply id (Failed why))) n ScanFailed
+  unsettled_write : (s o : ℕ) (b : List ℕ) (q : Question) (n : ℕ) → question_of s t.questions ≡ Some q → (w : Waits t q.id n) → 8 ≤ w.waiting.held.rescans → Explains p t v (Changes (change.Write s o b)) n Unsettled
+  unsettled_cut : (s l : ℕ) (q : Question) (n : ℕ) → question_of s t.questions ≡ Some q → (w : Waits t q.id n) → 8 ≤ w.waiting.held.rescans → Explains p t v (Changes (change.Cut s l)) n Unsettled
+  unsettled_stale : (id : MessageId) (version : ℕ) (r : Verdict) (n : ℕ) → version < t.floor → (w : Waits t id n) → 8 ≤ w.waiting.held.rescans → Explains p t v (Receives (Reply id (Judged version r))) n Unsettled
+  removed : (s : ℕ) (q : Question) (n : ℕ) → question_of s t.questions ≡ Some q → Waits t q.id n → Explains p t v (Changes (change.Remove s)) n StreamRemoved
+  restarted : (n : ℕ) → Explains p t v Restarts n FilterRestart
+
+-- the causes under which fail-open mode lets an open through
+abbrev pub IsByMode : Cause → Type 0
+IsByMode c = (c ≢ NoStream) × (c ≢ cause.Infected) × (c ≢ StreamRemoved)
+
+-- a grant is at the floor, and not below the open's least; every other answer is explained
+abbrev pub IsExplained : Past → Table → Store → FilterEvent → ℕ → Answer → Type 0
+IsExplained p t v f floor (Granted n least s g version) = (least ≤ version) × (version ≡ floor)
+IsExplained p t v f floor (Unscanned n s g c) = IsByMode c × Explains p t v f n c
+IsExplained p t v f floor (Denied n c) = Explains p t v f n c
+
+-- so is each answer that an event of the world gave
+abbrev pub AnswersExplained : WorldState → Event → WorldState → Type 0
+AnswersExplained w e w' = All (λ a. (f : FilterEvent) × IsFilterEvent w e f × IsExplained (past w'.history) w.table w.volume f w'.table.floor a.answer) (drop (length w.answers) w'.answers)

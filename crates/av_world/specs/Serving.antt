@@ -1,0 +1,65 @@
+-- What a world asks of its service.
+use Rattle.std.specs.Prelude.{ℕ, ◌≡◌, ◌<◌, ◌≤◌, ◌+◌, ◌∷◌, ◌++◌, length, map, List, Option, None, Some, Ok}
+use Rattle.av_service.specs.Call.{Responds}
+use Rattle.av_service.specs.Conduct.{ServiceEvent, Connects, Disconnects, Finishes, Publishes, Receives, Restarts, connect_refusal, service_step}
+use Rattle.av_service.specs.Desk.{Desk}
+use Rattle.av_frame.specs.declared.message.Body.{Body}
+use Rattle.av_service.specs.Work.{WorkState}
+use Rattle.av_service.specs.declared.fault.ConnectFault.{ConnectFault}
+use Rattle.av_service.specs.declared.out.ServiceOut.{ServiceOut}
+use Rattle.av_sigset.specs.Catalogue.{latest}
+use Rattle.av_sigset.specs.Set.{NumberedSet}
+use Rattle.av_world.specs.Stage.{at_history}
+use Rattle.av_world.specs.World.{WorldState, service_event}
+use Rattle.av_world.specs.declared.event.Event.{Event}
+use Rattle.av_world.specs.declared.report.Line.TheVariants.{Silent}
+use Rattle.av_world.specs.declared.report.Note.{Note}
+use Rattle.av_world.specs.declared.report.Note.TheVariants as note
+use Rattle.av_world.specs.declared.report.Report.{Report}
+use Rattle.av_world.specs.declared.world.serving.ServiceCall.{ServiceCall}
+use Rattle.av_world.specs.declared.world.serving.ServiceCall.TheVariants as call
+
+-- the event of the service that a call is
+abbrev pub event_called : List NumberedSet → ServiceCall → ServiceEvent
+event_called sets call.Connect = Connects
+event_called sets (call.Receive m) = Receives m.now
+event_called sets (call.Publish version) = Publishes version
+event_called sets call.Disconnect = Disconnects
+event_called sets call.Restart = Restarts (latest sets)
+
+-- a publication is of a newer version
+abbrev pub MayCall : ℕ → ServiceCall → Type 0
+MayCall present call.Connect = Unit {0}
+MayCall present (call.Receive m) = Unit {0}
+MayCall present (call.Publish version) = present < version
+MayCall present call.Disconnect = Unit {0}
+MayCall present call.Restart = Unit {0}
+
+-- why the service refuses an event
+abbrev pub service_refusal : Desk → ServiceEvent → Option ConnectFault
+service_refusal d Connects = connect_refusal d
+service_refusal d Disconnects = None
+service_refusal d (Receives m) = None
+service_refusal d (Finishes lease scan hit) = None
+service_refusal d (Publishes version) = None
+service_refusal d (Restarts version) = None
+
+-- the service responded as it is to, or nothing has changed
+abbrev pub Serves : Desk → Desk → ServiceEvent → Option ServiceOut → Type 0
+Serves d d' s None = d' ≡ d
+Serves d d' s (Some out) = (service_refusal d s ≡ None) × Responds out d' (service_step d s)
+
+-- one message at most for each of n jobs, and one more
+abbrev pub IsSmallResponse : ℕ → ServiceOut → Type 0
+IsSmallResponse n out = length out.messages.items ≤ n + 1
+
+-- the service's event has happened, and what it gave out stands behind what was there; or nothing has changed
+abbrev pub Served : Desk → List Body → List (Option WorkState) → Desk → List Body → List (Option WorkState) → ServiceEvent → Option Note → Type 0
+Served d up works d' up' works' s None = (d' ≡ d) × (up' ≡ up) × (works' ≡ works)
+Served d up works d' up' works' s (Some n) =
+    (service_refusal d s ≡ None) × (d' ≡ (service_step d s).desk) × (up' ≡ up ++ (service_step d s).messages) × (works' ≡ works ++ map Some (service_step d s).works) × (n ≡ note.Service (service_step d s).note)
+
+-- where a report is given the service's event has happened, behind this history; else nothing has changed
+abbrev pub TakesServed : WorldState → WorldState → List Event → Event → ServiceEvent → Option Report → Type 0
+TakesServed old new h e s None = new ≡ old
+TakesServed old new h e s (Some report) = (service_refusal old.desk s ≡ None) × (service_event (at_history h old) e Silent s ≡ Ok (report, at_history (e ∷ h) new))

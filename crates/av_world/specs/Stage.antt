@@ -1,0 +1,66 @@
+-- A stage: all of a world but its history. Its value is that of a world of which the history is empty.
+use Rattle.std.specs.Prelude.{ℕ, ◌≡◌, ◌≤◌, ◌+◌, ◌∷◌, length, List, Option, None, Some, Ok}
+use Rattle.av_filter.specs.Call.{Reacts}
+use Rattle.av_filter.specs.Conduct.{FilterEvent, Opens, Changes, CleansUp, Receives, TimesOut, Disconnects, Restarts, filter_refusal, filter_step}
+use Rattle.av_filter.specs.declared.out.Out.{Out}
+use Rattle.av_filter_table.specs.Table.{Table}
+use Rattle.av_store.specs.Files as change
+use Rattle.av_store.specs.Store.{Store}
+use Rattle.av_world.specs.World.{Outcome, WorldState, changed_line, step_of}
+use Rattle.av_world.specs.declared.event.Event.{Event}
+use Rattle.av_world.specs.declared.report.Line.{Line}
+use Rattle.av_world.specs.declared.report.Line.TheVariants.{Silent, Created, Removed, Booted}
+use Rattle.av_world.specs.declared.report.Report.{Report}
+use Rattle.av_world.specs.declared.world.filtering.FilterCall.{FilterCall}
+use Rattle.av_world.specs.declared.world.filtering.FilterCall.TheVariants as call
+
+-- the world at a history
+abbrev pub at_history : List Event → WorldState → WorldState
+at_history h s = record s { history = h }
+
+-- where a report is given the outcome that is wanted has come, behind this history; else nothing has changed
+abbrev pub Takes : WorldState → WorldState → List Event → Event → Outcome → Option Report → Type 0
+Takes old new h e wanted None = new ≡ old
+Takes old new h e wanted (Some report) = wanted ≡ Ok (report, at_history (e ∷ h) new)
+
+-- an event happened as it is to, or nothing has changed
+abbrev pub Happens : WorldState → WorldState → List Event → Event → Option Report → Type 0
+Happens old new h e = Takes old new h e (step_of (at_history h old) e)
+
+-- ---- the filter's part
+
+-- the event of the filter that a call is
+abbrev pub event_called : FilterCall → FilterEvent
+event_called (call.Create name) = Changes (change.Create name.now)
+event_called (call.Write s offset bytes) = Changes (change.Write s offset bytes.now)
+event_called (call.Cut s n) = Changes (change.Cut s n)
+event_called (call.Remove s) = Changes (change.Remove s)
+event_called (call.Open s least) = Opens s least
+event_called (call.CleanUp s) = CleansUp s
+event_called (call.Receive m) = Receives m.now
+event_called (call.TimeOut seq) = TimesOut seq
+event_called call.Disconnect = Disconnects
+event_called call.Restart = Restarts
+
+-- what is told of the volume after it
+abbrev pub line_after : FilterCall → Store → Line
+line_after (call.Create name) v = Created v.last
+line_after (call.Write s offset bytes) v = changed_line s v
+line_after (call.Cut s n) v = changed_line s v
+line_after (call.Remove s) v = Removed s
+line_after (call.Open s least) v = Silent
+line_after (call.CleanUp s) v = Silent
+line_after (call.Receive m) v = Silent
+line_after (call.TimeOut seq) v = Silent
+line_after call.Disconnect v = Silent
+line_after call.Restart v = Booted v.boot
+
+-- the filter reacted as it is to, or nothing has changed
+abbrev pub Calls : Table → Store → Table → Store → FilterEvent → Option Out → Type 0
+Calls t v t' v' f None = (t' ≡ t) × (v' ≡ v)
+Calls t v t' v' f (Some out) = (filter_refusal t v f ≡ None) × Reacts out t' v' (filter_step t v f)
+
+-- two messages at most, and no more than one answer beside those to the n opens that wait
+pub record IsSmallOut (n : ℕ) (out : Out) : Type 0 where
+  pub messages : length out.messages.items ≤ 2
+  pub answers : length out.answers.items ≤ n + 1

@@ -1,0 +1,30 @@
+-- A step's own line, and the line of a judgement.
+use Rattle.std.specs.Prelude.{ℕ, List, [], ◌∷◌, codes, decimal}
+use Rattle.av_base.specs.Part.{spelt}
+use Rattle.av_base.specs.declared.verdict.Verdict.{Verdict}
+use Rattle.av_base.specs.declared.verdict.Verdict.TheVariants.{Clean, Infected}
+use Rattle.av_world.specs.declared.report.Judged.{Judged}
+use Rattle.av_world.specs.declared.report.Line.{Line}
+use Rattle.av_world.specs.declared.report.Line.TheVariants.{Silent, Published, Created, Changed, Removed, Booted}
+
+-- what a step tells of the volume or the catalogue
+abbrev pub line_parts : Line → List (List ℕ)
+line_parts Silent = []
+line_parts (Published version signatures) = codes "version " ∷ decimal version ∷ codes " signatures " ∷ decimal signatures ∷ codes "\n" ∷ []
+line_parts (Created stream) = codes "stream " ∷ decimal stream ∷ codes " generation 1\n" ∷ []
+line_parts (Changed stream generation size) =
+    codes "stream " ∷ decimal stream ∷ codes " generation " ∷ decimal generation ∷ codes " length " ∷ decimal size ∷ codes "\n" ∷ []
+line_parts (Removed stream) = codes "removed " ∷ decimal stream ∷ codes "\n" ∷ []
+line_parts (Booted boot) = codes "boot " ∷ decimal boot ∷ codes "\n" ∷ []
+
+abbrev pub line_text : Line → List ℕ
+line_text line = spelt (line_parts line)
+
+-- the last words of a line: clean, or which signature ends where first
+abbrev pub verdict_parts : Verdict → List (List ℕ)
+verdict_parts Clean = codes " clean\n" ∷ []
+verdict_parts (Infected index end_at) = codes " infected " ∷ decimal index ∷ codes " end " ∷ decimal end_at ∷ codes "\n" ∷ []
+
+abbrev pub judged_text : Judged → List ℕ
+judged_text j =
+    spelt (codes "judge " ∷ decimal j.stream ∷ codes " generation " ∷ decimal j.generation ∷ codes " version " ∷ decimal j.version ∷ verdict_parts j.verdict)

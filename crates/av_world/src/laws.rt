@@ -1,0 +1,65 @@
+//! What holds of every world, wherever its history leads, and of every two audits.
+ghost use Rattle.std.specs.Prelude.{◌≡◌, ℕ, List};
+ghost use Rattle.av_base.specs.declared.limits.LimitValues.{LimitValues};
+ghost use Rattle.av_base.specs.declared.mode.Mode.{Mode};
+ghost use Rattle.av_filter.specs.Audit.{FilterEntry, IsFilterAudit};
+ghost use Rattle.av_filter_table.specs.Table.{mounted};
+ghost use Rattle.av_filter_table.specs.declared.question.Question.{Question};
+ghost use Rattle.av_service.specs.Desk.{just_started};
+ghost use Rattle.av_store.specs.Files.{File};
+ghost use Rattle.av_store.specs.Store.{Store};
+ghost use Rattle.av_world.specs.Audits.{AreLegal, AuditAnswersOnce, AuditsGrantOnlyClean, AuditsHoldOneVerdict, SideEntry};
+ghost use Rattle.av_world.specs.Examples.{ComeTrue};
+ghost use Rattle.av_world.specs.Headline.{AnswersOnce, GrantsOnlyClean, HoldsOneVerdict, NeverDiffers};
+ghost use Rattle.av_world.specs.Path.{EndsWithVerdict, IsReady};
+ghost use Rattle.av_world.specs.Publication.{Publication, latest_as};
+ghost use Rattle.av_world.specs.Safety.{AnswersExplained, JobsJudgeRightly};
+ghost use Rattle.av_world.specs.Whole.{StaysWhole};
+ghost use Rattle.av_world.specs.World.{after, start, world_of};
+ghost use Rattle.av_world.specs.declared.event.Event.{Event};
+
+/// Over every list of opens, writes, deliveries, losses, repeats, delays, timeouts, publications, disconnections and
+/// restarts: no two verdicts stand for one stream, generation and version; an open is granted only where the stream's
+/// whole present content is clean under the version that the grant names; and each open is pended or answered, once.
+pub fn headline()
+    ensures one_verdict { (number : ℕ) (mode : Mode) (limits : LimitValues) (history : List Event) → HoldsOneVerdict (world_of (start number mode limits) history) }
+    ensures never_differs { (number : ℕ) (mode : Mode) (limits : LimitValues) (history : List Event) → NeverDiffers (world_of (start number mode limits) history) }
+    ensures only_clean { (number : ℕ) (mode : Mode) (limits : LimitValues) (history : List Event) → GrantsOnlyClean mode (world_of (start number mode limits) history) }
+    ensures answers_once { (number : ℕ) (mode : Mode) (limits : LimitValues) (history : List Event) → AnswersOnce (world_of (start number mode limits) history) }
+{}
+
+/// Over every list of events: a running job has judged the beginning of the content that it was asked about, and keeps
+/// the scan of that under the present version, from which its work goes on; each grant is at the floor and not below its
+/// open's least; and every other answer is explained by the event that gives it.
+pub fn protocol_safety()
+    ensures judged_bytes { (number : ℕ) (mode : Mode) (limits : LimitValues) (history : List Event) → JobsJudgeRightly (world_of (start number mode limits) history) }
+    ensures explained { (number : ℕ) (mode : Mode) (limits : LimitValues) (history : List Event) (event : Event) → AnswersExplained (world_of (start number mode limits) history) event (after (world_of (start number mode limits) history) event) }
+{}
+
+/// Where a question runs, both sides are connected and the service has room, its scan and then each read, chunk and work
+/// in turn end, after at most as many rounds as the content has chunks, with the reply of its verdict.
+pub fn whole_path()
+    ensures { (number : ℕ) (mode : Mode) (limits : LimitValues) (history : List Event) (q : Question) (n : ℕ) → IsReady (world_of (start number mode limits) history) q n → EndsWithVerdict (world_of (start number mode limits) history) q n }
+{}
+
+/// The headline of two audits, each legal by itself, put together in any order in which each message that came had been
+/// sent by the other side before: from whatever volume and catalogue, each part of the headline holds. The third is the
+/// filter's alone; open numbers are counted from the opening volume's last.
+pub fn audits()
+    ensures one_verdict { (mode : Mode) (limits : LimitValues) (number : ℕ) (service_limits : LimitValues) (files : List File) (v : Store) (sets : List Publication) (es : List SideEntry) → AreLegal mode limits number service_limits files v sets es
+        → AuditsHoldOneVerdict files (mounted mode limits v.boot) v sets (just_started number service_limits (latest_as sets)) es }
+    ensures only_clean { (mode : Mode) (limits : LimitValues) (number : ℕ) (service_limits : LimitValues) (files : List File) (v : Store) (sets : List Publication) (es : List SideEntry) → AreLegal mode limits number service_limits files v sets es
+        → AuditsGrantOnlyClean mode files sets es }
+    ensures answers_once { (v : Store) (mode : Mode) (limits : LimitValues) (xs : List FilterEntry) → IsFilterAudit (mounted mode limits v.boot) v xs → AuditAnswersOnce (mounted mode limits v.boot) v xs }
+{}
+
+/// What worked scripts say, command by command; and that the premises of `whole_path` and `audits` can be met.
+pub fn worked_scripts()
+    ensures { ComeTrue }
+{}
+
+/// At the start and after each step a world's volume and sets are those that its history tells, its filter fits the volume,
+/// and the volume's streams are in their ranges.
+pub fn worlds_stay_whole()
+    ensures { StaysWhole }
+{}

@@ -1,0 +1,50 @@
+ghost use Rattle.std.specs.Prelude.{OnOk, OnErr};
+ghost use Rattle.std.specs.Io.KnownBytes.{Appends};
+ghost use Rattle.av_base.specs.Device.{AppendsPrefix};
+ghost use Rattle.av_world.specs.Text.Lines.{judged_text};
+
+use crate::report::Judged;
+use av_base::device::WriteFault;
+use av_base::parts::{Part, write_parts};
+use av_base::verdict::Verdict;
+use std::io::Write;
+
+/// Writes the line of a judgement.
+pub fn print_judged<W: Write>(judged: &Judged, writer: &mut W) -> Result<(), WriteFault>
+    ensures ok { OnOk result (Appends (W.contents writer.old) (W.contents writer.new) (judged_text judged.now)) }
+    ensures err { OnErr result (AppendsPrefix (W.contents writer.old) (W.contents writer.new) (judged_text judged.now)) }
+{
+    let stream = judged.stream.get();
+    let generation = judged.generation.get();
+    let version = judged.version.get();
+    match judged.verdict {
+        Verdict::Clean => write_parts(
+            writer,
+            &[
+                Part::Text(b"judge "),
+                Part::Number(stream),
+                Part::Text(b" generation "),
+                Part::Number(generation),
+                Part::Text(b" version "),
+                Part::Number(version),
+                Part::Text(b" clean\n"),
+            ],
+        ),
+        Verdict::Infected { index, end_at } => write_parts(
+            writer,
+            &[
+                Part::Text(b"judge "),
+                Part::Number(stream),
+                Part::Text(b" generation "),
+                Part::Number(generation),
+                Part::Text(b" version "),
+                Part::Number(version),
+                Part::Text(b" infected "),
+                Part::Number(u64::from(index)),
+                Part::Text(b" end "),
+                Part::Number(end_at),
+                Part::Text(b"\n"),
+            ],
+        ),
+    }
+}

@@ -1,0 +1,366 @@
+ghost use Rattle.std.specs.Prelude.{◌≡◌, ◌+◌, ◌<◌, ◌≤◌, ◌^◌, length, OnOk, OnErr};
+ghost use Rattle.std.specs.Io.KnownBytes.{Appends};
+ghost use Rattle.std.specs.List.{between};
+ghost use Rattle.av_base.specs.Device.{AppendsPrefix};
+ghost use Rattle.av_base.specs.declared.verdict.Verdict.TheVariants.{Clean, Infected};
+ghost use Rattle.av_frame.specs.declared.message.Body.TheVariants.{Scan, Chunk, NoChunk, Abort, Hello, Read, Reply, Updated};
+ghost use Rattle.av_frame.specs.declared.outcome.Outcome.TheVariants.{Failed, Judged};
+ghost use Rattle.av_world.specs.Text.Messages.{message_text, placed_text, way_word};
+
+use crate::output::part;
+use av_base::device::WriteFault;
+use av_base::message_id::MessageId;
+use av_base::number::{Generation, StreamId, Version};
+use av_base::parts::{Part, write_parts};
+use av_base::verdict::Verdict;
+use av_frame::cause::{FailCause, NoChunkCause};
+use av_frame::message::{Body, Message};
+use av_frame::outcome::Outcome;
+use std::io::Write;
+
+/// The list in which a message stands: those to the service, or those to the filter.
+#[derive(Clone, Copy)]
+pub enum Way {
+    Down,
+    Up,
+}
+
+impl Way {
+    fn word(self) -> &'static [u8]
+        ensures { result.now ≡ way_word self }
+    {
+        match self {
+            Way::Down => b"down ".as_slice(),
+            Way::Up => b"up ".as_slice(),
+        }
+    }
+}
+
+// Where a message stands, counted from 1.
+#[derive(Clone, Copy)]
+struct Place {
+    way: Way,
+    number: u64,
+}
+
+/// Writes the lines of messages from one place of their list up to another, both counted from 0.
+pub fn print_messages<W: Write>(
+    way: Way,
+    messages: &[Message],
+    from: u64,
+    to: u64,
+    writer: &mut W,
+) -> Result<(), WriteFault>
+    ensures ok { OnOk result (Appends (W.contents writer.old) (W.contents writer.new) (placed_text (message_text way) (from + 1) (between from to messages.now))) }
+    ensures err { OnErr result (AppendsPrefix (W.contents writer.old) (W.contents writer.new) (placed_text (message_text way) (from + 1) (between from to messages.now))) }
+{
+    for (index, message) in part(messages, from, to).iter().enumerate() {
+        let number = from + index as u64 + 1;
+        print_message(Place { way, number }, message, writer)?;
+    }
+    Ok(())
+}
+
+fn print_message<W: Write>(
+    place: Place,
+    message: &Message,
+    writer: &mut W,
+) -> Result<(), WriteFault>
+    ensures ok { OnOk result (Appends (W.contents writer.old) (W.contents writer.new) (message_text place.way place.number message.now)) }
+    ensures err { OnErr result (AppendsPrefix (W.contents writer.old) (W.contents writer.new) (message_text place.way place.number message.now)) }
+{
+    match message.body() {
+        Body::Scan {
+            id,
+            stream,
+            generation,
+            length,
+        } => print_scan(place, *id, *stream, *generation, *length, writer),
+        Body::Chunk { id, offset, bytes } => print_chunk(
+            place,
+            *id,
+            *offset,
+            bytes.as_slice(),
+            writer,
+        ),
+        Body::NoChunk { id, offset, cause } => print_no_chunk(place, *id, *offset, *cause, writer),
+        Body::Abort { id } => print_abort(place, *id, writer),
+        Body::Hello { volume, version } => print_hello(place, *volume, *version, writer),
+        Body::Read { id, offset, count } => print_read(place, *id, *offset, *count, writer),
+        Body::Reply { id, outcome } => print_reply(place, *id, *outcome, writer),
+        Body::Updated { version } => print_updated(place, *version, writer),
+    }
+}
+
+fn print_scan<W: Write>(
+    place: Place,
+    id: MessageId,
+    stream: StreamId,
+    generation: Generation,
+    length: u64,
+    writer: &mut W,
+) -> Result<(), WriteFault>
+    ensures ok { OnOk result (Appends (W.contents writer.old) (W.contents writer.new) (message_text place.way place.number (Scan id stream generation length))) }
+    ensures err { OnErr result (AppendsPrefix (W.contents writer.old) (W.contents writer.new) (message_text place.way place.number (Scan id stream generation length))) }
+{
+    write_parts(
+        writer,
+        &[
+            Part::Text(place.way.word()),
+            Part::Number(place.number),
+            Part::Text(b" scan "),
+            Part::Number(id.boot),
+            Part::Text(b"."),
+            Part::Number(id.seq),
+            Part::Text(b" stream "),
+            Part::Number(stream.get()),
+            Part::Text(b" generation "),
+            Part::Number(generation.get()),
+            Part::Text(b" length "),
+            Part::Number(length),
+            Part::Text(b"\n"),
+        ],
+    )
+}
+
+fn print_chunk<W: Write>(
+    place: Place,
+    id: MessageId,
+    offset: u64,
+    bytes: &[u8],
+    writer: &mut W,
+) -> Result<(), WriteFault>
+    ensures ok { OnOk result (Appends (W.contents writer.old) (W.contents writer.new) (message_text place.way place.number (Chunk id offset bytes.now))) }
+    ensures err { OnErr result (AppendsPrefix (W.contents writer.old) (W.contents writer.new) (message_text place.way place.number (Chunk id offset bytes.now))) }
+{
+    write_parts(
+        writer,
+        &[
+            Part::Text(place.way.word()),
+            Part::Number(place.number),
+            Part::Text(b" chunk "),
+            Part::Number(id.boot),
+            Part::Text(b"."),
+            Part::Number(id.seq),
+            Part::Text(b" offset "),
+            Part::Number(offset),
+            Part::Text(b" bytes "),
+            Part::Hexadecimal(bytes),
+            Part::Text(b"\n"),
+        ],
+    )
+}
+
+fn print_no_chunk<W: Write>(
+    place: Place,
+    id: MessageId,
+    offset: u64,
+    cause: NoChunkCause,
+    writer: &mut W,
+) -> Result<(), WriteFault>
+    ensures ok { OnOk result (Appends (W.contents writer.old) (W.contents writer.new) (message_text place.way place.number (NoChunk id offset cause))) }
+    ensures err { OnErr result (AppendsPrefix (W.contents writer.old) (W.contents writer.new) (message_text place.way place.number (NoChunk id offset cause))) }
+{
+    write_parts(
+        writer,
+        &[
+            Part::Text(place.way.word()),
+            Part::Number(place.number),
+            Part::Text(b" nochunk "),
+            Part::Number(id.boot),
+            Part::Text(b"."),
+            Part::Number(id.seq),
+            Part::Text(b" offset "),
+            Part::Number(offset),
+            Part::Text(b" cause "),
+            Part::Number(u64::from(cause.number())),
+            Part::Text(b"\n"),
+        ],
+    )
+}
+
+fn print_abort<W: Write>(place: Place, id: MessageId, writer: &mut W) -> Result<(), WriteFault>
+    ensures ok { OnOk result (Appends (W.contents writer.old) (W.contents writer.new) (message_text place.way place.number (Abort id))) }
+    ensures err { OnErr result (AppendsPrefix (W.contents writer.old) (W.contents writer.new) (message_text place.way place.number (Abort id))) }
+{
+    write_parts(
+        writer,
+        &[
+            Part::Text(place.way.word()),
+            Part::Number(place.number),
+            Part::Text(b" abort "),
+            Part::Number(id.boot),
+            Part::Text(b"."),
+            Part::Number(id.seq),
+            Part::Text(b"\n"),
+        ],
+    )
+}
+
+fn print_hello<W: Write>(
+    place: Place,
+    volume: u64,
+    version: Version,
+    writer: &mut W,
+) -> Result<(), WriteFault>
+    ensures ok { OnOk result (Appends (W.contents writer.old) (W.contents writer.new) (message_text place.way place.number (Hello volume version))) }
+    ensures err { OnErr result (AppendsPrefix (W.contents writer.old) (W.contents writer.new) (message_text place.way place.number (Hello volume version))) }
+{
+    write_parts(
+        writer,
+        &[
+            Part::Text(place.way.word()),
+            Part::Number(place.number),
+            Part::Text(b" hello volume "),
+            Part::Number(volume),
+            Part::Text(b" version "),
+            Part::Number(version.get()),
+            Part::Text(b"\n"),
+        ],
+    )
+}
+
+fn print_read<W: Write>(
+    place: Place,
+    id: MessageId,
+    offset: u64,
+    count: u32,
+    writer: &mut W,
+) -> Result<(), WriteFault>
+    ensures ok { OnOk result (Appends (W.contents writer.old) (W.contents writer.new) (message_text place.way place.number (Read id offset count))) }
+    ensures err { OnErr result (AppendsPrefix (W.contents writer.old) (W.contents writer.new) (message_text place.way place.number (Read id offset count))) }
+{
+    write_parts(
+        writer,
+        &[
+            Part::Text(place.way.word()),
+            Part::Number(place.number),
+            Part::Text(b" read "),
+            Part::Number(id.boot),
+            Part::Text(b"."),
+            Part::Number(id.seq),
+            Part::Text(b" offset "),
+            Part::Number(offset),
+            Part::Text(b" count "),
+            Part::Number(u64::from(count)),
+            Part::Text(b"\n"),
+        ],
+    )
+}
+
+fn print_updated<W: Write>(place: Place, version: Version, writer: &mut W) -> Result<(), WriteFault>
+    ensures ok { OnOk result (Appends (W.contents writer.old) (W.contents writer.new) (message_text place.way place.number (Updated version))) }
+    ensures err { OnErr result (AppendsPrefix (W.contents writer.old) (W.contents writer.new) (message_text place.way place.number (Updated version))) }
+{
+    write_parts(
+        writer,
+        &[
+            Part::Text(place.way.word()),
+            Part::Number(place.number),
+            Part::Text(b" updated "),
+            Part::Number(version.get()),
+            Part::Text(b"\n"),
+        ],
+    )
+}
+
+fn print_reply<W: Write>(
+    place: Place,
+    id: MessageId,
+    outcome: Outcome,
+    writer: &mut W,
+) -> Result<(), WriteFault>
+    ensures ok { OnOk result (Appends (W.contents writer.old) (W.contents writer.new) (message_text place.way place.number (Reply id outcome))) }
+    ensures err { OnErr result (AppendsPrefix (W.contents writer.old) (W.contents writer.new) (message_text place.way place.number (Reply id outcome))) }
+{
+    match outcome {
+        Outcome::Judged { version, verdict } => match verdict {
+            Verdict::Clean => print_clean(place, id, version, writer),
+            Verdict::Infected { index, end_at } => {
+                print_infected(place, id, version, index, end_at, writer)
+            }
+        },
+        Outcome::Failed { cause } => print_failed(place, id, cause, writer),
+    }
+}
+
+fn print_clean<W: Write>(
+    place: Place,
+    id: MessageId,
+    version: Version,
+    writer: &mut W,
+) -> Result<(), WriteFault>
+    ensures ok { OnOk result (Appends (W.contents writer.old) (W.contents writer.new) (message_text place.way place.number (Reply id (Judged version Clean)))) }
+    ensures err { OnErr result (AppendsPrefix (W.contents writer.old) (W.contents writer.new) (message_text place.way place.number (Reply id (Judged version Clean)))) }
+{
+    write_parts(
+        writer,
+        &[
+            Part::Text(place.way.word()),
+            Part::Number(place.number),
+            Part::Text(b" reply "),
+            Part::Number(id.boot),
+            Part::Text(b"."),
+            Part::Number(id.seq),
+            Part::Text(b" version "),
+            Part::Number(version.get()),
+            Part::Text(b" clean\n"),
+        ],
+    )
+}
+
+fn print_infected<W: Write>(
+    place: Place,
+    id: MessageId,
+    version: Version,
+    index: u32,
+    end_at: u64,
+    writer: &mut W,
+) -> Result<(), WriteFault>
+    ensures ok { OnOk result (Appends (W.contents writer.old) (W.contents writer.new) (message_text place.way place.number (Reply id (Judged version (Infected index end_at))))) }
+    ensures err { OnErr result (AppendsPrefix (W.contents writer.old) (W.contents writer.new) (message_text place.way place.number (Reply id (Judged version (Infected index end_at))))) }
+{
+    write_parts(
+        writer,
+        &[
+            Part::Text(place.way.word()),
+            Part::Number(place.number),
+            Part::Text(b" reply "),
+            Part::Number(id.boot),
+            Part::Text(b"."),
+            Part::Number(id.seq),
+            Part::Text(b" version "),
+            Part::Number(version.get()),
+            Part::Text(b" infected "),
+            Part::Number(u64::from(index)),
+            Part::Text(b" end "),
+            Part::Number(end_at),
+            Part::Text(b"\n"),
+        ],
+    )
+}
+
+fn print_failed<W: Write>(
+    place: Place,
+    id: MessageId,
+    cause: FailCause,
+    writer: &mut W,
+) -> Result<(), WriteFault>
+    ensures ok { OnOk result (Appends (W.contents writer.old) (W.contents writer.new) (message_text place.way place.number (Reply id (Failed cause)))) }
+    ensures err { OnErr result (AppendsPrefix (W.contents writer.old) (W.contents writer.new) (message_text place.way place.number (Reply id (Failed cause)))) }
+{
+    write_parts(
+        writer,
+        &[
+            Part::Text(place.way.word()),
+            Part::Number(place.number),
+            Part::Text(b" reply "),
+            Part::Number(id.boot),
+            Part::Text(b"."),
+            Part::Number(id.seq),
+            Part::Text(b" failed "),
+            Part::Number(u64::from(cause.number())),
+            Part::Text(b"\n"),
+        ],
+    )
+}

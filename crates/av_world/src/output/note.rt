@@ -1,0 +1,61 @@
+ghost use Rattle.std.specs.Prelude.{◌≡◌, None, Some, MatchOption, OnOk, OnErr};
+ghost use Rattle.std.specs.Io.KnownBytes.{Appends};
+ghost use Rattle.std.specs.Option.{option_copied};
+ghost use Rattle.av_base.specs.Device.{AppendsPrefix};
+ghost use Rattle.av_world.specs.Text.Notes.{filter_word, note_text, note_word, service_word};
+
+use crate::report::Note;
+use av_base::device::WriteFault;
+use av_base::parts::{Part, write_parts};
+use av_filter::note::Note as FilterNote;
+use av_service::note::Note as ServiceNote;
+use std::io::Write;
+
+/// Writes the line of a note, if it has one.
+pub fn print_note<W: Write>(note: Note, writer: &mut W) -> Result<(), WriteFault>
+    ensures ok { OnOk result (Appends (W.contents writer.old) (W.contents writer.new) (note_text note)) }
+    ensures err { OnErr result (AppendsPrefix (W.contents writer.old) (W.contents writer.new) (note_text note)) }
+{
+    let Some(word) = note_word(note) else {
+        return Ok(());
+    };
+    write_parts(
+        writer,
+        &[Part::Text(b"note "), Part::Text(word), Part::Text(b"\n")],
+    )
+}
+
+fn note_word(note: Note) -> Option<&'static [u8]>
+    ensures { option_copied result ≡ note_word note }
+{
+    match note {
+        Note::Filter(note) => filter_word(note),
+        Note::Service(note) => service_word(note),
+    }
+}
+
+fn filter_word(note: FilterNote) -> Option<&'static [u8]>
+    ensures { option_copied result ≡ filter_word note }
+{
+    match note {
+        FilterNote::Quiet | FilterNote::Submitted { .. } => None,
+        FilterNote::Welcome => Some(b"Welcome".as_slice()),
+        FilterNote::NoWaiter => Some(b"NoWaiter".as_slice()),
+        FilterNote::Ignored => Some(b"Ignored".as_slice()),
+        FilterNote::NoStream => Some(b"NoStream".as_slice()),
+        FilterNote::WrongVolume => Some(b"WrongVolume".as_slice()),
+        FilterNote::Connected => Some(b"Connected".as_slice()),
+        FilterNote::OldVersion => Some(b"OldVersion".as_slice()),
+    }
+}
+
+fn service_word(note: ServiceNote) -> Option<&'static [u8]>
+    ensures { option_copied result ≡ service_word note }
+{
+    match note {
+        ServiceNote::Quiet => None,
+        ServiceNote::Repeat => Some(b"Repeat".as_slice()),
+        ServiceNote::Ignored => Some(b"Ignored".as_slice()),
+        ServiceNote::Orphan => Some(b"Orphan".as_slice()),
+    }
+}

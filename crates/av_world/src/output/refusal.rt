@@ -1,0 +1,19 @@
+ghost use Rattle.std.specs.Prelude.{OnOk, OnErr};
+ghost use Rattle.std.specs.Io.KnownBytes.{Appends};
+ghost use Rattle.av_base.specs.Device.{AppendsPrefix};
+ghost use Rattle.av_world.specs.Text.Refusals.{refused_text};
+
+use av_base::device::WriteFault;
+use av_base::parts::{Part, write_parts};
+use std::io::Write;
+
+/// Writes the line of a refusal.
+pub fn print_refused<W: Write>(word: &[u8], writer: &mut W) -> Result<(), WriteFault>
+    ensures ok { OnOk result (Appends (W.contents writer.old) (W.contents writer.new) (refused_text word.now)) }
+    ensures err { OnErr result (AppendsPrefix (W.contents writer.old) (W.contents writer.new) (refused_text word.now)) }
+{
+    write_parts(
+        writer,
+        &[Part::Text(b"refused "), Part::Text(word), Part::Text(b"\n")],
+    )
+}

@@ -1,0 +1,198 @@
+ghost use Rattle.std.specs.Prelude.{◌≡◌, ◌≤◌, ◌+◌, ◌++◌, [], map, length, reverse, vec_len, IfSome};
+ghost use Rattle.std.specs.Vec.{vec_capacity};
+ghost use Rattle.av_filter.specs.Bounds.{AreInBounds};
+ghost use Rattle.av_filter.specs.Fit.{Fits};
+ghost use Rattle.av_filter.specs.declared.note.Note.TheVariants.{Quiet};
+ghost use Rattle.av_store.specs.Rows.{stream_at};
+ghost use Rattle.av_world.specs.Stage.{Calls, IsSmallOut, Takes, at_history, event_called, line_after};
+ghost use Rattle.av_world.specs.World.{change_line, filter_event, given_at};
+ghost use Rattle.av_world.specs.declared.event.Event.{Event};
+
+use super::stage::Stage;
+use crate::event::Event;
+use crate::given::Given;
+use crate::report::{Line, Note, Report};
+use av_base::number::{Generation, StreamId, Version};
+use av_filter::filter::Filter;
+use av_filter::note::Note as FilterNote;
+use av_filter::out::Out;
+use av_frame::message::Message;
+use av_pend::answer::Answer;
+use av_store::volume::Volume;
+use std::alloc::Global;
+
+/// What is asked of the filter, or of the volume below it.
+#[derive(Clone, Copy)]
+pub enum FilterCall<'a> {
+    Create {
+        name: &'a [u8],
+    },
+    Write {
+        stream: StreamId,
+        offset: u64,
+        bytes: &'a [u8],
+    },
+    Cut {
+        stream: StreamId,
+        length: u64,
+    },
+    Remove {
+        stream: StreamId,
+    },
+    Open {
+        stream: StreamId,
+        least: Version,
+    },
+    CleanUp {
+        stream: StreamId,
+    },
+    Receive {
+        message: &'a Message,
+    },
+    TimeOut {
+        seq: u64,
+    },
+    Disconnect,
+    Restart,
+}
+
+// Asks it; none where it is refused.
+#[tactic(auto, using(crate::proofs::RoomLemmas::small_if))]
+fn ask(
+    filter: &mut Filter,
+    volume: &mut Volume,
+    alloc: Global,
+    call: &FilterCall<'_>,
+) -> Option<Out>
+    requires fits { Fits filter.old volume.old }
+    requires bounds { AreInBounds volume.old }
+    ensures reacts { Calls filter.old volume.old filter.new volume.new (event_called call.now) result }
+    ensures few { IfSome result (IsSmallOut (length filter.old.pended)) }
+{
+    answer(filter, volume, alloc, call)
+}
+
+// What it answers.
+#[tactic(auto, using(crate::proofs::StageLemmas::cleaned_up, crate::proofs::StageLemmas::created, crate::proofs::StageLemmas::disconnected, crate::proofs::StageLemmas::meets, crate::proofs::StageLemmas::received, crate::proofs::StageLemmas::remounted, crate::proofs::StageLemmas::timed_out), unfolding(av_filter::specs::Conduct::filter_step))]
+fn answer(
+    filter: &mut Filter,
+    volume: &mut Volume,
+    alloc: Global,
+    call: &FilterCall<'_>,
+) -> Option<Out>
+    requires fits { Fits filter.old volume.old }
+    requires bounds { AreInBounds volume.old }
+    ensures { Calls filter.old volume.old filter.new volume.new (event_called call.now) result }
+{
+    match *call {
+        FilterCall::Create { name } => match volume.create(alloc, name) {
+            Ok(_) => Some(quiet(alloc)),
+            Err(_) => None,
+        },
+        FilterCall::Write {
+            stream,
+            offset,
+            bytes,
+        } => filter.write(alloc, volume, stream, offset, bytes).ok(),
+        FilterCall::Cut { stream, length } => filter.cut(alloc, volume, stream, length).ok(),
+        FilterCall::Remove { stream } => filter.remove(alloc, volume, stream).ok(),
+        FilterCall::Open { stream, least } => filter.open(alloc, volume, stream, least).ok(),
+        FilterCall::CleanUp { stream } => filter.cleanup(alloc, volume, stream).ok(),
+        FilterCall::Receive { message } => filter.message(alloc, volume, message).ok(),
+        FilterCall::TimeOut { seq } => filter.timeout(alloc, volume, seq).ok(),
+        FilterCall::Disconnect => filter.disconnect(alloc, volume).ok(),
+        FilterCall::Restart => {
+            if volume.boot() == u64::MAX {
+                return None;
+            }
+            filter.remount(alloc, volume).ok()
+        }
+    }
+}
+
+// A volume's change tells nothing more.
+fn quiet(alloc: Global) -> Out
+    ensures answers { result.answers.items ≡ [] }
+    ensures messages { result.messages.items ≡ [] }
+    ensures note { result.note ≡ Quiet }
+{
+    Out {
+        answers: Vec::new(alloc),
+        messages: Vec::new(alloc),
+        note: FilterNote::Quiet,
+    }
+}
+
+// Answers behind those that were given, each with the number of its event.
+fn give(answers: &mut Vec<Given>, event: u64, more: &[Answer])
+    requires { vec_len answers.old + length more.now ≤ vec_capacity answers.old }
+    ensures { answers.new.items ≡ answers.old.items ++ map (given_at event) more.now }
+{
+    for answer in more {
+        answers.push_reserved(Given {
+            event,
+            answer: *answer,
+        });
+    }
+}
+
+impl Stage {
+    /// Lets the filter do what it is asked, as the event behind a history. None where that is refused: nothing has changed.
+    pub fn filter_event(
+        &mut self,
+        alloc: Global,
+        history: &[Event],
+        call: &FilterCall<'_>,
+    ) -> Option<Report>
+        requires fits { Fits self.old.table self.old.volume }
+        requires bounds { AreInBounds self.old.volume }
+        ensures { (e : Event) → Takes self.old self.new (reverse history.now) e (filter_event (at_history (reverse history.now) self.old) e (line_after call.now) (event_called call.now)) result }
+    {
+        let before = self.places();
+        let event = (history.len() as u64).checked_add(1)?;
+        let most = self.filter.pended_count().checked_add(1)?;
+        self.answers.reserve(most).ok()?;
+        self.down.reserve(2).ok()?;
+        let mut out = ask(&mut self.filter, &mut self.volume, alloc, call)?;
+        give(&mut self.answers, event, out.answers.as_slice());
+        self.down.append(&mut out.messages).unwrap();
+        Some(Report {
+            line: line(&self.volume, call),
+            before,
+            after: self.places(),
+            note: Note::Filter(out.note),
+        })
+    }
+}
+
+// What is told of the volume after a call.
+fn line(volume: &Volume, call: &FilterCall<'_>) -> Line
+    ensures { result ≡ line_after call.now volume.now }
+{
+    match *call {
+        FilterCall::Create { .. } => Line::Created {
+            stream: volume.last_created(),
+        },
+        FilterCall::Write { stream, .. } | FilterCall::Cut { stream, .. } => {
+            change_line(volume, stream)
+        }
+        FilterCall::Remove { stream } => Line::Removed { stream },
+        FilterCall::Restart => Line::Booted {
+            boot: volume.boot(),
+        },
+        _ => Line::Silent,
+    }
+}
+
+// A stream's new generation and length.
+fn change_line(volume: &Volume, stream: StreamId) -> Line
+    ensures { result ≡ change_line stream (stream_at stream volume.now.streams) }
+{
+    let generation = volume.generation(stream).unwrap_or(Generation::new(0));
+    let length = volume.length(stream).unwrap_or(0);
+    Line::Changed {
+        stream,
+        generation,
+        length,
+    }
+}

@@ -1,0 +1,79 @@
+ghost use Rattle.std.specs.Prelude.{◌≡◌, ◌≤◌, List, reverse};
+ghost use Rattle.av_filter.specs.Bounds.{AreInBounds};
+ghost use Rattle.av_filter.specs.Fit.{Fits};
+ghost use Rattle.av_sigset.specs.Catalogue.{latest};
+ghost use Rattle.av_world.specs.Request.{MayAsk, outcome_of, served};
+ghost use Rattle.av_world.specs.Serving.{MayCall, event_called};
+ghost use Rattle.av_world.specs.Stage.{Happens, Takes, at_history};
+ghost use Rattle.av_world.specs.Whole.{IsWhole};
+ghost use Rattle.av_world.specs.World.{down_frame, member, up_frame};
+ghost use Rattle.av_world.specs.declared.event.Event.{Event};
+
+use super::delivery::delivered;
+use super::filtering::FilterCall;
+use super::request::Request;
+use super::serving::ServiceCall;
+use super::stage::Stage;
+use crate::event::Event;
+use crate::report::Report;
+use std::alloc::Global;
+
+impl Stage {
+    /// Lets an event happen behind a history. None where it is refused, by its fault or for want of memory: nothing has
+    /// changed.
+    pub fn happen(&mut self, alloc: Global, history: &[Event], event: &Event) -> Option<Report>
+        requires { IsWhole (at_history (reverse history.now) self.old) }
+        ensures { Happens self.old self.new (reverse history.now) event.now result }
+    {
+        let request = match self.request(event) {
+            Ok(request) => request,
+            Err(_) => return None,
+        };
+        let _ = self.catalogue.latest();
+        self.answer(alloc, history, &request)
+    }
+
+    // Does what an event asks for.
+    fn answer(&mut self, alloc: Global, history: &[Event], request: &Request<'_>) -> Option<Report>
+        requires fits { Fits self.old.table self.old.volume }
+        requires bounds { AreInBounds self.old.volume }
+        requires version { self.old.desk.version ≤ latest self.old.sets }
+        requires may { MayAsk self.old.desk.version request.now }
+        ensures { (e : Event) → Takes self.old self.new (reverse history.now) e (outcome_of (at_history (reverse history.now) self.old) e request.now) result }
+    {
+        match *request {
+            Request::Publish { version, patterns } => self.publish(alloc, version, patterns),
+            Request::Filter { ref call } => self.filter_event(alloc, history, call),
+            Request::Service { ref call } => self.serve_event(alloc, call),
+            Request::Down { place } => self.deliver_down(alloc, place),
+            Request::Up { place } => self.deliver_up(alloc, history, place),
+            Request::Run { place } => self.run_work(alloc, place),
+        }
+    }
+
+    // Lets the service do what it is asked.
+    fn serve_event(&mut self, alloc: Global, call: &ServiceCall<'_>) -> Option<Report>
+        requires { MayCall self.old.desk.version call.now }
+        ensures { (h : List Event) (e : Event) → Takes self.old self.new h e (served (at_history h self.old) e (event_called self.old.sets call.now)) result }
+    {
+        self.service_event(alloc, call)
+    }
+
+    // Delivers a message to the service.
+    fn deliver_down(&mut self, alloc: Global, place: u64) -> Option<Report>
+        ensures { (h : List Event) (e : Event) → Takes self.old self.new h e (down_frame (at_history h self.old) e (member self.old.down place)) result }
+    {
+        let message = delivered(alloc, &self.down, place)?;
+        self.service_event(alloc, &ServiceCall::Receive { message: &message })
+    }
+
+    // Delivers a message to the filter.
+    fn deliver_up(&mut self, alloc: Global, history: &[Event], place: u64) -> Option<Report>
+        requires fits { Fits self.old.table self.old.volume }
+        requires bounds { AreInBounds self.old.volume }
+        ensures { (e : Event) → Takes self.old self.new (reverse history.now) e (up_frame (at_history (reverse history.now) self.old) e (member self.old.up place)) result }
+    {
+        let message = delivered(alloc, &self.up, place)?;
+        self.filter_event(alloc, history, &FilterCall::Receive { message: &message })
+    }
+}

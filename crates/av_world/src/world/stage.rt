@@ -1,0 +1,107 @@
+ghost use Rattle.std.specs.Prelude.{◌≡◌, IfOk};
+ghost use Rattle.av_world.specs.World.{places_of, start};
+
+use crate::given::Given;
+use crate::report::Places;
+use av_base::limits::Limits;
+use av_base::mode::Mode;
+use av_filter::filter::Filter;
+use av_frame::message::Message;
+use av_match::automaton::Automaton;
+use av_service::service::Service;
+use av_service::work::Work;
+use av_sigset::catalogue::Catalogue;
+use av_store::volume::Volume;
+use std::alloc::{AllocError, Global};
+use std::marker::Model;
+
+/// All of a world but its history: the volume, the published sets, both cores, and what they ever sent, lent and answered.
+pub struct Stage {
+    pub(super) volume: Volume,
+    pub(super) catalogue: Catalogue,
+    pub(super) filter: Filter,
+    pub(super) service: Service,
+    // The automaton that was run last.
+    pub(super) automaton: Option<Automaton>,
+    pub(super) down: Vec<Message>,
+    pub(super) up: Vec<Message>,
+    pub(super) works: Vec<Option<Work>>,
+    pub(super) answers: Vec<Given>,
+}
+
+impl Model for Stage {
+    ghost use Rattle.std.specs.Prelude.{[]};
+    ghost use Rattle.av_world.specs.Prepared.{IsPrepared};
+    ghost use Rattle.av_world.specs.World.{WorldState};
+
+    ghost Value = { WorldState };
+
+    ghost view = { λ s. record { history = []; volume = s.volume; sets = s.catalogue.sets; table = s.filter; desk = s.service; down = s.down.items; up = s.up.items; works = s.works.items; answers = s.answers.items } };
+
+    ghost invariant = { λ s. IsPrepared s.catalogue.sets s.automaton };
+}
+
+impl Stage {
+    /// An empty volume of this number, a filter mounted on it, and a service with no set.
+    pub fn new(alloc: Global, number: u64, mode: Mode, limits: Limits) -> Result<Stage, AllocError>
+        ensures { IfOk result (λ s. s ≡ start number mode limits) }
+    {
+        let mut volume = Volume::new(alloc, number, limits);
+        let catalogue = Catalogue::new(alloc);
+        let service = Service::start(alloc, number, &catalogue, limits)?;
+        let Ok(filter) = Filter::mount(alloc, &mut volume, mode, limits) else {
+            return Err(AllocError);
+        };
+        Ok(Stage {
+            volume,
+            catalogue,
+            filter,
+            service,
+            automaton: None,
+            down: Vec::new(alloc),
+            up: Vec::new(alloc),
+            works: Vec::new(alloc),
+            answers: Vec::new(alloc),
+        })
+    }
+
+    /// How long its lists are.
+    pub(super) fn places(&self) -> Places
+        ensures { result ≡ places_of self.now }
+    {
+        Places {
+            answers: self.answers.len() as u64,
+            down: self.down.len() as u64,
+            up: self.up.len() as u64,
+            works: self.works.len() as u64,
+        }
+    }
+
+    /// Ends it.
+    pub(super) fn close(self) {
+        let Stage {
+            volume: _,
+            catalogue: _,
+            filter,
+            service: _,
+            automaton: _,
+            down: _,
+            up: _,
+            works,
+            answers: _,
+        } = self;
+        filter.abandon();
+        discard(works);
+    }
+}
+
+// Lets works go.
+fn discard(mut works: Vec<Option<Work>>) {
+    'works: while let Some(work) = works.pop() {
+        match work {
+            Some(work) => work.discard(),
+            None => {}
+        }
+    }
+    works.destroy_empty();
+}
