@@ -1,6 +1,6 @@
 # Vizdroun: `make run` shows it at work, `make test` is the whole gate.
 PROGRAM := crates/avscan/out/avscan
-EXAMPLE := examples/judge.avs
+EXAMPLE := examples/late_reply.avs
 PREFIX ?= /usr/local
 
 .PHONY: build run try test bench install clean kit

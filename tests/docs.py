@@ -1,10 +1,10 @@
 #!/usr/bin/env python3
 """What the documents name is there: each path and link, each function, type and clause of the crates' pages and of docs/, a case
-for each fault line of docs/FORMATS.md, and README.md's example prints what it says. The last line says how many passed and failed."""
+for each fault line of docs/FORMATS.md, and the examples print what the documents say. The last line says how many passed and failed."""
 import glob, os, re, subprocess, sys
 
 ROOT = os.path.dirname(os.path.dirname(os.path.abspath(__file__)))
-PAGES = ["README.md", "bench/README.md"] + [f"docs/{name}.md" for name in ("ARCHITECTURE", "CONDUCT", "DECISIONS", "FORMATS", "PROMISES")]
+PAGES = ["README.md", "bench/README.md"] + [f"docs/{name}.md" for name in ("ARCHITECTURE", "CONDUCT", "DECISIONS", "FORMATS", "GATE", "PROMISES", "SCANNER")]
 # words of the language, of std and of formats that stand in backticks too
 OUTSIDE = set("make test run install scan rt clang slab lru bytes hex clap thiserror itoa std memchr Drop Display Error From Ok Err Some None "
               "true false requires ensures main malloc grep yara clamscan clamonacc clamd cargo valgrind".split())
@@ -75,6 +75,13 @@ def example(checks, program):
     checks.check(told and printed[:len(told)] == told, "README.md: make run prints other lines")
 
 
+def printed(checks, page, text, program):
+    """A block that begins with `$ avscan ..` has all lines that the command prints."""
+    for words, block in re.findall(r"```text\n\$ avscan ([^\n]*)\n(.*?)```", text, flags=re.S):
+        done = subprocess.run([program] + words.split(), stdout=subprocess.PIPE, text=True, cwd=ROOT, timeout=60)
+        checks.check(done.stdout == block, f"{page}: avscan {words} prints other lines")
+
+
 def main():
     if len(sys.argv) != 2:
         sys.exit("usage: tests/docs.py PROGRAM")
@@ -83,6 +90,7 @@ def main():
         text = text_of(page)
         paths(checks, page, text)
         names(checks, page, text, words)
+        printed(checks, page, text, os.path.abspath(sys.argv[1]))
     fault_lines(checks)
     example(checks, os.path.abspath(sys.argv[1]))
     print(f"{checks.passed} passed, {checks.failed} failed")

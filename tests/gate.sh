@@ -29,23 +29,27 @@ step() { # runs a command, whose last line counts what passed and failed
         failed=$((failed + ${last%% failed}))
         ;;
     *)
-        echo "gate: $1 gave no count"
+        echo "gate: $* gave no count"
         failed=$((failed + 1))
         ;;
     esac
     echo "gate: $(($(date +%s) - begun)) s since the start"
 }
 echo "gate: values that must be spent"
-step tests/must-be-spent.sh
+step sh tests/must-be-spent.sh
 echo "gate: refused memory"
-step tests/refused-memory.sh $(grep -l refused_or_not_ -r crates/*/src | cut -d / -f 2 | sort -u)
+step sh tests/refused-memory.sh $(grep -l refused_or_not_ -r crates/*/src | cut -d / -f 2 | sort -u)
 echo "gate: the cases of tests/ on the built program"
-step tests/run.py "$program" tests/scripts tests/words tests/scan
+step python3 tests/run.py "$program" tests/scripts tests/words tests/scan
 echo "gate: the tables of cases"
-step tests/tables.py "$program"
+step python3 tests/tables.py "$program"
+echo "gate: scripts of a world, step by step"
+step python3 tests/steps.py "$program"
+echo "gate: random scripts beside the plain model"
+step python3 tests/random_scripts.py "$program"
 echo "gate: the program over devices that fail, without memory, and in the order of its faults"
-step tests/program.py "$program"
+step python3 tests/program.py "$program"
 echo "gate: what the documents name"
-step tests/docs.py "$program"
+step python3 tests/docs.py "$program"
 echo "$passed passed, $failed failed"
 [ "$failed" = 0 ]

@@ -12,7 +12,7 @@ HERE = os.path.dirname(os.path.abspath(__file__))
 EXAMPLES = os.path.join(os.path.dirname(HERE), "examples")
 SET = os.path.join(EXAMPLES, "test.avsig")
 LETTER = os.path.join(EXAMPLES, "letter.txt")
-SCRIPT = os.path.join(EXAMPLES, "judge.avs")
+SCRIPT = os.path.join(EXAMPLES, "late_reply.avs")
 LONG = b"volume 1 closed\n" + b"".join(b"create s%d\n" % i for i in range(3000))
 
 
@@ -110,8 +110,8 @@ def order(cases, program):
 
 
 def helps(cases, program):
-    texts = [(["--help"], [b"avscan run examples/judge.avs", b"avscan scan examples/test.avsig", b"Exit status: 0 all done, 1 input refused, 2 usage, 3 memory, 4 device."]),
-             (["run", "--help"], [b"SCRIPT", b"volume 1 closed", b"docs/FORMATS.md"]),
+    texts = [(["--help"], [b"avscan run examples/late_reply.avs", b"avscan scan examples/test.avsig", b"Exit status: 0 all done, 1 input refused, 2 usage, 3 memory, 4 device."]),
+             (["run", "--help"], [b"SCRIPT", b"volume 1 closed", b"open NAME [LEAST]", b"restart filter|service", b"docs/FORMATS.md"]),
              (["scan", "--help"], [b"SET", b"FILE", b"avsig 1", b"1,048,576 bytes", b"docs/FORMATS.md"])]
     for words, wanted in texts:
         done = run([program] + words, stdout=subprocess.PIPE)

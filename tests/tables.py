@@ -91,6 +91,17 @@ BAD_SCRIPTS += [
     ("volume 1 closed\njudge\n", 2), ("volume 1 closed\njudge a b\n", 2), ("volume 1 closed\nJudge a\n", 2), ("volume 1 closed\nerase a\n", 2), ("volume 1 closed\n\n#\nx\n", 4),
 ]
 
+# a bad line behind `volume 1 closed`, a verb with the words that it does not take
+BAD_LINES = [f"{verb}{words}" for verb in ("remove", "cleanup", "judge", "create") for words in ("", " ", "  a", " a ", " a b")]
+BAD_LINES += [f"{verb}{words}" for verb in ("down", "up", "work", "timeout")
+              for words in ("", " ", " x", " -1", " +1", " 01", " 00", " 1 ", " 1 2", " a 1", " 1.1", " 0x1", " 18446744073709551616")]
+BAD_LINES += [f"open{words}" for words in ("", " ", " a ", "  1", " a x", " a 01", " a -", " a 1 ", " a 1 2", " a 18446744073709551616")]
+BAD_LINES += [f"{verb}{words}" for verb in ("disconnect", "restart")
+              for words in ("", " ", " a", " Filter", " filters", " filter ", " filter service", " service 1", " 1", " world")]
+BAD_LINES += ["connect ", "connect 1", "connect 2", "connect filter", "connects", "Connect", "removes a", "opens a", "clean a", "works 1", "frame 1", "down1", "limits jobs 1", "volumes"]
+BAD_SCRIPTS += [(f"volume 1 closed\n{line}\n", 2) for line in BAD_LINES]
+BAD_SCRIPTS += [(f"{line}\nvolume 1 closed\n", 1) for line in ("connect", "open a", "down 1", "work 1", "timeout 1", "restart filter", "disconnect service", "remove a", "cleanup a")]
+
 NAMES = [f"n{i}" for i in range(1025)]
 SIGNS = "ABCDEFGHIJKLMNOPQRSTUVWXYZabcdefghijklmnopqrstuvwxyz0123456789._-"
 OTHER_SIGNS = [chr(byte) for byte in range(256) if chr(byte) not in SIGNS + "\n "]

@@ -84,7 +84,7 @@ fn avscan_command<'a>(alloc: Global) -> Result<Command<'a>, Error> {
                 "A scan-on-open antivirus filter and its scanning service, over a volume in memory.\nWithout a command it runs the script on its standard input.",
             )
             .after_help(
-                "Examples:\n  avscan run examples/judge.avs                            run a script\n  avscan run -                                             run the script on standard input\n  avscan scan examples/test.avsig examples/letter.txt      scan a file\n\nExit status: 0 all done, 1 input refused, 2 usage, 3 memory, 4 device.",
+                "Examples:\n  avscan run examples/late_reply.avs                       run a script\n  avscan run -                                             run the script on standard input\n  avscan scan examples/test.avsig examples/letter.txt      scan a file\n\nExit status: 0 all done, 1 input refused, 2 usage, 3 memory, 4 device.",
             )
             .subcommand_required(true)
             .subcommand(run)?
@@ -101,7 +101,7 @@ fn run_command<'a>(alloc: Global) -> Result<Command<'a>, Error> {
         Command::new(alloc, "run")
             .about("Runs a script and prints what each command did")
             .after_help(
-                "A script names a volume and then says what happens, a command a line:\n\n  volume 1 closed\n  publish 1 5858\n  create report\n  write report 0 414243\n  judge report\n\nIt publishes a signature set of the bytes 58 58, writes 41 42 43 into a stream and judges it.\ndocs/FORMATS.md has all commands.\n\nExample:\n  avscan run examples/judge.avs",
+                "A script names a volume and then says what happens, a command a line:\n\n  volume 1 closed\n  publish 1 5858\n  create report\n  write report 0 414243\n  connect\n  up 1\n  open report\n  down 1\n\nIt publishes a signature set of the bytes 58 58 and writes 41 42 43 into a stream. The scanning service connects, the stream is\nopened, and the filter's question is delivered to the service.\n\nCommands:\n  publish V HEX..   create NAME   write NAME OFFSET HEX   cut NAME LENGTH   remove NAME   judge NAME\n  open NAME [LEAST]   cleanup NAME   connect   down K   up K   work K   timeout SEQ\n  disconnect filter|service   restart filter|service\ndocs/FORMATS.md says what each does and prints.\n\nExample:\n  avscan run examples/late_reply.avs",
             )
             .arg(script)?,
     )
