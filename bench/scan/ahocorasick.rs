@@ -1,9 +1,9 @@
 //! The crate aho-corasick 0.7: its DFA without a prefilter, and what it chooses by itself.
 //!
-//!     ahocorasick SET COPIES FILE
+//!     ahocorasick SET REPEATS FILE..
 //!
-//! Reads a signature file, scans COPIES copies of the file that lie one after the other in memory, and prints the processor time
-//! of one scan in nanoseconds by the DFA and by its own choice, and `clean` or the end of the first match.
+//! Reads a signature file and scans each file REPEATS times. Prints a line for each: the least processor time of a scan in
+//! nanoseconds by the DFA and by its own choice, and `clean` or `infected`.
 use aho_corasick::{AhoCorasick, AhoCorasickBuilder, MatchKind};
 use std::hint::black_box;
 use std::time::Duration;
@@ -22,12 +22,14 @@ fn now() -> Duration {
     Duration::new(t.tv_sec as u64, t.tv_nsec as u32)
 }
 
-fn time(automaton: &AhoCorasick, copies: &[u8], length: usize) -> (f64, Option<usize>) {
-    let (started, mut end) = (now(), None);
-    for text in copies.chunks(length) {
-        end = black_box(automaton.earliest_find(black_box(text))).map(|m| m.end());
+fn time(automaton: &AhoCorasick, text: &[u8], repeats: usize) -> (u128, bool) {
+    let (mut least, mut found) = (u128::MAX, false);
+    for _ in 0..repeats {
+        let started = now();
+        found = black_box(automaton.earliest_find(black_box(text))).is_some();
+        least = least.min((now() - started).as_nanos());
     }
-    ((now() - started).as_nanos() as f64 / (copies.len() / length) as f64, end)
+    (least, found)
 }
 
 fn main() {
@@ -37,9 +39,11 @@ fn main() {
     let dfa: AhoCorasick = AhoCorasickBuilder::new().dfa(true).prefilter(false).build(&patterns);
     let own: AhoCorasick =
         AhoCorasickBuilder::new().match_kind(MatchKind::LeftmostFirst).auto_configure(&patterns).build(&patterns);
-    let text = std::fs::read(&words[3]).unwrap();
-    let copies = text.repeat(words[2].parse().unwrap());
-    let (by_dfa, end) = time(&dfa, &copies, text.len());
-    let (by_own, _) = time(&own, &copies, text.len());
-    println!("{by_dfa:.0} {by_own:.0} {}", end.map_or("clean".to_string(), |end| end.to_string()));
+    let repeats = words[2].parse().unwrap();
+    for name in &words[3..] {
+        let text = std::fs::read(name).unwrap();
+        let (by_dfa, found) = time(&dfa, &text, repeats);
+        let (by_own, _) = time(&own, &text, repeats);
+        println!("{by_dfa} {by_own} {}", if found { "infected" } else { "clean" });
+    }
 }
