@@ -4,4 +4,5 @@ pub mod File
 pub mod Judge
 pub mod Line
 pub mod Made
+pub mod Publication
 pub mod Set

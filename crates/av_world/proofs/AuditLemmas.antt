@@ -12,22 +12,23 @@ use Rattle.av_filter.specs.Reaction.{Reaction}
 use Rattle.av_filter_table.specs.Table.{Table, mounted}
 use Rattle.av_filter_table.specs.declared.pended.Pended.{Pended}
 use Rattle.av_pend.specs.Pend.{open_of}
+use Rattle.av_service.specs.Audit.{By, Call, IsAccepted, IsServiceAudit, Publishes, desk_end, lent_by, respond, sent_up}
 use Rattle.av_service.specs.Conduct.{ServiceEvent, Connects, Disconnects, Receives, Finishes, Restarts}
 use Rattle.av_service.specs.Conduct as service_events
 use Rattle.av_service.specs.Desk.{just_started}
 use Rattle.av_service.specs.Response.{Response}
+use Rattle.av_sigset.specs.Publication.{Publication, latest_as}
 use Rattle.av_store.specs.Files.{File}
 use Rattle.av_store.specs.Store.{Store}
 use Rattle.av_world.proofs.CountLemmas.{Balanced, filter_balanced, opens_after}
 use Rattle.av_filter.proofs.EachLemmas.{each-append, each-map}
 use Rattle.av_world.proofs.TimesLemmas.{times_map-append}
 use Rattle.av_world.proofs.SceneLemmas.{Lawful, lawful_filter, lawful_call, lawful_opening, answers_just, sets_same, held_right}
-use Rattle.av_world.specs.Audits.{AreLegal, AuditAnswersOnce, AuditsGrantOnlyClean, AuditsHoldOneVerdict, CameDown, CameUp, FinishesItsWorks, IsAccepted, IsDelivered, IsOfWorks, IsServiceAudit, OfFilter, OfService, SideEntry, answers_in, desk_end, filter_side, lent_by, once_between, past_end, sent_up, service_side}
+use Rattle.av_world.specs.Audits.{AreLegal, AuditAnswersOnce, AuditsGrantOnlyClean, AuditsHoldOneVerdict, CameDown, CameUp, FinishesItsWorks, IsDelivered, IsOfWorks, OfFilter, OfService, SideEntry, answers_in, filter_side, once_between, past_end, service_side}
 use Rattle.av_world.specs.Headline.{IsJustified, once_up_to}
 use Rattle.av_world.specs.Held.{times}
 use Rattle.av_world.specs.Past.{Past}
-use Rattle.av_world.specs.Publication.{Publication, latest_as}
-use Rattle.av_world.specs.Scene.{Answered, By, Call, MayReact, MayRespond, Publishes, Scene, opening, past_call, past_filter, respond, told_at}
+use Rattle.av_world.specs.Scene.{Answered, MayReact, MayRespond, Scene, opening, past_call, past_filter, told_at}
 
 -- what may come, by the two audits and by what was sent
 may_react : (c : Scene) (f : FilterEvent) → filter_refusal c.table c.volume f ≡ None → CameUp c.up f → MayReact c f

@@ -27,6 +27,7 @@ use Rattle.av_service.specs.declared.job.Loan.{Loan}
 use Rattle.av_service.specs.declared.note.Note.{Note}
 use Rattle.av_service.specs.declared.note.Note.TheVariants.{Quiet, Repeat, Ignored, Orphan}
 use Rattle.av_service.specs.Work.{WorkState}
+use Rattle.av_sigset.specs.Publication.{Publication, latest_as, published_as}
 use Rattle.av_sigset.specs.declared.signature.Pattern.{Pattern}
 use Rattle.av_store.specs.History.{content}
 use Rattle.av_filter.proofs.QuestionLemmas.{same_id-true}
@@ -36,7 +37,6 @@ use Rattle.av_world.proofs.FilterLemmas.{look_right, front_right, put_right}
 use Rattle.av_world.proofs.FitLemmas.{Grown, DownFits, UpFits, ScanFits, ChunkFits, about, right_grows}
 use Rattle.av_world.specs.Held.{Asked, asked}
 use Rattle.av_world.specs.Past.{Past, IsVerdictOf, IsRightEntry}
-use Rattle.av_world.specs.Publication.{Publication, latest_as, published_as}
 use Rattle.av_world.specs.Safety.{JudgesItsContent as JobFits, LoanFits, IsWorkOf, IsFront}
 use Rattle.av_world.specs.World.{done, or_none, scan_after}
 

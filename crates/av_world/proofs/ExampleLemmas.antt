@@ -12,9 +12,9 @@ use Rattle.av_service.specs.Conduct.{service_step}
 use Rattle.av_service.specs.Lending.{finished}
 use Rattle.av_service.specs.Scanning.{chunk_found, dropped, receives as service_receives, scan_cached, scan_found}
 use Rattle.av_sigset.specs.Made.{fault_in, serial_signatures}
+use Rattle.av_sigset.specs.Publication.{published_as}
 use Rattle.av_store.specs.Seen.{change_of, seen_from}
 use Rattle.av_world.specs.Held.{asked as asked_in, held, held_contexts}
-use Rattle.av_world.specs.Publication.{published_as}
 use Rattle.av_world.specs.World.{step_of}
 use Rattle.av_world.specs.Examples.{run, says, WholePath, GrantedTwice, WrittenMeanwhile, TimedOutClosed, TimedOutOpen, Restarted, Stale, Orphaned, Overtaken, HeldAfter, MoreScripts, PathBegins, CanBeLegal, ComeTrue, some_work}
 

@@ -20,6 +20,7 @@ use Rattle.av_frame.specs.declared.message.Body.{Body}
 use Rattle.av_frame.specs.declared.message.Body.TheVariants.{Scan, Chunk, Reply}
 use Rattle.av_frame.specs.declared.outcome.Outcome.{Outcome}
 use Rattle.av_frame.specs.declared.outcome.Outcome.TheVariants.{Judged, Failed}
+use Rattle.av_sigset.specs.Publication.{published_as}
 use Rattle.av_sigset.specs.declared.signature.Pattern.{Pattern}
 use Rattle.av_store.proofs.HistoryLemmas.{content_grows}
 use Rattle.av_store.specs.Files.{Change, Create}
@@ -34,7 +35,6 @@ use Rattle.av_world.proofs.ContentLemmas.{kept_change, present_content, stream_a
 use Rattle.av_filter.proofs.EachLemmas.{each_weaker, each-append, each-filter}
 use Rattle.av_world.specs.Held.{Asked, asked}
 use Rattle.av_world.specs.Past.{Past, changes, IsVerdictOf, IsRightEntry}
-use Rattle.av_world.specs.Publication.{published_as}
 
 -- a later past has all contents and sets of an earlier one
 pub record Grown (p p' : Past) : Type 0 where

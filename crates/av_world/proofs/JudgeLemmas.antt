@@ -2,6 +2,7 @@
 use Rattle.std.proofs.Common.{ℕ, ◌≡◌, List, [], ◌∷◌, map, None, Some, Ok, refl, sym, ◌∙◌, subst}
 use Rattle.std.specs.Option.{option_map}
 use Rattle.av_match.specs.Match.{verdict}
+use Rattle.av_sigset.specs.Publication.{publication_of, published_as}
 use Rattle.av_sigset.specs.Set.{NumberedSet, patterns_of}
 use Rattle.av_store.proofs.HistoryLemmas.{remembers}
 use Rattle.av_store.proofs.SeenLemmas.{follows}
@@ -14,7 +15,6 @@ use Rattle.av_store.specs.declared.stream.Stream.{Stream}
 use Rattle.av_world.proofs.PublishLemmas.{found_published}
 use Rattle.av_world.specs.Judge.{judged_of, latest_set, name_judged, set_judged, stream_judged}
 use Rattle.av_world.specs.Past.{IsRight, IsTold, past}
-use Rattle.av_world.specs.Publication.{publication_of, published_as}
 use Rattle.av_world.specs.World.{WorldState}
 use Rattle.av_world.specs.declared.report.Judged.{Judged}
 

@@ -33,6 +33,7 @@ use Rattle.av_service.specs.declared.job.Job.{Job}
 use Rattle.av_service.specs.declared.job.Loan.{Loan}
 use Rattle.av_service.specs.declared.note.Note.TheVariants.{Quiet, Ignored}
 use Rattle.av_service.specs.Work.{WorkState}
+use Rattle.av_sigset.specs.Publication.{Publication, publication_of, published_as}
 use Rattle.av_sigset.specs.declared.signature.Pattern.{Pattern}
 use Rattle.av_store.specs.History.{content}
 use Rattle.av_store.specs.Store.{Store}
@@ -44,7 +45,6 @@ use Rattle.av_world.proofs.FitLemmas.{core}
 use Rattle.av_world.proofs.SoundLemmas.{Sound, sound}
 use Rattle.av_world.specs.Past.{IsVerdictOf, past}
 use Rattle.av_world.specs.Path.{carry_up, carry_down, carry_work, rounds, IsReady, EndsWithVerdict, scan_for}
-use Rattle.av_world.specs.Publication.{Publication, publication_of, published_as}
 use Rattle.av_world.specs.Safety.{IsFront, JudgesRightly, LoanFits, works_of}
 use Rattle.av_world.specs.World.{WorldState, or_none, scan_after, start, world_of}
 use Rattle.av_world.specs.declared.event.Event.{Event}

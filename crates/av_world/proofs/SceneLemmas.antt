@@ -17,11 +17,13 @@ use Rattle.av_filter_table.specs.Table.{Table, context_of}
 use Rattle.av_frame.specs.declared.message.Body.{Body}
 use Rattle.av_frame.specs.declared.message.Body.TheVariants.{Scan, Chunk, NoChunk, Abort, Hello, Read, Reply, Updated}
 use Rattle.av_frame.specs.declared.outcome.Outcome.TheVariants.{Judged, Failed}
+use Rattle.av_service.specs.Audit.{By, Call, IsCatalogue, Publishes}
 use Rattle.av_service.specs.Conduct.{ServiceEvent, Connects, Disconnects, Receives, Finishes, Restarts, service_step}
 use Rattle.av_service.specs.Conduct as service_events
 use Rattle.av_service.specs.Desk.{Desk}
 use Rattle.av_service.specs.Response.{Response}
 use Rattle.av_service.specs.Work.{WorkState}
+use Rattle.av_sigset.specs.Publication.{Publication, latest_as, published_as}
 use Rattle.av_sigset.specs.declared.signature.Pattern.{Pattern}
 use Rattle.av_store.specs.Files.{File}
 use Rattle.av_store.specs.History.{generation_after, now}
@@ -37,9 +39,8 @@ use Rattle.av_world.proofs.FitLemmas.{Fits as FilterFits, Grown, core, DownFits,
 use Rattle.av_world.specs.Headline.{IsJustified}
 use Rattle.av_world.specs.Held.{asked, held_among, held_by, held_contexts, held_in, held_reply}
 use Rattle.av_world.specs.Past.{Past, IsVerdictOf, IsRightEntry}
-use Rattle.av_world.specs.Publication.{Publication, latest_as, published_as}
 use Rattle.av_world.specs.Safety.{Among}
-use Rattle.av_world.specs.Scene.{By, Call, IsCatalogue, MayReact, MayRespond, Publishes, Scene, after_call, after_event, known_since, opening, past_call, past_filter, responds}
+use Rattle.av_world.specs.Scene.{MayReact, MayRespond, Scene, after_call, after_event, known_since, opening, past_call, past_filter, responds}
 
 -- versions rise
 abbrev pub Falling : List Publication → Type 0

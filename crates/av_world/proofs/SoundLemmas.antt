@@ -13,12 +13,14 @@ use Rattle.av_filter.specs.Reaction.{Reaction}
 use Rattle.av_frame.specs.declared.message.Body.{Body}
 use Rattle.av_match.specs.Match.{verdict}
 use Rattle.av_pend.specs.declared.answer.Answer.{Answer}
+use Rattle.av_service.specs.Audit.{By, Publishes}
 use Rattle.av_service.specs.Conduct.{ServiceEvent, service_step}
 use Rattle.av_service.specs.Conduct as service_events
 use Rattle.av_service.specs.Response.{Response}
 use Rattle.av_service.specs.declared.job.Job.{Job}
 use Rattle.av_service.specs.declared.job.Loan.{Loan}
 use Rattle.av_service.specs.Work.{WorkState}
+use Rattle.av_sigset.specs.Publication.{Publication, latest_as, publication_of}
 use Rattle.av_sigset.specs.Set.{NumberedSet}
 use Rattle.av_sigset.specs.declared.signature.Pattern.{Pattern}
 use Rattle.av_store.proofs.SeenLemmas.{follows}
@@ -33,9 +35,8 @@ use Rattle.av_world.specs.Cores.{IsFilterEvent, IsServiceEvent, Names}
 use Rattle.av_world.specs.Headline.{GrantsOnlyClean, HoldsOneVerdict, IsJustified, NeverDiffers}
 use Rattle.av_world.specs.Held.{held, history_at}
 use Rattle.av_world.specs.Past.{IsRightEntry, IsVerdictOf, Past, changes, number_then, past}
-use Rattle.av_world.specs.Publication.{Publication, latest_as, publication_of}
 use Rattle.av_world.specs.Safety.{Among, IsWorkOf, JudgesItsContent as JobFits, LoanFits, works_of}
-use Rattle.av_world.specs.Scene.{By, MayReact, MayRespond, Publishes, Scene, past_call, past_filter, responds}
+use Rattle.av_world.specs.Scene.{MayReact, MayRespond, Scene, past_call, past_filter, responds}
 use Rattle.av_world.specs.World.{WorldState, back_at, done, given_at, if_there, member, responded, start, with_set, work_at, world_of}
 use Rattle.av_world.specs.declared.event.Event.{Event}
 use Rattle.av_world.specs.declared.event.Event.TheVariants.{Publish, Run}

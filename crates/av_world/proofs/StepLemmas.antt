@@ -11,6 +11,7 @@ use Rattle.av_service.specs.declared.fault.ConnectFault.{ConnectFault}
 use Rattle.av_service.specs.Work.{WorkState}
 use Rattle.av_sigset.specs.Catalogue.{latest, may_publish}
 use Rattle.av_sigset.specs.Made.{set_made}
+use Rattle.av_sigset.specs.Publication.{publication_of}
 use Rattle.av_sigset.specs.Set.{NumberedSet}
 use Rattle.av_sigset.specs.declared.fault.CatalogueFault.{CatalogueFault}
 use Rattle.av_sigset.specs.declared.fault.SetFault.{SetFault}
@@ -20,7 +21,6 @@ use Rattle.av_store.specs.Rows.{number_named}
 use Rattle.av_store.specs.Store.{Store}
 use Rattle.av_world.specs.Cores.{IsFilterEvent, IsServiceEvent, Names}
 use Rattle.av_world.specs.Cores as cores
-use Rattle.av_world.specs.Publication.{publication_of}
 use Rattle.av_world.specs.World.{WorldState, added, after, back_at, bytes_of, changed_line, connected, done, down_frame, filter_event, member, named_event, no_line, published, reacted, responded, step_fault, step_of, up_frame, with_set, work_at, work_event, world_of, world_or}
 use Rattle.av_base.specs.Refused.{unless}
 use Rattle.av_world.specs.declared.event.Event.{Event}

@@ -9,6 +9,7 @@ use Rattle.av_filter.proofs.BoundLemmas.{keeps_bounds, leads_to, volume_after}
 use Rattle.av_filter.proofs.FitLemmas.{accepted, event_fits, mounted_fits}
 use Rattle.av_filter.specs.Conduct.{FilterEvent, Opens, Changes, CleansUp, Receives, TimesOut, Disconnects, Restarts, filter_refusal, filter_step}
 use Rattle.av_filter_table.specs.Table.{Table}
+use Rattle.av_service.specs.Audit.{IsNew}
 use Rattle.av_service.proofs.LendLemmas.{lends}
 use Rattle.av_service.specs.Conduct.{ServiceEvent, Connects, connect_refusal, service_step}
 use Rattle.av_service.specs.Conduct as service_events
@@ -18,6 +19,7 @@ use Rattle.av_service.specs.Sound.{version_after}
 use Rattle.av_service.specs.declared.fault.ConnectFault.TheVariants.{NoSignatures, AlreadyConnected}
 use Rattle.av_service.specs.Work.{WorkState}
 use Rattle.av_sigset.specs.Catalogue.{latest, set_at}
+use Rattle.av_sigset.specs.Publication.{Publication, publication_of}
 use Rattle.av_sigset.specs.Set.{NumberedSet}
 use Rattle.av_sigset.specs.declared.signature.Pattern.{Pattern}
 use Rattle.av_store.proofs.SeenLemmas.{follows}
@@ -31,9 +33,8 @@ use Rattle.av_world.proofs.SoundLemmas.{past_of, works_less}
 use Rattle.av_world.proofs.StepLemmas.{IsPublished, Preserves, after_filter, after_service, step_keeps}
 use Rattle.av_world.specs.Cores.{IsFilterEvent, IsServiceEvent}
 use Rattle.av_world.specs.Past.{IsTold, Past, past}
-use Rattle.av_world.specs.Publication.{Publication, publication_of}
 use Rattle.av_world.specs.Safety.{works_of}
-use Rattle.av_world.specs.Scene.{IsNew, past_filter}
+use Rattle.av_world.specs.Scene.{past_filter}
 use Rattle.av_world.specs.Whole.{IsPublishedAs, IsWhole, StaysWhole}
 use Rattle.av_world.specs.World.{WorldState, back_at, done, responded, start, step_of, with_set, world_or}
 use Rattle.av_world.specs.declared.event.Event.{Event}

@@ -10,10 +10,10 @@ use Rattle.av_service.specs.Desk.{Desk}
 use Rattle.av_service.specs.Work.{WorkState}
 use Rattle.av_service.specs.declared.out.ServiceOut.{ServiceOut}
 use Rattle.av_sigset.specs.Catalogue.{set_at}
+use Rattle.av_sigset.specs.Publication.{publication_of, published_as}
 use Rattle.av_sigset.specs.Set.{NumberedSet, patterns_of}
 use Rattle.av_world.proofs.PublishLemmas.{found_published}
 use Rattle.av_world.specs.Prepared.{Compiles}
-use Rattle.av_world.specs.Publication.{publication_of, published_as}
 use Rattle.av_world.specs.World.{WorldState, back_at, done, or_none, places_of, responded, service_event, service_outcome, work_at, work_event}
 use Rattle.av_filter_table.specs.Table.{Table}
 use Rattle.av_store.specs.Store.{Store}

@@ -1,5 +1,5 @@
 -- The audits of a filter and of a service, each legal by itself, and the headline of the two put together.
-use Rattle.std.specs.Prelude.{◌≡◌, ℕ, ◌+◌, ◌&&◌, nat_lt, nat_le, List, [], ◌∷◌, ◌++◌, map, None, if◌then◌else◌, All}
+use Rattle.std.specs.Prelude.{◌≡◌, ℕ, ◌+◌, ◌&&◌, nat_lt, nat_le, List, [], ◌∷◌, ◌++◌, map, if◌then◌else◌, All}
 use Rattle.av_base.specs.declared.limits.LimitValues.{LimitValues}
 use Rattle.av_base.specs.declared.mode.Mode.{Mode}
 use Rattle.av_filter.specs.Audit.{FilterEntry, IsFilterAudit, filter_end, answers_given, opens_taken, sent_down}
@@ -8,59 +8,20 @@ use Rattle.av_filter.specs.Conduct as filter
 use Rattle.av_filter_table.specs.Table.{Table, mounted}
 use Rattle.av_frame.specs.declared.message.Body.{Body}
 use Rattle.av_pend.specs.Pend.{open_of}
-use Rattle.av_service.specs.Conduct.{ServiceEvent, Connects, Disconnects, Receives, Finishes, Restarts, connect_refusal}
-use Rattle.av_service.specs.Conduct as service
+use Rattle.av_service.specs.Audit.{By, Call, IsCatalogue, IsServiceAudit, ServiceEntry, desk_end, sent_up, sets_after}
+use Rattle.av_service.specs.Conduct.{Receives, Finishes}
 use Rattle.av_service.specs.Desk.{Desk, just_started}
-use Rattle.av_service.specs.Response.{Response}
-use Rattle.av_service.specs.declared.note.Note.{Note}
 use Rattle.av_service.specs.Work.{WorkState}
+use Rattle.av_sigset.specs.Publication.{Publication, latest_as}
 use Rattle.av_store.specs.Files.{File}
 use Rattle.av_store.specs.Seen.{Keeps}
 use Rattle.av_store.specs.Store.{Store}
 use Rattle.av_world.specs.Headline.{IsJustified}
 use Rattle.av_world.specs.Held.{held_among, times}
 use Rattle.av_world.specs.Past.{Past, IsRightEntry}
-use Rattle.av_world.specs.Publication.{Publication, latest_as}
 use Rattle.av_world.specs.Safety.{Among}
-use Rattle.av_world.specs.Scene.{Answered, By, Call, IsCatalogue, IsNew, Publishes, opening_past, past_call, past_filter, respond, sets_after, told_at}
+use Rattle.av_world.specs.Scene.{Answered, opening_past, past_call, past_filter, told_at}
 use Rattle.av_world.specs.World.{done}
-
--- The service's audit.
-pub record ServiceEntry : Type 0 where
-  pub call : Call
-  pub messages : List Body
-  pub works : List WorkState
-  pub note : Note
-
-pub record IsResponse (x : ServiceEntry) (r : Response) : Type 0 where
-  pub messages : x.messages ≡ r.messages
-  pub works : x.works ≡ r.works
-  pub note : x.note ≡ r.note
-
-abbrev pub IsAccepted : List Publication → Desk → Call → Type 0
-IsAccepted sets d (By Connects) = connect_refusal d ≡ None
-IsAccepted sets d (By Disconnects) = Unit {0}
-IsAccepted sets d (By (Receives m)) = Unit {0}
-IsAccepted sets d (By (Finishes lease scan hit)) = Unit {0}
-IsAccepted sets d (By (service.Publishes v)) = ⊥
-IsAccepted sets d (By (Restarts v)) = v ≡ latest_as sets
-IsAccepted sets d (Publishes v ps) = IsNew sets v ps
-
-abbrev pub IsServiceAudit : List Publication → Desk → List ServiceEntry → Type 0
-IsServiceAudit sets d [] = Unit {0}
-IsServiceAudit sets d (x ∷ xs) = IsAccepted sets d x.call × IsResponse x (respond d x.call) × IsServiceAudit (sets_after sets x.call) (respond d x.call).desk xs
-
-abbrev pub desk_end : Desk → List ServiceEntry → Desk
-desk_end d [] = d
-desk_end d (x ∷ xs) = desk_end (respond d x.call).desk xs
-
-abbrev pub sent_up : List Body → List ServiceEntry → List Body
-sent_up up [] = up
-sent_up up (x ∷ xs) = sent_up (up ++ x.messages) xs
-
-abbrev pub lent_by : List WorkState → List ServiceEntry → List WorkState
-lent_by works [] = works
-lent_by works (x ∷ xs) = lent_by (works ++ x.works) xs
 
 -- each work that comes back is one that this audit lent, run under the set of its version
 abbrev pub IsOfWorks : List Publication → List WorkState → Call → Type 0

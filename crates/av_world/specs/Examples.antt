@@ -18,6 +18,7 @@ use Rattle.av_frame.specs.declared.outcome.Outcome.{Outcome}
 use Rattle.av_frame.specs.declared.outcome.Outcome.TheVariants.{Judged, Failed}
 use Rattle.av_pend.specs.declared.answer.Answer.{Answer}
 use Rattle.av_pend.specs.declared.answer.Answer.TheVariants.{Granted, Unscanned, Denied}
+use Rattle.av_service.specs.Audit as audit
 use Rattle.av_service.specs.declared.note.Note.TheVariants as service_note
 use Rattle.av_sigset.specs.declared.signature.Pattern.{Pattern}
 use Rattle.av_filter.specs.Conduct.{FilterEvent}
@@ -32,7 +33,6 @@ use Rattle.av_store.specs.Store.{Store}
 use Rattle.av_world.specs.Audits.{AreLegal, OfFilter, OfService, SideEntry}
 use Rattle.av_world.specs.Held.{held}
 use Rattle.av_world.specs.Path.{IsReady}
-use Rattle.av_world.specs.Scene as scene
 use Rattle.av_world.specs.World.{WorldState, step_of, after, start}
 use Rattle.av_world.specs.World as world
 use Rattle.av_world.specs.declared.event.Event.{Event}
@@ -360,7 +360,7 @@ abbrev pub reply : FilterEvent → List Answer → List Body → filter_notes.No
 reply f given ms n = OfFilter (record { event = f; answers = given; messages = ms; note = n })
 
 abbrev pub response : ServiceEvent → List Body → List WorkState → SideEntry
-response e ms ks = OfService (record { call = scene.By e; messages = ms; works = ks; note = service_note.Quiet })
+response e ms ks = OfService (record { call = audit.By e; messages = ms; works = ks; note = service_note.Quiet })
 
 abbrev pub some_work : WorkState
 some_work = record { lease = 1; id = id 1 1; version = 3; scan = begin 3 3; chunk = abc }
@@ -368,7 +368,7 @@ some_work = record { lease = 1; id = id 1 1; version = 3; scan = begin 3 3; chun
 -- two audits, put together: version 3 is published, open 8 asks, its scan is judged, and it is granted
 abbrev pub some_audits : List SideEntry
 some_audits =
-    OfService (record { call = scene.Publishes 3 xx; messages = []; works = []; note = service_note.Quiet })
+    OfService (record { call = audit.Publishes 3 xx; messages = []; works = []; note = service_note.Quiet })
     ∷ response service.Connects (Hello 1 3 ∷ []) []
     ∷ reply (filter.Receives (Hello 1 3)) [] [] filter_note.Welcome
     ∷ reply (filter.Opens 1 0) [] (Scan (id 1 1) 1 5 3 ∷ []) (filter_note.Submitted 8)

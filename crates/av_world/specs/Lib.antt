@@ -8,7 +8,6 @@ pub mod Output
 pub mod Past
 pub mod Path
 pub mod Prepared
-pub mod Publication
 pub mod Reached
 pub mod Request
 pub mod Safety

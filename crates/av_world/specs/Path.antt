@@ -16,11 +16,11 @@ use Rattle.av_service.specs.Response.{Response, says}
 use Rattle.av_service.specs.Scanning.{most_leases}
 use Rattle.av_service.specs.declared.note.Note.TheVariants.{Quiet}
 use Rattle.av_service.specs.Work.{WorkState}
+use Rattle.av_sigset.specs.Publication.{Publication, publication_of, published_as}
 use Rattle.av_sigset.specs.declared.signature.Pattern.{Pattern}
 use Rattle.av_store.specs.History.{content}
 use Rattle.av_store.specs.Store.{Store}
 use Rattle.av_world.specs.Past.{past}
-use Rattle.av_world.specs.Publication.{Publication, publication_of, published_as}
 use Rattle.av_world.specs.World.{WorldState, done}
 
 -- the work that was lent is run and finished

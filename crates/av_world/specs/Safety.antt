@@ -22,6 +22,7 @@ use Rattle.av_pend.specs.declared.answer.Answer.TheVariants.{Granted, Unscanned,
 use Rattle.av_service.specs.declared.job.Job.{Job}
 use Rattle.av_service.specs.declared.job.Loan.{Loan}
 use Rattle.av_service.specs.Work.{WorkState}
+use Rattle.av_sigset.specs.Publication.{published_as}
 use Rattle.av_sigset.specs.declared.signature.Pattern.{Pattern}
 use Rattle.av_store.specs.Files.{Change}
 use Rattle.av_store.specs.Files as change
@@ -31,7 +32,6 @@ use Rattle.av_store.specs.Store.{Store, greatest}
 use Rattle.av_world.specs.Cores.{IsFilterEvent}
 use Rattle.av_world.specs.Held.{asked}
 use Rattle.av_world.specs.Past.{Past, past, IsVerdictOf}
-use Rattle.av_world.specs.Publication.{published_as}
 use Rattle.av_world.specs.World.{WorldState}
 use Rattle.av_world.specs.declared.event.Event.{Event}
 

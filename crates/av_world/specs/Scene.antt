@@ -1,5 +1,5 @@
 -- A scene: what a filter and a service know, and all that each sent; and which events may come.
-use Rattle.std.specs.Prelude.{◌≡◌, ℕ, ◌<◌, List, [], ◌∷◌, ◌++◌, map, None}
+use Rattle.std.specs.Prelude.{◌≡◌, ℕ, List, [], ◌++◌, map, None}
 use Rattle.av_base.specs.declared.limits.LimitValues.{LimitValues}
 use Rattle.av_base.specs.declared.mode.Mode.{Mode}
 use Rattle.av_filter.specs.Conduct.{FilterEvent, Opens, Changes, CleansUp, TimesOut, filter_refusal, filter_step}
@@ -7,26 +7,20 @@ use Rattle.av_filter.specs.Conduct as filter
 use Rattle.av_filter.specs.Reaction.{Reaction}
 use Rattle.av_filter_table.specs.Table.{Table, mounted}
 use Rattle.av_frame.specs.declared.message.Body.{Body}
-use Rattle.av_match.specs.Scanning.{AreSolid}
 use Rattle.av_pend.specs.declared.answer.Answer.{Answer}
-use Rattle.av_service.specs.Conduct.{ServiceEvent, Connects, Disconnects, Receives, Finishes, Restarts, connect_refusal, service_step}
+use Rattle.av_service.specs.Audit.{By, Call, IsNew, Publishes, respond, sets_after}
+use Rattle.av_service.specs.Conduct.{ServiceEvent, Connects, Disconnects, Receives, Finishes, Restarts, connect_refusal}
 use Rattle.av_service.specs.Conduct as service
 use Rattle.av_service.specs.Desk.{Desk, just_started}
 use Rattle.av_service.specs.Response.{Response}
 use Rattle.av_service.specs.Work.{WorkState}
-use Rattle.av_sigset.specs.declared.signature.Pattern.{Pattern}
+use Rattle.av_sigset.specs.Publication.{Publication, latest_as}
 use Rattle.av_store.specs.Files.{File}
 use Rattle.av_store.specs.History.{StreamHistory}
 use Rattle.av_store.specs.Store.{Store}
 use Rattle.av_world.specs.Past.{Past, changes}
-use Rattle.av_world.specs.Publication.{Publication, latest_as}
 use Rattle.av_world.specs.Safety.{Among}
 use Rattle.av_world.specs.World.{done}
-
--- an event of the service, or a publication, which catalogue and service take together
-pub data Call : Type 0 where
-  By : (event : ServiceEvent) → Call
-  Publishes : (version : ℕ) (patterns : List Pattern) → Call
 
 -- an answer, with the past at its event
 pub record Answered : Type 0 where
@@ -57,14 +51,6 @@ reacts c p r = record c { past = p; volume = r.volume; table = r.table; down = c
 abbrev pub responds : Scene → Past → Response → Scene
 responds c p r = record c { past = p; desk = r.desk; up = c.up ++ r.messages; works = c.works ++ r.works }
 
-abbrev pub respond : Desk → Call → Response
-respond d (By e) = service_step d e
-respond d (Publishes v ps) = service_step d (service.Publishes v)
-
-abbrev pub sets_after : List Publication → Call → List Publication
-sets_after sets (By e) = sets
-sets_after sets (Publishes v ps) = record { version = v; patterns = ps } ∷ sets
-
 abbrev pub past_call : Past → Call → Past
 past_call p call = record p { sets = sets_after p.sets call }
 
@@ -74,11 +60,6 @@ after_event c f = reacts c (past_filter c.past f) (filter_step c.table c.volume 
 
 abbrev pub after_call : Scene → Call → Scene
 after_call c call = responds c (past_call c.past call) (respond c.desk call)
-
--- a version above those before it, with patterns that may stand in a set
-pub record IsNew (sets : List Publication) (version : ℕ) (patterns : List Pattern) : Type 0 where
-  pub later : latest_as sets < version
-  pub solid : AreSolid patterns
 
 -- what may come next: a message that was sent, a work that was lent and run, and nothing that is refused
 abbrev pub MayReact : Scene → FilterEvent → Type 0
@@ -104,8 +85,3 @@ opening_past fs sets = record { streams = map known_since fs; sets = sets }
 abbrev pub opening : List File → Store → Mode → LimitValues → ℕ → LimitValues → List Publication → Scene
 opening fs v mode limits number service_limits sets =
     record { past = opening_past fs sets; volume = v; table = mounted mode limits v.boot; desk = just_started number service_limits (latest_as sets); down = []; up = []; works = [] }
-
--- a catalogue that publications made: versions rise, from 1 on, and each pattern has its length
-abbrev pub IsCatalogue : List Publication → Type 0
-IsCatalogue [] = Unit {0}
-IsCatalogue (q ∷ qs) = (latest_as qs < q.version) × AreSolid q.patterns × IsCatalogue qs

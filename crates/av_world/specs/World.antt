@@ -23,6 +23,7 @@ use Rattle.av_service.specs.declared.fault.ConnectFault.{ConnectFault}
 use Rattle.av_service.specs.Work.{WorkState}
 use Rattle.av_sigset.specs.Catalogue.{latest, may_publish}
 use Rattle.av_sigset.specs.Made.{set_made}
+use Rattle.av_sigset.specs.Publication.{Publication, publication_of, published_as}
 use Rattle.av_sigset.specs.Set.{NumberedSet}
 use Rattle.av_sigset.specs.declared.fault.CatalogueFault.{CatalogueFault}
 use Rattle.av_sigset.specs.declared.fault.SetFault.{SetFault}
@@ -31,7 +32,6 @@ use Rattle.av_store.specs.Files as change
 use Rattle.av_store.specs.Rows.{stream_at, number_named}
 use Rattle.av_store.specs.Store.{Store, empty_store}
 use Rattle.av_store.specs.declared.stream.Stream.{Stream}
-use Rattle.av_world.specs.Publication.{Publication, publication_of, published_as}
 use Rattle.av_world.specs.declared.event.Event.{Event}
 use Rattle.av_world.specs.declared.event.Event.TheVariants.{Publish, Create, Write, Cut, Remove, Open, Cleanup, Down, Up, Run, Timeout, Connect, DisconnectFilter, DisconnectService, RestartFilter, RestartService}
 use Rattle.av_world.specs.declared.fault.StepFault.{StepFault}
