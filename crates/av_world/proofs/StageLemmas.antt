@@ -1,5 +1,5 @@
 -- What calls of the filter answer is what an event asks of it.
-use Rattle.std.proofs.Common.{[], ap, ◌≡◌, ◌==◌, ℕ, true, false, if◌then◌else◌, eqb-true, List, None, Some, Option, Result, Ok, Err, refl, sym}
+use Rattle.std.proofs.Common.{[], ap, ◌≡◌, ◌==◌, ℕ, true, false, if◌then◌else◌, eqb-true, List, None, Some, Result, Ok, Err, refl, sym}
 use Rattle.std.specs.Option.{option_map}
 use Rattle.std.specs.Result.{result_ok, result_err}
 use Rattle.std.specs.Prelude.{IfOk, OnErr}

@@ -1,5 +1,5 @@
 -- What an event of a world asks for.
-use Rattle.std.specs.Prelude.{ℕ, ◌≡◌, ◌∷◌, List, Option, None, Some, Result, Ok, Err, IsOk}
+use Rattle.std.specs.Prelude.{ℕ, ◌≡◌, List, Option, None, Some, Result, Ok, Err, IsOk}
 use Rattle.std.specs.Option.{option_map}
 use Rattle.av_frame.specs.declared.message.Body.{Body}
 use Rattle.av_service.specs.Work.{WorkState}
