@@ -8,10 +8,11 @@ use av_base::byte_list::ByteList;
 use av_base::limits::{MAX_CHUNK, MAX_GENERATION, MAX_LENGTH};
 use av_base::message_id::MessageId;
 use av_base::number::{Generation, StreamId, Version};
+use std::alloc::AllocError;
 use std::marker::Model;
 
 /// The fields of a message. The filter sends Scan, Chunk, NoChunk and Abort, the scanning service the others.
-#[derive(Debug, Drop)]
+#[derive(Clone, Debug, Drop)]
 pub enum Body {
     /// Judge this content, which has `length` bytes.
     Scan {
@@ -179,6 +180,18 @@ impl Message {
     {
         let Message { body } = self;
         body
+    }
+}
+
+impl Clone for Message {
+    ghost use Rattle.std.specs.Prelude.{◌≡◌};
+
+    ghost is_clone = { λ v w. w ≡ v };
+
+    fn clone(&self) -> Result<Message, AllocError> {
+        Ok(Message {
+            body: self.body.clone()?,
+        })
     }
 }
 

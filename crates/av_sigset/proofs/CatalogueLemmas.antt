@@ -4,7 +4,7 @@ use Rattle.std.proofs.lemmas.List.{reverse-append, length-reverse}
 use Rattle.std.proofs.lemmas.Bool.{cases_lt}
 use Rattle.std.specs.List.{AllByRecursion}
 use Rattle.av_sigset.specs.Catalogue.{set_at, latest, IsFalling, may_publish, no_set, version_at, IsRising, IsKept}
-use Rattle.av_sigset.specs.Set.{NumberedSet}
+use Rattle.av_sigset.specs.Set.{IsSet, NumberedSet}
 use Rattle.av_sigset.specs.declared.fault.CatalogueFault.{CatalogueFault}
 use Rattle.av_sigset.specs.declared.fault.CatalogueFault.TheVariants.{OldVersion, CatalogueFull}
 
@@ -64,8 +64,8 @@ at_last [] x = refl
 at_last (y ∷ xs) x = at_last xs x
 
 -- a set that may be published keeps the order
-pub kept_push : (sets : List NumberedSet) (s : NumberedSet) → IsKept sets → may_publish (reverse sets) s.version ≡ Ok tt → IsKept (sets ++ s ∷ [])
-kept_push sets s kept may =
+pub kept_push : (sets : List NumberedSet) (s : NumberedSet) → IsKept sets → IsSet s → may_publish (reverse sets) s.version ≡ Ok tt → IsKept (sets ++ s ∷ [])
+kept_push sets s kept is may =
     let parts = may_parts (reverse sets) s.version may in
     let all = above_all (reverse sets) s.version kept.falling parts.0 in
     let below : (i : ℕ) → i < length sets → version_at sets i < s.version = λ i lt. below_at sets s.version i (all_turned (λ t. t.version < s.version) sets all) lt in
@@ -80,6 +80,7 @@ kept_push sets s kept may =
                 omega (arith, at_before sets s i (omega arith), below i (omega arith), last_is)
           ];
       falling = subst IsFalling (sym (reverse-append sets (s ∷ []))) (all, kept.falling);
+      each = subst (AllByRecursion IsSet) (sym (reverse-append sets (s ∷ []))) (is, kept.each);
       count = omega (arith, length-append sets (s ∷ []), length-reverse sets, parts.1);
     }
 

@@ -4,7 +4,7 @@ use Rattle.std.specs.List.{AllByRecursion}
 use Rattle.av_base.specs.declared.refusal.Refusal.{Refusal}
 use Rattle.av_base.specs.declared.refusal.Refusal.TheVariants.{Fault, NoMemory}
 use Rattle.av_base.specs.declared.refusal.Refused.{Refused}
-use Rattle.av_sigset.specs.Set.{NumberedSet}
+use Rattle.av_sigset.specs.Set.{IsSet, NumberedSet}
 use Rattle.av_sigset.specs.declared.catalogue.TheConstants.{MAX_SETS}
 use Rattle.av_sigset.specs.declared.fault.CatalogueFault.{CatalogueFault}
 use Rattle.av_sigset.specs.declared.fault.CatalogueFault.TheVariants.{OldVersion, CatalogueFull}
@@ -59,10 +59,11 @@ version_at sets i = let s = slice_index_or sets i no_set in s.version
 abbrev pub IsRising : List NumberedSet → Type 0
 IsRising sets = (i j : ℕ) → i < j → j < length sets → version_at sets i < version_at sets j
 
--- the oldest first, the versions rise, and at most 4,096 are there
+-- the oldest first, the versions rise, each is a set in its ranges, and at most 4,096 are there
 pub record IsKept (sets : List NumberedSet) : Type 0 where
   pub rising : IsRising sets
   pub falling : IsFalling (reverse sets)
+  pub each : AllByRecursion IsSet (reverse sets)
   pub count : length sets ≤ MAX_SETS
 
 -- a place has this version, or none has

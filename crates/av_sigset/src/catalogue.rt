@@ -1,7 +1,9 @@
 ghost use Rattle.std.specs.Prelude.{◌≡◌, ◌≤◌, ◌<◌, ◌+◌, [], length, IfOk, OnOk, OnErr, MatchOption, slice_get, reverse, Ok, Err};
+ghost use Rattle.std.specs.List.{AllByRecursion};
 ghost use Rattle.std.specs.Option.{option_copied};
 ghost use Rattle.av_base.specs.Answers.{Reads};
 ghost use Rattle.av_sigset.specs.Catalogue.{Publishes, IsFalling, IsRising, IsPlaceOf, may_publish, newest, set_at};
+ghost use Rattle.av_sigset.specs.Set.{IsSet};
 
 use crate::fault::CatalogueFault;
 use crate::set::SignatureSet;
@@ -91,6 +93,7 @@ impl Catalogue {
     pub fn latest(&self) -> Option<Version>
         ensures latest { result ≡ newest self.now.sets }
         ensures falling { IsFalling self.now.sets }
+        ensures each { AllByRecursion IsSet self.now.sets }
     {
         self.sets.as_slice().last().map(|set| set.version())
     }

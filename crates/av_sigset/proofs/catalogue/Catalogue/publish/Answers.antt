@@ -6,4 +6,4 @@ pub invariant_of-self-2 : goal.invariant_of-self-2
 invariant_of-self-2 c =
     let may = rw (c.as_slice.ensures.value, c.version.ensures.version) at c.in_default.ensures in
     let pushed : c.push.new.self.items ≡ c.self.inside.sets.items ++ c.args.set ∷ [] = search rules in
-    rw pushed (kept_push c.self.inside.sets.items c.args.set c.self.invariant may)
+    rw pushed (kept_push c.self.inside.sets.items c.args.set c.self.invariant c.version.ensures.set may)
