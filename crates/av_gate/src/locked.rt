@@ -9,7 +9,7 @@ ghost use Rattle.av_pend.specs.Pend.{open_of};
 ghost use Rattle.av_store.specs.Files.{Write};
 ghost use Rattle.av_store.specs.Store.{mount_of};
 
-use crate::copying::{copied, messages_of};
+use crate::copying::messages_of;
 use crate::entry::Entry;
 use crate::event::Event;
 use crate::fault::GateFault;
@@ -185,7 +185,7 @@ impl Locked {
         if self.is_full() {
             return Err(Refusal::Fault(GateFault::AuditFull));
         }
-        let message = copied(message)?;
+        let message = message.clone()?;
         self.add(alloc, has_room, Event::Receive { message })
     }
 
