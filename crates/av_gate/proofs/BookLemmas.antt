@@ -1,13 +1,14 @@
 -- One more event keeps the book.
-use Rattle.std.proofs.Common.{◌≡◌, ◌+◌, ◌<◌, ◌++◌, ◌∷◌, [], IsOk, List, None, Result, Err, nat_le, refl, sym, ap, ◌∙◌, subst, length, arith, length-append}
+use Rattle.std.proofs.Common.{◌≡◌, ◌+◌, ◌<◌, ◌++◌, ◌∷◌, [], IsOk, List, None, Some, Option, Result, Ok, Err, nat_le, refl, sym, ap, ◌∙◌, subst, length, arith, length-append}
 use Rattle.std.proofs.lemmas.Bool.{cond_both}
 use Rattle.std.proofs.lemmas.Bool.Decides.{nat_tests}
 use Rattle.av_filter.specs.Audit.{FilterEntry, IsFilterAudit, Kept, filter_end}
 use Rattle.av_filter.specs.Bounds.{AreInBounds, KeepsBounds}
 use Rattle.av_filter.specs.Conduct.{FilterEvent, filter_refusal, filter_step}
+use Rattle.av_filter.specs.declared.fault.FilterFault.{FilterFault}
 use Rattle.av_filter.specs.Fit.{Fits, KeepsFit}
 use Rattle.av_filter_table.specs.Table.{Table}
-use Rattle.av_gate.specs.Book.{Book, IsKept, happens, replied, state_of, table_at_first, unless_refused}
+use Rattle.av_gate.specs.Book.{Book, IsKept, happens, reaction_to, replied, settled, state_of, table_at_first, unless_refused}
 use Rattle.av_gate.specs.declared.fault.GateFault.{GateFault}
 use Rattle.av_gate.specs.declared.fault.GateFault.TheVariants.{AuditFull}
 use Rattle.av_gate.specs.declared.settled.Settled.{Settled}
@@ -50,3 +51,17 @@ kept_with_event fit ranges b t t' v v' e events kept room free table volume grow
 pub room_left : (b : Book) (e : FilterEvent) → IsOk (happens b e) → length b.events < b.limits.audit
 room_left b e ok =
     cond_both (nat_le b.limits.audit (length b.events)) (Err AuditFull) (unless_refused b e (filter_refusal (state_of b).table (state_of b).volume e)) (λ (r : Result (Settled × Book) GateFault). IsOk r → length b.events < b.limits.audit) (λ full h. absurd (cc (h))) (λ left h. grind (arith, nat_tests, left)) ok
+
+-- what the caller is told of an event that happened
+second_is : (x y : Settled) (v w : Book) (o : Result (Settled × Book) GateFault) → o ≡ Ok (x, v) → o ≡ Ok (y, w) → x ≡ y
+second_is x y v w o p q = let same : (x, v) ≡ (y, w) = cc (p, q) in ap (λ (z : Settled × Book). z.0) same
+
+told_unless : (b : Book) (e : FilterEvent) (r : Settled) (new : Book) (o : Option FilterFault) → unless_refused b e o ≡ Ok (r, new) → r ≡ settled (length b.events) (reaction_to b e)
+told_unless b e r new (Some f) h = absurd (cc (h))
+told_unless b e r new None h = second_is _ _ _ _ _ h refl
+
+pub told : (b : Book) (e : FilterEvent) (r : Settled) (new : Book) → happens b e ≡ Ok (r, new) → r ≡ settled (length b.events) (reaction_to b e)
+told b e r new is =
+    let refusal : Option FilterFault = filter_refusal (state_of b).table (state_of b).volume e in
+    cond_both (nat_le b.limits.audit (length b.events)) (Err AuditFull) (unless_refused b e refusal) (λ (x : Result (Settled × Book) GateFault). x ≡ Ok (r, new) → r ≡ settled (length b.events) (reaction_to b e)) (λ full h. absurd (cc (h)))
+    (λ left h. told_unless b e r new refusal h) is

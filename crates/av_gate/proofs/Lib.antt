@@ -1,3 +1,4 @@
 pub mod BookLemmas
 pub mod EventLemmas
 pub mod OpenLemmas
+pub mod VersionLemmas

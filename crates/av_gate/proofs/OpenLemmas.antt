@@ -1,19 +1,16 @@
 -- Each open's note has its number, whatever it is answered.
-use Rattle.std.proofs.Common.{◌≡◌, ℕ, ◌+◌, not, Bool, true, false, cond, length, nat_le, Option, None, Some, Result, Ok, Err, refl, sym, ap, ◌∙◌}
-use Rattle.std.proofs.lemmas.Bool.{cond_both}
+use Rattle.std.proofs.Common.{◌≡◌, ℕ, ◌+◌, not, Bool, true, false, cond, Option, None, Some, Ok, refl, ap, ◌∙◌}
 use Rattle.av_base.specs.declared.verdict.Verdict.{Verdict}
 use Rattle.av_cache.specs.Cache.{look}
 use Rattle.av_cache.specs.declared.entry.Entry.{Entry}
-use Rattle.av_filter.specs.Conduct.{Opens, filter_refusal, filter_step}
+use Rattle.av_filter.specs.Conduct.{Opens, filter_step}
 use Rattle.av_filter.specs.Opening.{open_asked, open_cached, open_found, open_judged, opened, taken}
 use Rattle.av_filter.specs.Reaction.{Reaction}
-use Rattle.av_filter.specs.declared.fault.FilterFault.{FilterFault}
 use Rattle.av_filter.specs.declared.note.Note.TheVariants.{Submitted}
 use Rattle.av_filter_table.specs.Table.{Table, can_ask, context_of, current, has_room, question_of, raised}
 use Rattle.av_filter_table.specs.declared.question.Question.{Question}
-use Rattle.av_gate.specs.Book.{Book, happens, reaction_to, settled, state_of, unless_refused}
-use Rattle.av_gate.specs.declared.fault.GateFault.{GateFault}
-use Rattle.av_gate.specs.declared.fault.GateFault.TheVariants.{AuditFull}
+use Rattle.av_gate.proofs.BookLemmas.{told}
+use Rattle.av_gate.specs.Book.{Book, happens, state_of}
 use Rattle.av_gate.specs.declared.settled.Settled.{Settled}
 use Rattle.av_store.specs.Rows.{stream_at}
 use Rattle.av_store.specs.Store.{Store}
@@ -51,20 +48,5 @@ unfolding filter_step opened
 numbered t v s least = found (raised least t) (taken v) s least (stream_at s v.streams)
 
 -- so has what the caller is told of it
-abbrev Told : Book → Settled → Type 0
-Told b r = r.note ≡ Submitted ((state_of b).volume.opens + 1)
-
-first_of_ok : (x y : Settled) (v w : Book) (o : Result (Settled × Book) GateFault) → o ≡ Ok (x, v) → o ≡ Ok (y, w) → x ≡ y
-first_of_ok x y v w o p q = let same : (x, v) ≡ (y, w) = cc (p, q) in ap (λ (z : Settled × Book). z.0) same
-
-told_unless : (b : Book) (s least : ℕ) (r : Settled) (new : Book) (o : Option FilterFault) → unless_refused b (Opens s least) o ≡ Ok (r, new) → Told b r
-told_unless b s least r new (Some f) h = absurd (cc (h))
-told_unless b s least r new None h =
-    let same : settled (length b.events) (reaction_to b (Opens s least)) ≡ r = first_of_ok _ _ _ _ _ refl h in
-    sym (ap (λ (x : Settled). x.note) same) ∙ numbered (state_of b).table (state_of b).volume s least
-
-pub told_number : (b : Book) (s least : ℕ) (r : Settled) (new : Book) → happens b (Opens s least) ≡ Ok (r, new) → Told b r
-told_number b s least r new is =
-    let refusal : Option FilterFault = filter_refusal (state_of b).table (state_of b).volume (Opens s least) in
-    cond_both (nat_le b.limits.audit (length b.events)) (Err AuditFull) (unless_refused b (Opens s least) refusal) (λ (x : Result (Settled × Book) GateFault). x ≡ Ok (r, new) → Told b r) (λ full h. absurd (cc (h)))
-    (λ left h. told_unless b s least r new refusal h) is
+pub told_number : (b : Book) (s least : ℕ) (r : Settled) (new : Book) → happens b (Opens s least) ≡ Ok (r, new) → r.note ≡ Submitted ((state_of b).volume.opens + 1)
+told_number b s least r new is = ap (λ (x : Settled). x.note) (told b (Opens s least) r new is) ∙ numbered (state_of b).table (state_of b).volume s least

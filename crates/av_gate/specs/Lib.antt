@@ -1,2 +1,4 @@
 pub mod Book
 pub mod Events
+pub mod Seats
+pub mod Versions

@@ -1,4 +1,4 @@
-ghost use Rattle.std.specs.Prelude.{◌≡◌, ◌++◌, IfOk, OnOk};
+ghost use Rattle.std.specs.Prelude.{◌≡◌, ◌≤◌, ◌++◌, IfOk, OnOk, drop, length};
 ghost use Rattle.av_gate.specs.Book.{messages_of};
 
 use crate::entry::Entry;
@@ -24,4 +24,19 @@ fn add_copies(messages: &mut Vec<Message>, more: &[Message]) -> Result<(), Alloc
         messages.push(message.clone()?)?;
     }
     Ok(())
+}
+
+/// How many events there are before the first that sent a message.
+pub(crate) fn quiet_ones(entries: &[Entry]) -> usize
+    ensures within { result ≤ length entries.now }
+    ensures waiting { messages_of (drop result entries.now) ≡ messages_of entries.now }
+{
+    let mut count = 0;
+    for entry in entries {
+        if !entry.messages().is_empty() {
+            return count;
+        }
+        count += 1;
+    }
+    count
 }

@@ -1,10 +1,13 @@
 //! The gate: the filter behind a lock that many openers use at once, with an audit of every call.
 #![tactic(auto)]
 
+pub mod call;
 mod copying;
 pub mod entry;
 pub mod event;
 pub mod fault;
+pub mod gate;
 mod happening;
 pub mod locked;
+pub mod seat;
 pub mod settled;

@@ -5,11 +5,12 @@ ghost use Rattle.av_filter.specs.Conduct.{Changes, CleansUp, Disconnects, Opens,
 ghost use Rattle.av_filter.specs.declared.note.Note.TheVariants.{Submitted};
 ghost use Rattle.av_gate.specs.Book.{happens, opening, settled_of, state_of, stream_of, waiting_of};
 ghost use Rattle.av_gate.specs.Events.{event_of};
+ghost use Rattle.av_gate.specs.Versions.{version_shown};
 ghost use Rattle.av_pend.specs.Pend.{open_of};
 ghost use Rattle.av_store.specs.Files.{Write};
 ghost use Rattle.av_store.specs.Store.{mount_of};
 
-use crate::copying::messages_of;
+use crate::copying::{messages_of, quiet_ones};
 use crate::entry::Entry;
 use crate::event::Event;
 use crate::fault::GateFault;
@@ -172,7 +173,7 @@ impl Locked {
     }
 
     /// A message of the scanning service comes: AuditFull, NoMemory.
-    #[tactic(auto, unfolding(av_filter::specs::Conduct::filter_refusal))]
+    #[tactic(auto, using(crate::proofs::VersionLemmas::shown_if), unfolding(av_filter::specs::Conduct::filter_refusal))]
     pub fn message(
         &mut self,
         alloc: Global,
@@ -180,6 +181,7 @@ impl Locked {
         message: &Message,
     ) -> Result<Settled, Refusal<GateFault>>
         ensures event { Answers self.old self.new result (happens self.old (Receives message.now)) }
+        ensures floor { IfOk result (λ s. version_shown message.now s.note ≤ s.floor) }
         ensures room { OnOk result (IsTrue has_room) }
     {
         if self.is_full() {
@@ -291,6 +293,30 @@ impl Locked {
         let messages = messages_of(alloc, &self.events[self.sent..])?;
         self.sent = self.events.len();
         Ok(messages)
+    }
+
+    /// Whether a message waits. Events that sent none are passed over for good, so that none is looked at twice.
+    pub fn has_outgoing(&mut self) -> bool
+        ensures sent { self.new ≡ record self.old { sent = self.new.sent } }
+        ensures waiting { waiting_of self.new ≡ waiting_of self.old }
+    {
+        self.sent += quiet_ones(&self.events[self.sent..]);
+        self.sent < self.events.len()
+    }
+
+    /// Ends it at the end of a program: each open that is held is denied, and nobody hears of it.
+    pub fn abandon(self) {
+        let Locked {
+            start: _,
+            mode: _,
+            limits: _,
+            filter,
+            volume: _,
+            events: _,
+            sent: _,
+            owed: _,
+        } = self;
+        filter.abandon();
     }
 }
 
