@@ -1,7 +1,10 @@
 //! The gate: the filter behind a lock that many openers use at once, with an audit of every call.
 #![tactic(auto)]
 
+pub mod audit;
 pub mod call;
+mod checks;
+pub mod closing;
 mod copying;
 pub mod entry;
 pub mod event;
@@ -9,5 +12,7 @@ pub mod fault;
 pub mod gate;
 mod happening;
 pub mod locked;
+mod naming;
+mod same;
 pub mod seat;
 pub mod settled;

@@ -1,25 +1,28 @@
-ghost use Rattle.std.specs.Prelude.{◌≡◌, ◌≤◌, ◌<◌, ◌↔◌, length, Ok, Err, IsOk, IfOk, IfErr, OnOk, OnErr, IsTrue};
+ghost use Rattle.std.specs.Prelude.{◌≡◌, ◌≤◌, ◌<◌, ◌↔◌, length, Ok, Err, IsOk, IfOk, IfErr, OnOk, OnErr, IsTrue, MatchBool, ◌≢◌, []};
 ghost use Rattle.av_base.specs.Answers.{Answers, Reads};
 ghost use Rattle.av_filter.specs.Bounds.{AreInBounds};
 ghost use Rattle.av_filter.specs.Conduct.{Changes, CleansUp, Disconnects, Opens, Receives, TimesOut};
 ghost use Rattle.av_filter.specs.declared.note.Note.TheVariants.{Submitted};
 ghost use Rattle.av_gate.specs.Book.{happens, opening, settled_of, state_of, stream_of, waiting_of};
+ghost use Rattle.av_gate.specs.Claims.{IsLegal};
 ghost use Rattle.av_gate.specs.Events.{event_of};
 ghost use Rattle.av_gate.specs.Versions.{version_shown};
 ghost use Rattle.av_pend.specs.Pend.{open_of};
 ghost use Rattle.av_store.specs.Files.{Write};
 ghost use Rattle.av_store.specs.Store.{mount_of};
 
+use crate::audit::Audit;
 use crate::copying::{messages_of, quiet_ones};
 use crate::entry::Entry;
 use crate::event::Event;
 use crate::fault::GateFault;
 use crate::happening::happen;
+use crate::naming::stream_of;
 use crate::settled::Settled;
 use av_base::byte_list::ByteList;
 use av_base::limits::Limits;
 use av_base::mode::Mode;
-use av_base::number::{OpenId, StreamId, Version};
+use av_base::number::{OpenId, Version};
 use av_base::refusal::{Refusal, Refused};
 use av_ends::ticket::{Due, Ticket};
 use av_filter::fault::FilterFault;
@@ -113,7 +116,7 @@ impl Locked {
         if self.volume.opens_left() == 0 {
             return Err(Refusal::Fault(GateFault::Filter(FilterFault::OpensSpent)));
         }
-        let stream = self.stream_of(name);
+        let stream = stream_of(&self.start, name);
         let open_id = OpenId::new(u64::MAX - self.volume.opens_left() + 1);
         let ticket = self.owe(alloc, open_id, least)?;
         match self.add(alloc, has_room, Event::Open { stream, least }) {
@@ -141,7 +144,7 @@ impl Locked {
         if self.is_full() {
             return Err(Refusal::Fault(GateFault::AuditFull));
         }
-        let stream = self.stream_of(name);
+        let stream = stream_of(&self.start, name);
         if let Some(fault) = self.volume.write_refusal(stream, offset, bytes) {
             return Err(Refusal::Fault(GateFault::Filter(FilterFault::Store(fault))));
         }
@@ -168,7 +171,7 @@ impl Locked {
         if self.is_full() {
             return Err(Refusal::Fault(GateFault::AuditFull));
         }
-        let stream = self.stream_of(name);
+        let stream = stream_of(&self.start, name);
         self.add(alloc, has_room, Event::CleanUp { stream })
     }
 
@@ -267,16 +270,6 @@ impl Locked {
         }
     }
 
-    // The stream of a name, or 0.
-    fn stream_of(&self, name: &[u8]) -> StreamId
-        ensures { result ≡ stream_of self.now.start name.now }
-    {
-        match self.start.find(name) {
-            Some(stream) => stream,
-            None => StreamId::new(0),
-        }
-    }
-
     // Whether the audit is as long as it may get.
     fn is_full(&self) -> bool
         ensures { IsTrue result ↔ (self.now.limits.audit ≤ length self.now.events) }
@@ -302,6 +295,51 @@ impl Locked {
     {
         self.sent += quiet_ones(&self.events[self.sent..]);
         self.sent < self.events.len()
+    }
+
+    /// The volume as the mount left it.
+    pub fn start(&self) -> &Volume
+        ensures { result.now ≡ self.now.start }
+    {
+        &self.start
+    }
+
+    /// The events so far, in their order.
+    pub fn events(&self) -> &[Entry]
+        ensures { result.now ≡ self.now.events }
+    {
+        self.events.as_slice()
+    }
+
+    /// Whether a question runs.
+    pub fn is_asking(&self) -> bool
+        ensures { MatchBool result ((state_of self.now).table.questions ≢ []) ((state_of self.now).table.questions ≡ []) }
+    {
+        self.filter.question_count() > 0
+    }
+
+    /// Ends it, and gives its audit. Opens that are held are denied, and nobody hears of it.
+    pub fn into_audit(self) -> Audit
+        ensures audit { (result.volume ≡ self.start) × (result.mode ≡ self.mode) × (result.limits ≡ self.limits) × (result.events.items ≡ self.events) }
+        ensures legal { IsLegal result }
+    {
+        let Locked {
+            start,
+            mode,
+            limits,
+            filter,
+            volume: _,
+            events,
+            sent: _,
+            owed: _,
+        } = self;
+        filter.abandon();
+        Audit {
+            volume: start,
+            mode,
+            limits,
+            events,
+        }
     }
 
     /// Ends it at the end of a program: each open that is held is denied, and nobody hears of it.
@@ -330,7 +368,7 @@ fn show(owed: &mut BTreeMap<u64, Due>, answers: &[Answer]) {
 }
 
 // The open that an answer is to.
-fn open_of(answer: Answer) -> OpenId
+pub(crate) fn open_of(answer: Answer) -> OpenId
     ensures { result ≡ open_of answer }
 {
     match answer {
