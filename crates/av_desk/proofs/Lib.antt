@@ -1,0 +1,5 @@
+pub mod CatalogueLemmas
+pub mod KeepLemmas
+pub mod LentLemmas
+pub mod OutgoingLemmas
+pub mod SilentLemmas

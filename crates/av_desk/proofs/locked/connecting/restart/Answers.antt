@@ -1,0 +1,7 @@
+use Rattle.av_desk.proofs.SilentLemmas.{silent}
+use Rattle.av_desk.proofs.locked.connecting.restart.Goals as goal
+use Rattle.av_service.specs.Conduct.{Restarts}
+use Rattle.av_sigset.specs.Catalogue.{latest}
+
+pub returns-clause-silent : goal.returns-clause-silent
+returns-clause-silent c = silent c.restart.result c.args.service.now c.restart.new.self (Restarts (latest c.args.catalogue.now.sets)) tt c.restart.ensures

@@ -1,0 +1,5 @@
+pub mod Audit
+pub mod Book
+pub mod Call
+pub mod Entry
+pub mod Lent

@@ -1,0 +1,166 @@
+ghost use Rattle.std.specs.Prelude.{◌≡◌, IfErr, IfOk, map};
+ghost use Rattle.av_desk.specs.Audit.{opened_by, started_by};
+ghost use Rattle.av_desk.specs.Book.{sets_end};
+ghost use Rattle.av_service.specs.Audit.{IsCatalogue, IsServiceAudit};
+ghost use Rattle.av_sigset.specs.Publication.{publication_of};
+
+use crate::audit::Audit;
+use crate::fault::DeskFault;
+use crate::lent::Taken;
+use crate::locked::Locked;
+use crate::shared::SharedAutomaton;
+use av_base::limits::Limits;
+use av_base::refusal::{Refusal, Refused};
+use av_frame::message::Message;
+use av_service::done::Done;
+use av_service::note::Note;
+use av_sigset::catalogue::Catalogue;
+use av_sigset::set::SignatureSet;
+use std::alloc::{AllocError, AllocFailed, Global};
+use std::sync::{Condvar, Mutex, Wait};
+
+// What lies under the lock.
+#[derive(Drop)]
+struct Inner {
+    locked: Locked,
+    is_stopped: bool,
+}
+
+/// The scanning service behind a lock, for any number of threads. Each call that makes an event holds the lock once.
+#[derive(Drop)]
+pub struct Desk {
+    inner: Mutex<Inner>,
+    came: Condvar,
+}
+
+impl Desk {
+    /// A service just started over this catalogue. Builds the automaton of the set published last. Where memory is
+    /// refused, the catalogue is handed back.
+    pub fn new(
+        alloc: Global,
+        volume_number: u64,
+        catalogue: Catalogue,
+        limits: Limits,
+    ) -> Result<Desk, AllocFailed<Catalogue>>
+        ensures { IfErr result (λ e. e.value ≡ catalogue) }
+    {
+        match Locked::new(alloc, volume_number, catalogue, limits) {
+            Ok(locked) => Ok(Desk {
+                inner: Mutex::new(Inner {
+                    locked,
+                    is_stopped: false,
+                }),
+                came: Condvar::new(),
+            }),
+            Err(failed) => Err(failed),
+        }
+    }
+
+    /// Connects, and greets the filter: AuditFull, NoSignatures, AlreadyConnected.
+    pub fn connect<R: Wait>(&self, rt: &R, alloc: Global) -> Result<Note, Refusal<DeskFault>> {
+        let note = self.inner.lock(rt).locked.connect(alloc)?;
+        self.came.notify_all();
+        Ok(note)
+    }
+
+    /// Handles a message of the filter: AuditFull, the message handed back. A work that it gives out has the automaton of
+    /// its version.
+    pub fn message<R: Wait>(
+        &self,
+        rt: &R,
+        alloc: Global,
+        message: Message,
+    ) -> Result<Taken, Refused<Message, DeskFault>>
+        ensures { IfErr result (λ refused. refused.value ≡ message) }
+    {
+        let taken = self.inner.lock(rt).locked.message(alloc, message);
+        self.came.notify_all();
+        taken
+    }
+
+    /// Takes back a work that was run: AuditFull, the work handed back.
+    pub fn finish<R: Wait>(
+        &self,
+        rt: &R,
+        alloc: Global,
+        done: Done,
+    ) -> Result<Note, Refused<Done, DeskFault>>
+        ensures { IfErr result (λ refused. refused.value ≡ done) }
+    {
+        let note = self.inner.lock(rt).locked.finish(alloc, done);
+        self.came.notify_all();
+        note
+    }
+
+    /// Publishes a set: AuditFull, OldVersion, CatalogueFull, the set handed back. Every scan begins anew under it. Its
+    /// automaton is built before the lock is taken.
+    pub fn publish<R: Wait>(
+        &self,
+        rt: &R,
+        alloc: Global,
+        set: SignatureSet,
+    ) -> Result<Note, Refused<SignatureSet, DeskFault>>
+        ensures { IfErr result (λ refused. refused.value ≡ set) }
+    {
+        let built = SharedAutomaton::build(alloc, &set).ok();
+        let note = self.inner.lock(rt).locked.publish(alloc, set, built);
+        self.came.notify_all();
+        note
+    }
+
+    /// Learns that the connection is gone: AuditFull. Every job is dropped, and the cache is kept.
+    pub fn disconnect<R: Wait>(&self, rt: &R, alloc: Global) -> Result<Note, Refusal<DeskFault>> {
+        self.inner.lock(rt).locked.disconnect(alloc)
+    }
+
+    /// Starts the service anew under the set published last, with an empty cache: AuditFull.
+    pub fn restart<R: Wait>(&self, rt: &R, alloc: Global) -> Result<Note, Refusal<DeskFault>> {
+        self.inner.lock(rt).locked.restart(alloc)
+    }
+
+    /// Takes out the messages that wait, in the order in which they were sent. Where memory is refused, they stay.
+    pub fn take_outgoing<R: Wait>(
+        &self,
+        rt: &R,
+        alloc: Global,
+    ) -> Result<Vec<Message>, AllocError> {
+        self.inner.lock(rt).locked.take_outgoing(alloc)
+    }
+
+    /// Waits for messages and takes them out. None once the desk was stopped and none is left.
+    pub fn wait_outgoing<R: Wait>(
+        &self,
+        rt: &R,
+        alloc: Global,
+    ) -> Result<Option<Vec<Message>>, AllocError> {
+        let mut inner = self.came.wait_while(rt, self.inner.lock(rt), |inner| {
+            !inner.is_stopped && !inner.locked.has_outgoing()
+        });
+        let messages = inner.locked.take_outgoing(alloc)?;
+        Ok(if messages.is_empty() {
+            None
+        } else {
+            Some(messages)
+        })
+    }
+
+    /// Ends the waits for messages, once those that wait were taken out.
+    pub fn stop<R: Wait>(&self, rt: &R) {
+        self.inner.lock(rt).is_stopped = true;
+        self.came.notify_all();
+    }
+
+    /// Ends the desk and gives its audit. Takes no memory, and waits for nobody.
+    pub fn close(self) -> Audit
+        ensures legal { IsServiceAudit (opened_by result) (started_by result) result.events.items }
+        ensures catalogue { IsCatalogue (opened_by result) }
+        ensures sets { map publication_of result.catalogue.sets ≡ sets_end (opened_by result) result.events.items }
+    {
+        let Desk { inner, came: _ } = self;
+        let Inner {
+            locked,
+            is_stopped: _,
+        } = inner.into_inner();
+        locked.into_audit()
+    }
+}

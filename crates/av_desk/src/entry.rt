@@ -1,0 +1,101 @@
+ghost use Rattle.std.specs.Prelude.{◌≡◌, ◌++◌, ◌∷◌, ◌<◌, [], map, vec_len, None};
+ghost use Rattle.std.specs.Option.{option_to_list};
+ghost use Rattle.std.specs.Vec.{vec_capacity};
+ghost use Rattle.av_desk.specs.Book.{given};
+ghost use Rattle.av_desk.specs.Entry.{call_of};
+
+use crate::event::Event;
+use crate::given::Given;
+use av_base::number::Lease;
+use av_frame::message::Message;
+use av_service::note::Note;
+use av_service::out::ServiceOut;
+use av_service::work::Work;
+use std::marker::Model;
+
+/// One event of an audit, with what it gave out.
+#[derive(Drop)]
+pub struct Entry {
+    event: Event,
+    messages: Vec<Message>,
+    given: Option<Given>,
+    note: Note,
+}
+
+impl Model for Entry {
+    ghost use Rattle.av_desk.specs.Entry.{call_of, works_given};
+    ghost use Rattle.av_service.specs.Audit.{ServiceEntry};
+
+    ghost Value = { ServiceEntry };
+
+    ghost view = { λ e. record { call = call_of e.event; messages = e.messages.items; works = works_given e.given; note = e.note } };
+}
+
+impl Entry {
+    /// What happened.
+    pub fn event(&self) -> &Event
+        ensures { call_of result.now ≡ self.now.call }
+    {
+        &self.event
+    }
+
+    /// The messages that it sent, in their order.
+    pub fn messages(&self) -> &[Message]
+        ensures { result.now ≡ self.now.messages }
+    {
+        self.messages.as_slice()
+    }
+
+    /// The lease of the work that it gave out, if it gave one.
+    pub fn lease(&self) -> Option<Lease>
+        ensures { option_to_list result ≡ map (λ k. k.lease) self.now.works }
+    {
+        match &self.given {
+            Some(given) => Some(given.lease()),
+            None => None,
+        }
+    }
+
+    /// Its note.
+    pub fn note(&self) -> Note
+        ensures { result ≡ self.now.note }
+    {
+        self.note
+    }
+}
+
+/// Keeps an event with what the service gave out, of which the work and the note go on. Takes no memory.
+pub(crate) fn keep(entries: &mut Vec<Entry>, event: Event, out: ServiceOut) -> (Option<Work>, Note)
+    requires { vec_len entries.old < vec_capacity entries.old }
+    ensures entries { entries.new.items ≡ entries.old.items ++ given (call_of event) out ∷ [] }
+    ensures work { result.0 ≡ out.work }
+    ensures note { result.1 ≡ out.note }
+{
+    let ServiceOut {
+        messages,
+        work,
+        note,
+    } = out;
+    let given = Given::of(&work);
+    entries.push_reserved(Entry {
+        event,
+        messages,
+        given,
+        note,
+    });
+    (work, note)
+}
+
+/// The same of an event that gives out no work.
+pub(crate) fn keep_silent(entries: &mut Vec<Entry>, event: Event, out: ServiceOut) -> Note
+    requires room { vec_len entries.old < vec_capacity entries.old }
+    requires silent { out.work ≡ None }
+    ensures entries { entries.new.items ≡ entries.old.items ++ given (call_of event) out ∷ [] }
+    ensures note { result ≡ out.note }
+{
+    let (work, note) = keep(entries, event, out);
+    match work {
+        None => note,
+        Some(_) => unreachable!(),
+    }
+}

@@ -1,0 +1,83 @@
+ghost use Rattle.std.specs.Prelude.{◌≡◌, ◌≤◌, ◌+◌, ◌++◌, ℕ, List, length};
+ghost use Rattle.av_desk.specs.Lent.{IsMet, lent_with};
+ghost use Rattle.av_match.specs.Scanning.{AreSolid, IsScan, fitting, run};
+
+use crate::shared::SharedAutomaton;
+use av_service::done::Done;
+use av_service::note::Note;
+use av_service::work::Work;
+use std::marker::Model;
+
+/// A work that was lent, with the automaton of its version. It must be spent, by `run` or `discard`.
+pub struct Lent {
+    work: Work,
+    automaton: SharedAutomaton,
+}
+
+impl Model for Lent {
+    ghost use Rattle.std.specs.Prelude.{◌≡◌};
+    ghost use Rattle.av_desk.specs.Lent.{LentState};
+
+    ghost Value = { LentState };
+
+    ghost view = { λ l. record { work = l.work; automaton = l.automaton } };
+
+    ghost invariant = { λ l. l.automaton.version ≡ l.work.version };
+}
+
+impl Lent {
+    /// This work, with the automaton of its version.
+    pub fn new(work: Work, automaton: SharedAutomaton) -> Lent
+        requires { automaton.version ≡ work.version }
+        ensures { result ≡ record { work = work; automaton = automaton } }
+    {
+        Lent { work, automaton }
+    }
+
+    /// The work.
+    pub fn work(&self) -> &Work
+        ensures work { result.now ≡ self.now.work }
+        ensures version { self.now.automaton.version ≡ self.now.work.version }
+    {
+        &self.work
+    }
+
+    /// Goes on with the work's bytes. Takes no memory.
+    pub fn run(self) -> Done
+        ensures work { result.work ≡ self.work }
+        ensures lease { result.lease ≡ self.work.lease }
+        ensures scan { result.scan ≡ run self.automaton.patterns self.work.scan (fitting self.work.scan self.work.chunk) }
+        ensures version { self.automaton.version ≡ self.work.version }
+        ensures judged { (bytes : ℕ) (c : List ℕ) → IsScan self.automaton bytes c self.work.scan → length c + length self.work.chunk ≤ bytes → AreSolid self.automaton.patterns
+            → IsScan self.automaton bytes (c ++ self.work.chunk) result.scan }
+    {
+        let Lent { work, automaton } = self;
+        work.run(automaton.get())
+    }
+
+    /// Lets it go, at the end of a program.
+    pub fn discard(self) {
+        let Lent { work, automaton: _ } = self;
+        work.discard();
+    }
+}
+
+/// What a message came to: a work that the service gave out, or none, and its note.
+pub struct Taken {
+    pub lent: Option<Lent>,
+    pub note: Note,
+}
+
+// A work that was given out, with the automaton of its version.
+pub(crate) fn lent_of(work: Option<Work>, automaton: Option<SharedAutomaton>) -> Option<Lent>
+    requires { IsMet work automaton }
+    ensures { result ≡ lent_with work automaton }
+{
+    match work {
+        None => None,
+        Some(work) => match automaton {
+            Some(automaton) => Some(Lent::new(work, automaton)),
+            None => unreachable!(),
+        },
+    }
+}
