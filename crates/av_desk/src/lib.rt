@@ -19,3 +19,12 @@ mod given;
 pub mod lent;
 pub mod locked;
 pub mod shared;
+
+pub use audit::Audit;
+pub use desk::Desk;
+pub use entry::Entry;
+pub use event::Event;
+pub use fault::DeskFault;
+pub use lent::{Lent, Taken};
+pub use locked::Locked;
+pub use shared::SharedAutomaton;

@@ -3,7 +3,7 @@ ghost use Rattle.atomic_table.specs.Seated.{TableId};
 
 use crate::steps::{Alike, Load, Raise, Rising};
 use atomic_table::{Seat, Table};
-use av_base::number::Version;
+use av_base::Version;
 use std::alloc::{AllocError, Global};
 
 /// The least version that is still accepted, as a word that threads share with no lock. It only rises, from 0 on.

@@ -20,3 +20,7 @@ mod steps;
 mod tests;
 pub mod ticket;
 pub mod ticket_note;
+
+pub use floor::{Floor, FloorSeat};
+pub use ticket::{Due, Receipt, Ticket};
+pub use ticket_note::TicketNote;

@@ -3,10 +3,9 @@ ghost use Rattle.av_ends.specs.Seats.{IsFloorSeatOf, seen};
 
 use crate::floor::{Floor, FloorSeat};
 use crate::ticket::{Receipt, Ticket};
-use av_base::cause::Cause;
-use av_base::number::{Generation, OpenId, StreamId, Version};
+use av_base::{Cause, Generation, OpenId, StreamId, Version};
 use av_fakes::{may_refuse, refuse_no_more};
-use av_pend::answer::Answer;
+use av_pend::Answer;
 use std::alloc::{AllocError, Global};
 use std::test::Fail;
 use std::thread;

@@ -5,9 +5,8 @@ ghost use Rattle.av_ends.specs.Answers.{fits};
 ghost use Rattle.av_ends.specs.Tickets.{IsNoteOf};
 
 use crate::ticket_note::TicketNote;
-use av_base::cause::Cause;
-use av_base::number::{OpenId, Version};
-use av_pend::answer::Answer;
+use av_base::{Cause, OpenId, Version};
+use av_pend::Answer;
 use once_cell::race::OnceBox;
 use std::alloc::{AllocError, Global};
 use std::sync::Arc;

@@ -1,8 +1,8 @@
 ghost use Rattle.std.specs.Prelude.{◌≡◌, true};
 ghost use Rattle.av_ends.specs.Answers.{known_fits};
 
-use av_base::number::{OpenId, Version};
-use av_pend::answer::Answer;
+use av_base::{OpenId, Version};
+use av_pend::Answer;
 use once_cell::race::Note;
 
 /// What one holder has been shown by one ticket: nothing yet, or an answer that fits the ticket. It takes no memory.

@@ -27,17 +27,12 @@ use crate::fault::FilterFault;
 use crate::note::Note;
 use crate::out::Out;
 use crate::running::{ask_scan, can_ask, is_there, running_of, scan_message};
-use av_base::message_id::MessageId;
-use av_base::number::StreamId;
-use av_base::refusal::Refusal;
-use av_context::context_state::ContextState;
-use av_filter_table::filter_table::FilterTable;
-use av_filter_table::question::Question;
-use av_filter_table::rewriting::Rewriting;
-use av_frame::message::Message;
-use av_pend::answer::Answer;
-use av_store::fault::StoreFault;
-use av_store::volume::Volume;
+use av_base::{MessageId, Refusal, StreamId};
+use av_context::ContextState;
+use av_filter_table::{FilterTable, Question, Rewriting};
+use av_frame::Message;
+use av_pend::Answer;
+use av_store::{StoreFault, Volume};
 use std::alloc::{AllocError, Global};
 
 // A stream is written or cut. The volume changes once there is room for all else, and before anything else does.

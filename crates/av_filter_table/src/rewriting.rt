@@ -4,10 +4,8 @@ ghost use Rattle.std.specs.Result.{result_err};
 ghost use Rattle.av_store.specs.Seen.{change_of, kept_or};
 ghost use Rattle.av_base.specs.Answers.{Steps};
 
-use av_base::number::StreamId;
-use av_base::refusal::Refusal;
-use av_store::fault::StoreFault;
-use av_store::volume::Volume;
+use av_base::{Refusal, StreamId};
+use av_store::{StoreFault, Volume};
 
 /// A change of one stream's bytes, which leaves the stream there: some are written from `offset` on, or those before
 /// `length` stay alone.

@@ -16,3 +16,14 @@ mod naming;
 mod same;
 pub mod seat;
 pub mod settled;
+
+pub use audit::Audit;
+pub use call::Call;
+pub use closing::{CloseFault, Unclosed};
+pub use entry::Entry;
+pub use event::Event;
+pub use fault::GateFault;
+pub use gate::Gate;
+pub use locked::Locked;
+pub use seat::{Seat, SeatCall};
+pub use settled::Settled;

@@ -14,9 +14,8 @@ use crate::judge::fault_in;
 use crate::line::{Words, version_of, words_of};
 use crate::set::{MAX_BYTES, MAX_SIGNATURES};
 use crate::signature::{Pattern, Signature};
-use av_base::byte_list::ByteList;
 use av_base::line::{LF, first_piece};
-use av_base::refusal::Refusal;
+use av_base::{ByteList, Refusal};
 use hex::FromHexError;
 use std::alloc::{AllocError, Global};
 

@@ -4,10 +4,7 @@ ghost use Rattle.av_store.specs.Content.{bytes_read, written, cut_to};
 ghost use Rattle.std.specs.Result.{result_err};
 
 use crate::fault::StoreFault;
-use av_base::byte_list::ByteList;
-use av_base::limits::Limits;
-use av_base::number::Generation;
-use av_base::refusal::Refusal;
+use av_base::{ByteList, Generation, Limits, Refusal};
 use std::alloc::Global;
 
 /// A stream of a volume: its name, and its present generation and bytes.

@@ -15,11 +15,10 @@ use crate::asked::Asked;
 use crate::moving::move_opens;
 use crate::present::generation_now;
 use crate::rewriting::Rewriting;
-use av_base::message_id::MessageId;
-use av_base::number::{Generation, StreamId};
-use av_context::context_state::ContextState;
-use av_pend::answer::Answer;
-use av_store::volume::Volume;
+use av_base::{Generation, MessageId, StreamId};
+use av_context::ContextState;
+use av_pend::Answer;
+use av_store::Volume;
 use std::alloc::{AllocError, AllocFailed};
 
 impl FilterTable {

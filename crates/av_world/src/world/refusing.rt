@@ -18,13 +18,11 @@ use super::stage::Stage;
 use crate::event::Event;
 use crate::fault::StepFault;
 use crate::pattern::Patterns;
-use av_base::number::Version;
-use av_base::refusal::Refusal;
-use av_frame::message::Message;
-use av_service::fault::ConnectFault;
-use av_service::work::Work;
-use av_sigset::set::SignatureSet;
-use av_store::fault::StoreFault;
+use av_base::{Refusal, Version};
+use av_frame::Message;
+use av_service::{ConnectFault, Work};
+use av_sigset::SignatureSet;
+use av_store::StoreFault;
 use std::alloc::Global;
 
 impl Stage {
