@@ -1,5 +1,5 @@
 -- Sets that are made from bare patterns.
-use Rattle.std.specs.Prelude.{ℕ, ◌+◌, ◌==◌, ◌||◌, nat_le, nat_lt, ◌∷◌, [], ◌++◌, List, length, codes, decimal, Option, None, Some, Result, Ok, Err, if◌then◌else◌}
+use Rattle.std.specs.Prelude.{ℕ, ◌+◌, ◌==◌, ◌||◌, nat_le, nat_lt, ◌∷◌, [], ◌++◌, List, length, codes, decimal, Option, None, Some, Result, if◌then◌else◌}
 use Rattle.av_sigset.specs.Judge.{bad_line}
 use Rattle.av_sigset.specs.Set.{NumberedSet}
 use Rattle.av_sigset.specs.declared.set.TheConstants.{MAX_BYTES, MAX_SIGNATURES}

@@ -1,4 +1,4 @@
-use Rattle.std.specs.Prelude.{ℕ, ◌+◌, List, [], length, take, drop, Option, None, Some, Result, Ok, Err, nat_lt, nat_le, if◌then◌else◌}
+use Rattle.std.specs.Prelude.{ℕ, ◌+◌, List, [], length, take, drop, Result, Ok, Err, nat_lt, nat_le, if◌then◌else◌}
 use Rattle.av_base.specs.declared.limits.LimitValues.{LimitValues}
 use Rattle.av_base.specs.Overwrite.{overwritten}
 use Rattle.av_store.specs.declared.stream.Stream.{Stream}
