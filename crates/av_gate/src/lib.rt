@@ -16,3 +16,5 @@ mod naming;
 mod same;
 pub mod seat;
 pub mod settled;
+#[cfg(test)]
+mod tests;
