@@ -2,4 +2,5 @@ pub mod BookLemmas
 pub mod ClaimLemmas
 pub mod EventLemmas
 pub mod OpenLemmas
+pub mod OrderLemmas
 pub mod VersionLemmas

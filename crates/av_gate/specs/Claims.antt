@@ -38,6 +38,14 @@ RisesFrom v low (c ∷ cs) events = (low ≤ c.place) × Matches v events c × R
 pub record Rises (v : Store) (events : List FilterEntry) (s : Seat) : Type 0 where
   pub from_first : RisesFrom v 0 s.calls.items events
 
+-- the places alone
+abbrev pub PlacesRise : ℕ → List SeatCall → Type 0
+PlacesRise low [] = Unit {0}
+PlacesRise low (c ∷ cs) = (low ≤ c.place) × PlacesRise (c.place + 1) cs
+
+pub record InOrder (s : Seat) : Type 0 where
+  pub places : PlacesRise 0 s.calls.items
+
 -- how many of a seat's calls have this place, and how many of all seats'
 abbrev pub times_in : ℕ → Seat → ℕ
 times_in place s = count_by (λ c. c.place == place) s.calls.items

@@ -1,7 +1,7 @@
 // The tests of a gate's end. They take no memory.
 ghost use Rattle.std.specs.Prelude.{◌≡◌, ◌≤◌, ◌<◌, ◌+◌, ◌==◌, ℕ, IsTrue, IfSome, Some, length, [], ◌∷◌, ◌++◌};
 ghost use Rattle.std.specs.List.{All, count_by, filter};
-ghost use Rattle.av_gate.specs.Claims.{Matches, Rises, RisesFrom, times, AreCallsOf, Stands, digit, shown};
+ghost use Rattle.av_gate.specs.Claims.{AreCallsOf, InOrder, Matches, PlacesRise, Rises, Stands, digit, shown, times};
 ghost use Rattle.av_pend.specs.Pend.{open_of};
 
 use crate::entry::Entry;
@@ -57,6 +57,7 @@ fn matches(start: &Volume, events: &[Entry], call: &SeatCall) -> bool
 }
 
 fn each_once(seats: &[Seat], count: usize) -> bool
+    requires { All InOrder seats.now }
     ensures { IsTrue result → (place : ℕ) → place < count → times place seats.now ≡ 1 }
 {
     for place in 0..count {
@@ -68,31 +69,41 @@ fn each_once(seats: &[Seat], count: usize) -> bool
 }
 
 fn is_once(seats: &[Seat], place: usize) -> bool
+    requires { All InOrder seats.now }
     ensures { IsTrue result → times place seats.now ≡ 1 }
 {
     let mut seen = false;
     for seat in seats {
-        let Some(now) = claim(seat.calls.as_slice(), place, seen) else {
-            return false;
-        };
-        seen = now;
-    }
-    seen
-}
-
-// Goes on from a place that was seen, or not yet. None where it comes a second time.
-fn claim(calls: &[SeatCall], place: usize, mut seen: bool) -> Option<bool>
-    ensures { IfSome result (λ now. digit seen + count_by (λ c. c.place == place) calls.now ≡ digit now) }
-{
-    for call in calls {
-        if call.place == place {
+        if has_place(seat.calls.as_slice(), place) {
             if seen {
-                return None;
+                return false;
             }
             seen = true;
         }
     }
-    Some(seen)
+    seen
+}
+
+// Whether one of these calls has this place, by halving.
+fn has_place(calls: &[SeatCall], place: usize) -> bool
+    requires { PlacesRise 0 calls.now }
+    ensures { count_by (λ c. c.place == place) calls.now ≡ digit result }
+{
+    let mut low = 0;
+    let mut high = calls.len();
+    'halves: while low < high {
+        let middle = low + (high - low) / 2;
+        let found = calls[middle].place;
+        if found == place {
+            return true;
+        }
+        if found < place {
+            low = middle + 1;
+        } else {
+            high = middle;
+        }
+    }
+    false
 }
 
 /// Whether each receipt's answer is its open's one answer.
