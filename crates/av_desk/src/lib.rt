@@ -19,3 +19,5 @@ mod given;
 pub mod lent;
 pub mod locked;
 pub mod shared;
+#[cfg(test)]
+mod tests;
