@@ -1,6 +1,6 @@
 """A world as plain lists, from docs/CONDUCT.md and docs/FORMATS.md alone: what `avscan run` must print for a script of accepted lines.
 
-It is written apart from the program, for tests/random_scripts.py: slow, without limits of its own, and never the source of a case."""
+It is written apart from the program, for tests/random_scripts.py and tests/progress.py: slow, without limits of its own, and never the source of a case."""
 
 MAXIMA = {"streams": 65536, "length": 1 << 20, "generation": (1 << 48) - 1, "questions": 1024, "pended": 4096, "jobs": 256, "cache": 4096, "chunk": 4096, "audit": 1 << 20}
 NO_STREAM, INFECTED, NOT_CONNECTED, BUSY, TIMED_OUT, PORT_LOST, SCAN_FAILED, UNSETTLED, REMOVED, RESTARTED = range(1, 11)
@@ -431,6 +431,14 @@ def lines_of(script):
         else:
             run(world, verb, words)
     return world.lines
+
+
+def lines_of_command(world, line):
+    """Runs a command, and gives the lines that it prints."""
+    before = len(world.lines)
+    verb, *words = line.split(" ")
+    run(world, verb, words)
+    return world.lines[before:]
 
 
 def run(world, verb, words):

@@ -66,20 +66,26 @@ def command(chance, world):
     return kind if kind == "connect" else f"{kind} {name}"
 
 
-def script_of(number):
-    """A script, and the lines that the model prints for it."""
+def played(number, steps=STEPS):
+    """A script's first lines up to its volume, its commands each beside the lines that the model prints for it, and the model's world
+    after so many random ones."""
     chance = random.Random(number)
     lines = head(chance)
     limits = dict(plain_world.MAXIMA)
     limits.update((line.split()[1], int(line.split()[2])) for line in lines[:-1])
     _, volume, mode = lines[-1].split()
     world = plain_world.World(int(volume), mode == "open", limits)
-    for line in ["publish 1 424142", "create a", "write a 0 414141", "create b", "connect", "up 1"] + [None] * STEPS:
+    commands = []
+    for line in ["publish 1 424142", "create a", "write a 0 414141", "create b", "connect", "up 1"] + [None] * steps:
         line = line or command(chance, world)
-        lines.append(line)
-        verb, *words = line.split(" ")
-        plain_world.run(world, verb, words)
-    return "".join(line + "\n" for line in lines), world.lines
+        commands.append((line, plain_world.lines_of_command(world, line)))
+    return lines, commands, world
+
+
+def script_of(number):
+    """A script, and the lines that the model prints for it."""
+    lines, commands, world = played(number)
+    return "".join(line + "\n" for line in lines + [line for line, _ in commands]), world.lines
 
 
 def main():

@@ -1,30 +1,33 @@
 #!/usr/bin/env python3
 """Runs the built program on every case of tests/ and compares what it writes, byte by byte.
 
-A case is a name with these files beside one another; what is missing is empty, or 0 for the status:
-  NAME.avs     what stands on standard input
-  NAME.gen     in its place: a shell command that prints it, where it is too large to keep
-  NAME.args    the words of the command line, one a line
-  NAME.out     what is to be written to standard output
-  NAME.err     what is to be written to standard error
-  NAME.status  the exit status
-Each case runs in the folder of its files. The last line says how many passed and how many failed."""
-import os, subprocess, sys
+A case is one file, NAME.case: what stands on standard input, and then parts that begin with a line of their own:
+  --- made by   a shell command that prints standard input, where it is too large to keep
+  --- args      the words of the command line, one a line
+  --- out       what is to be written to standard output
+  --- err       what is to be written to standard error
+  --- status    the exit status
+What is missing is empty, or 0 for the status. A part whose last line has no line feed has the line `\\ no line feed` behind it.
+Each case runs in tests/data. The last line says how many passed and how many failed."""
+import os, re, subprocess, sys
 
 SECONDS = 60
+DATA = os.path.join(os.path.dirname(os.path.abspath(__file__)), "data")
+HEADING = re.compile(rb"^--- (made by|args|out|err|status)\n", re.M)
+UNENDED = b"\n\\ no line feed\n"
 
 
-def content(path, default=b""):
-    if not os.path.exists(path):
-        return default
+def parts_of(path):
     with open(path, "rb") as file:
-        return file.read()
+        pieces = HEADING.split(file.read())
+    parts = {"in": pieces[0], **{name.decode(): text for name, text in zip(pieces[1::2], pieces[2::2])}}
+    return {name: text.removesuffix(UNENDED) for name, text in parts.items()}
 
 
-def standard_input(base):
-    if os.path.exists(base + ".gen"):
-        return subprocess.run(["sh", base + ".gen"], stdout=subprocess.PIPE, check=True).stdout
-    return content(base + ".avs")
+def standard_input(parts):
+    if "made by" in parts:
+        return subprocess.run(["sh", "-c", parts["made by"]], stdout=subprocess.PIPE, check=True).stdout
+    return parts["in"]
 
 
 def first_difference(wanted, got):
@@ -34,31 +37,32 @@ def first_difference(wanted, got):
     return f"line {line}: wanted {wanted[start:start + 100]!r}, got {got[start:start + 100]!r}"
 
 
-def complaints(program, base):
-    words = content(base + ".args").decode().splitlines()
-    run = subprocess.run([program] + words, input=standard_input(base), stdout=subprocess.PIPE,
-                         stderr=subprocess.PIPE, timeout=SECONDS, cwd=os.path.dirname(base))
+def complaints(program, path):
+    parts = parts_of(path)
+    words = parts.get("args", b"").decode().splitlines()
+    run = subprocess.run([program] + words, input=standard_input(parts), stdout=subprocess.PIPE,
+                         stderr=subprocess.PIPE, timeout=SECONDS, cwd=DATA)
     found = []
-    for what, ending, got in (("output", ".out", run.stdout), ("error", ".err", run.stderr)):
-        wanted = content(base + ending)
+    for what, got in (("out", run.stdout), ("err", run.stderr)):
+        wanted = parts.get(what, b"")
         if wanted != got:
             found.append(f"{what} differs at {first_difference(wanted, got)}")
-    status = int(content(base + ".status", b"0"))
+    status = int(parts.get("status", b"0"))
     if status != run.returncode:
         found.append(f"status {run.returncode}, wanted {status}")
     return found
 
 
-def attempt(program, base):
+def attempt(program, path):
     try:
-        return complaints(program, base)
+        return complaints(program, path)
     except Exception as fault:
         return [f"{type(fault).__name__}: {fault}"]
 
 
-def case_names(folder):
+def cases(folder):
     files = os.listdir(folder) if os.path.isdir(folder) else []
-    return sorted({file.rsplit(".", 1)[0] for file in files if file.endswith((".avs", ".gen", ".args"))})
+    return sorted(os.path.join(folder, file) for file in files if file.endswith(".case"))
 
 
 def main():
@@ -67,16 +71,16 @@ def main():
     program = os.path.abspath(sys.argv[1])
     passed = failed = 0
     for folder in sys.argv[2:]:
-        names = case_names(folder)
-        if not names:
+        paths = cases(folder)
+        if not paths:
             failed += 1
             print(f"{folder}: no case is there")
-        for name in names:
-            found = attempt(program, os.path.abspath(os.path.join(folder, name)))
+        for path in paths:
+            found = attempt(program, path)
             if found:
                 failed += 1
                 for line in found:
-                    print(f"{folder}/{name}: {line}")
+                    print(f"{path}: {line}")
             else:
                 passed += 1
     print(f"{passed} passed, {failed} failed")

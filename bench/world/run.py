@@ -4,10 +4,12 @@
 One round opens a stream, scans it whole through both cores, takes the reply and writes the stream again: seven steps. Each script comes
 whole (1 MiB), as a half and as a quarter. Twice the steps may cost at most 2.3 times as much: the look-ups grow by a logarithm, and no
 step's cost grows with the history. Prints the least time of some rounds for each size, the ratios, the time of 10,000 steps, and the peak
-of the process's memory for each step."""
+of the process's memory, for each step and beside what history, answers and frames hold (goal: twice that)."""
 import os, subprocess, sys, tempfile
 
 SIZE = 1_048_576
+# bytes of an event, an answer and a message in a world's lists (their `size_of`), and of the least block that a list of bytes takes
+EVENT, ANSWER, MESSAGE, BLOCK = 64, 56, 56, 32
 ROUNDS = 5
 GOAL = 2.3
 STEPS_GOAL = 0.2
@@ -36,6 +38,14 @@ def script(streams, size):
         at += 1
 
 
+def held(text):
+    """Bytes that history, answers and frames hold at the end: an open's round has four frames, one of them with bytes, and an answer."""
+    words = [line.split()[0] for line in text.splitlines()[1:]]
+    opens = words.count("open")
+    named = opens + words.count("create") + 2 * words.count("write") + words.count("publish")
+    return len(words) * EVENT + named * BLOCK + opens * (4 * MESSAGE + BLOCK + ANSWER)
+
+
 def measure(spawn, program, path):
     """Seconds gone by, and the peak of the process's memory in KiB."""
     done = subprocess.run([spawn, os.devnull, program, "run", path], stdout=subprocess.PIPE, check=True)
@@ -58,7 +68,7 @@ def sizes(spawn, program, folder, streams):
         times.append((least, steps))
         rates.append(least / steps * 10_000)
         print(f"{streams:>6,} streams, 1/{parts}: {len(text):>9,} bytes, {steps:>7,} steps: {least * 1000:7.1f} ms, "
-              f"{rates[-1] * 1000:6.1f} ms for 10,000 steps, peak {peak:>7,} KiB, {peak * 1024 // steps:>5,} bytes a step")
+              f"{rates[-1] * 1000:6.1f} ms for 10,000 steps, peak {peak:>7,} KiB, {peak * 1024 // steps:>5,} bytes a step, {peak * 1024 / held(text):.1f} times what the lists hold")
     ratios = [(later[0] / earlier[0]) / (later[1] / earlier[1]) * 2 for earlier, later in zip(times, times[1:])]
     print(f"{streams:>6,} streams: twice the steps cost " + ", ".join(f"{r:.2f}" for r in ratios) + f" times the time (goal: at most {GOAL})")
     return max(ratios) <= GOAL and max(rates) <= STEPS_GOAL

@@ -23,3 +23,14 @@ pub mod refusal;
 #[cfg(test)]
 mod tests;
 pub mod verdict;
+
+pub use byte_list::ByteList;
+pub use cause::Cause;
+pub use device::{ReadFault, WriteFault};
+pub use limits::{LimitFault, LimitField, LimitValues, Limits};
+pub use message_id::MessageId;
+pub use mode::Mode;
+pub use number::{Generation, Lease, OpenId, StreamId, Version};
+pub use parts::Part;
+pub use refusal::{Refusal, Refused};
+pub use verdict::Verdict;

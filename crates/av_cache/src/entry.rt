@@ -1,5 +1,4 @@
-use av_base::number::{Generation, StreamId, Version};
-use av_base::verdict::Verdict;
+use av_base::{Generation, StreamId, Verdict, Version};
 
 /// One verdict of a cache, with the content that it is of and the signature set that it is under.
 #[derive(Clone, Copy, Debug, PartialEq, Eq)]

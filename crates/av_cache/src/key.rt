@@ -1,4 +1,4 @@
-use av_base::number::{Generation, StreamId, Version};
+use av_base::{Generation, StreamId, Version};
 
 // What a verdict is found by.
 #[derive(Clone, Copy, Debug, PartialEq, Eq, Hash)]

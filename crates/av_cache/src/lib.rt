@@ -13,3 +13,6 @@ pub mod entry;
 mod key;
 #[cfg(test)]
 mod tests;
+
+pub use cache::VerdictCache;
+pub use entry::Entry;

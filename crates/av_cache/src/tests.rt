@@ -2,8 +2,7 @@ ghost use Rattle.std.specs.Prelude.{◌≤◌};
 
 use crate::cache::VerdictCache;
 use crate::entry::Entry;
-use av_base::number::{Generation, StreamId, Version};
-use av_base::verdict::Verdict;
+use av_base::{Generation, StreamId, Verdict, Version};
 use av_fakes::{may_refuse, refuse_no_more};
 use std::alloc::AllocError;
 use std::test::Fail;

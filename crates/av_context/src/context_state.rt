@@ -1,6 +1,4 @@
-use av_base::message_id::MessageId;
-use av_base::number::Version;
-use av_base::verdict::Verdict;
+use av_base::{MessageId, Verdict, Version};
 
 /// What is known of the content of a stream.
 #[derive(Clone, Copy, Debug, PartialEq, Eq)]

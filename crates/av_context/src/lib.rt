@@ -16,3 +16,9 @@ pub mod context_table;
 mod rows;
 #[cfg(test)]
 mod tests;
+
+pub use context::Context;
+pub use context_fault::ContextFault;
+pub use context_ref::{ContextRef, Set};
+pub use context_state::ContextState;
+pub use context_table::ContextTable;

@@ -21,3 +21,12 @@ pub mod locked;
 pub mod shared;
 #[cfg(test)]
 mod tests;
+
+pub use audit::Audit;
+pub use desk::Desk;
+pub use entry::Entry;
+pub use event::Event;
+pub use fault::DeskFault;
+pub use lent::{Lent, Taken};
+pub use locked::Locked;
+pub use shared::SharedAutomaton;

@@ -33,7 +33,7 @@ use Rattle.av_frame.specs.declared.message.Body.{Body}
 use Rattle.av_frame.specs.declared.message.Body.TheVariants.{Hello, Read, Reply, Updated}
 use Rattle.av_frame.specs.declared.outcome.Outcome.{Outcome}
 use Rattle.av_frame.specs.declared.outcome.Outcome.TheVariants.{Judged, Failed}
-use Rattle.av_store.specs.Content.{fault_of}
+use Rattle.std.specs.Result.{result_err}
 use Rattle.av_store.specs.Files.{Change, Create, Write, Cut, Remove}
 use Rattle.av_store.specs.History.{IsOf}
 use Rattle.av_store.specs.Rows.{Streams, stream_at}
@@ -437,10 +437,10 @@ unfolding Rises
 mounted_fits mode limits v = record { boots = refl; rises = tt; given = tt; order = tt; apart = tt; scanned = tt; there = tt; present = tt; asked = tt; leasts = tt; taken = tt }
 
 -- an accepted change leads to the volume after it
-pub accepted : (v : Store) (c : Change) → option_map filter_fault.Store (fault_of (change_of v c)) ≡ None → change_of v c ≡ Ok (changed_volume v c)
+pub accepted : (v : Store) (c : Change) → option_map filter_fault.Store (result_err (change_of v c)) ≡ None → change_of v c ≡ Ok (changed_volume v c)
 accepted v c = go (change_of v c)
   where
-    go : (r : Result Store StoreFault) → option_map filter_fault.Store (fault_of r) ≡ None → r ≡ Ok (kept_or v r)
+    go : (r : Result Store StoreFault) → option_map filter_fault.Store (result_err r) ≡ None → r ≡ Ok (kept_or v r)
     go (Ok w) h = refl
     go (Err f) h = absurd (cc (h))
 

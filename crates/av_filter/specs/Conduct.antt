@@ -16,7 +16,7 @@ use Rattle.av_filter.specs.Receiving.{receives}
 use Rattle.av_filter_table.specs.Table.{Table, mounted, question_at, opens_of}
 use Rattle.av_frame.specs.declared.message.Body.{Body}
 use Rattle.av_frame.specs.declared.message.Body.TheVariants.{Abort}
-use Rattle.av_store.specs.Content.{fault_of}
+use Rattle.std.specs.Result.{result_err}
 use Rattle.av_store.specs.Files.{Change}
 use Rattle.av_store.specs.Seen.{change_of}
 use Rattle.av_store.specs.Store.{Store, greatest}
@@ -68,7 +68,7 @@ filter_step t v Restarts = restarts t v
 -- why it is refused
 unfoldable pub filter_refusal : Table → Store → FilterEvent → Option FilterFault
 filter_refusal t v (Opens s least) = if v.opens == greatest then Some fault.OpensSpent else None
-filter_refusal t v (Changes c) = option_map fault.Store (fault_of (change_of v c))
+filter_refusal t v (Changes c) = option_map fault.Store (result_err (change_of v c))
 filter_refusal t v (CleansUp s) = None
 filter_refusal t v (Receives m) = None
 filter_refusal t v (TimesOut seq) = None

@@ -14,11 +14,10 @@ use crate::closing::{close, room_for};
 use crate::ending::Ending;
 use crate::out::Out;
 use crate::running::{scan_message, sequence_left};
-use av_base::message_id::MessageId;
-use av_filter_table::filter_table::FilterTable;
-use av_filter_table::question::Question;
-use av_pend::answer::Answer;
-use av_store::volume::Volume;
+use av_base::MessageId;
+use av_filter_table::{FilterTable, Question};
+use av_pend::Answer;
+use av_store::Volume;
 use std::alloc::{AllocError, Global};
 
 // A question whose answer came too late is asked again, for those of its opens that have a rescan left.

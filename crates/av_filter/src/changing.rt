@@ -15,7 +15,7 @@ ghost use Rattle.av_filter_table.specs.Rewriting.{change_by};
 ghost use Rattle.av_filter_table.specs.Table.{can_ask, context_of, is_modified, next_id, opens_of, question_of, sequence_left};
 ghost use Rattle.av_frame.specs.Message.{IsId};
 ghost use Rattle.av_frame.specs.declared.message.Body.TheVariants.{Abort};
-ghost use Rattle.av_store.specs.Content.{fault_of};
+ghost use Rattle.std.specs.Result.{result_err};
 ghost use Rattle.av_store.specs.Files.{Remove};
 ghost use Rattle.av_store.specs.Rows.{stream_at};
 ghost use Rattle.av_store.specs.Seen.{change_of};
@@ -27,17 +27,12 @@ use crate::fault::FilterFault;
 use crate::note::Note;
 use crate::out::Out;
 use crate::running::{ask_scan, can_ask, is_there, running_of, scan_message};
-use av_base::message_id::MessageId;
-use av_base::number::StreamId;
-use av_base::refusal::Refusal;
-use av_context::context_state::ContextState;
-use av_filter_table::filter_table::FilterTable;
-use av_filter_table::question::Question;
-use av_filter_table::rewriting::Rewriting;
-use av_frame::message::Message;
-use av_pend::answer::Answer;
-use av_store::fault::StoreFault;
-use av_store::volume::Volume;
+use av_base::{MessageId, Refusal, StreamId};
+use av_context::ContextState;
+use av_filter_table::{FilterTable, Question, Rewriting};
+use av_frame::Message;
+use av_pend::Answer;
+use av_store::{StoreFault, Volume};
 use std::alloc::{AllocError, Global};
 
 // A stream is written or cut. The volume changes once there is room for all else, and before anything else does.
@@ -50,7 +45,7 @@ pub(crate) fn rewrite(
     rewriting: Rewriting<'_>,
 ) -> Result<Out, Refusal<FilterFault>>
     requires { IsReady table.old volume.old }
-    ensures { Meets table.old volume.old table.new volume.new result (option_map fault.Store (fault_of (change_of volume.old (change_by stream rewriting.entry)))) (rewritten table.old (changed_volume volume.old (change_by stream rewriting.entry)) stream (question_of stream table.old.questions)) }
+    ensures { Meets table.old volume.old table.new volume.new result (option_map fault.Store (result_err (change_of volume.old (change_by stream rewriting.entry)))) (rewritten table.old (changed_volume volume.old (change_by stream rewriting.entry)) stream (question_of stream table.old.questions)) }
 {
     if let Some(fault) = rewriting.refusal(volume, stream) {
         return Err(Refusal::Fault(FilterFault::Store(fault)));
@@ -73,7 +68,7 @@ fn rewrite_asked(
 ) -> Result<Out, AllocError>
     requires ready { IsReady table.old volume.old }
     requires runs { IsRunning table.old question.now }
-    requires accepted { fault_of (change_of volume.old (change_by question.now.stream rewriting)) ≡ None }
+    requires accepted { result_err (change_of volume.old (change_by question.now.stream rewriting)) ≡ None }
     ensures { MeetsAlways table.old volume.old table.new volume.new result (again table.old (changed_volume volume.old (change_by question.now.stream rewriting.entry)) question.now (Abort question.now.id ∷ [])) }
 {
     let mut answers = room_for(table, alloc, question)?;
@@ -96,7 +91,7 @@ fn rewrite_asked(
 
 // A change that the volume accepts, where it has the memory.
 fn accept(rewriting: Rewriting<'_>, volume: &mut Volume, stream: StreamId) -> Result<(), AllocError>
-    requires { fault_of (change_of volume.old (change_by stream rewriting)) ≡ None }
+    requires { result_err (change_of volume.old (change_by stream rewriting)) ≡ None }
     ensures ok { OnOk result (change_of volume.old (change_by stream rewriting.entry) ≡ Ok volume.new) }
     ensures err { OnErr result (volume.new ≡ volume.old) }
 {
@@ -116,7 +111,7 @@ fn ask_anew_after(
 ) -> Result<MessageId, AllocError>
     requires ready { IsReady table.old volume.old }
     requires runs { IsRunning table.old question.now }
-    requires accepted { fault_of (change_of volume.old (change_by question.now.stream rewriting)) ≡ None }
+    requires accepted { result_err (change_of volume.old (change_by question.now.stream rewriting)) ≡ None }
     requires left { sequence_left table.old ≡ true }
     requires room { vec_len answers.old + length (opens_of question.now.id table.old.pended) ≤ vec_capacity answers.old }
     ensures id { IfOk result (λ id. id ≡ next_id table.old) }

@@ -9,18 +9,14 @@ ghost use Rattle.av_filter_table.specs.FilterTable.{id_of};
 ghost use Rattle.av_filter_table.specs.Table.{opens_of, other_opens, question_at};
 
 use crate::ending::Ending;
-use av_base::cause::Cause;
-use av_base::mode::Mode;
-use av_base::number::Version;
-use av_base::verdict::Verdict;
-use av_context::context_state::ContextState;
+use av_base::{Cause, Mode, Verdict, Version};
+use av_context::ContextState;
 use av_filter_table::answering::{refuse_question, settle_question};
-use av_filter_table::filter_table::FilterTable;
 use av_filter_table::present::generation_now;
-use av_filter_table::question::Question;
-use av_pend::answer::Answer;
-use av_pend::pended_open::{MOST_RESCANS, PendedOpen};
-use av_store::volume::Volume;
+use av_filter_table::{FilterTable, Question};
+use av_pend::pended_open::MOST_RESCANS;
+use av_pend::{Answer, PendedOpen};
+use av_store::Volume;
 use std::alloc::{AllocError, Global};
 
 // Room for the answers to a question's opens.

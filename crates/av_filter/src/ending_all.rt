@@ -5,12 +5,10 @@ ghost use Rattle.av_filter.specs.Conduct.{disconnects, restarts};
 ghost use Rattle.av_store.specs.Store.{greatest, mount_of};
 
 use crate::out::Out;
-use av_base::cause::Cause;
-use av_base::refusal::Refusal;
+use av_base::{Cause, Refusal};
+use av_filter_table::FilterTable;
 use av_filter_table::answering::{lose_questions, refuse_all};
-use av_filter_table::filter_table::FilterTable;
-use av_store::fault::BootSpent;
-use av_store::volume::Volume;
+use av_store::{BootSpent, Volume};
 use std::alloc::{AllocError, Global};
 use std::mem;
 

@@ -18,3 +18,8 @@ mod running;
 #[cfg(test)]
 mod tests;
 mod timing_out;
+
+pub use fault::FilterFault;
+pub use filter::Filter;
+pub use note::Note;
+pub use out::Out;

@@ -11,16 +11,12 @@ ghost use Rattle.av_store.specs.Store.{greatest};
 
 use crate::out::Out;
 use crate::running::{can_ask, has_room, running_of, scan_message};
-use av_base::cause::Cause;
-use av_base::number::{Generation, OpenId, StreamId, Version};
-use av_base::verdict::Verdict;
-use av_context::context_state::ContextState;
+use av_base::{Cause, Generation, OpenId, StreamId, Verdict, Version};
+use av_context::ContextState;
 use av_filter_table::answering::judge;
-use av_filter_table::filter_table::FilterTable;
-use av_filter_table::question::Question;
-use av_pend::answer::Answer;
-use av_pend::pended_open::PendedOpen;
-use av_store::volume::Volume;
+use av_filter_table::{FilterTable, Question};
+use av_pend::{Answer, PendedOpen};
+use av_store::Volume;
 use std::alloc::{AllocError, AllocFailed, Global};
 
 // An open of a stream that is there at this generation, under the volume's next number, and the floor that it finds.

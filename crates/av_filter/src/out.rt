@@ -3,9 +3,9 @@ ghost use Rattle.std.specs.Vec.{vec_capacity};
 ghost use Rattle.av_filter.specs.declared.note.Note.TheVariants.{Quiet, Submitted};
 
 use crate::note::Note;
-use av_base::number::OpenId;
-use av_frame::message::Message;
-use av_pend::answer::Answer;
+use av_base::OpenId;
+use av_frame::Message;
+use av_pend::Answer;
 use std::alloc::{AllocError, Global};
 
 /// What an event of the filter gives out: answers by their opens' order of submission, messages in the order in which they

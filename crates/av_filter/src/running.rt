@@ -10,13 +10,11 @@ ghost use Rattle.av_frame.specs.Message.{IsId};
 ghost use Rattle.av_frame.specs.declared.message.Body.TheVariants.{Scan};
 ghost use Rattle.av_store.specs.Rows.{stream_at};
 
-use av_base::message_id::MessageId;
-use av_base::number::StreamId;
-use av_filter_table::filter_table::FilterTable;
+use av_base::{MessageId, StreamId};
 use av_filter_table::present::generation_now;
-use av_filter_table::question::Question;
-use av_frame::message::Message;
-use av_store::volume::Volume;
+use av_filter_table::{FilterTable, Question};
+use av_frame::Message;
+use av_store::Volume;
 use std::alloc::AllocError;
 
 // The question of an id, if it runs.

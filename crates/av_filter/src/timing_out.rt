@@ -9,11 +9,10 @@ use crate::closing::refuse;
 use crate::note::Note;
 use crate::out::Out;
 use crate::running::running_at;
-use av_base::cause::Cause;
-use av_base::message_id::MessageId;
-use av_filter_table::filter_table::FilterTable;
-use av_frame::message::Message;
-use av_store::volume::Volume;
+use av_base::{Cause, MessageId};
+use av_filter_table::FilterTable;
+use av_frame::Message;
+use av_store::Volume;
 use std::alloc::{AllocError, Global};
 
 // A question's time is up.

@@ -6,14 +6,10 @@ ghost use Rattle.av_filter_table.specs.Table.{question_at, opens_of, other_opens
 
 use crate::filter_table::FilterTable;
 use crate::present::generation_now;
-use av_base::cause::Cause;
-use av_base::message_id::MessageId;
-use av_base::number::{Generation, Version};
-use av_base::verdict::Verdict;
-use av_context::context_state::ContextState;
-use av_pend::answer::Answer;
-use av_pend::pended_open::PendedOpen;
-use av_store::volume::Volume;
+use av_base::{Cause, Generation, MessageId, Verdict, Version};
+use av_context::ContextState;
+use av_pend::{Answer, PendedOpen};
+use av_store::Volume;
 use std::alloc::{AllocError, Global};
 
 /// Answers the opens of a question that can't be judged, in order, and takes them out. The cost grows with their count, and a

@@ -1,7 +1,7 @@
 ghost use Rattle.std.specs.Prelude.{◌≡◌, ◌<◌, ◌≤◌, ◌^◌};
 ghost use Rattle.av_filter_table.specs.Chains.{longer, shorter};
 
-use av_base::number::{Generation, StreamId};
+use av_base::{Generation, StreamId};
 
 /// The row of a question: the content that it is of, and its opens, as a chain of so many from the first to the last.
 #[derive(Clone, Copy, Debug, PartialEq, Eq)]

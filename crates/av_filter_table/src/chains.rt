@@ -9,9 +9,9 @@ ghost use Rattle.av_filter_table.specs.Chains.{AreChained, plains, of, others, s
 use crate::asked::Asked;
 use crate::numbered::Numbered;
 use crate::waits::Waits;
-use av_context::context_ref::ContextRef;
-use av_pend::again::Again;
-use av_pend::pended_open::{MOST_RESCANS, PendedOpen};
+use av_context::ContextRef;
+use av_pend::pended_open::MOST_RESCANS;
+use av_pend::{Again, PendedOpen};
 use std::alloc::AllocFailed;
 
 /// Puts an open behind all others, and behind those of its question. Where memory is refused the open comes back.

@@ -11,12 +11,10 @@ use crate::asked::Asked;
 use crate::numbered::Numbered;
 use crate::stream_contexts::StreamContexts;
 use crate::waits::Waits;
-use av_base::limits::Limits;
-use av_base::mode::Mode;
-use av_base::number::Version;
-use av_cache::cache::VerdictCache;
-use av_context::context_ref::ContextRef;
-use av_pend::pended_open::PendedOpen;
+use av_base::{Limits, Mode, Version};
+use av_cache::VerdictCache;
+use av_context::ContextRef;
+use av_pend::PendedOpen;
 use std::alloc::{AllocError, Global};
 use std::marker::Model;
 

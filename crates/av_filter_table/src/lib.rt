@@ -22,3 +22,8 @@ mod stream_contexts;
 #[cfg(test)]
 mod tests;
 mod waits;
+
+pub use filter_table::FilterTable;
+pub use pended::Pended;
+pub use question::Question;
+pub use rewriting::Rewriting;

@@ -10,12 +10,10 @@ use crate::chains;
 use crate::numbered::Numbered;
 use crate::present::generation_now;
 use crate::waits::Waits;
-use av_base::cause::Cause;
-use av_base::mode::Mode;
-use av_context::context_ref::ContextRef;
-use av_pend::answer::Answer;
-use av_pend::pended_open::PendedOpen;
-use av_store::volume::Volume;
+use av_base::{Cause, Mode};
+use av_context::ContextRef;
+use av_pend::{Answer, PendedOpen};
+use av_store::Volume;
 
 /// Lets the opens of a question wait for another one, which has none yet, with one rescan more; those with no rescan left
 /// are answered. It takes no memory.

@@ -1,13 +1,11 @@
 ghost use Rattle.std.specs.Prelude.{◌≡◌, None};
 ghost use Rattle.av_filter_table.specs.Rewriting.{change_by};
-ghost use Rattle.av_store.specs.Content.{fault_of};
+ghost use Rattle.std.specs.Result.{result_err};
 ghost use Rattle.av_store.specs.Seen.{change_of, kept_or};
 ghost use Rattle.av_base.specs.Answers.{Steps};
 
-use av_base::number::StreamId;
-use av_base::refusal::Refusal;
-use av_store::fault::StoreFault;
-use av_store::volume::Volume;
+use av_base::{Refusal, StreamId};
+use av_store::{StoreFault, Volume};
 
 /// A change of one stream's bytes, which leaves the stream there: some are written from `offset` on, or those before
 /// `length` stay alone.
@@ -21,7 +19,7 @@ impl Rewriting<'_> {
     /// The fault that the volume would answer, where there is one. It takes no memory.
     #[tactic(auto, unfolding(av_store::specs::Seen::change_of))]
     pub fn refusal(self, volume: &Volume, stream: StreamId) -> Option<StoreFault>
-        ensures { result ≡ fault_of (change_of volume.now (change_by stream self.entry)) }
+        ensures { result ≡ result_err (change_of volume.now (change_by stream self.entry)) }
     {
         match self {
             Rewriting::Write { offset, bytes } => volume.write_refusal(stream, offset, bytes),

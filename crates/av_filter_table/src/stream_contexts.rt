@@ -4,11 +4,8 @@ ghost use Rattle.av_context.specs.Contexts.{at, PutsAt};
 ghost use Rattle.av_filter_table.specs.Numbered.{IsAscending};
 ghost use Rattle.av_filter_table.specs.StreamContexts.{Known, given_back, known_again, let_loose, held_of, known_of, AreAttached};
 
-use av_base::number::StreamId;
-use av_context::context_fault::ContextFault;
-use av_context::context_ref::{ContextRef, Set};
-use av_context::context_state::ContextState;
-use av_context::context_table::ContextTable;
+use av_base::StreamId;
+use av_context::{ContextFault, ContextRef, ContextState, ContextTable, Set};
 use std::alloc::{AllocError, Global};
 use std::marker::Model;
 

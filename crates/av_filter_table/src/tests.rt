@@ -7,17 +7,13 @@ ghost use Rattle.av_filter_table.specs.Table.{question_at};
 use crate::answering;
 use crate::filter_table::FilterTable;
 use crate::question::Question;
-use av_base::cause::Cause;
-use av_base::limits::{LimitField, LimitValues, Limits};
-use av_base::message_id::MessageId;
-use av_base::mode::Mode;
-use av_base::number::{Generation, OpenId, StreamId, Version};
-use av_base::verdict::Verdict;
-use av_context::context_state::ContextState;
-use av_pend::again::Again;
-use av_pend::answer::Answer;
-use av_pend::pended_open::PendedOpen;
-use av_store::volume::Volume;
+use av_base::{
+    Cause, Generation, LimitField, LimitValues, Limits, MessageId, Mode, OpenId, StreamId, Verdict,
+    Version,
+};
+use av_context::ContextState;
+use av_pend::{Again, Answer, PendedOpen};
+use av_store::Volume;
 use std::alloc::Global;
 use std::process::Abort;
 use std::test::Fail;

@@ -10,6 +10,7 @@ use Rattle.av_frame.specs.declared.message.Body.{Body}
 use Rattle.av_frame.specs.Message.{IsInRange}
 use Rattle.av_frame.specs.Reading.{number4, decoded}
 use Rattle.av_frame.specs.Spelling.{frame}
+use Rattle.av_base.specs.Refused.{map_ok}
 
 -- a feed: the bytes that came and were not taken off yet, and whether a fault was met
 pub record Fed : Type 0 where
@@ -18,8 +19,7 @@ pub record Fed : Type 0 where
 
 -- a message, with how many bytes its frame takes
 abbrev pub with_size : ℕ → Result Body FrameFault → Result (Option (Body × ℕ)) FrameFault
-with_size size (Ok m) = Ok (Some (m, size))
-with_size size (Err f) = Err f
+with_size size message = map_ok (λ m. Some (m, size)) message
 
 -- what stands at the front: a message, nothing as long as its frame isn't whole, or a fault. A length of 0 or of more
 -- than a body has at most is a fault as soon as its four bytes are there, every other fault is one once the whole body is.

@@ -10,12 +10,8 @@ use crate::fault::FrameFault;
 use crate::fields::{u32_at, u64_at};
 use crate::message::{Body, Message, is_chunk};
 use crate::outcome::Outcome;
-use av_base::byte_list::ByteList;
 use av_base::limits::MAX_CHUNK;
-use av_base::message_id::MessageId;
-use av_base::number::{Generation, StreamId, Version};
-use av_base::refusal::Refusal;
-use av_base::verdict::Verdict;
+use av_base::{ByteList, Generation, MessageId, Refusal, StreamId, Verdict, Version};
 use std::alloc::Global;
 
 /// The most bytes of a body: those of a chunk's kind, question and offset, and the chunk's.

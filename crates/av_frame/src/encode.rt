@@ -7,9 +7,7 @@ use crate::decode::MAX_BODY;
 use crate::fields::{put1, put4, put8};
 use crate::message::{Body, Message};
 use crate::outcome::Outcome;
-use av_base::message_id::MessageId;
-use av_base::number::{Generation, StreamId};
-use av_base::verdict::Verdict;
+use av_base::{Generation, MessageId, StreamId, Verdict};
 use std::alloc::AllocError;
 
 /// Appends a message's frame: the body's length in four bytes, then its kind and fields. Its bytes are copied once.

@@ -8,7 +8,7 @@ use crate::decode::{MAX_BODY, decode};
 use crate::fault::{FeedFault, FrameFault};
 use crate::fields::u32_at;
 use crate::message::Message;
-use av_base::refusal::Refusal;
+use av_base::Refusal;
 use bytes::BytesMut;
 use std::alloc::Global;
 use std::marker::Model;

@@ -7,8 +7,7 @@ ghost use Rattle.av_frame.specs.Spelling.{frame};
 use crate::fault::{FeedFault, FrameFault};
 use crate::feed::Feed;
 use crate::message::Message;
-use av_base::byte_list::ByteList;
-use av_base::refusal::Refusal;
+use av_base::{ByteList, Refusal};
 use std::alloc::{AllocError, Global};
 
 /// The messages that a stream of frames spells, and the fault that ends them, where one does.

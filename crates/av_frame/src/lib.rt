@@ -21,3 +21,10 @@ pub mod message;
 pub mod outcome;
 #[cfg(test)]
 mod tests;
+
+pub use cause::{FailCause, NoChunkCause};
+pub use fault::{FeedFault, FrameFault};
+pub use feed::Feed;
+pub use frames::ReadFrames;
+pub use message::{Body, Message};
+pub use outcome::Outcome;

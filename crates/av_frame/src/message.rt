@@ -4,10 +4,8 @@ ghost use Rattle.av_frame.specs.declared.message.Body.TheVariants.{Scan, Chunk, 
 
 use crate::cause::NoChunkCause;
 use crate::outcome::Outcome;
-use av_base::byte_list::ByteList;
 use av_base::limits::{MAX_CHUNK, MAX_GENERATION, MAX_LENGTH};
-use av_base::message_id::MessageId;
-use av_base::number::{Generation, StreamId, Version};
+use av_base::{ByteList, Generation, MessageId, StreamId, Version};
 use std::alloc::AllocError;
 use std::marker::Model;
 

@@ -3,8 +3,7 @@ ghost use Rattle.av_frame.specs.Message.{IsOutcome, IsVerdict, outcome_in_range,
 
 use crate::cause::FailCause;
 use av_base::limits::MAX_LENGTH;
-use av_base::number::Version;
-use av_base::verdict::Verdict;
+use av_base::{Verdict, Version};
 
 /// The greatest index of a signature.
 pub const MAX_INDEX: u32 = 1_023;

@@ -30,3 +30,7 @@ mod tests;
 mod trie;
 mod walks;
 mod windows;
+
+pub use automaton::Automaton;
+pub use scan::Scan;
+pub use step::Step;

@@ -4,7 +4,7 @@ ghost use Rattle.av_match.specs.Part.{AtMost};
 ghost use Rattle.av_match.specs.Shifts.{AreShifts, HasShorter, IsSkimmer, ReachWord};
 ghost use Rattle.av_match.specs.Words.{word_at, words_of};
 
-use av_base::byte_list::ByteList;
+use av_base::ByteList;
 use std::alloc::{AllocError, Global};
 
 /// Shorter windows cost more than they spare, so a pattern that is shorter is looked for by itself.

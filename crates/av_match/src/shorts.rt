@@ -3,7 +3,7 @@ ghost use Rattle.std.specs.Prelude.{OnOk};
 ghost use Rattle.av_match.specs.Shorts.{AreAbsent};
 
 use crate::credit::Stop;
-use av_base::byte_list::ByteList;
+use av_base::ByteList;
 use memchr::memmem;
 
 /// None of the patterns occurs in a piece, or it has a hit.

@@ -3,7 +3,7 @@ ghost use Rattle.std.specs.Prelude.{◌≡◌, ◌*◌, ◌<◌, ◌≤◌, leng
 ghost use Rattle.av_match.specs.Part.{IsClosed};
 ghost use Rattle.av_match.specs.Shifts.{AreBelow};
 
-use av_base::byte_list::ByteList;
+use av_base::ByteList;
 
 /// The tables of an automaton: where each state goes by each byte, what each gives out, how many bytes its word has,
 /// how far each pair of bytes lets a window be moved, and the patterns that are shorter than it. The window has no

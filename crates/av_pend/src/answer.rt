@@ -1,5 +1,4 @@
-use av_base::cause::Cause;
-use av_base::number::{Generation, OpenId, StreamId, Version};
+use av_base::{Cause, Generation, OpenId, StreamId, Version};
 
 /// What an open is told.
 #[derive(Clone, Copy, Debug, PartialEq, Eq)]

@@ -13,3 +13,7 @@ pub mod answer;
 pub mod pended_open;
 #[cfg(test)]
 mod tests;
+
+pub use again::Again;
+pub use answer::Answer;
+pub use pended_open::PendedOpen;

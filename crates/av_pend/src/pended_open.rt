@@ -3,9 +3,7 @@ ghost use Rattle.av_pend.specs.Pend.{waiting_from, granted, refused, denied, Aga
 
 use crate::again::Again;
 use crate::answer::Answer;
-use av_base::cause::Cause;
-use av_base::mode::Mode;
-use av_base::number::{Generation, OpenId, StreamId, Version};
+use av_base::{Cause, Generation, Mode, OpenId, StreamId, Version};
 use std::marker::Model;
 
 /// How many rescans an open may see.

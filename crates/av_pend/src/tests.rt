@@ -1,9 +1,7 @@
 use crate::again::Again;
 use crate::answer::Answer;
 use crate::pended_open::PendedOpen;
-use av_base::cause::Cause;
-use av_base::mode::Mode;
-use av_base::number::{Generation, OpenId, StreamId, Version};
+use av_base::{Cause, Generation, Mode, OpenId, StreamId, Version};
 use std::test::Fail;
 
 fn waiting() -> PendedOpen {

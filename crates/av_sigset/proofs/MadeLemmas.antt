@@ -3,10 +3,12 @@ use Rattle.std.proofs.lemmas.Bool.Decides.{nat_tests}
 use Rattle.std.proofs.lemmas.List.Sums.{sum_by-cons}
 use Rattle.std.specs.List.{AllByRecursion}
 use Rattle.av_sigset.specs.declared.signature.Pattern.{Pattern}
-use Rattle.av_sigset.specs.Made.{fault_in, fault_of, serial_signatures, set_made, unless_fault}
+use Rattle.av_sigset.specs.Made.{fault_in, serial_signatures, set_made}
+use Rattle.av_base.specs.Refused.{unless}
+use Rattle.std.specs.Result.{result_err}
 use Rattle.av_sigset.specs.Judge.{bad_line}
 use Rattle.av_sigset.specs.declared.fault.SetFaultKind.TheVariants.{Version}
-use Rattle.av_sigset.specs.Set.{AreInRange, IsSet, HasRightLength, patterns_of, byte_count}
+use Rattle.av_sigset.specs.Set.{NumberedSet, AreInRange, IsSet, HasRightLength, patterns_of, byte_count}
 
 -- where neither test holds
 neither : {A : Type 0} (x y : Bool) (a b : A) (r : Option A) → cond x (Some a) (cond y (Some b) r) ≡ None → (x ≡ false) × (y ≡ false) × (r ≡ None)
@@ -43,14 +45,14 @@ pub ranges_made : (ps : List (List ℕ)) → fault_in 0 0 ps ≡ None → AreInR
 ranges_made ps none = let all = fit 0 0 0 ps (omega arith) (omega arith) none in record { count = omega (arith, all.some); lengths = all.lengths; bytes = omega (arith, all.short) }
 
 -- where nothing is wrong with the patterns they make a set
-pub made_set : (version : ℕ) (ps : List (List ℕ)) → fault_of (set_made version ps) ≡ None → IsSet (record { version = version; signatures = serial_signatures 0 ps })
+pub made_set : (version : ℕ) (ps : List (List ℕ)) → result_err (set_made version ps) ≡ None → IsSet (record { version = version; signatures = serial_signatures 0 ps })
 made_set version ps no_fault =
     (elim (version == 0) as (λ b. (version == 0) ≡ b
-    → fault_of (cond b (bad_line 2 Version) (unless_fault (fault_in 0 0 ps) (record { version = version; signatures = serial_signatures 0 ps }))) ≡ None
+    → result_err (cond b (bad_line 2 Version) (unless {A = NumberedSet} (fault_in 0 0 ps) (record { version = version; signatures = serial_signatures 0 ps }))) ≡ None
     → IsSet (record { version = version; signatures = serial_signatures 0 ps })) [
       | true ↦ λ is h. absurd cc
       | false ↦ λ is h.
-          (elim (fault_in 0 0 ps) as (λ o. fault_in 0 0 ps ≡ o → fault_of (unless_fault o (record { version = version; signatures = serial_signatures 0 ps })) ≡ None
+          (elim (fault_in 0 0 ps) as (λ o. fault_in 0 0 ps ≡ o → result_err (unless {A = NumberedSet} o (record { version = version; signatures = serial_signatures 0 ps })) ≡ None
           → IsSet (record { version = version; signatures = serial_signatures 0 ps })) [
             | None ↦ λ none k. record { version = grind (arith, nat_tests); ranges = ranges_made ps none }
             | Some fault ↦ λ some k. absurd cc

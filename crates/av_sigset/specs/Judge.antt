@@ -14,6 +14,7 @@ use Rattle.av_sigset.specs.declared.fault.SetFault.{SetFault}
 use Rattle.av_sigset.specs.declared.fault.SetFaultKind.{SetFaultKind}
 use Rattle.av_sigset.specs.declared.fault.SetFaultKind.TheVariants.{Header, Version, Name, Hex, Length, Duplicate, TooMany, Unended}
 use Rattle.av_sigset.specs.declared.signature.Signature.{Signature}
+use Rattle.av_base.specs.Refused.{map_ok}
 
 -- a line is bad in this way
 abbrev pub bad_line : {A : Type 0} → ℕ → SetFaultKind → Result A SetFault
@@ -95,8 +96,7 @@ version_of (word ∷ digits ∷ other ∷ rest) = None
 
 -- the signatures under their version
 abbrev pub set_under : ℕ → Result (List Signature) SetFault → Result NumberedSet SetFault
-set_under version (Ok signatures) = Ok (record { version = version; signatures = signatures })
-set_under version (Err fault) = Err fault
+set_under version signatures = map_ok (λ s. record { version = version; signatures = s }) signatures
 
 -- what line 2 names, and the signatures of the lines below it
 abbrev pub with_version : Option ℕ → List (List ℕ) → Result NumberedSet SetFault

@@ -29,12 +29,7 @@ pub record JoinsAs (before : List Signature) (name digits : List ℕ) (signature
   pub short : byte_count (patterns_of before) + length spells.bytes ≤ MAX_BYTES
   pub joined : signatures_with before signature ≡ Ok (before ++ record { name = name; pattern = record { bytes = spells.bytes } } ∷ [])
 
--- a call stops at the fault that is wanted, or for memory where none is
-abbrev pub IsRefusal : {A F : Type 0} → Refusal F → Result A F → Type 0
-IsRefusal (Fault f) wanted = wanted ≡ Err f
-IsRefusal NoMemory wanted = IsOk wanted
-
--- the same, where memory is refused before the other lines are judged
+-- a call stops at the fault that is wanted, or for memory, which is refused before the other lines are judged
 abbrev pub IsFault : {A F : Type 0} → Refusal F → Result A F → Type 0
 IsFault (Fault f) wanted = wanted ≡ Err f
 IsFault NoMemory wanted = Unit {0}

@@ -7,6 +7,7 @@ use Rattle.av_sigset.specs.declared.signature.TheConstants.{MAX_PATTERN}
 use Rattle.av_sigset.specs.declared.fault.SetFault.{SetFault}
 use Rattle.av_sigset.specs.declared.fault.SetFaultKind.TheVariants.{Version, Length, TooMany}
 use Rattle.av_sigset.specs.declared.signature.Signature.{Signature}
+use Rattle.av_base.specs.Refused.{unless}
 
 -- pattern i under the name s0, s1, s2 and on
 abbrev pub serial_signature : ℕ → List ℕ → Signature
@@ -25,17 +26,7 @@ fault_in count bytes (p ∷ patterns) =
     else if nat_le MAX_SIGNATURES count || nat_lt MAX_BYTES (bytes + length p) then Some (record { line = count + 3; kind = TooMany })
     else fault_in (count + 1) (bytes + length p) patterns
 
--- a fault, or this set
-abbrev pub unless_fault : Option SetFault → NumberedSet → Result NumberedSet SetFault
-unless_fault None s = Ok s
-unless_fault (Some fault) s = Err fault
-
 -- the set of these patterns under this version, or the line of the first that can't stand in a file
 abbrev pub set_made : ℕ → List (List ℕ) → Result NumberedSet SetFault
 set_made version patterns =
-    if version == 0 then bad_line 2 Version else unless_fault (fault_in 0 0 patterns) (record { version = version; signatures = serial_signatures 0 patterns })
-
--- why a set can't be made, where it can't
-abbrev pub fault_of : Result NumberedSet SetFault → Option SetFault
-fault_of (Ok s) = None
-fault_of (Err fault) = Some fault
+    if version == 0 then bad_line 2 Version else unless (fault_in 0 0 patterns) (record { version = version; signatures = serial_signatures 0 patterns })

@@ -7,8 +7,7 @@ ghost use Rattle.av_sigset.specs.Set.{IsSet};
 
 use crate::fault::CatalogueFault;
 use crate::set::SignatureSet;
-use av_base::number::Version;
-use av_base::refusal::{Refusal, Refused};
+use av_base::{Refusal, Refused, Version};
 use std::alloc::Global;
 use std::marker::Model;
 

@@ -20,3 +20,8 @@ pub mod set;
 pub mod signature;
 #[cfg(test)]
 mod tests;
+
+pub use catalogue::Catalogue;
+pub use fault::{CatalogueFault, SetFault, SetFaultKind};
+pub use set::SignatureSet;
+pub use signature::{Pattern, Signature};

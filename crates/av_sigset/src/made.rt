@@ -5,7 +5,7 @@ ghost use Rattle.av_sigset.specs.Made.{fault_in, serial_signatures, serial_signa
 use crate::fault::{SetFault, SetFaultKind, bad_line};
 use crate::set::{MAX_BYTES, MAX_SIGNATURES};
 use crate::signature::{MAX_PATTERN, Pattern, Signature};
-use av_base::byte_list::ByteList;
+use av_base::ByteList;
 use itoa::Buffer;
 use std::alloc::{AllocError, Global};
 use std::convert::AsSlice;

@@ -4,7 +4,8 @@ ghost use Rattle.std.specs.List.{list_any};
 ghost use Rattle.std.specs.Str.{bytes_eq};
 ghost use Rattle.av_base.specs.Line.{pieces_of};
 ghost use Rattle.av_sigset.specs.Judge.{set_of, set_under, signatures_from, signatures_with, signature_of, first_word};
-ghost use Rattle.av_sigset.specs.Line.{IsFault, IsRefusal, JoinsAs};
+ghost use Rattle.av_sigset.specs.Line.{IsFault, JoinsAs};
+ghost use Rattle.av_base.specs.Refused.{IsRefusal};
 ghost use Rattle.hex.specs.Hex.{decode_of};
 ghost use Rattle.av_sigset.specs.Set.{AreInRange, patterns_of, byte_count};
 
@@ -13,9 +14,8 @@ use crate::judge::fault_in;
 use crate::line::{Words, version_of, words_of};
 use crate::set::{MAX_BYTES, MAX_SIGNATURES};
 use crate::signature::{Pattern, Signature};
-use av_base::byte_list::ByteList;
 use av_base::line::{LF, first_piece};
-use av_base::refusal::Refusal;
+use av_base::{ByteList, Refusal};
 use hex::FromHexError;
 use std::alloc::{AllocError, Global};
 

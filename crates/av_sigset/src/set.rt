@@ -2,15 +2,15 @@ ghost use Rattle.std.specs.Prelude.{◌≡◌, ◌≤◌, length, slice_get, map
 ghost use Rattle.std.specs.Option.{option_copied, option_map};
 ghost use Rattle.av_base.specs.Answers.{Reads};
 ghost use Rattle.av_sigset.specs.Judge.{set_of};
-ghost use Rattle.av_sigset.specs.Made.{fault_of, set_made};
+ghost use Rattle.av_sigset.specs.Made.{set_made};
+ghost use Rattle.std.specs.Result.{result_err};
 ghost use Rattle.av_sigset.specs.Set.{IsSet, patterns_of};
 
 use crate::fault::{SetFault, SetFaultKind, bad_line};
 use crate::made::{fault_in, serial_signatures};
 use crate::read::{body_of, read_signatures};
 use crate::signature::{Pattern, Signature};
-use av_base::number::Version;
-use av_base::refusal::Refusal;
+use av_base::{Refusal, Version};
 use std::alloc::Global;
 use std::convert::AsSlice;
 use std::marker::Model;
@@ -76,7 +76,7 @@ impl SignatureSet {
     /// or too much. A fault names the line that the pattern would have in a file: line 2 is the version's, and pattern i
     /// stands on line i + 3. It takes no memory.
     pub fn patterns_fault<P: AsSlice<u8>>(version: Version, patterns: &[P]) -> Option<SetFault>
-        ensures { result ≡ fault_of (set_made version (map P.items patterns.now)) }
+        ensures { result ≡ result_err (set_made version (map P.items patterns.now)) }
     {
         if version.get() == 0 {
             return Some(bad_line(2, SetFaultKind::Version));

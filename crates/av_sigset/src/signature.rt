@@ -1,4 +1,4 @@
-use av_base::byte_list::ByteList;
+use av_base::ByteList;
 use std::convert::AsSlice;
 
 /// The most bytes of a pattern.

@@ -1,8 +1,7 @@
 use crate::catalogue::Catalogue;
 use crate::fault::{CatalogueFault, SetFault, SetFaultKind};
 use crate::set::SignatureSet;
-use av_base::number::Version;
-use av_base::refusal::Refusal;
+use av_base::{Refusal, Version};
 use av_fakes::{may_refuse, refuse_no_more};
 use std::alloc::{AllocError, Global};
 use std::test::Fail;

@@ -14,7 +14,8 @@ use Rattle.av_store.specs.Content.{new_stream, cut_to}
 use Rattle.av_store.specs.Content as content
 use Rattle.av_store.specs.Files.{Change, File, Create, Write, Cut, Remove, same_bytes, numbered, changed, set_bytes, gone, files_after, if_here, file_of, has_name, number_from, write_refusal, cut_refusal, remove_refusal, change_refusal, written}
 use Rattle.av_store.specs.Rows.{Streams, is_number, is_same, stream_at, number_named, replaced, without}
-use Rattle.av_store.specs.Seen.{stream_of, seen_from, seen, Keeps, volume_of, change_of, unless, kept_or, run_of, files_or, files_run, Follows, NumbersRise}
+use Rattle.av_store.specs.Seen.{stream_of, seen_from, seen, Keeps, volume_of, change_of, kept_or, run_of, files_or, files_run, Follows, NumbersRise}
+use Rattle.av_base.specs.Refused.{unless}
 use Rattle.av_store.specs.declared.fault.StoreFault.{StoreFault}
 use Rattle.av_base.specs.declared.limits.LimitValues.{LimitValues}
 use Rattle.av_store.specs.Store.{Store, empty_store, create_of, greatest, is_name, on_stream, put_stream, with_streams}

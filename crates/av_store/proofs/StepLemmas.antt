@@ -11,7 +11,8 @@ use Rattle.av_base.specs.Overwrite.{overwritten}
 use Rattle.av_store.specs.declared.stream.Stream.{Stream}
 use Rattle.av_store.specs.declared.fault.StoreFault.{StoreFault}
 use Rattle.av_store.specs.declared.fault.StoreFault.TheVariants.{Hole, TooLarge, GenerationSpent}
-use Rattle.av_store.specs.Content.{fault_of, written, cut_to}
+use Rattle.av_store.specs.Content.{written, cut_to}
+use Rattle.std.specs.Result.{result_err}
 use Rattle.av_store.specs.Index.{IsIndexed}
 use Rattle.av_store.specs.Rows.{Streams, is_number, stream_at, replaced}
 use Rattle.av_store.specs.Store.{Store, on_stream, put_stream, stepped, with_streams}
@@ -36,14 +37,14 @@ steps_at_once ss tt id s t step (Ok done) found is h = ap (λ o. put_stream ss i
 steps_at_once ss tt id s t step (Err f) found is h =
     (ap (λ o. put_stream ss id (on_stream o step)) found ∙ ap (put_stream ss id) (h.0), is ∙ ap (set_value (is_number id) ss) (h.1) ∙ set_value_same (is_number id) ss s found)
 
-fault_put : (v : Store) (id : ℕ) (r : Result Stream StoreFault) → fault_of (with_streams v (put_stream v.streams id r)) ≡ fault_of r
+fault_put : (v : Store) (id : ℕ) (r : Result Stream StoreFault) → result_err (with_streams v (put_stream v.streams id r)) ≡ result_err r
 fault_put v id (Ok s) = refl
 fault_put v id (Err f) = refl
 
 -- a step of the streams is refused as that of the stream that is found
 pub fault_at : (v : Store) (id : ℕ) (s : Stream) (step : Stream → Result Stream StoreFault) → stream_at id v.streams ≡ Some s
-    → fault_of (with_streams v (stepped v.streams id step)) ≡ fault_of (step s)
-fault_at v id s step found = ap (λ o. fault_of (with_streams v (put_stream v.streams id (on_stream o step)))) found ∙ fault_put v id (step s)
+    → result_err (with_streams v (stepped v.streams id step)) ≡ result_err (step s)
+fault_at v id s step found = ap (λ o. result_err (with_streams v (put_stream v.streams id (on_stream o step)))) found ∙ fault_put v id (step s)
 
 -- a step that keeps names
 abbrev pub KeepsName : (Stream → Result Stream StoreFault) → Type 0

@@ -5,11 +5,6 @@ use Rattle.av_store.specs.declared.stream.Stream.{Stream}
 use Rattle.av_store.specs.declared.fault.StoreFault.{StoreFault}
 use Rattle.av_store.specs.declared.fault.StoreFault.TheVariants.{Hole, TooLarge, GenerationSpent}
 
--- why a step is refused, where it is
-abbrev pub fault_of : {A : Type 0} → Result A StoreFault → Option StoreFault
-fault_of (Ok a) = None
-fault_of (Err f) = Some f
-
 -- a stream as it is made
 abbrev pub new_stream : List ℕ → Stream
 new_stream name = record { name = name; generation = 1; bytes = [] }

@@ -7,6 +7,7 @@ use Rattle.av_store.specs.declared.fault.StoreFault.{StoreFault}
 use Rattle.av_store.specs.Files.{Change, File, Create, Write, Cut, Remove, files_after, file_of, number_of, change_refusal}
 use Rattle.av_store.specs.Rows.{Streams, stream_at, number_named}
 use Rattle.av_store.specs.Store.{Store, empty_store, create_of, write_of, cut_of, remove_of}
+use Rattle.av_base.specs.Refused.{unless}
 
 -- a file as a stream of the volume
 abbrev pub stream_of : File → Stream
@@ -37,11 +38,6 @@ change_of v (Create name) = volume_of (create_of v name)
 change_of v (Write s o b) = write_of v s o b
 change_of v (Cut s n) = cut_of v s n
 change_of v (Remove s) = remove_of v s
-
--- this value, where there is no fault
-abbrev pub unless : {A : Type 0} → Option StoreFault → A → Result A StoreFault
-unless None x = Ok x
-unless (Some e) x = Err e
 
 -- the volume after a change, or as it was where the change was refused
 abbrev pub kept_or : Store → Result Store StoreFault → Store

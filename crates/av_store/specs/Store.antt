@@ -8,6 +8,7 @@ use Rattle.av_store.specs.declared.fault.BootSpent.{BootSpent}
 use Rattle.av_store.specs.declared.fault.OpensSpent.{OpensSpent}
 use Rattle.av_store.specs.Content.{new_stream, written, cut_to, bytes_read}
 use Rattle.av_store.specs.Rows.{Streams, stream_at, number_named, replaced, without}
+use Rattle.av_base.specs.Refused.{map_ok}
 
 -- A volume: its number, the boots and open numbers given, the last stream number given, its limits, and the streams that are there.
 pub record Store : Type 0 where
@@ -46,8 +47,7 @@ on_stream (Some s) step = step s
 
 -- the streams with what a step left at this number
 abbrev pub put_stream : Streams → ℕ → Result Stream StoreFault → Result Streams StoreFault
-put_stream ss id (Ok s) = Ok (replaced id s ss)
-put_stream ss id (Err e) = Err e
+put_stream ss id left = map_ok (λ s. replaced id s ss) left
 
 -- the streams after a step on one of them
 abbrev pub stepped : Streams → ℕ → (Stream → Result Stream StoreFault) → Result Streams StoreFault
@@ -55,8 +55,7 @@ stepped ss id step = put_stream ss id (on_stream (stream_at id ss) step)
 
 -- the volume with these streams
 abbrev pub with_streams : Store → Result Streams StoreFault → Result Store StoreFault
-with_streams v (Ok ss) = Ok (record v { streams = ss })
-with_streams v (Err e) = Err e
+with_streams v streams = map_ok (λ ss. record v { streams = ss }) streams
 
 abbrev pub write_of : Store → ℕ → ℕ → List ℕ → Result Store StoreFault
 write_of v id offset bytes = with_streams v (stepped v.streams id (written v.limits offset bytes))

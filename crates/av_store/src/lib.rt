@@ -15,3 +15,6 @@ mod table;
 #[cfg(test)]
 mod tests;
 pub mod volume;
+
+pub use fault::{BootSpent, OpensSpent, StoreFault};
+pub use volume::Volume;

@@ -1,12 +1,10 @@
 ghost use Rattle.std.specs.Prelude.{◌≡◌, ◌-◌, ◌<◌, ◌^◌, IfNone};
 ghost use Rattle.av_base.specs.Answers.{Reads, Steps, StepsAtOnce};
-ghost use Rattle.av_store.specs.Content.{bytes_read, fault_of, written, cut_to};
+ghost use Rattle.av_store.specs.Content.{bytes_read, written, cut_to};
+ghost use Rattle.std.specs.Result.{result_err};
 
 use crate::fault::StoreFault;
-use av_base::byte_list::ByteList;
-use av_base::limits::Limits;
-use av_base::number::Generation;
-use av_base::refusal::Refusal;
+use av_base::{ByteList, Generation, Limits, Refusal};
 use std::alloc::Global;
 
 /// A stream of a volume: its name, and its present generation and bytes.
@@ -37,7 +35,7 @@ impl Stream {
 
     /// Why a write is refused, where it is for a fault.
     pub fn write_refusal(&self, limits: &Limits, offset: u64, bytes: &[u8]) -> Option<StoreFault>
-        ensures fault { result ≡ fault_of (written limits.now offset bytes.now self.now) }
+        ensures fault { result ≡ result_err (written limits.now offset bytes.now self.now) }
         ensures generation { IfNone result (self.now.generation < 2 ^ 64 - 1) }
     {
         let limits = limits.values();
@@ -67,7 +65,7 @@ impl Stream {
 
     /// Why a cut is refused, where it is.
     pub fn cut_refusal(&self, limits: &Limits, length: u64) -> Option<StoreFault>
-        ensures fault { result ≡ fault_of (cut_to limits.now length self.now) }
+        ensures fault { result ≡ result_err (cut_to limits.now length self.now) }
         ensures generation { IfNone result (self.now.generation < 2 ^ 64 - 1) }
     {
         if length > self.bytes.len() as u64 {

@@ -10,10 +10,7 @@ ghost use Rattle.av_store.specs.Store.{stepped, removed};
 
 use crate::fault::StoreFault;
 use crate::stream::Stream;
-use av_base::byte_list::ByteList;
-use av_base::limits::Limits;
-use av_base::number::Generation;
-use av_base::refusal::Refusal;
+use av_base::{ByteList, Generation, Limits, Refusal};
 use std::alloc::Global;
 use std::collections::BTreeMap;
 

@@ -1,8 +1,6 @@
 use crate::fault::StoreFault;
 use crate::volume::Volume;
-use av_base::limits::{LimitValues, Limits};
-use av_base::number::{Generation, OpenId, StreamId};
-use av_base::refusal::Refusal;
+use av_base::{Generation, LimitValues, Limits, OpenId, Refusal, StreamId};
 use av_fakes::{may_refuse, refuse_no_more};
 use std::test::Fail;
 

@@ -1,17 +1,14 @@
 ghost use Rattle.std.specs.Prelude.{◌≡◌, ◌-◌, ◌<◌, ◌≤◌, None, IfNone, IfOk, length, map};
 ghost use Rattle.std.specs.Option.{option_map, option_copied};
 ghost use Rattle.av_base.specs.Answers.{Answers, AnswersAtOnce, Steps, StepsAtOnce, Reads};
-ghost use Rattle.av_store.specs.Content.{fault_of};
+ghost use Rattle.std.specs.Result.{result_err};
 ghost use Rattle.av_store.specs.Store.{Store, greatest, is_name, is_printable, create_of, write_of, cut_of, remove_of, read_of, mount_of, open_number_of, empty_store};
 ghost use Rattle.av_store.specs.Rows.{stream_at, number_named};
 
 use crate::fault::{BootSpent, OpensSpent, StoreFault};
 use crate::stream::Stream;
 use crate::table;
-use av_base::byte_list::ByteList;
-use av_base::limits::Limits;
-use av_base::number::{Generation, OpenId, StreamId};
-use av_base::refusal::Refusal;
+use av_base::{ByteList, Generation, Limits, OpenId, Refusal, StreamId};
 use std::alloc::{AllocError, Global};
 use std::collections::BTreeMap;
 use std::marker::Model;
@@ -85,7 +82,7 @@ impl Volume {
 
     /// The fault that `create` would answer for this name, where there is one. It takes no memory.
     pub fn create_refusal(&self, name: &[u8]) -> Option<StoreFault>
-        ensures fault { result ≡ fault_of (create_of self.now name.now) }
+        ensures fault { result ≡ result_err (create_of self.now name.now) }
         ensures free { IfNone result (number_named name.now self.now.streams ≡ None) }
         ensures number { IfNone result (self.now.last < greatest) }
     {
@@ -117,7 +114,7 @@ impl Volume {
 
     /// The fault that `write` would answer, where there is one. It takes no memory.
     pub fn write_refusal(&self, id: StreamId, offset: u64, bytes: &[u8]) -> Option<StoreFault>
-        ensures { result ≡ fault_of (write_of self.now id offset bytes.now) }
+        ensures { result ≡ result_err (write_of self.now id offset bytes.now) }
     {
         let Some(stream) = self.rows.get(&id.get()) else {
             return Some(StoreFault::NoStream);
@@ -135,7 +132,7 @@ impl Volume {
 
     /// The fault that `cut` would answer, where there is one. It takes no memory.
     pub fn cut_refusal(&self, id: StreamId, length: u64) -> Option<StoreFault>
-        ensures { result ≡ fault_of (cut_of self.now id length) }
+        ensures { result ≡ result_err (cut_of self.now id length) }
     {
         let Some(stream) = self.rows.get(&id.get()) else {
             return Some(StoreFault::NoStream);
@@ -152,7 +149,7 @@ impl Volume {
 
     /// The fault that `remove` would answer, where there is one. It takes no memory.
     pub fn remove_refusal(&self, id: StreamId) -> Option<StoreFault>
-        ensures { result ≡ fault_of (remove_of self.now id) }
+        ensures { result ≡ result_err (remove_of self.now id) }
     {
         match self.rows.get(&id.get()) {
             Some(_) => None,

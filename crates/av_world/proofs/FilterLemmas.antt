@@ -39,7 +39,7 @@ use Rattle.av_frame.specs.declared.outcome.Outcome.TheVariants.{Judged, Failed}
 use Rattle.av_pend.specs.Pend.{denied, refused}
 use Rattle.av_pend.specs.Waiting.{Waiting}
 use Rattle.av_pend.specs.declared.answer.Answer.{Answer}
-use Rattle.av_store.specs.Content.{fault_of}
+use Rattle.std.specs.Result.{result_err}
 use Rattle.av_store.specs.Files.{Change, Create, Write, Cut, Remove}
 use Rattle.av_store.specs.History.{IsOf, content, generation_of, now}
 use Rattle.av_store.specs.Rows.{Streams, stream_at}
@@ -429,10 +429,10 @@ module _ (p : Past) (t : Table) (v : Store) (down : List Body) (fits : FilterFit
       older id (inr h) = inl (omega (arith, h.0))
 
 -- an accepted change leads to the volume after it
-pub accepted : (v : Store) (c : Change) → option_map filter_fault.Store (fault_of (change_of v c)) ≡ None → change_of v c ≡ Ok (changed_volume v c)
+pub accepted : (v : Store) (c : Change) → option_map filter_fault.Store (result_err (change_of v c)) ≡ None → change_of v c ≡ Ok (changed_volume v c)
 accepted v c = go (change_of v c)
   where
-    go : (r : Result Store StoreFault) → option_map filter_fault.Store (fault_of r) ≡ None → r ≡ Ok (kept_or v r)
+    go : (r : Result Store StoreFault) → option_map filter_fault.Store (result_err r) ≡ None → r ≡ Ok (kept_or v r)
     go (Ok w) h = refl
     go (Err f) h = absurd (cc (h))
 

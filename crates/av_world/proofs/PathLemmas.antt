@@ -50,7 +50,7 @@ use Rattle.av_world.specs.World.{WorldState, or_none, scan_after, start, world_o
 use Rattle.av_world.specs.declared.event.Event.{Event}
 
 -- the job that is put in the place of another is found under its id
-found_put : (k : Job) (id : MessageId) (j : Job) (js : List Job) → k.id ≡ id → j.id ≡ id → job_at id js ≡ Some j → job_at id (with_job k js) ≡ Some k
+pub found_put : (k : Job) (id : MessageId) (j : Job) (js : List Job) → k.id ≡ id → j.id ≡ id → job_at id js ≡ Some j → job_at id (with_job k js) ≡ Some k
 found_put k id j [] kid jid at = absurd cc
 found_put k id j (x ∷ js) kid jid at =
     let self : same_id k.id id ≡ true = subst (λ i. same_id k.id i ≡ true) kid (same_id-refl k.id) in
@@ -65,10 +65,10 @@ found_put k id j (x ∷ js) kid jid at =
     go (same_id x.id id) refl at
 
 -- a lease that no other job has
-abbrev IsOther : ℕ → Job → Type 0
+abbrev pub IsOther : ℕ → Job → Type 0
 IsOther lease j = has_lease lease j.loan ≡ false
 
-lent_put : (k : Job) (id : MessageId) (j : Job) (js : List Job) (lease : ℕ) → k.id ≡ id → has_lease lease k.loan ≡ true → Each (IsOther lease) js → job_at id js ≡ Some j → lent_under lease (with_job k js) ≡ Some k
+pub lent_put : (k : Job) (id : MessageId) (j : Job) (js : List Job) (lease : ℕ) → k.id ≡ id → has_lease lease k.loan ≡ true → Each (IsOther lease) js → job_at id js ≡ Some j → lent_under lease (with_job k js) ≡ Some k
 lent_put k id j [] lease kid has others at = absurd cc
 lent_put k id j (x ∷ js) lease kid has others at =
     let go : (b : Bool) → same_id x.id id ≡ b → cond b (Some x) (job_at id js) ≡ Some j → find (λ (y : Job). has_lease lease y.loan) ((if same_id x.id k.id then k else x) ∷ with_job k js) ≡ Some k = elim [
@@ -82,57 +82,57 @@ lent_put k id j (x ∷ js) lease kid has others at =
     ] in
     go (same_id x.id id) refl at
 
-abbrev UpTo : ℕ → Option Loan → Type 0
+abbrev pub UpTo : ℕ → Option Loan → Type 0
 UpTo last None = Unit {0}
 UpTo last (Some l) = l.lease ≤ last
 
-other_lease : (last : ℕ) (o : Option Loan) → UpTo last o → has_lease (last + 1) o ≡ false
+pub other_lease : (last : ℕ) (o : Option Loan) → UpTo last o → has_lease (last + 1) o ≡ false
 other_lease last None h = refl
 other_lease last (Some l) h = ne_eqb l.lease (last + 1) (λ e. omega arith)
 
-up_more : (last : ℕ) (o : Option Loan) → UpTo last o → UpTo (last + 1) o
+pub up_more : (last : ℕ) (o : Option Loan) → UpTo last o → UpTo (last + 1) o
 up_more last None h = tt
 up_more last (Some l) h = omega arith
 
-put_each : (P : Job → Type 0) (k : Job) (js : List Job) → P k → Each P js → Each P (with_job k js)
+pub put_each : (P : Job → Type 0) (k : Job) (js : List Job) → P k → Each P js → Each P (with_job k js)
 put_each P k [] h all = tt
 put_each P k (j ∷ js) h all = (cond_both (same_id j.id k.id) k j P (λ e. h) (λ e. all.0), put_each P k js h all.1)
 
 module _ (t : Table) (v : Store) (sets : List Publication) (q : Question) (bytes : List ℕ) (set : List Pattern) (solid : AreSolid set) (runs : question_at q.id t.questions ≡ Some q) (present : present_bytes v q.stream ≡ bytes) where
   -- a job of the question waits for its next bytes
-  record Waits (d : Desk) (j : Job) : Type 0 where
-    on : d.connected ≡ true
-    job : job_at q.id d.jobs ≡ Some j
-    id : j.id ≡ q.id
-    free : j.loan ≡ None
-    judged : List ℕ
-    rest : List ℕ
-    front : judged ++ rest ≡ bytes
-    counted : length judged ≡ j.offset
-    scanned : j.scan ≡ scan_of scanner d.version j.length set judged
-    size : j.length ≡ length bytes
-    left : j.offset < length bytes
-    leases : Each (λ x. UpTo d.last_lease x.loan) d.jobs
-    published : published_as sets d.version ≡ Some set
-    some : 1 ≤ min d.limits.chunk t.limits.chunk
+  pub record Waits (d : Desk) (j : Job) : Type 0 where
+    pub on : d.connected ≡ true
+    pub job : job_at q.id d.jobs ≡ Some j
+    pub id : j.id ≡ q.id
+    pub free : j.loan ≡ None
+    pub judged : List ℕ
+    pub rest : List ℕ
+    pub front : judged ++ rest ≡ bytes
+    pub counted : length judged ≡ j.offset
+    pub scanned : j.scan ≡ scan_of scanner d.version j.length set judged
+    pub size : j.length ≡ length bytes
+    pub left : j.offset < length bytes
+    pub leases : Each (λ x. UpTo d.last_lease x.loan) d.jobs
+    pub published : published_as sets d.version ≡ Some set
+    pub some : 1 ≤ min d.limits.chunk t.limits.chunk
 
   module _ (d : Desk) (j : Job) (w : Waits d j) (numbered : d.last_lease < most_leases) where
-    abbrev count : ℕ
+    abbrev pub count : ℕ
     count = min d.limits.chunk (j.length - j.offset)
 
-    abbrev part : List ℕ
+    abbrev pub part : List ℕ
     part = take (min count t.limits.chunk) (drop (j.offset) bytes)
 
-    abbrev loan : Loan
+    abbrev pub loan : Loan
     loan = record { lease = d.last_lease + 1; count = length part }
 
-    abbrev lent_job : Job
+    abbrev pub lent_job : Job
     lent_job = lent_out loan j
 
-    abbrev work : WorkState
+    abbrev pub work : WorkState
     work = record { lease = d.last_lease + 1; id = j.id; version = d.version; scan = j.scan; chunk = part }
 
-    abbrev desk : Desk
+    abbrev pub desk : Desk
     desk = record d { jobs = with_job lent_job d.jobs; last_lease = d.last_lease + 1 }
 
     sent : (filter_step t v (filter_events.Receives (read_message d.limits j))).messages ≡ Chunk j.id (j.offset) part ∷ []
@@ -143,10 +143,10 @@ module _ (t : Table) (v : Store) (sets : List Publication) (q : Question) (bytes
         subst (λ o. (reads t v j.id (j.offset) (min d.limits.chunk (j.length - j.offset)) o).messages ≡ Chunk j.id (j.offset) (take (min (min d.limits.chunk (j.length - j.offset)) t.limits.chunk) (drop (j.offset) bytes)) ∷ []) (sym asked)
         (rw inside (ap (λ bs. Chunk j.id (j.offset) (take (min (min d.limits.chunk (j.length - j.offset)) t.limits.chunk) (drop (j.offset) bs)) ∷ []) present))
 
-    part_size : length part ≡ min (min d.limits.chunk (j.length - j.offset)) (min t.limits.chunk (length bytes - j.offset))
+    pub part_size : length part ≡ min (min d.limits.chunk (j.length - j.offset)) (min t.limits.chunk (length bytes - j.offset))
     part_size = length-take (min (min d.limits.chunk (j.length - j.offset)) t.limits.chunk) (drop (j.offset) bytes) ∙ omega (arith, length-drop (j.offset) bytes)
 
-    lends : service_step d (service_events.Receives (Chunk j.id (j.offset) part)) ≡ record { desk = desk; messages = []; works = work ∷ []; note = Quiet }
+    pub lends : service_step d (service_events.Receives (Chunk j.id (j.offset) part)) ≡ record { desk = desk; messages = []; works = work ∷ []; note = Quiet }
     unfolding service_step receives chunk_found
     lends =
         let at : job_at j.id d.jobs ≡ Some j = subst (λ i. job_at i d.jobs ≡ Some j) (sym w.id) w.job in
@@ -157,16 +157,16 @@ module _ (t : Table) (v : Store) (sets : List Publication) (q : Question) (bytes
         ∙ (ap (chunk_found d (j.offset) part) at ∙ (cond-false (not (awaits j (j.offset) && nat_lt d.last_lease most_leases)) _ _ ready ∙ cond-false (nat_lt (j.length - j.offset) (length part)) _ _ fits))
 
     -- the job that was lent is found by its lease
-    found : lent_under (d.last_lease + 1) desk.jobs ≡ Some lent_job
+    pub found : lent_under (d.last_lease + 1) desk.jobs ≡ Some lent_job
     found =
         lent_put lent_job q.id j d.jobs (d.last_lease + 1) w.id (eq-eqb (d.last_lease + 1) (d.last_lease + 1) refl)
         (each_weaker (λ (x : Job). UpTo d.last_lease x.loan) (IsOther (d.last_lease + 1)) (λ x h. other_lease d.last_lease x.loan h) d.jobs w.leases) w.job
 
     -- the scan after the run of the work, and its hit
-    abbrev after : ScanState
+    abbrev pub after : ScanState
     after = scan_after sets work
 
-    scanned_now : after ≡ scan_of scanner d.version j.length set (w.judged ++ part)
+    pub scanned_now : after ≡ scan_of scanner d.version j.length set (w.judged ++ part)
     scanned_now =
         let now : Compiled = record { version = d.version; patterns = set } in
         let fits : length w.judged + length part ≤ j.length = omega (arith, part_size, w.counted, w.size, w.left) in
@@ -174,7 +174,7 @@ module _ (t : Table) (v : Store) (sets : List Publication) (q : Question) (bytes
         let is : after ≡ scanner.run set j.scan (fitting j.scan part) = ap (λ o. scanner.run (or_none o) j.scan (fitting j.scan part)) w.published in
         (scan_fed now j.length w.judged part j.scan after was fits is).is
 
-    hit_is : scanner.hit after ≡ if_hit (verdict set (w.judged ++ part))
+    pub hit_is : scanner.hit after ≡ if_hit (verdict set (w.judged ++ part))
     hit_is = ap scanner.hit scanned_now ∙ laws.hits d.version j.length set (w.judged ++ part) solid
 
     -- a whole round
@@ -186,7 +186,7 @@ module _ (t : Table) (v : Store) (sets : List Publication) (q : Question) (bytes
         ∙ ap (finished desk after (scanner.hit after)) found)
 
     -- what is judged after it still begins the bytes
-    further : IsFront (w.judged ++ part) bytes
+    pub further : IsFront (w.judged ++ part) bytes
     further =
         let n : ℕ = min (min d.limits.chunk (j.length - j.offset)) t.limits.chunk in
         let rest : drop j.offset bytes ≡ w.rest = ap (drop j.offset) (sym w.front) ∙ drop_at w.judged w.rest j.offset w.counted in (
@@ -194,7 +194,7 @@ module _ (t : Table) (v : Store) (sets : List Publication) (q : Question) (bytes
           append_assoc w.judged (take n (drop j.offset bytes)) (drop n w.rest) ∙ (ap (λ xs. w.judged ++ (take n xs ++ drop n w.rest)) rest ∙ (ap (λ xs. w.judged ++ xs) (take-append-drop n w.rest) ∙ w.front)),
         )
 
-    judged_more : length (w.judged ++ part) ≡ j.offset + length part
+    pub judged_more : length (w.judged ++ part) ≡ j.offset + length part
     judged_more = length-append w.judged part ∙ ap (λ n. n + length part) w.counted
 
     -- either the verdict of the whole is told, or the job waits again, a chunk further or at the end
@@ -264,7 +264,7 @@ module _ (t : Table) (v : Store) (sets : List Publication) (q : Question) (bytes
             (suc on.0, omega (arith, on.1), on.2 ∙ ap (λ x. Reply q.id (Judged x (verdict set bytes)) ∷ []) g.4)
       ]
 
-find_last : (id : MessageId) (j : Job) (js : List Job) → same_id j.id id ≡ true → job_at id js ≡ None → job_at id (js ++ j ∷ []) ≡ Some j
+pub find_last : (id : MessageId) (j : Job) (js : List Job) → same_id j.id id ≡ true → job_at id js ≡ None → job_at id (js ++ j ∷ []) ≡ Some j
 find_last id j [] is none = rw is refl
 find_last id j (x ∷ js) is none =
     let go : (b : Bool) → cond b (Some x) (job_at id js) ≡ None → cond b (Some x) (job_at id (js ++ j ∷ [])) ≡ Some j = elim [
@@ -274,33 +274,33 @@ find_last id j (x ∷ js) is none =
     go (same_id x.id id) none
 
 module _ (mode : Mode) (w : WorldState) (s : Sound mode w) (q : Question) (n : ℕ) (ready : IsReady w q n) where
-  abbrev bytes : List ℕ
+  abbrev pub bytes : List ℕ
   bytes = present_bytes w.volume q.stream
 
-  run : Runs (past w.history) w.volume.streams w.down q
+  pub run : Runs (past w.history) w.volume.streams w.down q
   run = runs (past w.history) w.volume.streams (core w.table) w.down (λ k. same_id k.id q.id) q s.lawful.filter ready.runs
 
-  held : content (past w.history).streams q.stream q.generation ≡ Some bytes
+  pub held : content (past w.history).streams q.stream q.generation ≡ Some bytes
   held = subst (λ o. content (past w.history).streams q.stream q.generation ≡ Some (stream_bytes o)) (sym run.here) run.held
 
-  present_set : (set : List Pattern) × (published_as (past w.history).sets w.desk.version ≡ Some set)
+  pub present_set : (set : List Pattern) × (published_as (past w.history).sets w.desk.version ≡ Some set)
   present_set = s.lawful.desk.published (s.lawful.desk.versioned ready.connected)
 
-  published : published_as (map publication_of w.sets) w.desk.version ≡ Some present_set.0
+  pub published : published_as (map publication_of w.sets) w.desk.version ≡ Some present_set.0
   published = ap (λ sets. published_as sets w.desk.version) (sym s.sets) ∙ present_set.1
 
-  strong : AreSolid present_set.0
+  pub strong : AreSolid present_set.0
   strong = set_solid (past w.history).sets w.desk.version present_set.0 s.lawful.solid present_set.1
 
-  abbrev new : Job
+  abbrev pub new : Job
   new = new_job w.desk.version q.id q.stream q.generation (length bytes)
 
-  first : service_step w.desk (service_events.Receives (scan_for w q)) ≡ scan_cached w.desk new (look q.stream q.generation w.desk.version w.desk.cache)
+  pub first : service_step w.desk (service_events.Receives (scan_for w q)) ≡ scan_cached w.desk new (look q.stream q.generation w.desk.version w.desk.cache)
   unfolding service_step receives scan_found
   first = cond-true w.desk.connected _ _ ready.connected ∙ ap (scan_found w.desk new) ready.no_job
 
   -- a verdict that is right for the question is the one
-  the_verdict : (r : Verdict) → IsVerdictOf (past w.history) q.stream q.generation w.desk.version r → r ≡ verdict present_set.0 bytes
+  pub the_verdict : (r : Verdict) → IsVerdictOf (past w.history) q.stream q.generation w.desk.version r → r ≡ verdict present_set.0 bytes
   the_verdict r h =
       let sets : Some h.patterns ≡ Some present_set.0 = sym h.published ∙ present_set.1 in
       let set : h.patterns ≡ present_set.0 = cc (sets) in
@@ -320,7 +320,7 @@ module _ (mode : Mode) (w : WorldState) (s : Sound mode w) (q : Question) (n : �
     replied = ap (λ (y : Response). y.messages) is ∙ (sends ∙ ap (λ y. Reply q.id (Judged w.desk.version y) ∷ []) same);
   }
 
-  leases_known : (js : List Job) → Each (JudgesRightly w) js → Each (λ (j : Job). UpTo w.desk.last_lease j.loan) js
+  pub leases_known : (js : List Job) → Each (JudgesRightly w) js → Each (λ (j : Job). UpTo w.desk.last_lease j.loan) js
   leases_known js h = each_weaker (JudgesRightly w) (λ (j : Job). UpTo w.desk.last_lease j.loan) (λ j k. up_to j.scan k.rest j.loan k.loan) js h
     where
       up_to : (scan : ScanState) (rest : List ℕ) (o : Option Loan) → LoanFits (works_of w.works) w.desk.last_lease w.desk.version scan rest o → UpTo w.desk.last_lease o
@@ -328,10 +328,10 @@ module _ (mode : Mode) (w : WorldState) (s : Sound mode w) (q : Question) (n : �
       up_to scan rest (Some l) h = h.0
 
   -- what the service answers where nothing is cached: at once, or with a job
-  abbrev empty : Response
+  abbrev pub empty : Response
   empty = sends (record w.desk { cache = remember w.desk new Clean }) (Reply q.id (Judged w.desk.version Clean) ∷ [])
 
-  abbrev waiting : Response
+  abbrev pub waiting : Response
   waiting = sends (record w.desk { jobs = w.desk.jobs ++ new ∷ [] }) (read_message w.desk.limits new ∷ [])
 
   by_cache : (o : Option Entry) → look q.stream q.generation w.desk.version w.desk.cache ≡ o → EndsWithVerdict w q n

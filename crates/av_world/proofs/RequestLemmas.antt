@@ -1,5 +1,5 @@
 -- What an event asks for is what comes of it.
-use Rattle.std.proofs.Common.{◌≡◌, ◌==◌, ◌<◌, ◌≤◌, ℕ, suc, Bool, true, false, cond, List, [], ◌∷◌, slice_get, ap, None, Some, Option, Result, Ok, Err, refl, sym, subst, ◌∙◌, arith, eqb-true}
+use Rattle.std.proofs.Common.{◌≡◌, ◌==◌, ◌<◌, ◌≤◌, ℕ, suc, true, false, cond, List, [], ◌∷◌, slice_get, ap, None, Some, Option, Result, Ok, Err, refl, sym, subst, ◌∙◌, arith, eqb-true}
 use Rattle.std.proofs.lemmas.Bool.{eqb-false, true≢false}
 use Rattle.std.specs.List.{AllByRecursion}
 use Rattle.std.specs.Option.{option_map}
@@ -14,23 +14,24 @@ use Rattle.av_service.specs.Work.{WorkState}
 use Rattle.av_service.specs.declared.fault.ConnectFault.{ConnectFault}
 use Rattle.av_sigset.specs.Catalogue.{IsFalling, latest, may_publish, set_at}
 use Rattle.av_sigset.specs.Judge.{bad_line}
-use Rattle.av_sigset.specs.Made.{fault_in, serial_signatures, set_made, unless_fault}
+use Rattle.av_sigset.specs.Made.{fault_in, serial_signatures, set_made}
+use Rattle.av_base.specs.Refused.{unless, IsFaultOf}
 use Rattle.av_sigset.specs.Set.{NumberedSet}
 use Rattle.av_sigset.specs.declared.fault.CatalogueFault.{CatalogueFault}
 use Rattle.av_sigset.specs.declared.fault.SetFaultKind.TheVariants.{Version}
 use Rattle.av_filter.specs.declared.fault.FilterFault.TheVariants as filter_fault
 use Rattle.av_filter_table.specs.Table.{Table}
-use Rattle.av_store.specs.Content.{fault_of}
+use Rattle.std.specs.Result.{result_err}
 use Rattle.av_store.specs.Files.{Change}
 use Rattle.av_store.specs.Files as change
 use Rattle.av_store.specs.Seen.{change_of, volume_of}
 use Rattle.av_store.specs.Store.{Store, create_of, cut_of, remove_of, write_of}
 use Rattle.av_store.specs.declared.fault.StoreFault.{StoreFault}
-use Rattle.av_world.specs.Request.{Asks, IsRefusalOf, frame_fault, outcome_of, served, work_fault}
+use Rattle.av_world.specs.Request.{Asks, frame_fault, outcome_of, served, work_fault}
 use Rattle.av_world.specs.Serving.{TakesServed, service_refusal}
 use Rattle.av_world.specs.Stage.{Happens, Takes, at_history}
 use Rattle.av_world.specs.Whole.{IsWhole}
-use Rattle.av_world.specs.World.{WorldState, added, connected, down_frame, filter_event, member, no_line, published, service_outcome, step_fault, step_of, unless, up_frame, work_event}
+use Rattle.av_world.specs.World.{WorldState, added, connected, down_frame, filter_event, member, no_line, published, service_outcome, step_fault, step_of, up_frame, work_event}
 use Rattle.av_world.specs.declared.event.Event.{Event}
 use Rattle.av_world.specs.declared.event.Event.TheVariants.{Connect}
 use Rattle.av_world.specs.declared.fault.StepFault.{StepFault}
@@ -57,54 +58,54 @@ store_as None = refl
 store_as (Some f) = refl
 
 -- a change is refused as the volume refuses it
-pub refused_change : (t : Table) (v : Store) (c : Change) (o : Option StoreFault) → o ≡ fault_of (change_of v c) → option_map fault.Store o ≡ option_map step_fault (filter_refusal t v (filter.Changes c))
+pub refused_change : (t : Table) (v : Store) (c : Change) (o : Option StoreFault) → o ≡ result_err (change_of v c) → option_map fault.Store o ≡ option_map step_fault (filter_refusal t v (filter.Changes c))
 unfolding filter_refusal
-refused_change t v c o is = ap (option_map fault.Store) is ∙ store_as (fault_of (change_of v c))
+refused_change t v c o is = ap (option_map fault.Store) is ∙ store_as (result_err (change_of v c))
 
-created_fault : (r : Result (ℕ × Store) StoreFault) → fault_of r ≡ fault_of (volume_of r)
+created_fault : (r : Result (ℕ × Store) StoreFault) → result_err r ≡ result_err (volume_of r)
 created_fault (Ok p) = refl
 created_fault (Err f) = refl
 
-pub refused_create : (v : Store) (name : List ℕ) (o : Option StoreFault) → o ≡ fault_of (create_of v name) → o ≡ fault_of (change_of v (change.Create name))
+pub refused_create : (v : Store) (name : List ℕ) (o : Option StoreFault) → o ≡ result_err (create_of v name) → o ≡ result_err (change_of v (change.Create name))
 unfolding change_of
 refused_create v name o is = is ∙ created_fault (create_of v name)
 
-pub refused_write : (v : Store) (s offset : ℕ) (bytes : List ℕ) (o : Option StoreFault) → o ≡ fault_of (write_of v s offset bytes) → o ≡ fault_of (change_of v (change.Write s offset bytes))
+pub refused_write : (v : Store) (s offset : ℕ) (bytes : List ℕ) (o : Option StoreFault) → o ≡ result_err (write_of v s offset bytes) → o ≡ result_err (change_of v (change.Write s offset bytes))
 unfolding change_of
 refused_write v s offset bytes o is = is
 
-pub refused_cut : (v : Store) (s n : ℕ) (o : Option StoreFault) → o ≡ fault_of (cut_of v s n) → o ≡ fault_of (change_of v (change.Cut s n))
+pub refused_cut : (v : Store) (s n : ℕ) (o : Option StoreFault) → o ≡ result_err (cut_of v s n) → o ≡ result_err (change_of v (change.Cut s n))
 unfolding change_of
 refused_cut v s n o is = is
 
-pub refused_remove : (v : Store) (s : ℕ) (o : Option StoreFault) → o ≡ fault_of (remove_of v s) → o ≡ fault_of (change_of v (change.Remove s))
+pub refused_remove : (v : Store) (s : ℕ) (o : Option StoreFault) → o ≡ result_err (remove_of v s) → o ≡ result_err (change_of v (change.Remove s))
 unfolding change_of
 refused_remove v s o is = is
 
-refused_event : (o : Option FilterFault) (x : Report × WorldState) → IsRefusalOf (unless (option_map step_fault o) x) (option_map step_fault o)
+refused_event : (o : Option FilterFault) (x : Report × WorldState) → IsFaultOf (unless (option_map step_fault o) x) (option_map step_fault o)
 refused_event None x = refl
 refused_event (Some f) x = refl
 
-pub refused_filter : (w : WorldState) (e : Event) (line : Store → Line) (f : FilterEvent) → IsRefusalOf (filter_event w e line f) (option_map step_fault (filter_refusal w.table w.volume f))
+pub refused_filter : (w : WorldState) (e : Event) (line : Store → Line) (f : FilterEvent) → IsFaultOf (filter_event w e line f) (option_map step_fault (filter_refusal w.table w.volume f))
 refused_filter w e line f = refused_event (filter_refusal w.table w.volume f) _
 
-refused_serve : (o : Option ConnectFault) (x : Report × WorldState) → IsRefusalOf (unless (option_map fault.Connect o) x) (option_map fault.Connect o)
+refused_serve : (o : Option ConnectFault) (x : Report × WorldState) → IsFaultOf (unless (option_map fault.Connect o) x) (option_map fault.Connect o)
 refused_serve None x = refl
 refused_serve (Some f) x = refl
 
-pub refused_service : (w : WorldState) (e : Event) (s : ServiceEvent) → IsRefusalOf (served w e s) (option_map fault.Connect (service_refusal w.desk s))
+pub refused_service : (w : WorldState) (e : Event) (s : ServiceEvent) → IsFaultOf (served w e s) (option_map fault.Connect (service_refusal w.desk s))
 refused_service w e s = refused_serve (service_refusal w.desk s) _
 
-pub refused_down : (w : WorldState) (e : Event) (o : Option Body) → IsRefusalOf (down_frame w e o) (frame_fault o)
+pub refused_down : (w : WorldState) (e : Event) (o : Option Body) → IsFaultOf (down_frame w e o) (frame_fault o)
 refused_down w e None = refl
 refused_down w e (Some m) = refl
 
-pub refused_up : (w : WorldState) (e : Event) (o : Option Body) → IsRefusalOf (up_frame w e o) (frame_fault o)
+pub refused_up : (w : WorldState) (e : Event) (o : Option Body) → IsFaultOf (up_frame w e o) (frame_fault o)
 unfolding filter_refusal
 refused_up w e None = refl
 refused_up w e (Some m) = refl
 
-pub refused_work : (w : WorldState) (e : Event) (k : ℕ) (o : Option WorkState) → IsRefusalOf (work_event w e k o) (work_fault o)
+pub refused_work : (w : WorldState) (e : Event) (k : ℕ) (o : Option WorkState) → IsFaultOf (work_event w e k o) (work_fault o)
 refused_work w e k None = refl
 refused_work w e k (Some x) = refl
 
@@ -115,13 +116,13 @@ added_ok w e s (Err f) h = absurd cc
 -- a set that can be made under a version that may be published is published
 pub can_be_published : (w : WorldState) (e : Event) (version : ℕ) (ps : List (List ℕ)) → IsOk (set_made version ps) → may_publish w.sets version ≡ Ok tt → IsOk (published w e (set_made version ps))
 can_be_published w e version ps =
-    elim (version == 0) as (λ b. IsOk (cond b (bad_line 2 Version) (unless_fault (fault_in 0 0 ps) (record { version = version; signatures = serial_signatures 0 ps })))
+    elim (version == 0) as (λ b. IsOk (cond b (bad_line 2 Version) (unless {A = NumberedSet} (fault_in 0 0 ps) (record { version = version; signatures = serial_signatures 0 ps })))
     → may_publish w.sets version ≡ Ok tt
-    → IsOk (published w e (cond b (bad_line 2 Version) (unless_fault (fault_in 0 0 ps) (record { version = version; signatures = serial_signatures 0 ps }))))) [
+    → IsOk (published w e (cond b (bad_line 2 Version) (unless {A = NumberedSet} (fault_in 0 0 ps) (record { version = version; signatures = serial_signatures 0 ps }))))) [
       | true ↦ λ made may. absurd (true≢false (sym made))
       | false ↦
-          elim (fault_in 0 0 ps) as (λ o. IsOk (unless_fault o (record { version = version; signatures = serial_signatures 0 ps })) → may_publish w.sets version ≡ Ok tt
-          → IsOk (published w e (unless_fault o (record { version = version; signatures = serial_signatures 0 ps })))) [
+          elim (fault_in 0 0 ps) as (λ o. IsOk (unless {A = NumberedSet} o (record { version = version; signatures = serial_signatures 0 ps })) → may_publish w.sets version ≡ Ok tt
+          → IsOk (published w e (unless {A = NumberedSet} o (record { version = version; signatures = serial_signatures 0 ps })))) [
             | None ↦ λ made may. added_ok w e (record { version = version; signatures = serial_signatures 0 ps }) (may_publish w.sets version) may
             | Some why ↦ λ made may. absurd (true≢false (sym made))
           ]
@@ -145,8 +146,8 @@ pub happens : (r : Option Report) (old new : WorldState) (h : List Event) (e : E
 happens None old new h e q asks is = is
 happens (Some report) old new h e q asks is = asks ∙ is
 
-pub refused_so : (r : Option StepFault) (old : WorldState) (h : List Event) (e : Event) (q : Request) → Asks h old e (Ok q) → IsRefusalOf (outcome_of (at_history h old) e q) r → IsRefusalOf (step_of (at_history h old) e) r
-refused_so r old h e q asks is = subst (λ o. IsRefusalOf o r) (sym asks) is
+pub refused_so : (r : Option StepFault) (old : WorldState) (h : List Event) (e : Event) (q : Request) → Asks h old e (Ok q) → IsFaultOf (outcome_of (at_history h old) e q) r → IsFaultOf (step_of (at_history h old) e) r
+refused_so r old h e q asks is = subst (λ o. IsFaultOf o r) (sym asks) is
 
 -- ---- versions
 

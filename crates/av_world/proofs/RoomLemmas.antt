@@ -1,18 +1,17 @@
 -- How much an event gives out: few messages, and no more answers than opens wait.
-use Rattle.std.proofs.Common.{ℕ, ◌+◌, ◌≤◌, ◌&&◌, not, nat_le, nat_lt, ◌==◌, Bool, true, false, cond, List, [], ◌∷◌, ◌++◌, length, map, Option, Some, None, arith, refl, sym, subst}
+use Rattle.std.proofs.Common.{ℕ, ◌+◌, ◌≤◌, ◌&&◌, not, nat_le, nat_lt, ◌==◌, Bool, true, false, cond, List, [], ◌∷◌, ◌++◌, length, map, Option, Some, None, arith, sym, subst}
 use Rattle.std.specs.List.{list_any}
 use Rattle.std.specs.Prelude.{IfSome, filter}
 use Rattle.std.proofs.lemmas.List.{length-append, length-map}
-use Rattle.av_base.specs.declared.cause.Cause.{Cause}
 use Rattle.av_base.specs.declared.verdict.Verdict.{Verdict}
 use Rattle.av_base.specs.declared.message_id.MessageId.{MessageId}
 use Rattle.av_cache.specs.declared.entry.Entry.{Entry}
 use Rattle.av_cache.specs.Cache.{look}
 use Rattle.av_filter.specs.Again.{again, scan_message}
-use Rattle.av_filter.specs.Changing.{changed_volume, changes, cleaned, removed, rewritten}
+use Rattle.av_filter.specs.Changing.{changes, cleaned, removed, rewritten}
 use Rattle.av_filter.specs.Conduct.{FilterEvent, Opens, Changes, CleansUp, Receives, TimesOut, Disconnects, Restarts, disconnects, filter_step, restarts, times_out}
 use Rattle.av_filter.specs.Opening.{open_asked, open_cached, open_found, open_judged, opened, taken}
-use Rattle.av_filter.specs.Reaction.{Reaction, only}
+use Rattle.av_filter.specs.Reaction.{Reaction}
 use Rattle.av_filter.specs.Receiving.{greeted, reads, receives, replies}
 use Rattle.av_filter.specs.declared.out.Out.{Out}
 use Rattle.av_filter_table.specs.Answering.{present_bytes}
@@ -24,7 +23,6 @@ use Rattle.av_frame.specs.declared.message.Body.{Body}
 use Rattle.av_frame.specs.declared.message.Body.TheVariants.{Abort, Chunk, Hello, NoChunk, Read, Reply, Scan, Updated}
 use Rattle.av_frame.specs.declared.outcome.Outcome.{Outcome}
 use Rattle.av_frame.specs.declared.outcome.Outcome.TheVariants.{Failed, Judged}
-use Rattle.av_pend.specs.declared.answer.Answer.{Answer}
 use Rattle.av_store.specs.Files.{Change, Create, Write, Cut, Remove}
 use Rattle.av_store.specs.Rows.{stream_at}
 use Rattle.av_store.specs.Store.{Store}

@@ -1,5 +1,5 @@
 -- What calls of the service answer is what an event asks of it, and is little.
-use Rattle.std.proofs.Common.{ℕ, ◌≡◌, ◌+◌, ◌≤◌, ◌==◌, not, nat_le, nat_lt, Bool, true, false, cond, List, [], ◌∷◌, length, map, Option, Some, None, Result, Ok, Err, arith, refl, sym, subst}
+use Rattle.std.proofs.Common.{ℕ, ◌≡◌, ◌+◌, ◌≤◌, ◌==◌, not, nat_le, nat_lt, Bool, true, false, cond, List, length, Option, Some, None, Result, Ok, Err, arith, sym, subst}
 use Rattle.std.proofs.lemmas.List.{length-map}
 use Rattle.std.specs.Prelude.{◌-◌, ◌&&◌, IfOk, IfSome}
 use Rattle.std.specs.Result.{result_ok}

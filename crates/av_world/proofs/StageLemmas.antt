@@ -1,7 +1,7 @@
 -- What calls of the filter answer is what an event asks of it.
-use Rattle.std.proofs.Common.{[], ap, ◌≡◌, ◌==◌, ℕ, true, false, if◌then◌else◌, eqb-true, List, None, Some, Option, Result, Ok, Err, refl, sym}
+use Rattle.std.proofs.Common.{[], ap, ◌≡◌, ◌==◌, ℕ, true, false, if◌then◌else◌, eqb-true, List, None, Some, Result, Ok, Err, refl, sym}
 use Rattle.std.specs.Option.{option_map}
-use Rattle.std.specs.Result.{result_ok}
+use Rattle.std.specs.Result.{result_ok, result_err}
 use Rattle.std.specs.Prelude.{IfOk, OnErr}
 use Rattle.av_base.specs.declared.refusal.Refusal.{Refusal}
 use Rattle.av_base.specs.declared.refusal.Refusal.TheVariants.{Fault, NoMemory}
@@ -16,7 +16,6 @@ use Rattle.av_filter.specs.declared.note.Note.TheVariants.{Quiet}
 use Rattle.av_filter.specs.declared.out.Out.{Out}
 use Rattle.av_filter_table.specs.Table.{Table}
 use Rattle.av_frame.specs.declared.message.Body.{Body}
-use Rattle.av_store.specs.Content.{fault_of}
 use Rattle.av_store.specs.Files as change
 use Rattle.av_store.specs.Rows.{stream_at}
 use Rattle.av_store.specs.Seen.{change_of, kept_or, volume_of}
@@ -53,7 +52,7 @@ pub created : (out : Out) (t : Table) (v v' : Store) (name : List ℕ) (s : ℕ)
     → Calls t v t v' (Changes (change.Create name)) (Some out)
 unfolding filter_step filter_refusal changes change_of
 created out t v v' name s is none no_message quiet = (
-  ap (λ r. option_map fault.Store (fault_of (volume_of r))) is,
+  ap (λ r. option_map fault.Store (result_err (volume_of r))) is,
   record {
     answers = none;
     messages = no_message;

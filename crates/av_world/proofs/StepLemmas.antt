@@ -21,7 +21,8 @@ use Rattle.av_store.specs.Rows.{number_named}
 use Rattle.av_store.specs.Store.{Store}
 use Rattle.av_world.specs.Cores.{IsFilterEvent, IsServiceEvent, Names}
 use Rattle.av_world.specs.Cores as cores
-use Rattle.av_world.specs.World.{WorldState, added, after, back_at, bytes_of, changed_line, connected, done, down_frame, filter_event, member, named_event, no_line, published, reacted, responded, step_fault, step_of, unless, up_frame, with_set, work_at, work_event, world_of, world_or}
+use Rattle.av_world.specs.World.{WorldState, added, after, back_at, bytes_of, changed_line, connected, done, down_frame, filter_event, member, named_event, no_line, published, reacted, responded, step_fault, step_of, up_frame, with_set, work_at, work_event, world_of, world_or}
+use Rattle.av_base.specs.Refused.{unless}
 use Rattle.av_world.specs.declared.event.Event.{Event}
 use Rattle.av_world.specs.declared.event.Event.TheVariants.{Publish, Create, Write, Cut, Remove, Open, Cleanup, Down, Up, Run, Timeout, Connect, DisconnectFilter, DisconnectService, RestartFilter, RestartService}
 use Rattle.av_world.specs.declared.report.Line.{Line}

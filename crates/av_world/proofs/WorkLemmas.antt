@@ -14,14 +14,13 @@ use Rattle.av_sigset.specs.Publication.{publication_of, published_as}
 use Rattle.av_sigset.specs.Set.{NumberedSet, patterns_of}
 use Rattle.av_world.proofs.PublishLemmas.{found_published}
 use Rattle.av_world.specs.Prepared.{Compiles}
-use Rattle.av_world.specs.World.{WorldState, back_at, done, or_none, places_of, responded, service_event, service_outcome, work_at, work_event}
+use Rattle.av_world.specs.World.{WorldState, back_at, done, or_none, places_of, responded, service_outcome, work_at, work_event}
 use Rattle.av_filter_table.specs.Table.{Table}
 use Rattle.av_store.specs.Store.{Store}
 use Rattle.av_world.specs.declared.event.Event.{Event}
 use Rattle.av_world.specs.declared.given.Given.{Given}
 use Rattle.av_world.specs.declared.report.Line.TheVariants.{Silent}
 use Rattle.av_world.specs.declared.report.Note.TheVariants as note
-use Rattle.av_world.specs.declared.report.Report.{Report}
 
 -- the automaton that was built of the set of a version is of that version
 pub compiled_as : (sets : List NumberedSet) (version : ℕ) (s : NumberedSet) (a : Compiled) → set_at sets version ≡ Some s → a ≡ record { version = s.version; patterns = patterns_of s.signatures } → Compiles (set_at sets a.version) a

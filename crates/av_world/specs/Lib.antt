@@ -8,6 +8,8 @@ pub mod Output
 pub mod Past
 pub mod Path
 pub mod Prepared
+pub mod Progress
+pub mod ProgressExamples
 pub mod Reached
 pub mod Request
 pub mod Safety

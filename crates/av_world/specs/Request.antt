@@ -1,5 +1,5 @@
 -- What an event of a world asks for.
-use Rattle.std.specs.Prelude.{ℕ, ◌≡◌, ◌∷◌, List, Option, None, Some, Result, Ok, Err, IsOk}
+use Rattle.std.specs.Prelude.{ℕ, ◌≡◌, List, Option, None, Some, Result, Ok, Err, IsOk}
 use Rattle.std.specs.Option.{option_map}
 use Rattle.av_frame.specs.declared.message.Body.{Body}
 use Rattle.av_service.specs.Work.{WorkState}
@@ -10,7 +10,8 @@ use Rattle.av_world.specs.Serving.{MayCall, service_refusal}
 use Rattle.av_world.specs.Serving as serving
 use Rattle.av_world.specs.Stage.{at_history, line_after}
 use Rattle.av_world.specs.Stage as stage
-use Rattle.av_world.specs.World.{Outcome, WorldState, bytes_of, down_frame, filter_event, member, published, service_outcome, step_of, unless, up_frame, work_at, work_event}
+use Rattle.av_world.specs.World.{Outcome, WorldState, bytes_of, down_frame, filter_event, member, published, service_outcome, step_of, up_frame, work_at, work_event}
+use Rattle.av_base.specs.Refused.{unless}
 use Rattle.av_world.specs.declared.event.Event.{Event}
 use Rattle.av_world.specs.declared.fault.StepFault.{StepFault}
 use Rattle.av_world.specs.declared.fault.StepFault.TheVariants as fault
@@ -35,11 +36,6 @@ outcome_of w e (request.Run k) = work_event w e k (work_at w.works k)
 abbrev pub Asks : List Event → WorldState → Event → Result Request StepFault → Type 0
 Asks h s e (Ok r) = step_of (at_history h s) e ≡ outcome_of (at_history h s) e r
 Asks h s e (Err f) = step_of (at_history h s) e ≡ Err f
-
--- a fault is why an outcome is a refusal; none is given of what happens
-abbrev pub IsRefusalOf : Outcome → Option StepFault → Type 0
-IsRefusalOf wanted None = IsOk wanted
-IsRefusalOf wanted (Some f) = wanted ≡ Err f
 
 -- the stream of a name
 abbrev pub Names : Streams → List ℕ → Result ℕ StepFault → Type 0

@@ -15,6 +15,7 @@ use Rattle.av_base.specs.declared.mode.Mode.{Mode}
 use Rattle.av_world.specs.declared.script.command.Command.{Command}
 use Rattle.av_world.specs.declared.script.ScriptFault.{ScriptFault}
 use Rattle.av_world.specs.Script.Grammar.{Line, Silent, Limit, Volume, Says, line_of}
+use Rattle.av_base.specs.Refused.{IsRefusal, map_ok}
 
 -- a volume with its mode and limits, and the commands in their order
 pub record ScriptText : Type 0 where
@@ -28,8 +29,7 @@ bad_at n = Err (record { line = n })
 
 -- a command in front of those of the lines below
 abbrev pub command_then : Command → Result (List Command) ScriptFault → Result (List Command) ScriptFault
-command_then c (Ok cs) = Ok (c ∷ cs)
-command_then c (Err f) = Err f
+command_then c below = map_ok (λ cs. c ∷ cs) below
 
 -- below the volume line, a line says nothing or a command
 abbrev pub line_then : ℕ → Option Line → Result (List Command) ScriptFault → Result (List Command) ScriptFault
@@ -45,8 +45,7 @@ commands_from n [] = Ok []
 commands_from n (l ∷ ls) = line_then n (line_of l) (commands_from (n + 1) ls)
 
 abbrev pub heads : ℕ → Mode → LimitValues → Result (List Command) ScriptFault → Result ScriptText ScriptFault
-heads number mode limits (Ok commands) = Ok (record { number = number; mode = mode; limits = limits; commands = commands })
-heads number mode limits (Err f) = Err f
+heads number mode limits commands = map_ok (λ cs. record { number = number; mode = mode; limits = limits; commands = cs }) commands
 
 -- the limits are judged at the volume line
 abbrev pub mounted_with : ℕ → ℕ → Mode → Result LimitValues LimitFault → List (List ℕ) → Result ScriptText ScriptFault
@@ -69,16 +68,10 @@ header_from values n (l ∷ ls) = elim (line_of l) [
 abbrev pub script_of : List ℕ → Result ScriptText ScriptFault
 script_of text = header_from greatest_values 1 (lines_of text)
 
--- what was parsed: the commands, or the first bad line; memory is refused only where no line is bad
-abbrev pub Lacks : Refusal ScriptFault → Result (List Command) ScriptFault → Type 0
-Lacks (Fault f) wanted = wanted ≡ Err f
-Lacks NoMemory wanted = IsOk wanted
-
 abbrev pub Parses : Result (VecDeque Command Global) (Refusal ScriptFault) → Result (List Command) ScriptFault → Type 0
 Parses (Ok v) wanted = wanted ≡ Ok v.items
-Parses (Err e) wanted = Lacks e wanted
+Parses (Err e) wanted = IsRefusal e wanted
 
 -- commands in front of those that follow
 abbrev pub with_front : List Command → Result (List Command) ScriptFault → Result (List Command) ScriptFault
-with_front front (Ok cs) = Ok (front ++ cs)
-with_front front (Err f) = Err f
+with_front front commands = map_ok (λ cs. front ++ cs) commands

@@ -43,6 +43,7 @@ use Rattle.av_world.specs.declared.report.Note.{Note}
 use Rattle.av_world.specs.declared.report.Note.TheVariants as note
 use Rattle.av_world.specs.declared.report.Places.{Places}
 use Rattle.av_world.specs.declared.report.Report.{Report}
+use Rattle.av_base.specs.Refused.{unless, IsRefusal}
 
 pub record WorldState : Type 0 where
   pub history : List Event  -- the accepted events, the newest first
@@ -105,10 +106,6 @@ responded w e r = record w { history = e ∷ w.history; desk = r.desk; up = w.up
 -- an answer of a step: its report, and the world after it
 abbrev pub Outcome : Type 0
 Outcome = Result (Report × WorldState) StepFault
-
-abbrev pub unless : Option StepFault → Report × WorldState → Outcome
-unless None x = Ok x
-unless (Some f) x = Err f
 
 abbrev pub step_fault : FilterFault → StepFault
 step_fault (filter_fault.Store f) = fault.Store f
@@ -245,15 +242,10 @@ pub data Gives (w : WorldState) : List Event → List Event → Type 0 where
   accepted : (es hs : List Event) (e : Event) → Gives w es hs → IsOk (step_of (world_of w hs) e) → Gives w (e ∷ es) (e ∷ hs)
   passed_over : (es hs : List Event) (e : Event) → Gives w es hs → Gives w (e ∷ es) hs
 
--- why a step is refused: the event's fault, or want of memory where it has none
-abbrev pub RefusesStep : {A : Type 0} → Refusal StepFault → Result A StepFault → Type 0
-RefusesStep (Fault f) wanted = wanted ≡ Err f
-RefusesStep NoMemory wanted = IsOk wanted
-
 -- a step goes on to the next world; where it is refused the world stays and the event is handed back
 abbrev pub Steps : WorldState → WorldState → Event → Result Report (Refused Event StepFault) → Type 0
 Steps old new event (Ok report) = step_of old event ≡ Ok (report, new)
-Steps old new event (Err refused) = RefusesStep refused.why (step_of old event) × (new ≡ old) × (refused.value ≡ event)
+Steps old new event (Err refused) = IsRefusal refused.why (step_of old event) × (new ≡ old) × (refused.value ≡ event)
 
 -- an event that may happen does, and joins the history, but where memory refuses its step; a refused one is passed over
 abbrev pub Passes : WorldState → WorldState → Event → Type 0

@@ -1,9 +1,9 @@
 ghost use Rattle.std.specs.Prelude.{◌≡◌};
 ghost use Rattle.av_world.specs.Text.Refusals.{word_of, judge_word_of};
 
-use av_service::fault::ConnectFault;
-use av_sigset::fault::CatalogueFault;
-use av_store::fault::StoreFault;
+use av_service::ConnectFault;
+use av_sigset::CatalogueFault;
+use av_store::StoreFault;
 use thiserror::Error;
 
 /// Why a step of a world is refused.

@@ -1,5 +1,7 @@
 //! What holds of every world, wherever its history leads, and of every two audits.
-ghost use Rattle.std.specs.Prelude.{◌≡◌, ℕ, List};
+ghost use Rattle.std.specs.Prelude.{◌≡◌, ◌<◌, ◌≤◌, ◌^◌, ◌++◌, ℕ, List, length, reverse};
+ghost use Rattle.std.specs.List.{AllByRecursion};
+ghost use Rattle.av_base.specs.Limits.{AreInRange};
 ghost use Rattle.av_base.specs.declared.limits.LimitValues.{LimitValues};
 ghost use Rattle.av_base.specs.declared.mode.Mode.{Mode};
 ghost use Rattle.av_filter.specs.Audit.{FilterEntry, IsFilterAudit};
@@ -7,15 +9,18 @@ ghost use Rattle.av_filter_table.specs.Table.{mounted};
 ghost use Rattle.av_filter_table.specs.declared.question.Question.{Question};
 ghost use Rattle.av_service.specs.Desk.{just_started};
 ghost use Rattle.av_sigset.specs.Publication.{Publication, latest_as};
+ghost use Rattle.av_sigset.specs.Catalogue.{latest};
 ghost use Rattle.av_store.specs.Files.{File};
 ghost use Rattle.av_store.specs.Store.{Store};
 ghost use Rattle.av_world.specs.Audits.{AreLegal, AuditAnswersOnce, AuditsGrantOnlyClean, AuditsHoldOneVerdict, SideEntry};
 ghost use Rattle.av_world.specs.Examples.{ComeTrue};
 ghost use Rattle.av_world.specs.Headline.{AnswersOnce, GrantsOnlyClean, HoldsOneVerdict, NeverDiffers};
 ghost use Rattle.av_world.specs.Path.{EndsWithVerdict, IsReady};
+ghost use Rattle.av_world.specs.Progress.{CanFinish, Finishes, GaveNoVerdict, IsCarrying, IsWaiting, onward};
+ghost use Rattle.av_world.specs.ProgressExamples.{AreWorked};
 ghost use Rattle.av_world.specs.Safety.{AnswersExplained, JobsJudgeRightly};
 ghost use Rattle.av_world.specs.Whole.{StaysWhole};
-ghost use Rattle.av_world.specs.World.{after, start, world_of};
+ghost use Rattle.av_world.specs.World.{WorldState, after, start, world_of};
 ghost use Rattle.av_world.specs.declared.event.Event.{Event};
 
 /// Over every list of opens, writes, deliveries, losses, repeats, delays, timeouts, publications, disconnections and
@@ -62,4 +67,20 @@ pub fn worked_scripts()
 /// and the volume's streams are in their ranges.
 pub fn worlds_stay_whole()
     ensures { StaysWhole }
+{}
+
+/// The protocol can always finish. Nobody promises that messages come; but from every world in which a version is
+/// published that the filter may grant under, and a lease is left for each chunk, a stated list of events leads to a world in
+/// which no open waits and each that waited was answered by the verdict of its stream's content. All of them happen: messages
+/// that were sent come, works that were lent are run, and the service connects anew; no timeout, no disconnection of the
+/// filter, no restart and no change of a file. Leases are left where the history isn't too long; and without such a version
+/// no such event brings a verdict. The worked examples say what stands in the way without each premise.
+pub fn progress()
+    ensures finishes { (number : ℕ) (mode : Mode) (limits : LimitValues) (history : List Event) → 1 ≤ limits.chunk → 1 ≤ limits.jobs → (IsWaiting (world_of (start number mode limits) history) → CanFinish (world_of (start number mode limits) history)) → Finishes (world_of (start number mode limits) history) }
+    ensures soon { (number : ℕ) (mode : Mode) (limits : LimitValues) (history : List Event) → AreInRange limits → length history ≤ 2 ^ 43
+        → (IsWaiting (world_of (start number mode limits) history) → (world_of (start number mode limits) history).table.floor ≤ latest (world_of (start number mode limits) history).sets) → Finishes (world_of (start number mode limits) history) }
+    ensures needs { (number : ℕ) (mode : Mode) (limits : LimitValues) (history events : List Event) → latest (world_of (start number mode limits) history).sets < (world_of (start number mode limits) history).table.floor → AllByRecursion IsCarrying events
+        → GaveNoVerdict (world_of (start number mode limits) history) (onward events (world_of (start number mode limits) history)) }
+    ensures leads { (w : WorldState) (events history : List Event) → onward events (world_of w history) ≡ world_of w (reverse events ++ history) }
+    ensures worked { AreWorked }
 {}

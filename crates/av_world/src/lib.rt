@@ -22,3 +22,12 @@ pub mod script;
 #[cfg(test)]
 mod tests;
 pub mod world;
+
+pub use event::Event;
+pub use fault::{JudgeFault, StepFault};
+pub use given::Given;
+pub use pattern::Patterns;
+pub use report::{Judged, Line, Note, Places, Report};
+pub use run_script::RunFault;
+pub use script::{Script, ScriptFault};
+pub use world::World;

@@ -19,9 +19,9 @@ use crate::output::message::{Way, print_messages};
 use crate::output::note::print_note;
 use crate::output::work::print_works;
 use crate::report::Report;
-use av_base::device::WriteFault;
-use av_frame::message::Message;
-use av_service::work::Work;
+use av_base::WriteFault;
+use av_frame::Message;
+use av_service::Work;
 use std::io::Write;
 
 /// Writes the lines of a step, by the world's lists after it. It takes no memory.

@@ -3,7 +3,8 @@ ghost use Rattle.std.specs.Option.{option_to_list};
 ghost use Rattle.av_world.specs.Script.Statement.{meaning, command_of};
 ghost use Rattle.av_base.specs.Answers.{Reads};
 ghost use Rattle.av_base.specs.Line.{lines_of};
-ghost use Rattle.av_world.specs.Script.{ScriptText, script_of, heads, commands_from, Parses, Lacks};
+ghost use Rattle.av_world.specs.Script.{ScriptText, script_of, heads, commands_from, Parses};
+ghost use Rattle.av_base.specs.Refused.{IsRefusal};
 
 pub mod command;
 mod hexadecimal;
@@ -16,10 +17,8 @@ mod words;
 use crate::script::command::Command;
 use crate::script::reading::read_statement;
 use crate::script::statement::Statement;
-use av_base::limits::{LimitValues, Limits};
 use av_base::line::first_line;
-use av_base::mode::Mode;
-use av_base::refusal::Refusal;
+use av_base::{LimitValues, Limits, Mode, Refusal};
 use std::alloc::{AllocError, Global};
 use std::collections::VecDeque;
 use std::marker::Model;
@@ -187,7 +186,7 @@ fn push_command(
 // Why commands are refused where memory was, and this text is left.
 fn without_memory(text: &[u8], first_number: u64) -> Refusal<ScriptFault>
     requires { first_number + length text.now < 2 ^ 64 }
-    ensures { Lacks result (commands_from first_number (lines_of text.now)) }
+    ensures { IsRefusal result (commands_from first_number (lines_of text.now)) }
 {
     let mut rest = text;
     let mut line = first_number;

@@ -4,8 +4,9 @@ ghost use Rattle.std.specs.Prelude.{◌≡◌};
 ghost use Rattle.avscan.specs.declared.status.Status.TheVariants.{Device, Memory, Refused, Usage};
 
 use crate::status::Status;
-use av_base::parts::{Part, write_parts};
-use av_sigset::fault::SetFault;
+use av_base::Part;
+use av_base::parts::write_parts;
+use av_sigset::SetFault;
 use std::io::Write;
 
 /// A file can't be opened, or a read of it failed.

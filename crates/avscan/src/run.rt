@@ -5,7 +5,8 @@ ghost use Rattle.avscan.specs.Status.{status_of};
 
 use crate::faults::{bad_script, device_failed, out_of_memory, script_too_long};
 use crate::status::Status;
-use av_world::run_script::{RunFault, run_script};
+use av_world::RunFault;
+use av_world::run_script::run_script;
 use std::alloc::Global;
 use std::io::{Read, Write};
 

@@ -8,10 +8,9 @@ ghost use Rattle.avscan.specs.declared.status.Status.TheVariants.{Done};
 use crate::faults::{device_failed, out_of_memory};
 use crate::scanner::{Input, Scanner};
 use crate::status::Status;
-use av_base::device::WriteFault;
-use av_base::parts::{Part, write_parts};
-use av_base::verdict::Verdict;
-use av_sigset::set::SignatureSet;
+use av_base::parts::write_parts;
+use av_base::{Part, Verdict, WriteFault};
+use av_sigset::SignatureSet;
 use std::alloc::Global;
 use std::io::Write;
 

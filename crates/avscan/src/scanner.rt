@@ -7,11 +7,9 @@ ghost use Rattle.avscan.specs.declared.status.Status.TheVariants.{Done};
 
 use crate::faults::{bad_set, out_of_memory, too_large, unreadable};
 use crate::status::Status;
-use av_base::refusal::Refusal;
-use av_base::verdict::Verdict;
-use av_match::automaton::Automaton;
-use av_match::scan::Scan;
-use av_sigset::set::SignatureSet;
+use av_base::{Refusal, Verdict};
+use av_match::{Automaton, Scan};
+use av_sigset::SignatureSet;
 use std::alloc::Global;
 use std::io::Write;
 use std::marker::Model;

@@ -1,7 +1,7 @@
 //! A filter as plain lists, written anew from docs/CONDUCT.md for the tests: it shares no code with the filter. It has no
 //! cache, which no sequence of events can tell: within one boot the floor only rises, and a restart empties the cache.
 use crate::tests::steps::Step;
-use av_base::mode::Mode;
+use av_base::Mode;
 use std::alloc::{AllocError, Global};
 
 // What is known of a stream.

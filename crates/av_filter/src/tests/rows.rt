@@ -1,7 +1,6 @@
 // Whole courses of events, with what a filter gives out at each, as scripts print it.
 use crate::tests::steps::Step;
-use av_base::limits::LimitField;
-use av_base::mode::Mode;
+use av_base::{LimitField, Mode};
 
 // Steps on a filter of a volume with the streams 1 and 2, without bytes, each with what the filter gives out; and further
 // steps after a restart, with what that gives out.

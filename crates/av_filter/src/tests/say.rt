@@ -2,10 +2,9 @@
 use crate::fault::FilterFault;
 use crate::note::Note;
 use crate::out::Out;
-use av_base::message_id::MessageId;
-use av_base::refusal::Refusal;
-use av_frame::message::{Body, Message};
-use av_pend::answer::Answer;
+use av_base::{MessageId, Refusal};
+use av_frame::{Body, Message};
+use av_pend::Answer;
 use std::alloc::{AllocError, Global};
 
 // What an event gives out, or why it is refused.

@@ -1,10 +1,6 @@
 // What happens to a filter, step by step.
-use av_base::message_id::MessageId;
-use av_base::number::Version;
-use av_base::verdict::Verdict;
-use av_frame::cause::FailCause;
-use av_frame::message::{Body, Message};
-use av_frame::outcome::Outcome;
+use av_base::{MessageId, Verdict, Version};
+use av_frame::{Body, FailCause, Message, Outcome};
 
 // One step: streams, versions, boots and numbers of questions as numbers.
 #[derive(Clone, Copy)]

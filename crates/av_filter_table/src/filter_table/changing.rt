@@ -7,7 +7,7 @@ ghost use Rattle.av_filter_table.specs.Asking.{asked_again, is_lost};
 ghost use Rattle.av_filter_table.specs.FilterTable.{id_of};
 ghost use Rattle.av_filter_table.specs.Rewriting.{change_by};
 ghost use Rattle.av_filter_table.specs.Table.{next_id, opens_of, question_at, question_of};
-ghost use Rattle.av_store.specs.Content.{fault_of};
+ghost use Rattle.std.specs.Result.{result_err};
 ghost use Rattle.av_store.specs.Seen.{change_of};
 
 use super::FilterTable;
@@ -15,11 +15,10 @@ use crate::asked::Asked;
 use crate::moving::move_opens;
 use crate::present::generation_now;
 use crate::rewriting::Rewriting;
-use av_base::message_id::MessageId;
-use av_base::number::{Generation, StreamId};
-use av_context::context_state::ContextState;
-use av_pend::answer::Answer;
-use av_store::volume::Volume;
+use av_base::{Generation, MessageId, StreamId};
+use av_context::ContextState;
+use av_pend::Answer;
+use av_store::Volume;
 use std::alloc::{AllocError, AllocFailed};
 
 impl FilterTable {
@@ -32,7 +31,7 @@ impl FilterTable {
         rewriting: Rewriting<'_>,
     ) -> Result<(), AllocError>
         requires none { question_of stream self.old.questions ≡ None }
-        requires accepted { fault_of (change_of volume.old (change_by stream rewriting)) ≡ None }
+        requires accepted { result_err (change_of volume.old (change_by stream rewriting)) ≡ None }
         ensures ok { OnOk result (self.new ≡ record self.old { contexts = set_at self.old.contexts stream (Some Modified) }) }
         ensures volume { OnOk result (change_of volume.old (change_by stream rewriting.entry) ≡ Ok volume.new) }
         ensures err { OnErr result ((self.new ≡ self.old) × (volume.new ≡ volume.old)) }
@@ -62,7 +61,7 @@ impl FilterTable {
         answers: &mut Vec<Answer>,
     ) -> Result<MessageId, AllocError>
         requires there { IsSome (question_at (id_of self.old.boot question) self.old.questions) }
-        requires accepted { IfSome (question_at (id_of self.old.boot question) self.old.questions) (λ q. fault_of (change_of volume.old (change_by q.stream rewriting)) ≡ None) }
+        requires accepted { IfSome (question_at (id_of self.old.boot question) self.old.questions) (λ q. result_err (change_of volume.old (change_by q.stream rewriting)) ≡ None) }
         requires next { IfSome (question_at (id_of self.old.boot question) self.old.questions) (λ q. present_generation volume.old q.stream + 1 < 2 ^ 64) }
         requires left { self.old.sequence + 1 < 2 ^ 64 }
         requires room { vec_len answers.old + length (opens_of (id_of self.old.boot question) self.old.pended) ≤ vec_capacity answers.old }

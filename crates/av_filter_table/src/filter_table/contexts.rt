@@ -5,9 +5,8 @@ ghost use Rattle.av_cache.specs.Cache.{look, moved, put, verdict_of};
 ghost use Rattle.av_filter_table.specs.Table.{context_of, question_of};
 
 use super::FilterTable;
-use av_base::number::{Generation, StreamId, Version};
-use av_base::verdict::Verdict;
-use av_context::context_state::ContextState;
+use av_base::{Generation, StreamId, Verdict, Version};
+use av_context::ContextState;
 use std::alloc::AllocError;
 
 impl FilterTable {

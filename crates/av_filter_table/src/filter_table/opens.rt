@@ -12,11 +12,10 @@ use crate::asked::Asked;
 use crate::chains;
 use crate::moving::move_opens;
 use crate::present::generation_now;
-use av_base::message_id::MessageId;
-use av_context::context_state::ContextState;
-use av_pend::answer::Answer;
-use av_pend::pended_open::PendedOpen;
-use av_store::volume::Volume;
+use av_base::MessageId;
+use av_context::ContextState;
+use av_pend::{Answer, PendedOpen};
+use av_store::Volume;
 use std::alloc::{AllocError, AllocFailed};
 
 impl FilterTable {

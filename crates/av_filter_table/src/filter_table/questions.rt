@@ -11,10 +11,9 @@ use super::FilterTable;
 use crate::asked::Asked;
 use crate::chains;
 use crate::question::Question;
-use av_base::message_id::MessageId;
-use av_base::number::{Generation, StreamId};
-use av_context::context_state::ContextState;
-use av_pend::pended_open::PendedOpen;
+use av_base::{Generation, MessageId, StreamId};
+use av_context::ContextState;
+use av_pend::PendedOpen;
 use std::alloc::{AllocError, AllocFailed};
 
 impl FilterTable {

@@ -4,10 +4,8 @@ ghost use Rattle.av_filter_table.specs.Numbered.{IsAscending};
 ghost use Rattle.av_filter_table.specs.Table.{mounted, raised};
 
 use super::FilterTable;
-use av_base::limits::Limits;
-use av_base::mode::Mode;
-use av_base::number::Version;
-use av_cache::cache::VerdictCache;
+use av_base::{Limits, Mode, Version};
+use av_cache::VerdictCache;
 
 impl FilterTable {
     /// What becomes of an open that can't be judged.

@@ -3,8 +3,7 @@ use crate::decode::decode;
 use crate::feed::Feed;
 use crate::message::{Body, Message};
 use crate::outcome::Outcome;
-use av_base::message_id::MessageId;
-use av_base::verdict::Verdict;
+use av_base::{MessageId, Verdict};
 use std::alloc::{AllocError, Global};
 use std::test::Fail;
 

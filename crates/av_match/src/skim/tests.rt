@@ -4,8 +4,8 @@ use crate::automaton::Automaton;
 use crate::credit::Stop;
 use crate::leaps::leaped;
 use crate::skim::{passed, skim};
-use av_base::number::Version;
-use av_sigset::set::SignatureSet;
+use av_base::Version;
+use av_sigset::SignatureSet;
 use std::alloc::{AllocError, Global};
 use std::test::Fail;
 

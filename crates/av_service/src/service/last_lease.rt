@@ -2,8 +2,7 @@
 use crate::service::Service;
 use crate::tests::steps::{Stand, Step, discard_all};
 use crate::work::Work;
-use av_base::limits::LimitField;
-use av_base::number::Lease;
+use av_base::{Lease, LimitField};
 use std::alloc::Global;
 use std::collections::VecDeque;
 use std::test::Fail;

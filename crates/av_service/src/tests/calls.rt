@@ -7,12 +7,9 @@ use crate::fault::ConnectFault;
 use crate::out::ServiceOut;
 use crate::service::Service;
 use crate::tests::say::readers;
-use av_base::limits::Limits;
-use av_base::number::{Lease, Version};
-use av_base::refusal::Refusal;
-use av_base::verdict::Verdict;
-use av_frame::message::Message;
-use av_sigset::catalogue::Catalogue;
+use av_base::{Lease, Limits, Refusal, Verdict, Version};
+use av_frame::Message;
+use av_sigset::Catalogue;
 use std::alloc::{AllocError, AllocFailed, Global};
 use std::test::Fail;
 

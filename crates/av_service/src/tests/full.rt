@@ -1,7 +1,7 @@
 // As many jobs as the greatest limits allow, and one more.
 use crate::tests::steps::{Stand, Step, discard_all};
 use crate::work::Work;
-use av_base::limits::LimitField;
+use av_base::LimitField;
 use std::alloc::{AllocError, Global};
 use std::collections::VecDeque;
 use std::test::Fail;

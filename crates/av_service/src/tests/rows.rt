@@ -1,6 +1,6 @@
 // Whole courses of events, with what a service says at each, as scripts print it.
 use crate::tests::steps::{Stand, Step, discard_all};
-use av_base::limits::LimitField;
+use av_base::LimitField;
 use std::alloc::Global;
 use std::collections::VecDeque;
 use std::process::Abort;

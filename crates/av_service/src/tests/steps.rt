@@ -3,15 +3,12 @@ use crate::service::Service;
 use crate::tests::calls;
 use crate::tests::say::told;
 use crate::work::Work;
-use av_base::byte_list::ByteList;
-use av_base::limits::{LimitField, LimitValues, Limits};
-use av_base::message_id::MessageId;
-use av_base::number::{Generation, StreamId, Version};
-use av_frame::cause::NoChunkCause;
-use av_frame::message::{Body, Message};
-use av_match::automaton::Automaton;
-use av_sigset::catalogue::Catalogue;
-use av_sigset::set::SignatureSet;
+use av_base::{
+    ByteList, Generation, LimitField, LimitValues, Limits, MessageId, StreamId, Version,
+};
+use av_frame::{Body, Message, NoChunkCause};
+use av_match::Automaton;
+use av_sigset::{Catalogue, SignatureSet};
 use std::alloc::{AllocError, Global};
 use std::collections::VecDeque;
 use std::test::Fail;

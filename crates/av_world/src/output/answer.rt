@@ -7,12 +7,10 @@ ghost use Rattle.av_world.specs.Text.Answers.{answer_text, answers_text, is_answ
 
 use crate::given::Given;
 use crate::report::Note;
-use av_base::cause::Cause;
-use av_base::device::WriteFault;
-use av_base::number::{Generation, OpenId, StreamId, Version};
-use av_base::parts::{Part, write_parts};
+use av_base::parts::write_parts;
+use av_base::{Cause, Generation, OpenId, Part, StreamId, Version, WriteFault};
 use av_filter::note::Note as FilterNote;
-use av_pend::answer::Answer;
+use av_pend::Answer;
 use std::io::Write;
 
 /// Writes the lines of answers.

@@ -4,9 +4,8 @@ ghost use Rattle.av_base.specs.Device.{AppendsPrefix};
 ghost use Rattle.av_world.specs.Text.Lines.{judged_text};
 
 use crate::report::Judged;
-use av_base::device::WriteFault;
-use av_base::parts::{Part, write_parts};
-use av_base::verdict::Verdict;
+use av_base::parts::write_parts;
+use av_base::{Part, Verdict, WriteFault};
 use std::io::Write;
 
 /// Writes the line of a judgement.

@@ -5,9 +5,8 @@ ghost use Rattle.av_world.specs.Text.Lines.{line_text};
 ghost use Rattle.av_world.specs.declared.report.Line.TheVariants.{Booted, Changed, Created, Published, Removed};
 
 use crate::report::Line;
-use av_base::device::WriteFault;
-use av_base::number::{Generation, StreamId, Version};
-use av_base::parts::{Part, write_parts};
+use av_base::parts::write_parts;
+use av_base::{Generation, Part, StreamId, Version, WriteFault};
 use std::io::Write;
 
 /// Writes a step's own line, if it has one.

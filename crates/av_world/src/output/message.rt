@@ -8,14 +8,9 @@ ghost use Rattle.av_frame.specs.declared.outcome.Outcome.TheVariants.{Failed, Ju
 ghost use Rattle.av_world.specs.Text.Messages.{message_text, placed_text, way_word};
 
 use crate::output::part;
-use av_base::device::WriteFault;
-use av_base::message_id::MessageId;
-use av_base::number::{Generation, StreamId, Version};
-use av_base::parts::{Part, write_parts};
-use av_base::verdict::Verdict;
-use av_frame::cause::{FailCause, NoChunkCause};
-use av_frame::message::{Body, Message};
-use av_frame::outcome::Outcome;
+use av_base::parts::write_parts;
+use av_base::{Generation, MessageId, Part, StreamId, Verdict, Version, WriteFault};
+use av_frame::{Body, FailCause, Message, NoChunkCause, Outcome};
 use std::io::Write;
 
 /// The list in which a message stands: those to the service, or those to the filter.

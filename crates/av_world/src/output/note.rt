@@ -5,8 +5,8 @@ ghost use Rattle.av_base.specs.Device.{AppendsPrefix};
 ghost use Rattle.av_world.specs.Text.Notes.{filter_word, note_text, note_word, service_word};
 
 use crate::report::Note;
-use av_base::device::WriteFault;
-use av_base::parts::{Part, write_parts};
+use av_base::parts::write_parts;
+use av_base::{Part, WriteFault};
 use av_filter::note::Note as FilterNote;
 use av_service::note::Note as ServiceNote;
 use std::io::Write;

@@ -3,8 +3,8 @@ ghost use Rattle.std.specs.Io.KnownBytes.{Appends};
 ghost use Rattle.av_base.specs.Device.{AppendsPrefix};
 ghost use Rattle.av_world.specs.Text.Refusals.{refused_text};
 
-use av_base::device::WriteFault;
-use av_base::parts::{Part, write_parts};
+use av_base::parts::write_parts;
+use av_base::{Part, WriteFault};
 use std::io::Write;
 
 /// Writes the line of a refusal.

@@ -5,9 +5,9 @@ ghost use Rattle.av_base.specs.Device.{AppendsPrefix};
 ghost use Rattle.av_world.specs.Text.Messages.{placed_text, work_text};
 
 use crate::output::part;
-use av_base::device::WriteFault;
-use av_base::parts::{Part, write_parts};
-use av_service::work::Work;
+use av_base::parts::write_parts;
+use av_base::{Part, WriteFault};
+use av_service::Work;
 use std::io::Write;
 
 /// Writes the lines of lent work from one place of its list up to another, both counted from 0. Work that came back has

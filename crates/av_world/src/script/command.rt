@@ -1,5 +1,5 @@
 use crate::event::Event;
-use av_base::byte_list::ByteList;
+use av_base::ByteList;
 
 /// A command of a script.
 #[derive(Debug, Drop)]

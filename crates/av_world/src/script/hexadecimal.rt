@@ -5,10 +5,9 @@ ghost use Rattle.av_base.specs.Line.{rest_of};
 ghost use Rattle.av_world.specs.Script.Grammar.{is_hex, bytes_in, is_content, content_in, pattern_in};
 
 use crate::pattern::Patterns;
-use av_base::byte_list::ByteList;
+use av_base::ByteList;
 use av_base::line::first_piece;
-use av_sigset::hexadecimal;
-use av_sigset::signature::Pattern;
+use av_sigset::{Pattern, hexadecimal};
 use hex::FromHexError;
 use std::alloc::{AllocError, Global};
 

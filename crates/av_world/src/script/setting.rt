@@ -8,8 +8,7 @@ ghost use Rattle.av_world.specs.Script.Words.{two_words};
 use crate::script::statement::Statement;
 use crate::script::words::two_words;
 use av_base::decimal::decimal;
-use av_base::limits::LimitField;
-use av_base::mode::Mode;
+use av_base::{LimitField, Mode};
 
 /// What a verb of the head says with the words behind it, where it is one.
 pub fn read_setting<'a>(verb: &[u8], words: Option<&'a [u8]>) -> Option<Statement<'a>>

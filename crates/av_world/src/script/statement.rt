@@ -5,10 +5,7 @@ use crate::event::Event;
 use crate::script::command::Command;
 use crate::script::hexadecimal::{content, patterns};
 use crate::script::verb::{BareVerb, NameVerb, NumberVerb};
-use av_base::byte_list::ByteList;
-use av_base::limits::LimitField;
-use av_base::mode::Mode;
-use av_base::number::Version;
+use av_base::{ByteList, LimitField, Mode, Version};
 use std::alloc::{AllocError, Global};
 
 /// What one line of a script says, by views of its text. It takes no memory, so that a bad line is found before memory

@@ -3,7 +3,7 @@ ghost use Rattle.av_world.specs.Script.Statement.{bare_event, named_command, num
 
 use crate::event::Event;
 use crate::script::command::Command;
-use av_base::byte_list::ByteList;
+use av_base::ByteList;
 
 /// A verb that a name follows, and nothing else.
 #[derive(Clone, Copy)]

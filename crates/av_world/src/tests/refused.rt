@@ -5,7 +5,7 @@ use crate::script::command::Command;
 use crate::script::{Script, parse_script};
 use crate::tests::rows::{CONNECTED, CONNECTED_LINES, Head, ROWS, SCANNED, SCANNED_LINES};
 use crate::world::World;
-use av_base::refusal::Refusal;
+use av_base::Refusal;
 use av_fakes::{may_refuse, refuse_no_more};
 use std::alloc::Global;
 use std::collections::VecDeque;

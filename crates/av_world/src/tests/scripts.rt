@@ -1,10 +1,9 @@
 use crate::fault::{JudgeFault, StepFault};
 use crate::run_script::{RunFault, run_script};
 use crate::script::{ScriptFault, parse_script};
-use av_base::mode::Mode;
-use av_base::refusal::Refusal;
+use av_base::{Mode, Refusal};
 use av_fakes::{FakeReader, FakeWriter, Fault, may_refuse, refuse_no_more};
-use av_store::fault::StoreFault;
+use av_store::StoreFault;
 use std::test::Fail;
 
 #[test]

@@ -2,9 +2,8 @@ ghost use Rattle.std.specs.Prelude.{◌≡◌, IfSome, Some};
 ghost use Rattle.av_world.specs.World.{member};
 
 use av_frame::encode::encode_into;
-use av_frame::feed::Feed;
 use av_frame::laws::no_frame_begins_another;
-use av_frame::message::Message;
+use av_frame::{Feed, Message};
 use std::alloc::Global;
 
 /// The message at a place, counted from 1, as it comes out where it is delivered. None where none stands there, or memory

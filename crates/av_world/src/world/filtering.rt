@@ -12,13 +12,12 @@ use super::stage::Stage;
 use crate::event::Event;
 use crate::given::Given;
 use crate::report::{Line, Note, Report};
-use av_base::number::{Generation, StreamId, Version};
-use av_filter::filter::Filter;
+use av_base::{Generation, StreamId, Version};
 use av_filter::note::Note as FilterNote;
-use av_filter::out::Out;
-use av_frame::message::Message;
-use av_pend::answer::Answer;
-use av_store::volume::Volume;
+use av_filter::{Filter, Out};
+use av_frame::Message;
+use av_pend::Answer;
+use av_store::Volume;
 use std::alloc::Global;
 
 /// What is asked of the filter, or of the volume below it.

@@ -5,13 +5,11 @@ ghost use Rattle.av_filter_table.specs.Table.{context_of};
 ghost use Rattle.av_world.specs.Held.{asked, asked_by, entry, held, held_contexts, held_reply};
 
 use super::World;
-use av_base::message_id::MessageId;
-use av_base::number::{Generation, StreamId};
-use av_cache::entry::Entry;
-use av_filter::filter::Filter;
-use av_frame::message::{Body, Message};
-use av_frame::outcome::Outcome;
-use av_store::volume::Volume;
+use av_base::{Generation, MessageId, StreamId};
+use av_cache::Entry;
+use av_filter::Filter;
+use av_frame::{Body, Message, Outcome};
+use av_store::Volume;
 use std::alloc::{AllocError, Global};
 
 impl World {

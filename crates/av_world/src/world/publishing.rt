@@ -9,8 +9,8 @@ use super::serving::{ServiceCall, serve};
 use super::stage::Stage;
 use crate::pattern::Patterns;
 use crate::report::{Line, Report};
-use av_base::number::Version;
-use av_sigset::set::SignatureSet;
+use av_base::Version;
+use av_sigset::SignatureSet;
 use std::alloc::Global;
 
 impl Stage {

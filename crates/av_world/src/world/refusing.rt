@@ -2,11 +2,12 @@ ghost use Rattle.std.specs.Prelude.{◌≡◌, List, Some, None, IsSome, slice_g
 ghost use Rattle.std.specs.Option.{option_map};
 ghost use Rattle.av_filter.specs.Conduct.{filter_refusal};
 ghost use Rattle.av_sigset.specs.Made.{set_made};
-ghost use Rattle.av_world.specs.Request.{IsRefusalOf, frame_fault, outcome_of, work_fault};
+ghost use Rattle.av_world.specs.Request.{frame_fault, outcome_of, work_fault};
+ghost use Rattle.av_base.specs.Refused.{IsFaultOf, IsRefusal};
 ghost use Rattle.av_world.specs.Serving.{service_refusal};
 ghost use Rattle.av_world.specs.Serving as serving;
 ghost use Rattle.av_world.specs.Stage.{at_history, event_called};
-ghost use Rattle.av_world.specs.World.{RefusesStep, bytes_of, member, published, step_fault, step_of, work_at};
+ghost use Rattle.av_world.specs.World.{bytes_of, member, published, step_fault, step_of, work_at};
 ghost use Rattle.av_world.specs.declared.event.Event.{Event};
 ghost use Rattle.av_world.specs.declared.fault.StepFault.TheVariants as fault;
 
@@ -17,19 +18,17 @@ use super::stage::Stage;
 use crate::event::Event;
 use crate::fault::StepFault;
 use crate::pattern::Patterns;
-use av_base::number::Version;
-use av_base::refusal::Refusal;
-use av_frame::message::Message;
-use av_service::fault::ConnectFault;
-use av_service::work::Work;
-use av_sigset::set::SignatureSet;
-use av_store::fault::StoreFault;
+use av_base::{Refusal, Version};
+use av_frame::Message;
+use av_service::{ConnectFault, Work};
+use av_sigset::SignatureSet;
+use av_store::StoreFault;
 use std::alloc::Global;
 
 impl Stage {
     // Why an event can't happen, where it can't whatever memory there is.
     fn refusal(&self, event: &Event) -> Option<StepFault>
-        ensures { (h : List Event) → IsRefusalOf (step_of (at_history h self.now) event.now) result }
+        ensures { (h : List Event) → IsFaultOf (step_of (at_history h self.now) event.now) result }
     {
         let request = match self.request(event) {
             Ok(request) => request,
@@ -40,7 +39,7 @@ impl Stage {
 
     /// Why an event did not happen: its fault, or want of memory where it has none.
     pub fn why(&self, event: &Event) -> Refusal<StepFault>
-        ensures { (h : List Event) → RefusesStep result (step_of (at_history h self.now) event.now) }
+        ensures { (h : List Event) → IsRefusal result (step_of (at_history h self.now) event.now) }
     {
         match self.refusal(event) {
             Some(fault) => Refusal::Fault(fault),
@@ -51,7 +50,7 @@ impl Stage {
     // Why what an event asks for can't be done.
     #[tactic(auto, using(crate::proofs::RequestLemmas::refused_down, crate::proofs::RequestLemmas::refused_filter, crate::proofs::RequestLemmas::refused_service, crate::proofs::RequestLemmas::refused_up, crate::proofs::RequestLemmas::refused_work))]
     fn refusal_of(&self, request: &Request<'_>) -> Option<StepFault>
-        ensures { (h : List Event) (e : Event) → IsRefusalOf (outcome_of (at_history h self.now) e request.now) result }
+        ensures { (h : List Event) (e : Event) → IsFaultOf (outcome_of (at_history h self.now) e request.now) result }
     {
         match *request {
             Request::Publish { version, patterns } => self.publish_refusal(version, patterns),
@@ -66,7 +65,7 @@ impl Stage {
     // BadSet, then the catalogue's fault.
     #[tactic(auto, using(crate::proofs::RequestLemmas::can_be_published))]
     fn publish_refusal(&self, version: Version, patterns: &Patterns) -> Option<StepFault>
-        ensures { (h : List Event) (e : Event) → IsRefusalOf (published (at_history h self.now) e (set_made version (bytes_of patterns.now))) result }
+        ensures { (h : List Event) (e : Event) → IsFaultOf (published (at_history h self.now) e (set_made version (bytes_of patterns.now))) result }
     {
         if SignatureSet::patterns_fault(version, patterns.as_slice()).is_some() {
             return Some(StepFault::BadSet);

@@ -8,7 +8,7 @@ use super::stage::Stage;
 use crate::event::Event;
 use crate::fault::StepFault;
 use crate::pattern::Patterns;
-use av_base::number::{StreamId, Version};
+use av_base::{StreamId, Version};
 
 /// What an event asks for, its name looked up.
 #[derive(Clone, Copy)]

@@ -7,12 +7,10 @@ ghost use Rattle.av_world.specs.declared.report.Note.TheVariants as note;
 
 use super::stage::Stage;
 use crate::report::{Line, Note, Report};
-use av_base::number::Version;
-use av_frame::message::Message;
-use av_service::out::ServiceOut;
-use av_service::service::Service;
-use av_service::work::Work;
-use av_sigset::catalogue::Catalogue;
+use av_base::Version;
+use av_frame::Message;
+use av_service::{Service, ServiceOut, Work};
+use av_sigset::Catalogue;
 use std::alloc::Global;
 
 /// What is asked of the service.

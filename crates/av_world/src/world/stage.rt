@@ -3,15 +3,13 @@ ghost use Rattle.av_world.specs.World.{places_of, start};
 
 use crate::given::Given;
 use crate::report::Places;
-use av_base::limits::Limits;
-use av_base::mode::Mode;
-use av_filter::filter::Filter;
-use av_frame::message::Message;
-use av_match::automaton::Automaton;
-use av_service::service::Service;
-use av_service::work::Work;
-use av_sigset::catalogue::Catalogue;
-use av_store::volume::Volume;
+use av_base::{Limits, Mode};
+use av_filter::Filter;
+use av_frame::Message;
+use av_match::Automaton;
+use av_service::{Service, Work};
+use av_sigset::Catalogue;
+use av_store::Volume;
 use std::alloc::{AllocError, Global};
 use std::marker::Model;
 

@@ -14,13 +14,10 @@ ghost use Rattle.av_world.specs.declared.event.Event.{Event};
 use super::serving::record;
 use super::stage::Stage;
 use crate::report::{Line, Report};
-use av_base::number::Version;
-use av_match::automaton::Automaton;
-use av_service::done::Done;
-use av_service::out::ServiceOut;
-use av_service::service::Service;
-use av_service::work::Work;
-use av_sigset::catalogue::Catalogue;
+use av_base::Version;
+use av_match::Automaton;
+use av_service::{Done, Service, ServiceOut, Work};
+use av_sigset::Catalogue;
 use std::alloc::{AllocFailed, Global};
 use std::mem;
 

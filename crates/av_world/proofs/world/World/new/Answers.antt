@@ -1,9 +1,7 @@
 use Rattle.std.proofs.Common.{[], reverse, sym, subst}
-use Rattle.av_base.specs.Limits.{AreInRange}
 use Rattle.av_world.proofs.WorldLemmas.{kept_start}
 use Rattle.av_world.specs.Stage.{at_history}
 use Rattle.av_world.specs.Reached.{IsKept}
-use Rattle.av_world.specs.World.{WorldState}
 use Rattle.av_world.proofs.world.World.new.Goals as goal
 
 pub invariant_of-result : goal.invariant_of-result

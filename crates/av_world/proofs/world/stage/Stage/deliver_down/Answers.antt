@@ -1,4 +1,4 @@
-use Rattle.std.proofs.Common.{◌≡◌, reverse, rules, Some, subst}
+use Rattle.std.proofs.Common.{◌≡◌, rules, Some, subst}
 use Rattle.av_world.proofs.RequestLemmas.{delivers_down}
 use Rattle.av_world.specs.World.{WorldState, member}
 use Rattle.av_world.proofs.world.stage.Stage.deliver_down.Goals as goal

@@ -1,0 +1,4 @@
+pub mod Answers
+pub mod Floors
+pub mod Seats
+pub mod Tickets

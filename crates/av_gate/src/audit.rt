@@ -1,0 +1,14 @@
+use crate::entry::Entry;
+use av_base::limits::Limits;
+use av_base::mode::Mode;
+use av_store::volume::Volume;
+
+/// All that happened to the filter of one gate: the volume as the mount left it, mode and limits, and the events in their
+/// order, each with what the filter gave out.
+#[derive(Drop)]
+pub struct Audit {
+    pub volume: Volume,
+    pub mode: Mode,
+    pub limits: Limits,
+    pub events: Vec<Entry>,
+}

@@ -1,0 +1,378 @@
+ghost use Rattle.std.specs.Prelude.{◌≡◌, ◌≤◌, ◌<◌, ◌++◌, ◌∷◌, [], Ok, Err, Some, IfOk, IfErr, IfSome, IsSome, vec_len};
+ghost use Rattle.std.specs.Vec.{vec_capacity};
+ghost use Rattle.av_base.specs.Answers.{Reads};
+ghost use Rattle.av_filter.specs.Bounds.{AreInBounds};
+ghost use Rattle.av_gate.specs.Versions.{version_shown};
+ghost use Rattle.av_gate.specs.declared.call.Call.TheVariants as call;
+ghost use Rattle.av_store.specs.Store.{mount_of};
+
+use crate::call::Call;
+use crate::fault::GateFault;
+use crate::locked::Locked;
+use crate::seat::{Seat, SeatCall};
+use crate::settled::Settled;
+use av_base::limits::Limits;
+use av_base::mode::Mode;
+use av_base::number::Version;
+use av_base::refusal::{Refusal, Refused};
+use av_ends::floor::Floor;
+use av_ends::ticket::Ticket;
+use av_ends::ticket_note::TicketNote;
+use av_filter::note::Note;
+use av_frame::message::Message;
+use av_pend::answer::Answer;
+use av_store::fault::BootSpent;
+use av_store::volume::Volume;
+use std::alloc::{AllocError, Global};
+use std::sync::{Condvar, Mutex, Wait};
+
+// What lies under the lock.
+pub(crate) struct Inner {
+    pub(crate) locked: Locked,
+    pub(crate) is_stopped: bool,
+}
+
+/// The filter of one volume, for callers in any number of threads. Each event is one hold of the lock; the floor and the
+/// answers of opens are looked at beside it. A gate holds opens that are owed an answer, so it can't be let go: `close` or
+/// `abandon` ends it.
+pub struct Gate {
+    pub(crate) inner: Mutex<Inner>,
+    // An open that was held has its answer.
+    pub(crate) answered: Condvar,
+    // A message waits, or the gate was stopped.
+    pub(crate) sent: Condvar,
+    pub(crate) floor: Floor,
+    pub(crate) limits: Limits,
+    pub(crate) alloc: Global,
+}
+
+impl Gate {
+    ghost use Rattle.av_ends.specs.Tickets.{IsNoteOf};
+    ghost use Rattle.av_gate.specs.Seats.{Adds, AddsOpen, IsSeatOf, calls_of, floor_seen, seat_call};
+
+    /// A gate over a filter that is mounted on this volume, and its first seat: BootSpent, NoMemory, the volume handed back.
+    pub fn new(
+        alloc: Global,
+        volume: Volume,
+        mode: Mode,
+        limits: Limits,
+    ) -> Result<(Gate, Seat), Refused<Volume, BootSpent>>
+        requires { AreInBounds volume }
+        ensures ok { IfOk result (λ r. IsSeatOf r.0 r.1 × (calls_of r.1 ≡ []) × (floor_seen r.1 ≡ 0)) }
+        ensures back { IfErr result (λ e. e.value ≡ volume) }
+        ensures why { IfErr result (λ e. Reads (Err e.why) (mount_of volume)) }
+    {
+        let (floor, seat) = match Floor::new(alloc) {
+            Ok(made) => made,
+            Err(_) => {
+                let why = without_memory(&volume);
+                return Err(Refused { value: volume, why });
+            }
+        };
+        let locked = Locked::new(alloc, volume, mode, limits)?;
+        let inner = Inner {
+            locked,
+            is_stopped: false,
+        };
+        let gate = Gate {
+            inner: Mutex::new(inner),
+            answered: Condvar::new(),
+            sent: Condvar::new(),
+            floor,
+            limits,
+            alloc,
+        };
+        let seat = Seat {
+            floor: seat,
+            calls: Vec::new(alloc),
+        };
+        Ok((gate, seat))
+    }
+
+    /// A second seat, which has made no call and has seen as much of the floor. It takes no memory and no lock.
+    pub fn seat(&self, seat: &mut Seat) -> Seat
+        requires { IsSeatOf self.now seat.old }
+        ensures old { IsSeatOf self.now seat.new × (calls_of seat.new ≡ calls_of seat.old) × (floor_seen seat.new ≡ floor_seen seat.old) }
+        ensures new { IsSeatOf self.now result × (calls_of result ≡ []) × (floor_seen result ≡ floor_seen seat.old) }
+    {
+        Seat {
+            floor: self.floor.split(&mut seat.floor),
+            calls: Vec::new(self.alloc),
+        }
+    }
+
+    /// The floor, which the seat has then seen: no version below it grants an open. It takes no lock.
+    pub fn floor(&self, seat: &mut Seat) -> Version
+        requires { IsSeatOf self.now seat.old }
+        ensures same { IsSeatOf self.now seat.new × (calls_of seat.new ≡ calls_of seat.old) }
+        ensures seen { result ≡ floor_seen seat.new }
+        ensures later { floor_seen seat.old ≤ floor_seen seat.new }
+    {
+        self.floor.load(&mut seat.floor)
+    }
+
+    /// Opens a stream, with the floor that the seat has seen for its least: AuditFull, OpensSpent, NoMemory. The ticket shows
+    /// the answer, at once or later. An open of an unknown name is denied through its ticket.
+    pub fn open<R: Wait>(
+        &self,
+        rt: &R,
+        alloc: Global,
+        seat: &mut Seat,
+        name: &[u8],
+    ) -> Result<Ticket, Refusal<GateFault>>
+        requires { IsSeatOf self.now seat.old }
+        ensures same { IsSeatOf self.now seat.new }
+        ensures later { floor_seen seat.old ≤ floor_seen seat.new }
+        ensures call { AddsOpen seat.old seat.new name.now result }
+        ensures least { IfOk result (λ t. floor_seen seat.old ≤ t.least) }
+    {
+        let least = self.floor.load(&mut seat.floor);
+        let call = self.prepare(seat, Call::open(alloc, name, least))?;
+        let (ticket, settled) = self
+            .inner
+            .lock(rt)
+            .locked
+            .open(alloc, call.is_some(), name, least)?;
+        let _ = self.settle(seat, call, settled);
+        Ok(ticket)
+    }
+
+    /// Writes bytes over those of a stream from `offset` on: AuditFull, the volume's faults (an unknown name is NoStream),
+    /// NoMemory.
+    pub fn write<R: Wait>(
+        &self,
+        rt: &R,
+        alloc: Global,
+        seat: &mut Seat,
+        name: &[u8],
+        offset: u64,
+        bytes: &[u8],
+    ) -> Result<Note, Refusal<GateFault>>
+        requires { IsSeatOf self.now seat.old }
+        ensures same { IsSeatOf self.now seat.new }
+        ensures later { floor_seen seat.old ≤ floor_seen seat.new }
+        ensures call { Adds seat.old seat.new (call.Write name.now offset bytes.now) result }
+    {
+        let call = self.prepare(seat, Call::write(alloc, name, offset, bytes))?;
+        let settled = self
+            .inner
+            .lock(rt)
+            .locked
+            .write(alloc, call.is_some(), name, offset, bytes)?;
+        Ok(self.settle(seat, call, settled))
+    }
+
+    /// The last of those who wrote to a stream has closed it: AuditFull, NoMemory. An unknown name is noted as NoStream.
+    pub fn cleanup<R: Wait>(
+        &self,
+        rt: &R,
+        alloc: Global,
+        seat: &mut Seat,
+        name: &[u8],
+    ) -> Result<Note, Refusal<GateFault>>
+        requires { IsSeatOf self.now seat.old }
+        ensures same { IsSeatOf self.now seat.new }
+        ensures later { floor_seen seat.old ≤ floor_seen seat.new }
+        ensures call { Adds seat.old seat.new (call.CleanUp name.now) result }
+    {
+        let call = self.prepare(seat, Call::clean_up(alloc, name))?;
+        let settled = self
+            .inner
+            .lock(rt)
+            .locked
+            .cleanup(alloc, call.is_some(), name)?;
+        Ok(self.settle(seat, call, settled))
+    }
+
+    /// A message of the scanning service: AuditFull, NoMemory. With a greeting that is welcome, or an update, the seat has
+    /// seen a floor of that version.
+    pub fn message<R: Wait>(
+        &self,
+        rt: &R,
+        alloc: Global,
+        seat: &mut Seat,
+        message: &Message,
+    ) -> Result<Note, Refusal<GateFault>>
+        requires { IsSeatOf self.now seat.old }
+        ensures same { IsSeatOf self.now seat.new }
+        ensures later { floor_seen seat.old ≤ floor_seen seat.new }
+        ensures call { Adds seat.old seat.new (call.Receive message.now) result }
+        ensures floor { IfOk result (λ note. version_shown message.now note ≤ floor_seen seat.new) }
+    {
+        let call = self.prepare(seat, Call::receive(message))?;
+        let settled = self
+            .inner
+            .lock(rt)
+            .locked
+            .message(alloc, call.is_some(), message)?;
+        Ok(self.settle(seat, call, settled))
+    }
+
+    /// The time of the question of this number is up: AuditFull, NoMemory.
+    pub fn timeout<R: Wait>(
+        &self,
+        rt: &R,
+        alloc: Global,
+        seat: &mut Seat,
+        seq: u64,
+    ) -> Result<Note, Refusal<GateFault>>
+        requires { IsSeatOf self.now seat.old }
+        ensures same { IsSeatOf self.now seat.new }
+        ensures later { floor_seen seat.old ≤ floor_seen seat.new }
+        ensures call { Adds seat.old seat.new (call.TimeOut seq) result }
+    {
+        let call = self.prepare(seat, Ok(Call::TimeOut { seq }))?;
+        let settled = self
+            .inner
+            .lock(rt)
+            .locked
+            .timeout(alloc, call.is_some(), seq)?;
+        Ok(self.settle(seat, call, settled))
+    }
+
+    /// The service is lost: AuditFull, NoMemory. Every open that is held is answered by the mode.
+    pub fn disconnect<R: Wait>(
+        &self,
+        rt: &R,
+        alloc: Global,
+        seat: &mut Seat,
+    ) -> Result<Note, Refusal<GateFault>>
+        requires { IsSeatOf self.now seat.old }
+        ensures same { IsSeatOf self.now seat.new }
+        ensures later { floor_seen seat.old ≤ floor_seen seat.new }
+        ensures call { Adds seat.old seat.new call.Disconnect result }
+    {
+        let call = self.prepare(seat, Ok(Call::Disconnect))?;
+        let settled = self
+            .inner
+            .lock(rt)
+            .locked
+            .disconnect(alloc, call.is_some())?;
+        Ok(self.settle(seat, call, settled))
+    }
+
+    // Room in a seat for a call, and the call where there is the memory for both: AuditFull.
+    fn prepare(
+        &self,
+        seat: &mut Seat,
+        call: Result<Call, AllocError>,
+    ) -> Result<Option<Call>, Refusal<GateFault>>
+        requires { IsSeatOf self.now seat.old }
+        ensures same { IsSeatOf self.now seat.new × (calls_of seat.new ≡ calls_of seat.old) × (floor_seen seat.new ≡ floor_seen seat.old) }
+        ensures room { IfOk result (λ prepared. IfSome prepared (λ c. (vec_len seat.new.calls < vec_capacity seat.new.calls) × (call ≡ Ok c))) }
+    {
+        if seat.calls.len() as u64 >= self.limits.values().audit {
+            return Err(Refusal::Fault(GateFault::AuditFull));
+        }
+        if seat.calls.reserve(1).is_err() {
+            return Ok(None);
+        }
+        Ok(call.ok())
+    }
+
+    // Keeps an accepted call in its seat, shows the floor after it, and wakes who waits for what it gave out.
+    fn settle(&self, seat: &mut Seat, prepared: Option<Call>, settled: Settled) -> Note
+        requires seat { IsSeatOf self.now seat.old }
+        requires prepared { IsSome prepared }
+        requires room { vec_len seat.old.calls < vec_capacity seat.old.calls }
+        ensures same { IsSeatOf self.now seat.new }
+        ensures later { floor_seen seat.old ≤ floor_seen seat.new }
+        ensures floor { settled.floor ≤ floor_seen seat.new }
+        ensures note { result ≡ settled.note }
+        ensures call { IfSome prepared (λ c. calls_of seat.new ≡ calls_of seat.old ++ seat_call settled.place c settled.note ∷ []) }
+    {
+        let Some(call) = prepared else {
+            unreachable!();
+        };
+        self.floor.raise(&mut seat.floor, settled.floor);
+        if settled.answers > 0 {
+            self.answered.notify_all();
+        }
+        if settled.messages > 0 {
+            self.sent.notify_all();
+        }
+        seat.calls.push_reserved(SeatCall {
+            place: settled.place,
+            call,
+            note: settled.note,
+        });
+        settled.note
+    }
+
+    /// Waits until a ticket of this gate shows its answer.
+    pub fn wait<'t, R: Wait>(&self, rt: &R, ticket: &'t Ticket, note: &mut TicketNote) -> &'t Answer
+        requires { IsNoteOf ticket.now note.old }
+        ensures same { IsNoteOf ticket.entry.now note.new }
+        ensures shown { note.new.note.known ≡ Some result.now }
+        ensures known { (a : _) → note.old.note.known ≡ Some a → a ≡ result.now }
+    {
+        for _ in rt.forever() {
+            let inner = self.inner.lock(rt);
+            if let Some(answer) = ticket.poll(note) {
+                return answer;
+            }
+            drop(self.answered.wait(rt, inner));
+        }
+        unreachable!()
+    }
+
+    /// The messages that wait to be sent to the service, in their order. Where memory refuses, they stay.
+    pub fn take_outgoing<R: Wait>(
+        &self,
+        rt: &R,
+        alloc: Global,
+    ) -> Result<Vec<Message>, AllocError> {
+        self.inner.lock(rt).locked.take_outgoing(alloc)
+    }
+
+    /// Waits for messages and takes them out. None once the gate was stopped and none is left.
+    pub fn wait_outgoing<R: Wait>(
+        &self,
+        rt: &R,
+        alloc: Global,
+    ) -> Result<Option<Vec<Message>>, AllocError> {
+        let mut inner = self.sent.wait_while(rt, self.inner.lock(rt), |inner| {
+            !inner.is_stopped && !inner.locked.has_outgoing()
+        });
+        let messages = inner.locked.take_outgoing(alloc)?;
+        Ok(if messages.is_empty() {
+            None
+        } else {
+            Some(messages)
+        })
+    }
+
+    /// Ends the waits for messages.
+    pub fn stop<R: Wait>(&self, rt: &R) {
+        self.inner.lock(rt).is_stopped = true;
+        self.sent.notify_all();
+    }
+
+    /// Ends the gate at the end of a program: each open that is held is denied, and nobody hears of it.
+    pub fn abandon(self) {
+        let Gate {
+            inner,
+            answered: _,
+            sent: _,
+            floor: _,
+            limits: _,
+            alloc: _,
+        } = self;
+        let Inner {
+            locked,
+            is_stopped: _,
+        } = inner.into_inner();
+        locked.abandon();
+    }
+}
+
+// Why a volume is not mounted where there is no memory.
+fn without_memory(volume: &Volume) -> Refusal<BootSpent>
+    ensures { Reads (Err result) (mount_of volume.now) }
+{
+    if volume.boot() == u64::MAX {
+        Refusal::Fault(BootSpent)
+    } else {
+        Refusal::NoMemory
+    }
+}

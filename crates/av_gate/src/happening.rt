@@ -1,0 +1,37 @@
+ghost use Rattle.av_filter.specs.Bounds.{AreInBounds};
+ghost use Rattle.av_filter.specs.Fit.{Fits};
+ghost use Rattle.av_gate.specs.Events.{Did, event_of};
+
+use crate::event::Event;
+use av_filter::filter::Filter;
+use av_filter::out::Out;
+use av_store::volume::Volume;
+use std::alloc::Global;
+
+/// Lets an event happen to a filter and its volume. None where that is refused: nothing has changed.
+#[tactic(auto, using(crate::proofs::EventLemmas::cleaned_up, crate::proofs::EventLemmas::disconnected, crate::proofs::EventLemmas::meets, crate::proofs::EventLemmas::received, crate::proofs::EventLemmas::timed_out), unfolding(av_filter::specs::Conduct::filter_step))]
+pub(crate) fn happen(
+    filter: &mut Filter,
+    volume: &mut Volume,
+    alloc: Global,
+    event: &Event,
+) -> Option<Out>
+    requires fits { Fits filter.old volume.old }
+    requires bounds { AreInBounds volume.old }
+    ensures { Did filter.old volume.old filter.new volume.new (event_of event.now) result }
+{
+    match event {
+        Event::Open { stream, least } => filter.open(alloc, volume, *stream, *least).ok(),
+        Event::Write {
+            stream,
+            offset,
+            bytes,
+        } => filter
+            .write(alloc, volume, *stream, *offset, bytes.as_slice())
+            .ok(),
+        Event::CleanUp { stream } => filter.cleanup(alloc, volume, *stream).ok(),
+        Event::Receive { message } => filter.message(alloc, volume, message).ok(),
+        Event::TimeOut { seq } => filter.timeout(alloc, volume, *seq).ok(),
+        Event::Disconnect => filter.disconnect(alloc, volume).ok(),
+    }
+}

@@ -1,0 +1,29 @@
+//! The gate: the filter behind a lock that many openers use at once, with an audit of every call.
+#![tactic(auto)]
+
+pub mod audit;
+pub mod call;
+mod checks;
+pub mod closing;
+mod copying;
+pub mod entry;
+pub mod event;
+pub mod fault;
+pub mod gate;
+mod happening;
+pub mod locked;
+mod naming;
+mod same;
+pub mod seat;
+pub mod settled;
+
+pub use audit::Audit;
+pub use call::Call;
+pub use closing::{CloseFault, Unclosed};
+pub use entry::Entry;
+pub use event::Event;
+pub use fault::GateFault;
+pub use gate::Gate;
+pub use locked::Locked;
+pub use seat::{Seat, SeatCall};
+pub use settled::Settled;

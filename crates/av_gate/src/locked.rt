@@ -1,0 +1,402 @@
+ghost use Rattle.std.specs.Prelude.{◌≡◌, ◌≤◌, ◌<◌, ◌↔◌, length, Ok, Err, IsOk, IfOk, IfErr, OnOk, OnErr, IsTrue, MatchBool, ◌≢◌, []};
+ghost use Rattle.av_base.specs.Answers.{Answers, Reads};
+ghost use Rattle.av_filter.specs.Bounds.{AreInBounds};
+ghost use Rattle.av_filter.specs.Conduct.{Changes, CleansUp, Disconnects, Opens, Receives, TimesOut};
+ghost use Rattle.av_filter.specs.declared.note.Note.TheVariants.{Submitted};
+ghost use Rattle.av_gate.specs.Book.{happens, opening, settled_of, state_of, stream_of, waiting_of};
+ghost use Rattle.av_gate.specs.Claims.{IsLegal};
+ghost use Rattle.av_gate.specs.Events.{event_of};
+ghost use Rattle.av_gate.specs.Versions.{version_shown};
+ghost use Rattle.av_pend.specs.Pend.{open_of};
+ghost use Rattle.av_store.specs.Files.{Write};
+ghost use Rattle.av_store.specs.Store.{mount_of};
+
+use crate::audit::Audit;
+use crate::copying::{messages_of, quiet_ones};
+use crate::entry::Entry;
+use crate::event::Event;
+use crate::fault::GateFault;
+use crate::happening::happen;
+use crate::naming::stream_of;
+use crate::settled::Settled;
+use av_base::byte_list::ByteList;
+use av_base::limits::Limits;
+use av_base::mode::Mode;
+use av_base::number::{OpenId, Version};
+use av_base::refusal::{Refusal, Refused};
+use av_ends::ticket::{Due, Ticket};
+use av_filter::fault::FilterFault;
+use av_filter::filter::Filter;
+use av_filter::laws::{events_keep_fit, volumes_stay_in_bounds};
+use av_frame::message::Message;
+use av_pend::answer::Answer;
+use av_store::fault::BootSpent;
+use av_store::volume::Volume;
+use std::alloc::{AllocError, Global};
+use std::collections::BTreeMap;
+use std::marker::Model;
+
+/// The filter and its volume as they lie under a gate's lock, with the audit of all that happened to them. Contracts see the
+/// audit alone: filter and volume are where it leads.
+pub struct Locked {
+    start: Volume,
+    mode: Mode,
+    limits: Limits,
+    filter: Filter,
+    volume: Volume,
+    events: Vec<Entry>,
+    sent: usize,
+    // The other ends of the tickets whose opens wait, by their opens' numbers.
+    owed: BTreeMap<u64, Due>,
+}
+
+impl Model for Locked {
+    ghost use Rattle.av_filter.specs.declared.note.Note.TheVariants.{Submitted};
+    ghost use Rattle.av_gate.specs.Book.{Book, IsKept};
+
+    ghost Value = { Book };
+
+    ghost view = { λ s. record { start = s.start; mode = s.mode; limits = s.limits; events = s.events.items; sent = s.sent } };
+
+    ghost invariant = { λ s. IsKept (record { start = s.start; mode = s.mode; limits = s.limits; events = s.events.items; sent = s.sent }) s.filter s.volume };
+}
+
+impl Locked {
+    /// A filter mounted on this volume, and no event yet: BootSpent, NoMemory, the volume handed back. The volume is copied,
+    /// since an audit begins with it.
+    pub fn new(
+        alloc: Global,
+        volume: Volume,
+        mode: Mode,
+        limits: Limits,
+    ) -> Result<Locked, Refused<Volume, BootSpent>>
+        requires { AreInBounds volume }
+        ensures ok { IfOk result (λ s. (s ≡ opening s.start mode limits) × (mount_of volume ≡ Ok (s.start.boot, s.start))) }
+        ensures back { IfErr result (λ e. e.value ≡ volume) }
+        ensures why { IfErr result (λ e. Reads (Err e.why) (mount_of volume)) }
+    {
+        let mut start = match copy_to_mount(&volume) {
+            Ok(start) => start,
+            Err(why) => return Err(Refused { value: volume, why }),
+        };
+        let mut volume = volume;
+        let filter = match Filter::mount(alloc, &mut volume, mode, limits) {
+            Ok(filter) => filter,
+            Err(why) => return Err(Refused { value: volume, why }),
+        };
+        mount_again(&mut start);
+        Ok(Locked {
+            start,
+            mode,
+            limits,
+            filter,
+            volume,
+            events: Vec::new(alloc),
+            sent: 0,
+            owed: BTreeMap::new(alloc),
+        })
+    }
+
+    /// A stream is opened, and no version below `least` may grant it: AuditFull, OpensSpent, NoMemory.
+    #[tactic(auto, unfolding(av_filter::specs::Conduct::filter_refusal))]
+    pub fn open(
+        &mut self,
+        alloc: Global,
+        has_room: bool,
+        name: &[u8],
+        least: Version,
+    ) -> Result<(Ticket, Settled), Refusal<GateFault>>
+        ensures event { Answers self.old self.new (settled_of result) (happens self.old (Opens (stream_of self.old.start name.now) least)) }
+        ensures ticket { IfOk result (λ r. (r.1.note ≡ Submitted r.0.open_id) × (r.0.least ≡ least)) }
+        ensures room { OnOk result (IsTrue has_room) }
+    {
+        if self.is_full() {
+            return Err(Refusal::Fault(GateFault::AuditFull));
+        }
+        if self.volume.opens_left() == 0 {
+            return Err(Refusal::Fault(GateFault::Filter(FilterFault::OpensSpent)));
+        }
+        let stream = stream_of(&self.start, name);
+        let open_id = OpenId::new(u64::MAX - self.volume.opens_left() + 1);
+        let ticket = self.owe(alloc, open_id, least)?;
+        match self.add(alloc, has_room, Event::Open { stream, least }) {
+            Ok(settled) => Ok((ticket, settled)),
+            Err(why) => {
+                let _ = self.owed.remove(&open_id.get());
+                Err(why)
+            }
+        }
+    }
+
+    /// Bytes are written over those of a stream from `offset` on: AuditFull, the volume's faults, NoMemory.
+    #[tactic(auto, unfolding(av_filter::specs::Conduct::filter_refusal, av_store::specs::Seen::change_of))]
+    pub fn write(
+        &mut self,
+        alloc: Global,
+        has_room: bool,
+        name: &[u8],
+        offset: u64,
+        bytes: &[u8],
+    ) -> Result<Settled, Refusal<GateFault>>
+        ensures event { Answers self.old self.new result (happens self.old (Changes (Write (stream_of self.old.start name.now) offset bytes.now))) }
+        ensures room { OnOk result (IsTrue has_room) }
+    {
+        if self.is_full() {
+            return Err(Refusal::Fault(GateFault::AuditFull));
+        }
+        let stream = stream_of(&self.start, name);
+        if let Some(fault) = self.volume.write_refusal(stream, offset, bytes) {
+            return Err(Refusal::Fault(GateFault::Filter(FilterFault::Store(fault))));
+        }
+        let bytes = ByteList::copied(alloc, bytes)?;
+        let event = Event::Write {
+            stream,
+            offset,
+            bytes,
+        };
+        self.add(alloc, has_room, event)
+    }
+
+    /// The last of those who wrote to a stream has closed it: AuditFull, NoMemory.
+    #[tactic(auto, unfolding(av_filter::specs::Conduct::filter_refusal))]
+    pub fn cleanup(
+        &mut self,
+        alloc: Global,
+        has_room: bool,
+        name: &[u8],
+    ) -> Result<Settled, Refusal<GateFault>>
+        ensures event { Answers self.old self.new result (happens self.old (CleansUp (stream_of self.old.start name.now))) }
+        ensures room { OnOk result (IsTrue has_room) }
+    {
+        if self.is_full() {
+            return Err(Refusal::Fault(GateFault::AuditFull));
+        }
+        let stream = stream_of(&self.start, name);
+        self.add(alloc, has_room, Event::CleanUp { stream })
+    }
+
+    /// A message of the scanning service comes: AuditFull, NoMemory.
+    #[tactic(auto, using(crate::proofs::VersionLemmas::shown_if), unfolding(av_filter::specs::Conduct::filter_refusal))]
+    pub fn message(
+        &mut self,
+        alloc: Global,
+        has_room: bool,
+        message: &Message,
+    ) -> Result<Settled, Refusal<GateFault>>
+        ensures event { Answers self.old self.new result (happens self.old (Receives message.now)) }
+        ensures floor { IfOk result (λ s. version_shown message.now s.note ≤ s.floor) }
+        ensures room { OnOk result (IsTrue has_room) }
+    {
+        if self.is_full() {
+            return Err(Refusal::Fault(GateFault::AuditFull));
+        }
+        let message = message.clone()?;
+        self.add(alloc, has_room, Event::Receive { message })
+    }
+
+    /// The time of the question of this number is up: AuditFull, NoMemory.
+    #[tactic(auto, unfolding(av_filter::specs::Conduct::filter_refusal))]
+    pub fn timeout(
+        &mut self,
+        alloc: Global,
+        has_room: bool,
+        seq: u64,
+    ) -> Result<Settled, Refusal<GateFault>>
+        ensures event { Answers self.old self.new result (happens self.old (TimesOut seq)) }
+        ensures room { OnOk result (IsTrue has_room) }
+    {
+        if self.is_full() {
+            return Err(Refusal::Fault(GateFault::AuditFull));
+        }
+        self.add(alloc, has_room, Event::TimeOut { seq })
+    }
+
+    /// The service is lost: AuditFull, NoMemory.
+    #[tactic(auto, unfolding(av_filter::specs::Conduct::filter_refusal))]
+    pub fn disconnect(
+        &mut self,
+        alloc: Global,
+        has_room: bool,
+    ) -> Result<Settled, Refusal<GateFault>>
+        ensures event { Answers self.old self.new result (happens self.old Disconnects) }
+        ensures room { OnOk result (IsTrue has_room) }
+    {
+        if self.is_full() {
+            return Err(Refusal::Fault(GateFault::AuditFull));
+        }
+        self.add(alloc, has_room, Event::Disconnect)
+    }
+
+    // An event that nothing but memory refuses happens, and is kept.
+    fn add(
+        &mut self,
+        alloc: Global,
+        has_room: bool,
+        event: Event,
+    ) -> Result<Settled, Refusal<GateFault>>
+        requires { IsOk (happens self.old (event_of event)) }
+        ensures event { Answers self.old self.new result (happens self.old (event_of event)) }
+        ensures room { OnOk result (IsTrue has_room) }
+    {
+        if !has_room || self.events.reserve(1).is_err() {
+            return Err(Refusal::NoMemory);
+        }
+        events_keep_fit();
+        volumes_stay_in_bounds();
+        let Some(out) = happen(&mut self.filter, &mut self.volume, alloc, &event) else {
+            return Err(Refusal::NoMemory);
+        };
+        let settled = Settled {
+            place: self.events.len(),
+            note: out.note,
+            floor: self.filter.floor(),
+            answers: out.answers.len(),
+            messages: out.messages.len(),
+        };
+        show(&mut self.owed, out.answers.as_slice());
+        self.events.push_reserved(Entry::new(event, out));
+        Ok(settled)
+    }
+
+    // A ticket for the open of this number, whose answer is owed from now on.
+    fn owe(&mut self, alloc: Global, open_id: OpenId, least: Version) -> Result<Ticket, AllocError>
+        ensures same { self.new ≡ self.old }
+        ensures ticket { IfOk result (λ t. (t.open_id ≡ open_id) × (t.least ≡ least)) }
+    {
+        let (ticket, due) = Ticket::new(alloc, open_id, least)?;
+        match self.owed.insert(open_id.get(), due) {
+            Ok(_) => Ok(ticket),
+            Err(_) => Err(AllocError),
+        }
+    }
+
+    // Whether the audit is as long as it may get.
+    fn is_full(&self) -> bool
+        ensures { IsTrue result ↔ (self.now.limits.audit ≤ length self.now.events) }
+    {
+        self.events.len() as u64 >= self.limits.values().audit
+    }
+
+    /// The messages that wait, in their order. Where memory refuses, they stay.
+    pub fn take_outgoing(&mut self, alloc: Global) -> Result<Vec<Message>, AllocError>
+        ensures ok { IfOk result (λ ms. ms.items ≡ waiting_of self.old) }
+        ensures after { OnOk result (self.new ≡ record self.old { sent = length self.old.events }) }
+        ensures err { OnErr result (self.new ≡ self.old) }
+    {
+        let messages = messages_of(alloc, &self.events[self.sent..])?;
+        self.sent = self.events.len();
+        Ok(messages)
+    }
+
+    /// Whether a message waits. Events that sent none are passed over for good, so that none is looked at twice.
+    pub fn has_outgoing(&mut self) -> bool
+        ensures sent { self.new ≡ record self.old { sent = self.new.sent } }
+        ensures waiting { waiting_of self.new ≡ waiting_of self.old }
+    {
+        self.sent += quiet_ones(&self.events[self.sent..]);
+        self.sent < self.events.len()
+    }
+
+    /// The volume as the mount left it.
+    pub fn start(&self) -> &Volume
+        ensures { result.now ≡ self.now.start }
+    {
+        &self.start
+    }
+
+    /// The events so far, in their order.
+    pub fn events(&self) -> &[Entry]
+        ensures { result.now ≡ self.now.events }
+    {
+        self.events.as_slice()
+    }
+
+    /// Whether a question runs.
+    pub fn is_asking(&self) -> bool
+        ensures { MatchBool result ((state_of self.now).table.questions ≢ []) ((state_of self.now).table.questions ≡ []) }
+    {
+        self.filter.question_count() > 0
+    }
+
+    /// Ends it, and gives its audit. Opens that are held are denied, and nobody hears of it.
+    pub fn into_audit(self) -> Audit
+        ensures audit { (result.volume ≡ self.start) × (result.mode ≡ self.mode) × (result.limits ≡ self.limits) × (result.events.items ≡ self.events) }
+        ensures legal { IsLegal result }
+    {
+        let Locked {
+            start,
+            mode,
+            limits,
+            filter,
+            volume: _,
+            events,
+            sent: _,
+            owed: _,
+        } = self;
+        filter.abandon();
+        Audit {
+            volume: start,
+            mode,
+            limits,
+            events,
+        }
+    }
+
+    /// Ends it at the end of a program: each open that is held is denied, and nobody hears of it.
+    pub fn abandon(self) {
+        let Locked {
+            start: _,
+            mode: _,
+            limits: _,
+            filter,
+            volume: _,
+            events: _,
+            sent: _,
+            owed: _,
+        } = self;
+        filter.abandon();
+    }
+}
+
+// Shows each answer in the cell of its open. It takes no memory.
+fn show(owed: &mut BTreeMap<u64, Due>, answers: &[Answer]) {
+    for answer in answers {
+        if let Some(due) = owed.remove(&open_of(*answer).get()) {
+            due.show(*answer);
+        }
+    }
+}
+
+// The open that an answer is to.
+pub(crate) fn open_of(answer: Answer) -> OpenId
+    ensures { result ≡ open_of answer }
+{
+    match answer {
+        Answer::Granted { open_id, .. }
+        | Answer::Unscanned { open_id, .. }
+        | Answer::Denied { open_id, .. } => open_id,
+    }
+}
+
+// A copy of a volume that can be mounted.
+fn copy_to_mount(volume: &Volume) -> Result<Volume, Refusal<BootSpent>>
+    ensures ok { IfOk result (λ v. v ≡ volume.now) }
+    ensures can { OnOk result (IsOk (mount_of volume.now)) }
+    ensures why { IfErr result (λ why. Reads (Err why) (mount_of volume.now)) }
+{
+    if volume.boot() == u64::MAX {
+        return Err(Refusal::Fault(BootSpent));
+    }
+    Ok(volume.copy()?)
+}
+
+// The next boot of a volume that can be mounted.
+fn mount_again(volume: &mut Volume)
+    requires { IsOk (mount_of volume.old) }
+    ensures { mount_of volume.old ≡ Ok (volume.new.boot, volume.new) }
+{
+    match volume.mount() {
+        Ok(_) => {}
+        Err(_) => unreachable!(),
+    }
+}

@@ -1,0 +1,127 @@
+// Whether two things are the same. What is not may be found the same by no test here; what is may be found different by none.
+ghost use Rattle.std.specs.Prelude.{◌≡◌, IsTrue};
+ghost use Rattle.av_gate.specs.Claims.{event_called};
+ghost use Rattle.av_gate.specs.Events.{event_of};
+
+use crate::call::Call;
+use crate::event::Event;
+use crate::naming::stream_of;
+use av_frame::message::{Body, Message};
+use av_store::volume::Volume;
+
+/// Whether an event is what was called, its name read in this volume.
+pub(crate) fn is_called(event: &Event, call: &Call, volume: &Volume) -> bool
+    ensures { IsTrue result → event_of event.now ≡ event_called volume.now call.now }
+{
+    match call {
+        Call::Open { name, least } => match event {
+            Event::Open {
+                stream,
+                least: found,
+            } => *stream == stream_of(volume, name.as_slice()) && found == least,
+            _ => false,
+        },
+        Call::Write {
+            name,
+            offset,
+            bytes,
+        } => match event {
+            Event::Write {
+                stream,
+                offset: at,
+                bytes: written,
+            } => {
+                *stream == stream_of(volume, name.as_slice())
+                    && at == offset
+                    && written.as_slice() == bytes.as_slice()
+            }
+            _ => false,
+        },
+        Call::CleanUp { name } => match event {
+            Event::CleanUp { stream } => *stream == stream_of(volume, name.as_slice()),
+            _ => false,
+        },
+        Call::Receive { message } => match event {
+            Event::Receive { message: found } => same_message(found, message),
+            _ => false,
+        },
+        Call::TimeOut { seq } => match event {
+            Event::TimeOut { seq: found } => found == seq,
+            _ => false,
+        },
+        Call::Disconnect => match event {
+            Event::Disconnect => true,
+            _ => false,
+        },
+    }
+}
+
+fn same_message(one: &Message, other: &Message) -> bool
+    ensures { IsTrue result → one.now ≡ other.now }
+{
+    same_body(one.body(), other.body())
+}
+
+fn same_body(one: &Body, other: &Body) -> bool
+    ensures { IsTrue result → one.now ≡ other.now }
+{
+    match one {
+        Body::Scan {
+            id,
+            stream,
+            generation,
+            length,
+        } => match other {
+            Body::Scan {
+                id: i,
+                stream: s,
+                generation: g,
+                length: l,
+            } => id == i && stream == s && generation == g && length == l,
+            _ => false,
+        },
+        Body::Chunk { id, offset, bytes } => match other {
+            Body::Chunk {
+                id: i,
+                offset: o,
+                bytes: b,
+            } => id == i && offset == o && bytes.as_slice() == b.as_slice(),
+            _ => false,
+        },
+        Body::NoChunk { id, offset, cause } => match other {
+            Body::NoChunk {
+                id: i,
+                offset: o,
+                cause: c,
+            } => id == i && offset == o && cause == c,
+            _ => false,
+        },
+        Body::Abort { id } => match other {
+            Body::Abort { id: i } => id == i,
+            _ => false,
+        },
+        Body::Hello { volume, version } => match other {
+            Body::Hello {
+                volume: n,
+                version: v,
+            } => volume == n && version == v,
+            _ => false,
+        },
+        Body::Read { id, offset, count } => match other {
+            Body::Read {
+                id: i,
+                offset: o,
+                count: c,
+            } => id == i && offset == o && count == c,
+            _ => false,
+        },
+        Body::Reply { id, outcome } => match other {
+            Body::Reply { id: i, outcome: o } => id == i && outcome == o,
+            _ => false,
+        },
+        Body::Updated { version } => match other {
+            Body::Updated { version: v } => version == v,
+            _ => false,
+        },
+    }
+}

@@ -1,0 +1,16 @@
+use av_base::number::Version;
+use av_filter::note::Note;
+
+/// What became of an event that was accepted.
+#[derive(Clone, Copy, Debug, PartialEq, Eq)]
+pub struct Settled {
+    /// Its place in the audit, counted from 0.
+    pub place: usize,
+    /// What the filter told.
+    pub note: Note,
+    /// The filter's floor after it.
+    pub floor: Version,
+    /// How many answers and how many messages it gave out.
+    pub answers: usize,
+    pub messages: usize,
+}

@@ -1,0 +1,212 @@
+-- While no version is published that the filter may grant under, no message makes it give a verdict.
+use Rattle.std.proofs.Common.{length, slice_get, ◌≡◌, ◌≢◌, ℕ, zero, suc, ◌<◌, ◌≤◌, Bool, true, false, cond, not, ◌&&◌, List, [], ◌∷◌, ◌++◌, map, Option, Some, None, if◌then◌else◌, ◌==◌, nat_lt, nat_le, refl, sym, ap, ◌∙◌, subst, arith, append_assoc, append-nil, eqb-true, lt-ltb}
+use Rattle.std.proofs.lemmas.Bool.{cond_both, cond-true, ltb-false}
+use Rattle.std.specs.List.{AllByRecursion as Each, list_any}
+use Rattle.av_base.specs.declared.cause.Cause.{Cause}
+use Rattle.av_base.specs.declared.cause.Cause.TheVariants.{Infected, Unsettled, Busy, ScanFailed}
+use Rattle.av_base.specs.declared.limits.LimitValues.{LimitValues}
+use Rattle.av_base.specs.declared.message_id.MessageId.{MessageId}
+use Rattle.av_base.specs.declared.mode.Mode.{Mode}
+use Rattle.av_base.specs.declared.mode.Mode.TheVariants.{FailClosed, FailOpen}
+use Rattle.av_filter.proofs.EachLemmas.{each-append, each-map, each_mapped}
+use Rattle.av_filter.specs.Again.{again}
+use Rattle.av_filter_table.specs.Asking.{again_cause, asks, ended, is_held, is_spent}
+use Rattle.av_filter.specs.Conduct.{filter_refusal, filter_step}
+use Rattle.av_filter.specs.Conduct as filter_events
+use Rattle.av_filter_table.specs.declared.pended.Pended.{Pended}
+use Rattle.av_filter_table.specs.declared.question.Question.{Question}
+use Rattle.av_filter.specs.Reaction.{Reaction}
+use Rattle.av_filter_table.specs.Answering.{present_bytes, present_generation, refused_now}
+use Rattle.av_filter.specs.Receiving.{greeted, reads, receives, replies}
+use Rattle.av_filter_table.specs.Table.{Table, sequence_left}
+use Rattle.av_frame.specs.declared.message.Body.{Body}
+use Rattle.av_frame.specs.declared.message.Body.TheVariants.{Hello, Read, Reply, Updated}
+use Rattle.av_frame.specs.declared.outcome.Outcome.{Outcome}
+use Rattle.av_frame.specs.declared.outcome.Outcome.TheVariants.{Judged, Failed}
+use Rattle.av_pend.specs.Pend.{refused}
+use Rattle.av_pend.specs.Waiting.{Waiting}
+use Rattle.av_service.specs.Conduct.{connect_refusal, service_step}
+use Rattle.av_service.specs.Conduct as service_events
+use Rattle.av_service.specs.declared.fault.ConnectFault.{ConnectFault}
+use Rattle.av_service.specs.Work.{WorkState}
+use Rattle.av_sigset.specs.Catalogue.{latest}
+use Rattle.av_sigset.specs.declared.signature.Pattern.{Pattern}
+use Rattle.av_store.specs.Store.{Store}
+use Rattle.av_world.proofs.FitLemmas.{UpFits}
+use Rattle.av_world.proofs.ProgressLemmas.{Steady, steady, steady_onward}
+use Rattle.av_world.proofs.PublishLemmas.{latest_same}
+use Rattle.av_world.proofs.SceneLemmas.{Falling}
+use Rattle.av_world.specs.declared.event.Event.{Event}
+use Rattle.av_world.specs.declared.event.Event.TheVariants.{Publish, Create, Write, Cut, Remove, Open, Cleanup, Down, Up, Run, Timeout, Connect, DisconnectFilter, DisconnectService, RestartFilter, RestartService}
+use Rattle.av_world.specs.declared.given.Given.{Given}
+use Rattle.av_world.specs.Past.{past}
+use Rattle.av_world.specs.Progress.{GaveNoVerdict, IsCarrying, IsNoVerdict, onward}
+use Rattle.av_sigset.specs.Publication.{Publication, latest_as, publication_of, published_as}
+use Rattle.av_world.specs.World.{WorldState, after, back_at, connected, done, down_frame, given_at, member, reacted, responded, start, step_of, up_frame, work_at, work_event, world_of, world_or}
+
+-- what was published has at most the latest version
+published_below : (sets : List Publication) (v : ℕ) (ps : List Pattern) → Falling sets → published_as sets v ≡ Some ps → v ≤ latest_as sets
+unfolding published_as
+published_below [] v ps f h = absurd (cc (h))
+published_below (p ∷ sets) v ps f h =
+    let go : (b : Bool) → (p.version == v) ≡ b → cond b (Some p.patterns) (published_as sets v) ≡ Some ps → v ≤ p.version = elim [
+      | true ↦ λ e k. let same : p.version ≡ v = eqb-true p.version v e in omega (arith, same)
+      | false ↦ λ e k. let less : v ≤ latest_as sets = published_below sets v ps f.1 k in omega (arith, less, f.0)
+    ] in
+    go (p.version == v) refl h
+
+no_refusal : (mode : Mode) (g : ℕ) (c : Cause) (o : Waiting) → c ≢ Infected → IsNoVerdict (refused mode g c o)
+no_refusal FailClosed g c o h = h
+no_refusal FailOpen g c o h = tt
+
+-- the floor is not lowered, and no verdict is given
+record Withholds (t : Table) (r : Reaction) : Type 0 where
+  floor : t.floor ≤ r.table.floor
+  answers : Each IsNoVerdict r.answers
+
+unsettled_cause : (p : Pended) → again_cause p ≢ Infected
+unsettled_cause p = (elim (is_spent p) as (λ b. (if b then Unsettled else Busy) ≢ Infected) [ true ↦ (λ e. absurd (cc (e))) | false ↦ (λ e. absurd (cc (e))) ])
+
+again_withholds : (t : Table) (v : Store) (q : Question) (early : List Body) → Withholds t (again t v q early)
+unfolding again asks ended
+again_withholds t v q early =
+    cond_both (list_any (is_held q.id) t.pended && sequence_left t) _ _ (Withholds t)
+    (λ e. record { floor = omega arith; answers = each_mapped IsNoVerdict (refused_now t v Unsettled) (λ p. no_refusal t.mode (present_generation v p.held.stream) Unsettled p.held (λ e. absurd (cc (e)))) _ })
+    (λ e. record { floor = omega arith; answers = each_mapped IsNoVerdict (λ (p : Pended). refused_now t v (again_cause p) p) (λ p. no_refusal t.mode (present_generation v p.held.stream) (again_cause p) p.held (unsettled_cause p)) _ })
+
+silent : (t : Table) (r : Reaction) → t.floor ≤ r.table.floor → r.answers ≡ [] → Withholds t r
+silent t r floor none = record { floor = floor; answers = subst (Each IsNoVerdict) (sym none) tt }
+
+module _ (t : Table) (v : Store) where
+  greets : (number version : ℕ) → Withholds t (greeted t v number version)
+  unfolding greeted
+  greets number version =
+      cond_both (not (number == v.number)) _ _ (Withholds t) (λ e. record { floor = omega arith; answers = tt })
+      (λ e. cond_both t.connected _ _ (Withholds t) (λ e. record { floor = omega arith; answers = tt })
+      (λ e. cond_both (nat_lt version t.floor) _ _ (Withholds t) (λ e. record { floor = omega arith; answers = tt }) (λ e. record { floor = ltb-false version t.floor e; answers = tt })))
+
+  reads_on : (id : MessageId) (offset count : ℕ) (o : Option Question) → Withholds t (reads t v id offset count o)
+  unfolding reads
+  reads_on id offset count None = record { floor = omega arith; answers = tt }
+  reads_on id offset count (Some q) = cond_both (nat_le (length (present_bytes v q.stream)) offset) _ _ (Withholds t) (λ e. record { floor = omega arith; answers = tt }) (λ e. record { floor = omega arith; answers = tt })
+
+  -- a reply of a version below the floor
+  abbrev IsBelow : Outcome → Type 0
+  IsBelow (Judged version r) = version < t.floor
+  IsBelow (Failed why) = Unit {0}
+
+  hears : (outcome : Outcome) (o : Option Question) → IsBelow outcome → Withholds t (replies t v outcome o)
+  unfolding replies ended
+  hears outcome None h = record { floor = omega arith; answers = tt }
+  hears (Failed why) (Some q) h = record { floor = omega arith; answers = each_mapped IsNoVerdict (refused_now t v ScanFailed) (λ p. no_refusal t.mode (present_generation v p.held.stream) ScanFailed p.held (λ e. absurd (cc (e)))) _ }
+  hears (Judged version r) (Some q) h = subst (Withholds t) (sym (cond-true (nat_lt version t.floor) _ _ (lt-ltb version t.floor h))) (again_withholds t v q [])
+
+  abbrev MayHear : Body → Type 0
+  MayHear (Reply id outcome) = IsBelow outcome
+  MayHear _ = Unit {0}
+
+  receives_withholds : (m : Body) → MayHear m → Withholds t (receives t v m)
+  unfolding receives
+  receives_withholds (Hello number version) h = greets number version
+  receives_withholds (Updated version) h = record { floor = omega arith; answers = tt }
+  receives_withholds (Read id offset count) h = reads_on id offset count _
+  receives_withholds (Reply id outcome) h = hears outcome _ h
+  receives_withholds _ h = record { floor = omega arith; answers = tt }
+
+-- ---- worlds
+
+abbrev IsAbove : WorldState → Type 0
+IsAbove w = latest w.sets < w.table.floor
+
+record Refrains (w x : WorldState) : Type 0 where
+  above : IsAbove x
+  gave : GaveNoVerdict w x
+
+nothing_given : (w x : WorldState) → IsAbove w → x.sets ≡ w.sets → x.table ≡ w.table → x.answers ≡ w.answers → Refrains w x
+nothing_given w x h sets table answers = record {
+  above = omega (arith, h, ap latest sets, ap (λ (t : Table). t.floor) table);
+  gave = record { answers = []; given = answers ∙ sym (append-nil w.answers); without = tt };
+}
+
+module _ (mode : Mode) (w : WorldState) (s : Steady mode w) (h : IsAbove w) where
+  -- what was sent up tells no later version
+  may_hear : (m : Body) → UpFits (past w.history) w.down m → MayHear w.table w.volume m
+  may_hear (Reply id (Judged version r)) fits =
+      let below : version ≤ latest_as (past w.history).sets = published_below (past w.history).sets version fits.right.patterns s.sound.lawful.falling fits.right.published in
+      omega (arith, below, h, latest_same w.sets, ap latest_as s.sound.sets)
+  may_hear (Reply id (Failed why)) fits = tt
+  may_hear _ fits = tt
+
+  comes_up : (k : ℕ) (m : Body) → UpFits (past w.history) w.down m → Refrains w (reacted w (Up k) (filter_step w.table w.volume (filter_events.Receives m)))
+  unfolding filter_step
+  comes_up k m fits =
+      let r : Withholds w.table (receives w.table w.volume m) = receives_withholds w.table w.volume m (may_hear m fits) in
+      record {
+        above = omega (arith, h, r.floor);
+        gave = record {
+          answers = map (given_at (suc (length w.history))) (receives w.table w.volume m).answers;
+          given = refl;
+          without = each-map (λ (a : Given). IsNoVerdict a.answer) IsNoVerdict (given_at (suc (length w.history))) (λ a n. n) (receives w.table w.volume m).answers r.answers;
+        };
+      }
+
+  by_up : (k : ℕ) (o : Option Body) → member w.up k ≡ o → Refrains w (world_or w (up_frame w (Up k) o))
+  unfolding filter_refusal
+  by_up k None at = nothing_given w w h refl refl refl
+  by_up k (Some m) at = comes_up k m (member_each w.up k m s.sound.lawful.up at)
+    where
+      get_each : (ms : List Body) (k : ℕ) (m : Body) → Each (UpFits (past w.history) w.down) ms → slice_get ms k ≡ Some m → UpFits (past w.history) w.down m
+      get_each [] k m all at = absurd (cc (at))
+      get_each (x ∷ ms) zero m all at = let same : x ≡ m = cc (at) in subst (UpFits (past w.history) w.down) same all.0
+      get_each (x ∷ ms) (suc k) m all at = get_each ms k m all.1 at
+
+      member_each : (ms : List Body) (k : ℕ) (m : Body) → Each (UpFits (past w.history) w.down) ms → member ms k ≡ Some m → UpFits (past w.history) w.down m
+      member_each ms zero m all at = absurd (cc (at))
+      member_each ms (suc k) m all at = get_each ms k m all at
+
+  by_down : (k : ℕ) (o : Option Body) → Refrains w (world_or w (down_frame w (Down k) o))
+  by_down k None = nothing_given w w h refl refl refl
+  by_down k (Some m) = nothing_given w (responded w (Down k) (service_step w.desk (service_events.Receives m))) h refl refl refl
+
+  by_work : (k : ℕ) (o : Option WorkState) → Refrains w (world_or w (work_event w (Run k) k o))
+  by_work k None = nothing_given w w h refl refl refl
+  by_work k (Some x) = nothing_given w (responded (back_at w k) (Run k) (service_step w.desk (done (map publication_of w.sets) x))) h refl refl refl
+
+  by_connection : (o : Option ConnectFault) → Refrains w (world_or w (connected w Connect o))
+  by_connection None = nothing_given w (responded w Connect (service_step w.desk service_events.Connects)) h refl refl refl
+  by_connection (Some f) = nothing_given w w h refl refl refl
+
+  one_event : (e : Event) → IsCarrying e → Refrains w (after w e)
+  unfolding step_of
+  one_event (Down k) c = by_down k (member w.down k)
+  one_event (Up k) c = by_up k (member w.up k) refl
+  one_event (Run k) c = by_work k (work_at w.works k)
+  one_event Connect c = by_connection (connect_refusal w.desk)
+  one_event DisconnectService c = nothing_given w (responded w DisconnectService (service_step w.desk service_events.Disconnects)) h refl refl refl
+  one_event (Publish v ps) c = absurd c
+  one_event (Create n) c = absurd c
+  one_event (Write n o b) c = absurd c
+  one_event (Cut n l) c = absurd c
+  one_event (Remove n) c = absurd c
+  one_event (Open n l) c = absurd c
+  one_event (Cleanup n) c = absurd c
+  one_event (Timeout q) c = absurd c
+  one_event DisconnectFilter c = absurd c
+  one_event RestartFilter c = absurd c
+  one_event RestartService c = absurd c
+
+none_given : (mode : Mode) (es : List Event) (w : WorldState) → Steady mode w → IsAbove w → Each IsCarrying es → GaveNoVerdict w (onward es w)
+unfolding onward
+none_given mode [] w s h all = record { answers = []; given = sym (append-nil w.answers); without = tt }
+none_given mode (e ∷ es) w s h all =
+    let first : Refrains w (after w e) = one_event mode w s h e all.0 in
+    let rest : GaveNoVerdict (after w e) (onward es (after w e)) = none_given mode es (after w e) (steady_onward mode (e ∷ []) w s) first.above all.1 in
+    record {
+      answers = first.gave.answers ++ rest.answers;
+      given = rest.given ∙ (ap (λ xs. xs ++ rest.answers) first.gave.given ∙ append_assoc w.answers first.gave.answers rest.answers);
+      without = each-append (λ (a : Given). IsNoVerdict a.answer) first.gave.answers rest.answers first.gave.without rest.without;
+    }
+
+pub no_verdict_below : (number : ℕ) (mode : Mode) (limits : LimitValues) (history es : List Event) → latest (world_of (start number mode limits) history).sets < (world_of (start number mode limits) history).table.floor → Each IsCarrying es
+    → GaveNoVerdict (world_of (start number mode limits) history) (onward es (world_of (start number mode limits) history))
+no_verdict_below number mode limits history es above all = none_given mode es (world_of (start number mode limits) history) (steady number mode limits history) above all

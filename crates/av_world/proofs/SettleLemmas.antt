@@ -1,0 +1,450 @@
+-- One question is settled: its scan, its rounds and its reply, as events of a world.
+use Rattle.std.proofs.Common.{◌≡◌, ◌≢◌, ℕ, zero, suc, ◌+◌, ◌-◌, ◌*◌, ◌<◌, ◌≤◌, Bool, true, false, List, [], ◌∷◌, ◌++◌, length, map, reverse, Option, Some, None, eqb-true, if◌then◌else◌, ◌==◌, nat_lt, nat_le, min, refl, sym, ap, ◌∙◌, subst, arith, length-append, append-nil, le-ltb}
+use Rattle.std.proofs.lemmas.Bool.{cond-true, cond-false, eqb-false, lt-leb}
+use Rattle.std.proofs.lemmas.List.{nil_from_length}
+use Rattle.std.specs.List.{AllByRecursion as Each}
+use Rattle.av_base.specs.declared.mode.Mode.{Mode}
+use Rattle.av_base.specs.declared.verdict.Verdict.{Verdict}
+use Rattle.av_base.specs.declared.verdict.Verdict.TheVariants.{Clean}
+use Rattle.av_base.specs.MessageId.{same_id}
+use Rattle.av_cache.specs.Cache.{look}
+use Rattle.av_cache.specs.declared.entry.Entry.{Entry}
+use Rattle.av_filter.proofs.EachLemmas.{each_weaker, each-append}
+use Rattle.av_filter.proofs.QuestionLemmas.{same_id-refl}
+use Rattle.av_filter.specs.Conduct.{filter_step}
+use Rattle.av_filter.specs.Conduct as filter_events
+use Rattle.av_filter.specs.declared.note.Note.TheVariants as filter_note
+use Rattle.av_filter_table.specs.declared.pended.Pended.{Pended}
+use Rattle.av_filter_table.specs.declared.question.Question.{Question}
+use Rattle.av_filter.specs.Reaction.{Reaction}
+use Rattle.av_filter_table.specs.Answering.{judged as answer_for, present_bytes, stream_bytes}
+use Rattle.av_filter.specs.Reaction as reaction
+use Rattle.av_filter.specs.Receiving.{reads, receives as filter_receives, replies}
+use Rattle.av_filter_table.specs.Asking.{settled}
+use Rattle.av_filter_table.specs.Table.{opens_of, question_at}
+use Rattle.av_frame.specs.declared.message.Body.TheVariants.{Chunk, Reply}
+use Rattle.av_frame.specs.declared.outcome.Outcome.TheVariants.{Judged}
+use Rattle.av_match.proofs.RunLemmas.{scanner_meets as laws}
+use Rattle.av_match.specs.Match.{verdict, verdict_to, if_hit}
+use Rattle.av_match.specs.Scanning.{AreSolid, ScanState, scanner}
+use Rattle.av_service.specs.Conduct.{service_step}
+use Rattle.av_service.specs.Conduct as service_events
+use Rattle.av_service.specs.declared.job.Job.{Job}
+use Rattle.av_service.specs.declared.note.Note.TheVariants.{Quiet}
+use Rattle.av_service.specs.Work.{WorkState}
+use Rattle.av_service.specs.Desk.{Desk, advanced, without_job, with_job}
+use Rattle.av_service.specs.Lending.{closes, finished}
+use Rattle.av_service.specs.Response.{Response, read_message, sends}
+use Rattle.av_service.specs.Scanning.{most_leases, scan_cached}
+use Rattle.av_sigset.specs.declared.signature.Pattern.{Pattern}
+use Rattle.av_world.proofs.DeskLemmas.{hit_whole, no_hit, nothing_clean}
+use Rattle.av_world.proofs.FilterLemmas.{look_right}
+use Rattle.av_world.proofs.PathLemmas.{Waits, UpTo, find_last, found_put, put_each, up_more}
+use Rattle.av_world.proofs.PathLemmas as path
+use Rattle.av_world.proofs.ProgressLemmas.{the_asked, back_onto, down_step, get_last, member_last, onward-append, run_step, scan_there, up_step}
+use Rattle.av_world.proofs.SoundLemmas.{Sound}
+use Rattle.av_world.specs.declared.event.Event.{Event}
+use Rattle.av_world.specs.declared.event.Event.TheVariants.{Down, Up, Run}
+use Rattle.av_world.specs.Past.{IsVerdictOf, past}
+use Rattle.av_world.specs.Path.{IsReady, scan_for}
+use Rattle.av_world.specs.Progress.{IsCarrying, before_scan, is_reply, last_up, onward, round, scan_comes, to_reply}
+use Rattle.av_sigset.specs.Publication.{Publication, publication_of}
+use Rattle.av_world.specs.World.{WorldState, after, back_at, done, given_at, if_there, member, reacted, responded}
+
+-- where the only job of an id is put away, none is left
+gone : (k j : Job) → k.id ≡ j.id → without_job k.id (with_job k (j ∷ [])) ≡ []
+gone k j same =
+    let here : same_id j.id k.id ≡ true = subst (λ i. same_id i k.id ≡ true) same (same_id-refl k.id) in
+    let self : same_id k.id k.id ≡ true = same_id-refl k.id in
+    rw here (rw self refl)
+
+put_one : (k j : Job) → k.id ≡ j.id → with_job k (j ∷ []) ≡ k ∷ []
+put_one k j same =
+    let here : same_id j.id k.id ≡ true = subst (λ i. same_id i k.id ≡ true) same (same_id-refl k.id) in
+    rw here refl
+
+module _ (mode : Mode) (w : WorldState) (s : Sound mode w) (q : Question) (n : ℕ) (ready : IsReady w q n) (idle : w.desk.jobs ≡ []) (reached : w.table.floor ≤ w.desk.version) where
+  abbrev sets : List Publication
+  sets = map publication_of w.sets
+
+  abbrev pub bytes : List ℕ
+  bytes = path.bytes mode w s q n ready
+
+  abbrev pub set : List Pattern
+  set = (path.present_set mode w s q n ready).0
+
+  abbrev pub found_verdict : Verdict
+  found_verdict = verdict set bytes
+
+  abbrev IsWaiting : Desk → Job → Type 0
+  IsWaiting d j = Waits w.table w.volume sets q bytes set (path.strong mode w s q n ready) ready.runs refl d j
+
+  -- a world on the way: what the filter knows, the volume, the sets and the answers are as they were, and the service has its version and limits
+  record Way (u : WorldState) : Type 0 where
+    table : u.table ≡ w.table
+    volume : u.volume ≡ w.volume
+    same_sets : u.sets ≡ w.sets
+    answers : u.answers ≡ w.answers
+    version : u.desk.version ≡ w.desk.version
+    limits : u.desk.limits ≡ w.desk.limits
+    on : u.desk.connected ≡ true
+
+  abbrev pub opens_waiting : List Pended
+  opens_waiting = opens_of q.id w.table.pended
+
+  -- the world x in which the question is settled, and how it was reached from u
+  pub record Settled (u x : WorldState) (es : List Event) (m : ℕ) : Type 0 where
+    pub happened : x.history ≡ reverse es ++ u.history
+    pub carries : Each IsCarrying es
+    pub table : x.table ≡ settled w.table q w.desk.version found_verdict
+    pub volume : x.volume ≡ w.volume
+    pub same_sets : x.sets ≡ w.sets
+    pub event : ℕ
+    pub answers : x.answers ≡ w.answers ++ map (given_at event) (map (λ p. answer_for found_verdict q.generation w.desk.version p.held) opens_waiting)
+    pub version : x.desk.version ≡ w.desk.version
+    pub limits : x.desk.limits ≡ w.desk.limits
+    pub on : x.desk.connected ≡ true
+    pub no_jobs : x.desk.jobs ≡ []
+    pub leases : x.desk.last_lease ≤ u.desk.last_lease + m
+
+  -- the reply comes
+  abbrev reaction_to_reply : Reaction
+  reaction_to_reply = record {
+    table = settled w.table q w.desk.version found_verdict;
+    volume = w.volume;
+    answers = map (λ p. answer_for found_verdict q.generation w.desk.version p.held) opens_waiting;
+    messages = [];
+    note = filter_note.Quiet;
+  }
+
+  settles : filter_step w.table w.volume (filter_events.Receives (Reply q.id (Judged w.desk.version found_verdict))) ≡ reaction_to_reply
+  unfolding filter_step filter_receives replies
+  settles =
+      ap (replies w.table w.volume (Judged w.desk.version found_verdict)) ready.runs
+      ∙ cond-false (nat_lt w.desk.version w.table.floor) _ _ (le-ltb w.desk.version w.table.floor reached)
+
+  reply_comes : (u : WorldState) (m : ℕ) → Way u → u.desk.jobs ≡ [] → member u.up (length u.up) ≡ Some (Reply q.id (Judged w.desk.version found_verdict)) → Settled u (onward (last_up u ∷ []) u) (last_up u ∷ []) m
+  unfolding onward
+  reply_comes u m way none last =
+      let is : after u (last_up u) ≡ reacted u (last_up u) reaction_to_reply =
+      up_step u (length u.up) (Reply q.id (Judged w.desk.version found_verdict)) last
+      ∙ ap (reacted u (last_up u)) ((λ i. filter_step (way.table i) (way.volume i) (filter_events.Receives (Reply q.id (Judged w.desk.version found_verdict)))) ∙ settles) in
+      subst (λ x. Settled u x (last_up u ∷ []) m) (sym is) (record {
+        happened = refl;
+        carries = (tt, tt);
+        table = refl;
+        volume = refl;
+        same_sets = way.same_sets;
+        event = suc (length u.history);
+        answers = ap (λ xs. xs ++ map (given_at (suc (length u.history))) reaction_to_reply.answers) way.answers;
+        version = way.version;
+        limits = way.limits;
+        on = way.on;
+        no_jobs = none;
+        leases = omega arith;
+      })
+
+  replied_now : (m : ℕ) (u : WorldState) → member u.up (length u.up) ≡ Some (Reply q.id (Judged w.desk.version found_verdict)) → to_reply m u ≡ last_up u ∷ []
+  unfolding to_reply
+  replied_now zero u last = refl
+  replied_now (suc m) u last = cond-true (is_reply (member u.up (length u.up))) _ _ (ap is_reply last)
+
+  replied : (m : ℕ) (u : WorldState) → Way u → u.desk.jobs ≡ [] → member u.up (length u.up) ≡ Some (Reply q.id (Judged w.desk.version found_verdict)) → Settled u (onward (to_reply m u) u) (to_reply m u) m
+  replied m u way none last = subst (λ es. Settled u (onward es u) es m) (sym (replied_now m u last)) (reply_comes u m way none last)
+
+  -- further on the way: what settles the later world settles the earlier one
+  further_on : (u x y : WorldState) (es fs : List Event) (a b : ℕ) → Each IsCarrying es → x.history ≡ reverse es ++ u.history → x.desk.last_lease ≤ u.desk.last_lease + a → Settled x y fs b → Settled u y (es ++ fs) (a + b)
+  further_on u x y es fs a b carry came lent f = record {
+    happened = f.happened ∙ (ap (λ h. reverse fs ++ h) came ∙ sym (back_onto es fs u.history));
+    carries = each_joined es fs carry f.carries;
+    table = f.table;
+    volume = f.volume;
+    same_sets = f.same_sets;
+    event = f.event;
+    answers = f.answers;
+    version = f.version;
+    limits = f.limits;
+    on = f.on;
+    no_jobs = f.no_jobs;
+    leases = omega (arith, lent, f.leases);
+  }
+    where
+      each_joined : (xs ys : List Event) → Each IsCarrying xs → Each IsCarrying ys → Each IsCarrying (xs ++ ys)
+      each_joined [] ys p q = q
+      each_joined (x ∷ xs) ys p q = (p.0, each_joined xs ys p.1 q)
+
+  -- a read is the last message up, and the only job waits for what it asks
+  record Reading (u : WorldState) (j : Job) : Type 0 where
+    waits : IsWaiting u.desk j
+    only : u.desk.jobs ≡ j ∷ []
+    last : member u.up (length u.up) ≡ Some (read_message u.desk.limits j)
+
+  module _ (u : WorldState) (j : Job) (way : Way u) (r : Reading u j) (numbered : u.desk.last_lease < most_leases) where
+    abbrev strong : AreSolid set
+    strong = path.strong mode w s q n ready
+
+    abbrev part : List ℕ
+    part = path.part w.table w.volume sets q bytes set strong ready.runs refl u.desk j r.waits numbered
+
+    abbrev lent : Job
+    lent = path.lent_job w.table w.volume sets q bytes set strong ready.runs refl u.desk j r.waits numbered
+
+    abbrev work : WorkState
+    work = path.work w.table w.volume sets q bytes set strong ready.runs refl u.desk j r.waits numbered
+
+    abbrev desk : Desk
+    desk = path.desk w.table w.volume sets q bytes set strong ready.runs refl u.desk j r.waits numbered
+
+    abbrev scan : ScanState
+    scan = path.after w.table w.volume sets q bytes set strong ready.runs refl u.desk j r.waits numbered
+
+    abbrev e1 : Event
+    e1 = Up (length u.up)
+
+    abbrev u1 : WorldState
+    u1 = reacted u e1 (reaction.sends w.table w.volume (Chunk j.id j.offset part))
+
+    abbrev e2 : Event
+    e2 = Down (suc (length u.down))
+
+    abbrev u2 : WorldState
+    u2 = responded u1 e2 (record { desk = desk; messages = []; works = work ∷ []; note = Quiet })
+
+    abbrev e3 : Event
+    e3 = Run (suc (length u.works))
+
+    abbrev u3 : Response → WorldState
+    u3 x = responded (back_at u2 (suc (length u.works))) e3 x
+
+    chunk_sent : filter_step w.table w.volume (filter_events.Receives (read_message u.desk.limits j)) ≡ reaction.sends w.table w.volume (Chunk j.id j.offset part)
+    unfolding filter_step filter_receives reads
+    chunk_sent =
+        let asked : question_at j.id w.table.questions ≡ Some q = subst (λ i. question_at i w.table.questions ≡ Some q) (sym r.waits.id) ready.runs in
+        let inside : nat_le (length (present_bytes w.volume q.stream)) (j.offset) ≡ false = lt-leb (length (present_bytes w.volume q.stream)) (j.offset) r.waits.left in
+        ap (reads w.table w.volume j.id j.offset (min u.desk.limits.chunk (j.length - j.offset))) asked ∙ cond-false (nat_le (length (present_bytes w.volume q.stream)) j.offset) _ _ inside
+
+    step1 : after u e1 ≡ u1
+    step1 =
+        up_step u (length u.up) (read_message u.desk.limits j) r.last
+        ∙ ap (reacted u e1) ((λ i. filter_step (way.table i) (way.volume i) (filter_events.Receives (read_message u.desk.limits j))) ∙ chunk_sent)
+
+    step2 : after u1 e2 ≡ u2
+    step2 =
+        down_step u1 (suc (length u.down)) (Chunk j.id j.offset part) (get_last u.down (Chunk j.id j.offset part))
+        ∙ ap (responded u1 e2) (path.lends w.table w.volume sets q bytes set strong ready.runs refl u.desk j r.waits numbered)
+
+    comes_back : service_step desk (done (map publication_of u.sets) work) ≡ finished desk scan (scanner.hit scan) (Some lent)
+    unfolding service_step
+    comes_back =
+        ap (λ ss. service_step desk (done (map publication_of ss) work)) way.same_sets
+        ∙ ap (finished desk scan (scanner.hit scan)) (path.found w.table w.volume sets q bytes set strong ready.runs refl u.desk j r.waits numbered)
+
+    step3 : after u2 e3 ≡ u3 (finished desk scan (scanner.hit scan) (Some lent))
+    step3 =
+        run_step u2 (suc (length u.works)) work (ap if_there (get_last u.works (Some work)))
+        ∙ ap u3 comes_back
+
+    round_is : onward (round u) u ≡ u3 (finished desk scan (scanner.hit scan) (Some lent))
+    unfolding onward
+    round_is = ap (λ x. after (after x e2) e3) step1 ∙ (ap (λ x. after x e3) step2 ∙ step3)
+
+    came : (x : Response) → (u3 x).history ≡ reverse (round u) ++ u.history
+    came x = refl
+
+    no_new : (x : Response) → (u3 x).answers ≡ w.answers
+    no_new x = append-nil u.answers ∙ way.answers
+
+    -- the world that a response leads to is settled by the rest of the events
+    abbrev SettledFrom : WorldState → ℕ → Type 0
+    SettledFrom x m = Settled x (onward (to_reply m x) x) (to_reply m x) m
+
+    same_lease : (x : Response) → x.desk.last_lease ≡ u.desk.last_lease + 1 → (u3 x).desk.last_lease ≤ u.desk.last_lease + 1
+    same_lease x is = omega (arith, is)
+
+    whole_round : (m : ℕ) (x : Response) → finished desk scan (scanner.hit scan) (Some lent) ≡ x → x.desk.last_lease ≡ u.desk.last_lease + 1 → SettledFrom (u3 x) m → SettledFrom u (suc m)
+    unfolding to_reply
+    whole_round m x is lease f =
+        let next : WorldState = onward (round u) u in
+        let at : next ≡ u3 x = round_is ∙ ap u3 is in
+        let from : SettledFrom next m = subst (λ y. SettledFrom y m) (sym at) f in
+        let history : next.history ≡ reverse (round u) ++ u.history = ap (λ (y : WorldState). y.history) at ∙ came x in
+        let last_lease : next.desk.last_lease ≡ u.desk.last_lease + 1 = ap (λ (y : WorldState). y.desk.last_lease) at ∙ lease in
+        let joined : Settled u (onward (to_reply m next) next) (round u ++ to_reply m next) (1 + m) = further_on u next (onward (to_reply m next) next) (round u) (to_reply m next) 1 m (tt, (tt, (tt, tt))) history (omega (arith, last_lease)) from in
+        let there : onward (to_reply m next) next ≡ onward (round u ++ to_reply m next) u = sym (onward-append (round u) (to_reply m next) u) in
+        let all : to_reply (suc m) u ≡ round u ++ to_reply m next = cond-false (is_reply (member u.up (length u.up))) _ _ (ap is_reply r.last) in
+        let count : 1 + m ≡ suc m = omega arith in
+        subst (λ es. Settled u (onward es u) es (suc m)) (sym all)
+        (subst (λ y. Settled u y (round u ++ to_reply m next) (suc m)) there (subst (λ k. Settled u (onward (to_reply m next) next) (round u ++ to_reply m next) k) count joined))
+
+    -- the job ends with the verdict
+    closed : (m : ℕ) (x : Verdict) → x ≡ found_verdict → SettledFrom (u3 (closes desk lent x)) m
+    closed m x same =
+        let v : WorldState = u3 (closes desk lent x) in
+        let none : without_job lent.id (with_job lent u.desk.jobs) ≡ [] = ap (λ js. without_job lent.id (with_job lent js)) r.only ∙ gone lent j refl in
+        let told : member v.up (length v.up) ≡ Some (Reply q.id (Judged w.desk.version found_verdict)) =
+        member_last (u.up ++ []) (Reply lent.id (Judged desk.version x)) ∙ (λ i. Some (Reply (r.waits.id i) (Judged (way.version i) (same i)))) in
+        replied m v (record { table = refl; volume = refl; same_sets = way.same_sets; answers = no_new (closes desk lent x); version = way.version; limits = way.limits; on = r.waits.on }) none told
+
+    -- or it waits again
+    abbrev further : Job
+    further = advanced scan lent
+
+    abbrev reads_on : Response
+    reads_on = sends (record desk { jobs = with_job further desk.jobs }) (read_message desk.limits further ∷ [])
+
+    abbrev rest_left : List ℕ
+    rest_left = (path.further w.table w.volume sets q bytes set strong ready.runs refl u.desk j r.waits numbered).0
+
+    joined_is : (r.waits.judged ++ part) ++ rest_left ≡ bytes
+    joined_is = (path.further w.table w.volume sets q bytes set strong ready.runs refl u.desk j r.waits numbered).1
+
+    judged_more : length (r.waits.judged ++ part) ≡ j.offset + length part
+    judged_more = path.judged_more w.table w.volume sets q bytes set strong ready.runs refl u.desk j r.waits numbered
+
+    part_size : length part ≡ min (min u.desk.limits.chunk (j.length - j.offset)) (min w.table.limits.chunk (length bytes - j.offset))
+    part_size = path.part_size w.table w.volume sets q bytes set strong ready.runs refl u.desk j r.waits numbered
+
+    sizes : length (r.waits.judged ++ part) + length rest_left ≡ length bytes
+    sizes = sym (length-append (r.waits.judged ++ part) rest_left) ∙ ap length joined_is
+
+    waits_on : j.offset + length part ≢ j.length → Reading (u3 reads_on) further
+    waits_on less = record {
+      waits = record {
+        on = r.waits.on;
+        job = found_put further q.id lent desk.jobs r.waits.id r.waits.id (found_put lent q.id j u.desk.jobs r.waits.id r.waits.id r.waits.job);
+        id = r.waits.id;
+        free = refl;
+        judged = r.waits.judged ++ part;
+        rest = rest_left;
+        front = joined_is;
+        counted = judged_more;
+        scanned = path.scanned_now w.table w.volume sets q bytes set strong ready.runs refl u.desk j r.waits numbered;
+        size = r.waits.size;
+        left = omega (arith, sizes, r.waits.size, judged_more, less);
+        leases = put_each (λ (x : Job). UpTo (u.desk.last_lease + 1) x.loan) further desk.jobs tt
+            (put_each (λ (x : Job). UpTo (u.desk.last_lease + 1) x.loan) lent u.desk.jobs (omega arith)
+            (each_weaker (λ (x : Job). UpTo u.desk.last_lease x.loan) (λ (x : Job). UpTo (u.desk.last_lease + 1) x.loan) (λ x h. up_more u.desk.last_lease x.loan h) u.desk.jobs r.waits.leases));
+        published = r.waits.published;
+        some = r.waits.some;
+      };
+      only = ap (λ js. with_job further (with_job lent js)) r.only ∙ (ap (with_job further) (put_one lent j refl) ∙ put_one further lent refl);
+      last = member_last (u.up ++ []) (read_message desk.limits further);
+    }
+
+    -- what is asked of a later world on the way
+    abbrev GoesOn : ℕ → ℕ → Type 0
+    GoesOn m c = (v : WorldState) (k : Job) → c ≡ min v.desk.limits.chunk w.table.limits.chunk → Way v → Reading v k → length bytes ≤ k.offset + m * c → v.desk.last_lease + m ≤ most_leases → SettledFrom v m
+
+    by_hit : (m c : ℕ) → GoesOn m c → c ≡ min u.desk.limits.chunk w.table.limits.chunk → length bytes ≤ j.offset + suc m * c → u.desk.last_lease + suc m ≤ most_leases
+        → (hit : Option Verdict) → scanner.hit scan ≡ hit → hit ≡ if_hit (verdict set (r.waits.judged ++ part)) → SettledFrom u (suc m)
+    unfolding finished
+    by_hit m c go chunk enough free (Some x) at is =
+        let same : x ≡ found_verdict = hit_whole set (r.waits.judged ++ part) rest_left x is ∙ ap (verdict set) joined_is in
+        whole_round m (closes desk lent x) (ap (λ h. finished desk scan h (Some lent)) at) refl (closed m x same)
+    by_hit m c go chunk enough free None at is =
+        let go_by : (b : Bool) → (j.offset + length part == j.length) ≡ b → SettledFrom u (suc m) = elim [
+          | true ↦ λ e.
+              let none : rest_left ≡ [] = nil_from_length rest_left (omega (arith, sizes, r.waits.size, judged_more, eqb-true _ j.length e)) in
+              let whole : r.waits.judged ++ part ≡ bytes = sym (append-nil (r.waits.judged ++ part)) ∙ (ap (λ ys. (r.waits.judged ++ part) ++ ys) (sym none) ∙ joined_is) in
+              let clean : Clean ≡ found_verdict = no_hit (verdict set (r.waits.judged ++ part)) is ∙ ap (verdict set) whole in
+              whole_round m (closes desk lent Clean) (ap (λ h. finished desk scan h (Some lent)) at ∙ cond-true (j.offset + length part == j.length) _ _ e) refl (closed m Clean clean)
+          | false ↦ λ e.
+              let less : j.offset + length part ≢ j.length = eqb-false _ j.length e in
+              let left : j.offset + length part < length bytes = omega (arith, sizes, r.waits.size, judged_more, less) in
+              let v : WorldState = u3 reads_on in
+              let on : Way v = record { table = refl; volume = refl; same_sets = way.same_sets; answers = no_new reads_on; version = way.version; limits = way.limits; on = r.waits.on } in
+              whole_round m reads_on (ap (λ h. finished desk scan h (Some lent)) at ∙ cond-false (j.offset + length part == j.length) _ _ e) refl
+              (go v further chunk on (waits_on less) (omega (arith, enough, part_size, left, r.waits.size, chunk)) (omega (arith, free)))
+        ] in
+        go_by (j.offset + length part == j.length) refl
+
+  -- rounds, up to the reply, settle
+  goes : (m c : ℕ) (u : WorldState) (j : Job) → c ≡ min u.desk.limits.chunk w.table.limits.chunk → Way u → Reading u j → length bytes ≤ j.offset + m * c → u.desk.last_lease + m ≤ most_leases → Settled u (onward (to_reply m u) u) (to_reply m u) m
+  goes zero c u j chunk way r enough free = absurd (omega (arith, r.waits.left, enough))
+  goes (suc m) c u j chunk way r enough free =
+      let numbered : u.desk.last_lease < most_leases = omega (arith, free) in
+      by_hit u j way r numbered m c (goes m c) chunk enough free (scanner.hit (scan u j way r numbered)) refl
+      (path.hit_is w.table w.volume sets q bytes set (path.strong mode w s q n ready) ready.runs refl u.desk j r.waits numbered)
+
+  -- ---- the scan
+
+  scan_at : member w.down (suc (before_scan q.id w.down)) ≡ Some (scan_for w q)
+  scan_at =
+      let run = path.run mode w s q n ready in
+      scan_there w.down q.id q.stream q.generation (length bytes) (run.told ∙ ap (λ o. Some (the_asked q.stream q.generation (length (stream_bytes o)))) (sym run.here))
+
+  abbrev first_event : Event
+  first_event = scan_comes w q
+
+  scanned : (x : Response) → service_step w.desk (service_events.Receives (scan_for w q)) ≡ x → x.desk.last_lease ≡ w.desk.last_lease
+      → Settled (responded w first_event x) (onward (to_reply n (responded w first_event x)) (responded w first_event x)) (to_reply n (responded w first_event x)) n
+      → Settled w (onward (first_event ∷ to_reply n (after w first_event)) w) (first_event ∷ to_reply n (after w first_event)) n
+  unfolding onward
+  scanned x is lease f =
+      let at : after w first_event ≡ responded w first_event x = down_step w (suc (before_scan q.id w.down)) (scan_for w q) scan_at ∙ ap (responded w first_event) is in
+      let next : WorldState = after w first_event in
+      let from : Settled next (onward (to_reply n next) next) (to_reply n next) n = subst (λ y. Settled y (onward (to_reply n y) y) (to_reply n y) n) (sym at) f in
+      let last_lease : next.desk.last_lease ≡ w.desk.last_lease = ap (λ (y : WorldState). y.desk.last_lease) at ∙ lease in
+      let none : 0 + n ≡ n = omega arith in
+      subst (λ k. Settled w (onward (to_reply n next) next) (first_event ∷ to_reply n next) k) none
+      (further_on w next (onward (to_reply n next) next) (first_event ∷ []) (to_reply n next) 0 n (tt, tt) (ap (λ (y : WorldState). y.history) at) (omega (arith, last_lease)) from)
+
+  replied_at_once : (d : Desk) (x : Verdict) → service_step w.desk (service_events.Receives (scan_for w q)) ≡ sends d (Reply q.id (Judged w.desk.version x) ∷ []) → d.version ≡ w.desk.version → d.limits ≡ w.desk.limits → d.connected ≡ true → d.jobs ≡ []
+      → d.last_lease ≡ w.desk.last_lease → x ≡ found_verdict → Settled w (onward (first_event ∷ to_reply n (after w first_event)) w) (first_event ∷ to_reply n (after w first_event)) n
+  replied_at_once d x is version limits on none lease same =
+      let r : Response = sends d (Reply q.id (Judged w.desk.version x) ∷ []) in
+      let v : WorldState = responded w first_event r in
+      scanned r is lease
+      (replied n v (record { table = refl; volume = refl; same_sets = refl; answers = refl; version = version; limits = limits; on = on }) none
+      (member_last w.up (Reply q.id (Judged w.desk.version x)) ∙ ap (λ y. Some (Reply q.id (Judged w.desk.version y))) same))
+
+  by_cache : (o : Option Entry) → look q.stream q.generation w.desk.version w.desk.cache ≡ o → Settled w (onward (first_event ∷ to_reply n (after w first_event)) w) (first_event ∷ to_reply n (after w first_event)) n
+  unfolding scan_cached verdict verdict_to
+  by_cache (Some e) at =
+      let is = path.first mode w s q n ready ∙ ap (scan_cached w.desk (path.new mode w s q n ready)) at in
+      replied_at_once _ e.verdict is refl refl ready.connected idle refl (path.the_verdict mode w s q n ready e.verdict (look_right (past w.history) q.stream q.generation w.desk.version w.desk.cache e s.lawful.desk.cache at))
+  by_cache None at =
+      let new : Job = path.new mode w s q n ready in
+      let empty : Response = path.empty mode w s q n ready in
+      let waiting : Response = path.waiting mode w s q n ready in
+      let is : service_step w.desk (service_events.Receives (scan_for w q)) ≡ scan_cached w.desk new None = path.first mode w s q n ready ∙ ap (scan_cached w.desk new) at in
+      let free : nat_le w.desk.limits.jobs (length w.desk.jobs) ≡ false = lt-leb w.desk.limits.jobs (length w.desk.jobs) ready.room in
+      let begun : scan_cached w.desk new None ≡ (if length bytes == 0 then empty else waiting) = cond-false (nat_le w.desk.limits.jobs (length w.desk.jobs)) _ _ free in
+      let go : (b : Bool) → (length bytes == 0) ≡ b → Settled w (onward (first_event ∷ to_reply n (after w first_event)) w) (first_event ∷ to_reply n (after w first_event)) n = elim [
+        | true ↦ λ e.
+            let nothing : bytes ≡ [] = nil_from_length bytes (eqb-true (length bytes) 0 e) in
+            let clean : Clean ≡ found_verdict = subst (λ bs. Clean ≡ verdict set bs) (sym nothing) (sym (nothing_clean 0 set (path.strong mode w s q n ready))) in
+            replied_at_once _ Clean (is ∙ (begun ∙ cond-true (length bytes == 0) empty waiting e)) refl refl ready.connected idle refl clean
+        | false ↦ λ e.
+            let starts : service_step w.desk (service_events.Receives (scan_for w q)) ≡ waiting = is ∙ (begun ∙ cond-false (length bytes == 0) empty waiting e) in
+            let some : length bytes ≢ 0 = eqb-false (length bytes) 0 e in
+            let v : WorldState = responded w first_event waiting in
+            let known : IsWaiting v.desk new = record {
+              on = ready.connected;
+              job = find_last q.id new w.desk.jobs (same_id-refl q.id) ready.no_job;
+              id = refl;
+              free = refl;
+              judged = [];
+              rest = bytes;
+              front = refl;
+              counted = refl;
+              scanned = sym (laws.begun w.desk.version (length bytes) set (path.strong mode w s q n ready));
+              size = refl;
+              left = omega arith;
+              leases = each-append (λ (j : Job). UpTo w.desk.last_lease j.loan) w.desk.jobs (new ∷ []) (path.leases_known mode w s q n ready w.desk.jobs s.lawful.desk.jobs) (tt, tt);
+              published = path.published mode w s q n ready;
+              some = ready.chunk;
+            } in
+            scanned waiting starts refl
+            (goes n (min w.desk.limits.chunk w.table.limits.chunk) v new refl (record { table = refl; volume = refl; same_sets = refl; answers = refl; version = refl; limits = refl; on = ready.connected })
+            (record { waits = known; only = ap (λ js. js ++ new ∷ []) idle; last = member_last w.up (read_message w.desk.limits new) }) (omega (arith, ready.enough)) ready.leases)
+      ] in
+      go (length bytes == 0) refl
+
+  -- the question is settled by its events
+  pub question_settled : Settled w (onward (scan_comes w q ∷ to_reply n (after w (scan_comes w q))) w) (scan_comes w q ∷ to_reply n (after w (scan_comes w q))) n
+  question_settled = by_cache _ refl
+
+  -- with the verdict of what it is about
+  pub verdict_is : IsVerdictOf (past w.history) q.stream q.generation w.desk.version found_verdict
+  verdict_is = record { patterns = set; bytes = bytes; published = (path.present_set mode w s q n ready).1; held = path.held mode w s q n ready; right = refl }

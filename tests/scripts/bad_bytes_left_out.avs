@@ -1,3 +1,0 @@
-volume 1 closed
-create a
-write a 0

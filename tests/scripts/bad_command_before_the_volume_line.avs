@@ -1,2 +1,0 @@
-create a
-volume 1 closed

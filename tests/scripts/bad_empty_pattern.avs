@@ -1,2 +1,0 @@
-volume 1 closed
-publish 1 

@@ -1,3 +1,0 @@
-volume 1 closed
-cut a
-cut

@@ -1,2 +1,0 @@
-limit speed 1
-volume 1 closed

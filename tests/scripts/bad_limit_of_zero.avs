@@ -1,2 +1,0 @@
-limit chunk 0
-volume 1 closed

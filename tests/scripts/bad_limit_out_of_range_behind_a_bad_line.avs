@@ -1,3 +1,0 @@
-limit chunk 0
-limit
-volume 1 closed

@@ -1,3 +1,0 @@
-limit jobs 257
-
-volume 1 closed

@@ -1,2 +1,0 @@
-limit chunk
-volume 1 closed

@@ -1,3 +1,0 @@
-# nothing but a comment
-
-limit chunk 1

@@ -1,1 +1,0 @@
-volume 01 closed

@@ -1,3 +1,0 @@
-volume 1 closed
-create a
-cut a +1

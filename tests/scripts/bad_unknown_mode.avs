@@ -1,1 +1,0 @@
-volume 1 ajar

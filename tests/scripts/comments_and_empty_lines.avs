@@ -1,6 +1,0 @@
-# a comment
-
-volume 1 closed
-
-#create a
-create b
