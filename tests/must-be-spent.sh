@@ -47,6 +47,7 @@ must_be_spent av_context context_ref:ContextRef
 must_be_spent av_filter_table filter_table:FilterTable
 must_be_spent av_filter filter:Filter
 must_be_spent av_service work:Work done:Done out:ServiceOut
+must_be_spent av_desk lent:Lent lent:Taken
 must_be_spent av_world world:World
 echo "$passed passed, $failed failed"
 [ "$failed" = 0 ]

@@ -1,4 +1,5 @@
 pub mod CatalogueLemmas
+pub mod Crossing
 pub mod KeepLemmas
 pub mod LentLemmas
 pub mod OutgoingLemmas

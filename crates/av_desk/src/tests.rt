@@ -1,0 +1,5 @@
+mod calls;
+mod refusals;
+mod rows;
+mod said;
+mod threads;
