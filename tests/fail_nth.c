@@ -2,9 +2,13 @@
      FAIL_NTH=N LD_PRELOAD=./fail_nth.so PROGRAM ARGUMENTS..
    Requests count from the start of the process, or, where FAIL_MARKED=1, only those between a request of COUNT bytes
    and one of COUNT_NO_MORE bytes, which a test makes around each call that it looks at. A mark is never refused. At its
-   end the process writes "requests R refused F" to the file that FAIL_REPORT names. */
+   end the process writes "requests R refused F" to the file that FAIL_REPORT names, also where it ends by _exit, as a
+   program with threads does. */
+#define _GNU_SOURCE
 #include <stdio.h>
 #include <stdlib.h>
+#include <sys/syscall.h>
+#include <unistd.h>
 
 #define COUNT 7654321
 #define COUNT_NO_MORE 7654322
@@ -34,6 +38,13 @@ __attribute__((destructor)) static void end(void) {
     if (file != NULL) {
         fprintf(file, "requests %ld refused %ld\n", made, refused);
         fclose(file);
+    }
+}
+
+void _exit(int status) {
+    end();
+    for (;;) {
+        syscall(SYS_exit_group, status);
     }
 }
 

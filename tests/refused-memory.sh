@@ -14,10 +14,15 @@ failed=0
 refuse_each() {
     tests=$1 name=$2 n=1
     while :; do
+        rm -f "$work/report"
         if ! FAIL_MARKED=1 FAIL_NTH=$n FAIL_REPORT="$work/report" LD_PRELOAD="$work/fail_nth.so" \
             "$tests" "$name" > "$work/out" 2>&1; then
             echo "$name: does not pass with request $n refused"
             cat "$work/out"
+            return 1
+        fi
+        if ! [ -f "$work/report" ]; then
+            echo "$name: ended without a report of its requests"
             return 1
         fi
         if grep -q ' refused 0$' "$work/report"; then
