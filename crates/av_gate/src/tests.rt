@@ -196,7 +196,10 @@ fn run_closed<R: Wait + Abort>(
     row: &Row<'_>,
 ) -> Result<Result<Audit, CloseFault>, Fail> {
     let (field, value) = row.limit;
-    let limits = Limits::check(LimitValues::greatest().with(field, value))?;
+    let values = LimitValues::greatest()
+        .with(LimitField::Cache, 1)
+        .with(field, value);
+    let limits = Limits::check(values)?;
     let (gate, seat) = gate_of_two(alloc, row.mode, limits)?;
     match run(rt, alloc, &gate, seat, row) {
         Ok((seats, receipts)) => Ok(closed(gate, seats, receipts)),
