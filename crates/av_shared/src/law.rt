@@ -1,0 +1,27 @@
+ghost use Rattle.std.specs.Prelude.{List};
+ghost use Rattle.av_desk.specs.Audit.{opened_by, started_by};
+ghost use Rattle.av_gate.specs.Claims.{IsLegal, table_of};
+ghost use Rattle.av_service.specs.Audit.{IsCatalogue, IsServiceAudit};
+ghost use Rattle.av_shared.specs.History.{AreOneHistory};
+ghost use Rattle.av_store.specs.Files.{File};
+ghost use Rattle.av_world.specs.Audits.{AuditAnswersOnce, AuditsGrantOnlyClean, AuditsHoldOneVerdict, SideEntry};
+
+use av_world::laws::audits;
+
+/// The headline of running threads. A gate and a desk were closed, and gave these audits. Put together in any order in which
+/// each message that came had been sent by the other side before, and where each work that came back to the desk is one that
+/// it lent: no two verdicts stand for one stream, generation and version; each grant of a fail-closed gate names the present
+/// generation of a content that holds no signature of its version; and each open is pended or answered, once. What is asked
+/// of each audit is what `close` says of it.
+pub fn headline_of_audits(gate: &av_gate::Audit, desk: &av_desk::Audit)
+    requires gate { IsLegal gate.now }
+    requires desk { IsServiceAudit (opened_by desk.now) (started_by desk.now) desk.now.events.items }
+    requires catalogue { IsCatalogue (opened_by desk.now) }
+    ensures one_verdict { (files : List File) (history : List SideEntry) → AreOneHistory gate.now desk.now files history
+        → AuditsHoldOneVerdict files (table_of gate.now) gate.now.volume (opened_by desk.now) (started_by desk.now) history }
+    ensures only_clean { (files : List File) (history : List SideEntry) → AreOneHistory gate.now desk.now files history
+        → AuditsGrantOnlyClean gate.now.mode files (opened_by desk.now) history }
+    ensures answers_once { AuditAnswersOnce (table_of gate.now) gate.now.volume gate.now.events.items }
+{
+    audits();
+}

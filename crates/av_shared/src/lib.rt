@@ -1,0 +1,4 @@
+//! A gate and a desk together: what the audits promise that their two `close` calls give.
+#![tactic(auto)]
+
+pub mod law;
