@@ -2,3 +2,5 @@
 #![tactic(auto)]
 
 pub mod law;
+#[cfg(test)]
+mod tests;

@@ -1,0 +1,206 @@
+mod between;
+mod frames;
+mod rows;
+
+ghost use Rattle.std.specs.Prelude.{IfOk};
+ghost use Rattle.av_desk.specs.Audit.{opened_by, started_by};
+ghost use Rattle.av_filter.specs.Bounds.{AreInBounds};
+ghost use Rattle.av_gate.specs.Claims.{table_of};
+ghost use Rattle.av_gate.specs.Seats.{IsSeatOf};
+ghost use Rattle.av_shared.specs.History.{AreOneHistory};
+ghost use Rattle.av_world.specs.Audits.{AuditAnswersOnce, AuditsGrantOnlyClean, AuditsHoldOneVerdict};
+
+use self::between::Between;
+use self::rows::{ROWS, Row};
+use crate::law::headline_of_audits;
+use av_base::{Limits, Mode, StreamId, Version};
+use av_desk::{Audit as DeskAudit, Desk, Event as DeskEvent};
+use av_ends::{Receipt, Ticket};
+use av_gate::{Audit as GateAudit, CloseFault, Event as GateEvent, Gate, Seat, Unclosed};
+use av_sigset::{Catalogue, SignatureSet};
+use av_store::Volume;
+use std::alloc::Global;
+use std::process::Abort;
+use std::sync::Wait;
+use std::test::Fail;
+
+// A volume with the streams a and b, in which nothing is written.
+fn volume_of_two(alloc: Global) -> Result<Volume, Fail>
+    ensures { IfOk result (λ v. AreInBounds v) }
+{
+    let mut volume = Volume::new(alloc, 1, Limits::greatest());
+    let _in_range = Limits::greatest().values();
+    let _first = volume.create(alloc, b"a")?;
+    let _second = volume.create(alloc, b"b")?;
+    Ok(volume)
+}
+
+fn gate_of_two(alloc: Global) -> Result<(Gate, Seat), Fail>
+    ensures { IfOk result (λ r. IsSeatOf r.0 r.1) }
+{
+    let volume = volume_of_two(alloc)?;
+    match Gate::new(alloc, volume, Mode::FailClosed, Limits::greatest()) {
+        Ok(made) => Ok(made),
+        Err(_) => Err(Fail::new("no gate")),
+    }
+}
+
+// A desk of the same volume, where a set of this pattern is published as version 1.
+fn desk_of(alloc: Global, pattern: &[u8]) -> Result<Desk, Fail> {
+    let mut catalogue = Catalogue::new(alloc);
+    let set = SignatureSet::from_patterns(alloc, Version::new(1), &[pattern])?;
+    if catalogue.publish(set).is_err() {
+        return Err(Fail::new("a first set was refused"));
+    }
+    Ok(Desk::new(alloc, 1, catalogue, Limits::greatest())?)
+}
+
+// Closes both, or abandons the gate. What the two calls ensure is all that the law asks for.
+fn closed(
+    gate: Gate,
+    desk: Desk,
+    seats: Vec<Seat>,
+    receipts: Vec<Receipt>,
+) -> Result<(GateAudit, DeskAudit), CloseFault>
+    ensures one_verdict { IfOk result (λ r. (files : _) (history : _) → AreOneHistory r.0 r.1 files history
+        → AuditsHoldOneVerdict files (table_of r.0) r.0.volume (opened_by r.1) (started_by r.1) history) }
+    ensures only_clean { IfOk result (λ r. (files : _) (history : _) → AreOneHistory r.0 r.1 files history
+        → AuditsGrantOnlyClean r.0.mode files (opened_by r.1) history) }
+    ensures answers_once { IfOk result (λ r. AuditAnswersOnce (table_of r.0) r.0.volume r.0.events.items) }
+{
+    let desk = desk.close();
+    match gate.close(seats, receipts) {
+        Ok(gate) => {
+            headline_of_audits(&gate, &desk);
+            Ok((gate, desk))
+        }
+        Err(unclosed) => {
+            let Unclosed {
+                why,
+                gate,
+                seats: _,
+                receipts: _,
+            } = unclosed;
+            gate.abandon();
+            Err(why)
+        }
+    }
+}
+
+// The receipts of tickets that are all answered.
+fn receipts_of(alloc: Global, tickets: Vec<Ticket>) -> Result<Vec<Receipt>, Fail> {
+    let mut receipts = Vec::new(alloc);
+    for ticket in tickets {
+        let note = ticket.note();
+        match ticket.receipt(note) {
+            Ok(receipt) => receipts.push(receipt)?,
+            Err(_) => return Err(Fail::new("an open has no answer")),
+        }
+    }
+    Ok(receipts)
+}
+
+// Takes the steps of a row, each with its lines.
+fn take_steps<R: Wait + Abort>(
+    rt: &R,
+    alloc: Global,
+    gate: &Gate,
+    desk: &Desk,
+    seat: &mut Seat,
+    between: &mut Between,
+    row: &Row<'_>,
+) -> Result<(), Fail>
+    requires { IsSeatOf gate.now seat.old }
+    ensures { IsSeatOf gate.now seat.new }
+{
+    for (i, (step, lines)) in row.steps.iter().enumerate() {
+        let told = between.step(rt, alloc, gate, desk, seat, *step)?;
+        assert_eq!(rt; told.as_slice(), lines.as_bytes(), "{}, step {i}", row.name);
+    }
+    Ok(())
+}
+
+// Runs a row: what the gate's end wants.
+fn run<R: Wait + Abort>(
+    rt: &R,
+    alloc: Global,
+    gate: &Gate,
+    desk: &Desk,
+    mut seat: Seat,
+    row: &Row<'_>,
+) -> Result<(Vec<Seat>, Vec<Receipt>), Fail>
+    requires { IsSeatOf gate.now seat }
+{
+    let mut between = Between::new(alloc);
+    let taken = take_steps(rt, alloc, gate, desk, &mut seat, &mut between, row);
+    let tickets = between.end();
+    taken?;
+    let mut seats = Vec::new(alloc);
+    seats.push(seat)?;
+    Ok((seats, receipts_of(alloc, tickets)?))
+}
+
+// Runs a row on a gate and a desk of its own, and closes both.
+fn run_closed<R: Wait + Abort>(
+    rt: &R,
+    alloc: Global,
+    row: &Row<'_>,
+) -> Result<(GateAudit, DeskAudit), Fail> {
+    let desk = desk_of(alloc, b"XX")?;
+    let (gate, seat) = gate_of_two(alloc)?;
+    match run(rt, alloc, &gate, &desk, seat, row) {
+        Ok((seats, receipts)) => match closed(gate, desk, seats, receipts) {
+            Ok(audits) => Ok(audits),
+            Err(_) => Err(Fail::new("not closed")),
+        },
+        Err(why) => {
+            gate.abandon();
+            Err(why)
+        }
+    }
+}
+
+// Whether the first event is the write of ABC over the beginning of stream 1.
+fn begins_with_the_write(audit: &GateAudit) -> bool {
+    let Some(entry) = audit.events.get(0) else {
+        return false;
+    };
+    match entry.event() {
+        GateEvent::Write {
+            stream,
+            offset,
+            bytes,
+        } => *stream == StreamId::new(1) && *offset == 0 && bytes.as_slice() == b"ABC".as_slice(),
+        _ => false,
+    }
+}
+
+// The leases of the works that came back, in their order.
+fn finished(alloc: Global, audit: &DeskAudit) -> Result<Vec<u64>, Fail> {
+    let mut leases = Vec::new(alloc);
+    for entry in &audit.events {
+        if let DeskEvent::Finish { lease, .. } = entry.event() {
+            leases.push(lease.get())?;
+        }
+    }
+    Ok(leases)
+}
+
+#[test]
+fn opens_are_answered_over_frames_and_both_audits_have_all(rt: HostRuntime) -> Result<(), Fail> {
+    let alloc = rt.alloc();
+    for row in &ROWS {
+        let (gate, desk) = run_closed(&rt, alloc, row)?;
+        let counts = (gate.events.len(), desk.events.len());
+        let others = row.steps.len().saturating_sub(row.filter_steps);
+        assert_eq!(rt; counts, (row.filter_steps, others), "{}", row.name);
+        assert!(rt; begins_with_the_write(&gate), "{}", row.name);
+        assert_eq!(rt;
+            finished(alloc, &desk)?.as_slice(),
+            row.finished,
+            "{}",
+            row.name
+        );
+    }
+    Ok(())
+}

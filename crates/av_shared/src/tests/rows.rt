@@ -1,0 +1,75 @@
+// Scripts of steps through a gate and a desk, each with its lines: the stream a, in which nothing is written yet, and version 1,
+// whose signature is XX.
+use crate::tests::between::Step;
+
+#[derive(Clone, Copy)]
+pub struct Row<'a> {
+    pub name: &'a str,
+    pub steps: &'a [(Step<'a>, &'a str)],
+    // How many steps are the filter's, and the leases of the works that came back.
+    pub filter_steps: usize,
+    pub finished: &'a [u64],
+}
+
+pub const ROWS: [Row<'static>; 2] = [
+    Row {
+        name: "a reply under an older set is asked again",
+        steps: &[
+            (Step::Write(b"a", 0, b"ABC"), ""),
+            (Step::Connect, "up 1 hello volume 1 version 1\n"),
+            (Step::Up(1), "note Welcome\n"),
+            (
+                Step::Open(b"a"),
+                "open 1 pended\ndown 1 scan 1.1 stream 1 generation 2 length 3\n",
+            ),
+            (Step::Down(1), "up 2 read 1.1 offset 0 count 3\n"),
+            (Step::Up(2), "down 2 chunk 1.1 offset 0 bytes 414243\n"),
+            (Step::Down(2), ""),
+            (Step::Work(1), "up 3 reply 1.1 version 1 clean\n"),
+            (Step::Publish(2, b"XX"), "up 4 updated 2\n"),
+            (Step::Up(4), ""),
+            (
+                Step::Up(3),
+                "down 3 scan 1.2 stream 1 generation 2 length 3\n",
+            ),
+            (Step::Down(3), "up 5 read 1.2 offset 0 count 3\n"),
+            (Step::Up(5), "down 4 chunk 1.2 offset 0 bytes 414243\n"),
+            (Step::Down(4), ""),
+            (Step::Work(2), "up 6 reply 1.2 version 2 clean\n"),
+            (
+                Step::Up(6),
+                "open 1 granted stream 1 generation 2 version 2 least 1\n",
+            ),
+            (Step::Disconnect, ""),
+        ],
+        filter_steps: 9,
+        finished: &[1, 2],
+    },
+    Row {
+        name: "a publication makes a lent work an orphan",
+        steps: &[
+            (Step::Write(b"a", 0, b"ABC"), ""),
+            (Step::Connect, "up 1 hello volume 1 version 1\n"),
+            (Step::Up(1), "note Welcome\n"),
+            (
+                Step::Open(b"a"),
+                "open 1 pended\ndown 1 scan 1.1 stream 1 generation 2 length 3\n",
+            ),
+            (Step::Down(1), "up 2 read 1.1 offset 0 count 3\n"),
+            (Step::Up(2), "down 2 chunk 1.1 offset 0 bytes 414243\n"),
+            (Step::Down(2), ""),
+            (
+                Step::Publish(2, b"AB"),
+                "up 3 updated 2\nup 4 read 1.1 offset 0 count 3\n",
+            ),
+            (Step::Work(1), "note Orphan\n"),
+            (Step::Up(4), "down 3 chunk 1.1 offset 0 bytes 414243\n"),
+            (Step::Down(3), ""),
+            (Step::Work(2), "up 5 reply 1.1 version 2 infected 0 end 2\n"),
+            (Step::Up(5), "open 1 denied cause 2\n"),
+            (Step::Disconnect, ""),
+        ],
+        filter_steps: 7,
+        finished: &[1, 2],
+    },
+];
