@@ -59,7 +59,7 @@ def names(checks, page, text, words):
 
 
 def fault_lines(checks):
-    given = "".join(text_of(path) for path in glob.glob(os.path.join(ROOT, "tests", "*", "*.err"))) + text_of("tests/program.py") + text_of("tests/tables.py")
+    given = "".join(text_of(path) for path in glob.glob(os.path.join(ROOT, "tests", "*", "*.case"))) + text_of("tests/program.py") + text_of("tests/tables.py")
     for line in re.findall(r"\| `(avscan: [^`]*)` \|", text_of("docs/FORMATS.md")):
         pattern = re.escape(line).replace(r"\.\.", ".*")
         for word, form in (("N", r"(\d+|%d)"), ("K", r"(\d+|%d)"), ("FILE", r".*")):
