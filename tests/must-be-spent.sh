@@ -23,8 +23,10 @@ must_be_spent() {
     crate=$1
     shift
     cp -r "crates/$crate/src" "$copy/as-it-was"
+    number=0
     for type in "$@"; do
-        printf '\npub fn let_go(value: %s) {\n    let _left = value;\n}\n' "${type#*:}" >> "crates/$crate/src/${type%:*}.rt"
+        number=$((number + 1))
+        printf '\npub fn let_go_%s(value: %s) {\n    let _left = value;\n}\n' $number "${type#*:}" >> "crates/$crate/src/${type%:*}.rt"
     done
     (cd "crates/$crate" && rt try --test) > "$copy/log" 2>&1 || true
     for type in "$@"; do
@@ -47,6 +49,7 @@ must_be_spent av_context context_ref:ContextRef
 must_be_spent av_filter_table filter_table:FilterTable
 must_be_spent av_filter filter:Filter
 must_be_spent av_service work:Work done:Done out:ServiceOut
+must_be_spent av_gate gate:Gate
 must_be_spent av_desk lent:Lent lent:Taken
 must_be_spent av_world world:World
 echo "$passed passed, $failed failed"
