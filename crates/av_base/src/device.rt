@@ -73,7 +73,8 @@ pub fn read_into<R: Read>(reader: &mut R, buffer: &mut [u8], turns: u64) -> Resu
     ensures whole { IfOk result (λ count. IfSome (R.remaining reader.old) (λ input. take count buffer.new ≡ input)) }
     ensures short { IfOk result (λ count. count < length buffer.new) }
     ensures size { length buffer.new ≡ length buffer.old }
-    ensures long { IsErrOf result ReadFault.TooLong → IfSome (R.remaining reader.old) (λ input. length buffer.old ≤ length input) }
+    ensures long { IsErrOf result ReadFault.TooLong
+        → IfSome (R.remaining reader.old) (λ input. length buffer.old ≤ length input) }
     ensures memory { result ≢ Err ReadFault.NoMemory }
 {
     let mut count = 0;
