@@ -9,6 +9,7 @@ use Rattle.av_store.specs.declared.fault.StoreFault.TheVariants.{Hole, TooLarge,
 abbrev pub new_stream : List ℕ → Stream
 new_stream name = record { name = name; generation = 1; bytes = [] }
 
+-- a stream after a write, or its fault
 abbrev pub written : LimitValues → ℕ → List ℕ → Stream → Result Stream StoreFault
 written limits offset bytes s =
     if nat_lt (length s.bytes) offset then Err Hole else
@@ -16,6 +17,7 @@ written limits offset bytes s =
     (if nat_le limits.generation s.generation then Err GenerationSpent else
     Ok (record s { generation = s.generation + 1; bytes = overwritten s.bytes offset bytes })))
 
+-- a stream cut to a length, or its fault
 abbrev pub cut_to : LimitValues → ℕ → Stream → Result Stream StoreFault
 cut_to limits n s =
     if nat_lt (length s.bytes) n then Err Hole else

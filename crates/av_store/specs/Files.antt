@@ -82,6 +82,7 @@ number_from k name (f ∷ fs) = if has_name name f then k else number_from (suc 
 abbrev pub number_of : List ℕ → List File → ℕ
 number_of name fs = number_from 1 name fs
 
+-- why a write is refused, the first reason
 abbrev pub write_refusal : LimitValues → ℕ → List ℕ → Option File → Option StoreFault
 write_refusal limits o b None = Some NoStream
 write_refusal limits o b (Some f) =
@@ -90,6 +91,7 @@ write_refusal limits o b (Some f) =
     else if nat_le limits.generation f.generation then Some GenerationSpent
     else None
 
+-- why a cut is refused, the first reason
 abbrev pub cut_refusal : LimitValues → ℕ → Option File → Option StoreFault
 cut_refusal limits n None = Some NoStream
 cut_refusal limits n (Some f) =
@@ -97,6 +99,7 @@ cut_refusal limits n (Some f) =
     else if nat_le limits.generation f.generation then Some GenerationSpent
     else None
 
+-- why a removal is refused
 abbrev pub remove_refusal : Option File → Option StoreFault
 remove_refusal None = Some NoStream
 remove_refusal (Some f) = None

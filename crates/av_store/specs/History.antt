@@ -19,7 +19,8 @@ unfoldable pub histories_after : List StreamHistory → Change → List StreamHi
 histories_after hs (Create name) = hs ++ record { name = name; here = true; first = 1; bytes = []; earlier = [] } ∷ []
 histories_after hs (Write s o b) = changed (λ x. add_content (written o b x.bytes) x) s hs
 histories_after hs (Cut s n) = changed (λ x. add_content (take n x.bytes) x) s hs
-histories_after hs (Remove s) = changed (λ x. record { name = x.name; here = false; first = x.first; bytes = x.bytes; earlier = x.earlier }) s hs
+histories_after hs (Remove s) =
+    changed (λ x. record { name = x.name; here = false; first = x.first; bytes = x.bytes; earlier = x.earlier }) s hs
 
 -- the generation that comes after these contents: one more for each
 unfoldable pub generation_after : ℕ → List (List ℕ) → ℕ
@@ -36,6 +37,7 @@ abbrev pub content_in : Option StreamHistory → ℕ → Option (List ℕ)
 content_in None g = None
 content_in (Some x) g = content_of x.first (x.bytes ∷ x.earlier) g
 
+-- the present generation of a stream, 0 of none
 abbrev pub generation_in : Option StreamHistory → ℕ
 generation_in None = 0
 generation_in (Some x) = generation_after x.first x.earlier
@@ -44,6 +46,7 @@ generation_in (Some x) = generation_after x.first x.earlier
 abbrev pub content : List StreamHistory → ℕ → ℕ → Option (List ℕ)
 content hs s g = content_in (numbered hs s) g
 
+-- the present generation of a stream, by its number
 abbrev pub generation_of : List StreamHistory → ℕ → ℕ
 generation_of hs s = generation_in (numbered hs s)
 
@@ -62,6 +65,8 @@ IsOf (Remove t) s = t ≡ s
 -- of the present generation; and a change of one stream leaves the others.
 pub record Remembers : Type 0 where
   pub present : (hs : List StreamHistory) (c : Change) → map now (histories_after hs c) ≡ files_after (map now hs) c
-  pub stays : (hs : List StreamHistory) (c : Change) (s g : ℕ) (bytes : List ℕ) → content hs s g ≡ Some bytes → content (histories_after hs c) s g ≡ Some bytes
-  pub current : (hs : List StreamHistory) (s : ℕ) (f : File) → file_of (map now hs) s ≡ Some f → (content hs s f.generation ≡ Some f.bytes) × (f.generation ≡ generation_of hs s)
+  pub stays : (hs : List StreamHistory) (c : Change) (s g : ℕ) (bytes : List ℕ) → content hs s g ≡ Some bytes
+      → content (histories_after hs c) s g ≡ Some bytes
+  pub current : (hs : List StreamHistory) (s : ℕ) (f : File) → file_of (map now hs) s ≡ Some f
+      → (content hs s f.generation ≡ Some f.bytes) × (f.generation ≡ generation_of hs s)
   pub others : (fs : List File) (c : Change) (s u : ℕ) → IsOf c s → u ≢ s → file_of (files_after fs c) u ≡ file_of fs u

@@ -62,9 +62,11 @@ files_run limits fs (c ∷ cs) = files_run limits (files_or fs (change_refusal l
 -- A volume that keeps what the files say goes on to do so, is refused what they are refused, and is read as they are.
 pub record Follows : Type 0 where
   pub changes : (v : Store) (fs : List File) (c : Change) → Keeps v fs
-      → change_of v c ≡ unless (change_refusal v.limits fs c) (record v { streams = seen (files_after fs c); last = length (files_after fs c) })
+      → change_of v c
+      ≡ unless (change_refusal v.limits fs c) (record v { streams = seen (files_after fs c); last = length (files_after fs c) })
   pub reads : (v : Store) (fs : List File) (s : ℕ) → Keeps v fs → stream_at s v.streams ≡ option_map stream_of (file_of fs s)
-  pub names : (v : Store) (fs : List File) (name : List ℕ) → Keeps v fs → unwrap_or (number_named name v.streams) 0 ≡ number_of name fs
+  pub names : (v : Store) (fs : List File) (name : List ℕ) → Keeps v fs
+      → unwrap_or (number_named name v.streams) 0 ≡ number_of name fs
   pub starts : (number : ℕ) (limits : LimitValues) → Keeps (empty_store number limits) []
   pub runs : (v : Store) (fs : List File) (cs : List Change) → Keeps v fs → Keeps (run_of v cs) (files_run v.limits fs cs)
 

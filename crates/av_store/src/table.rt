@@ -22,7 +22,8 @@ pub fn write(
     offset: u64,
     bytes: &[u8],
 ) -> Result<(), Refusal<StoreFault>>
-    ensures { Steps rows.old.entries rows.new.entries result (stepped rows.old.entries number (written limits.now offset bytes.now)) }
+    ensures { Steps rows.old.entries rows.new.entries result
+        (stepped rows.old.entries number (written limits.now offset bytes.now)) }
 {
     let Some(stream) = rows.get_mut(&number) else {
         return Err(Refusal::Fault(StoreFault::NoStream));
@@ -56,7 +57,8 @@ pub fn add(
     requires below { AllByRecursion (λ s. s.0 < number) rows.old.entries }
     requires absent { lookup (at_name name.now) names.old.entries ≡ None }
     ensures rows { OnOk result (rows.new.entries ≡ rows.old.entries ++ (number, new_stream name.now) ∷ []) }
-    ensures names { OnOk result ((q : List ℕ) → lookup (at_name q) names.new.entries ≡ (if is_same q name.now then Some number else lookup (at_name q) names.old.entries)) }
+    ensures names { OnOk result ((q : List ℕ) → lookup (at_name q) names.new.entries
+        ≡ (if is_same q name.now then Some number else lookup (at_name q) names.old.entries)) }
     ensures refused { OnErr result ((rows.new.entries ≡ rows.old.entries) × (names.new.entries ≡ names.old.entries)) }
     ensures err { IfErr result (λ e. e ≡ NoMemory) }
 {
@@ -81,7 +83,8 @@ pub fn remove(
     number: u64,
 ) -> Result<(), StoreFault>
     ensures rows { StepsAtOnce rows.old.entries rows.new.entries result (removed rows.old.entries number) }
-    ensures names { OnOk result (IfSome (stream_at number rows.old.entries) (λ s. (q : List ℕ) → lookup (at_name q) names.new.entries ≡ (if is_same q s.name then None else lookup (at_name q) names.old.entries))) }
+    ensures names { OnOk result (IfSome (stream_at number rows.old.entries) (λ s. (q : List ℕ)
+        → lookup (at_name q) names.new.entries ≡ (if is_same q s.name then None else lookup (at_name q) names.old.entries))) }
     ensures refused { OnErr result (names.new.entries ≡ names.old.entries) }
 {
     let Some(stream) = rows.remove(&number) else {

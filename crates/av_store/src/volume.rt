@@ -32,7 +32,14 @@ impl Model for Volume {
 
     ghost Value = { Store };
 
-    ghost view = { λ v. record { number = v.number; boot = v.boot; opens = v.opens; last = v.last; limits = v.limits; streams = v.rows.entries } };
+    ghost view = { λ v. record {
+      number = v.number;
+      boot = v.boot;
+      opens = v.opens;
+      last = v.last;
+      limits = v.limits;
+      streams = v.rows.entries;
+    } };
 
     ghost invariant = { λ v. IsIndexed v.names.entries v.rows.entries v.last };
 }
