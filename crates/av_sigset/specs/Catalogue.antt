@@ -35,7 +35,8 @@ IsFalling (s ∷ sets) = AllByRecursion (λ t. t.version < s.version) sets × Is
 
 -- whether a set of this version may be published
 abbrev pub may_publish : List NumberedSet → ℕ → Result (Unit {0}) CatalogueFault
-may_publish sets version = if nat_le version (latest sets) then Err OldVersion else if nat_le MAX_SETS (length sets) then Err CatalogueFull else Ok tt
+may_publish sets version =
+    if nat_le version (latest sets) then Err OldVersion else if nat_le MAX_SETS (length sets) then Err CatalogueFull else Ok tt
 
 -- a refused publication changes nothing; memory is refused only where none was reserved
 abbrev pub Refuses : Published → Published → Refusal CatalogueFault → Result (Unit {0}) CatalogueFault → Type 0

@@ -16,13 +16,15 @@ pub record IsLineOf (line : List ℕ) (s : Signature) : Type 0 where
 -- one line for each signature, each ended by LF
 abbrev pub AreLinesOf : List ℕ → List Signature → Type 0
 AreLinesOf text [] = text ≡ []
-AreLinesOf text (s ∷ rest) = (line : List ℕ) × (below : List ℕ) × (text ≡ line ++ 10 ∷ below) × IsLineOf line s × AreLinesOf below rest
+AreLinesOf text (s ∷ rest) =
+    (line : List ℕ) × (below : List ℕ) × (text ≡ line ++ 10 ∷ below) × IsLineOf line s × AreLinesOf below rest
 
 -- no name stands twice
 abbrev pub AreDistinct : List (List ℕ) → Type 0
 AreDistinct [] = Unit {0}
 AreDistinct (n ∷ names) = AllByRecursion (λ m. n ≡ m → ⊥) names × AreDistinct names
 
+-- the names of signatures
 abbrev pub names_of : List Signature → List (List ℕ)
 names_of signatures = map (λ s. s.name) signatures
 

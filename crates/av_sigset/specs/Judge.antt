@@ -22,7 +22,9 @@ bad_line line kind = Err (record { line = line; kind = kind })
 
 -- letters, digits, a dot, an underscore and a hyphen
 abbrev pub is_name_byte : ℕ → Bool
-is_name_byte b = (nat_le 97 b && nat_le b 122) || (nat_le 65 b && nat_le b 90) || (nat_le 48 b && nat_le b 57) || b == 46 || b == 95 || b == 45
+is_name_byte b =
+    (nat_le 97 b && nat_le b 122) || (nat_le 65 b && nat_le b 90) || (nat_le 48 b && nat_le b 57)
+    || b == 46 || b == 95 || b == 45
 
 -- a name has 1 to 32 of these
 abbrev pub is_name : List ℕ → Bool
@@ -32,13 +34,15 @@ is_name word = nat_le 1 (length word) && nat_le (length word) MAX_NAME && list_a
 abbrev pub signature_under : List ℕ → Result (List ℕ) FromHexError → Result Signature SetFaultKind
 signature_under name (Err e) = Err Hex
 signature_under name (Ok bytes) =
-    if nat_le 1 (length bytes) && nat_le (length bytes) MAX_PATTERN then Ok (record { name = name; pattern = record { bytes = bytes } }) else Err Length
+    if nat_le 1 (length bytes) && nat_le (length bytes) MAX_PATTERN
+    then Ok (record { name = name; pattern = record { bytes = bytes } }) else Err Length
 
 -- the first of the words of a line
 abbrev pub first_of : List (List ℕ) → List ℕ
 first_of [] = []
 first_of (word ∷ words) = word
 
+-- the first word of a line
 abbrev pub first_word : List ℕ → List ℕ
 first_word line = first_of (pieces_of 32 line)
 
@@ -53,16 +57,19 @@ signature_of (name ∷ digits ∷ other ∷ rest) = if is_name name then Err Hex
 abbrev pub signatures_within : List Signature → Result Signature SetFaultKind → Result (List Signature) SetFaultKind
 signatures_within before (Err kind) = Err kind
 signatures_within before (Ok s) =
-    if nat_le MAX_SIGNATURES (length before) || nat_lt MAX_BYTES (byte_count (patterns_of before) + length s.pattern.bytes) then Err TooMany
+    if nat_le MAX_SIGNATURES (length before) || nat_lt MAX_BYTES (byte_count (patterns_of before) + length s.pattern.bytes)
+    then Err TooMany
     else Ok (before ++ s ∷ [])
 
 -- no name stands twice
 abbrev pub signatures_with : List Signature → Result Signature SetFaultKind → Result (List Signature) SetFaultKind
 signatures_with before (Err kind) = Err kind
-signatures_with before (Ok s) = if list_any (λ t. bytes_eq t.name s.name) before then Err Duplicate else signatures_within before (Ok s)
+signatures_with before (Ok s) =
+    if list_any (λ t. bytes_eq t.name s.name) before then Err Duplicate else signatures_within before (Ok s)
 
 -- the next line is judged where this one is good
-abbrev pub then_line : ℕ → Result (List Signature) SetFaultKind → (List Signature → Result (List Signature) SetFault) → Result (List Signature) SetFault
+abbrev pub then_line : ℕ → Result (List Signature) SetFaultKind → (List Signature → Result (List Signature) SetFault)
+    → Result (List Signature) SetFault
 then_line line (Err kind) next = bad_line line kind
 then_line line (Ok signatures) next = next signatures
 
@@ -75,7 +82,8 @@ whole_at before (b ∷ bs) = bad_line (length before + 3) Unended
 unfoldable pub signatures_below : List Signature → List ℕ → List (List ℕ) → Result (List Signature) SetFault
 signatures_below before line [] = whole_at before line
 signatures_below before line (below ∷ rest) =
-    then_line (length before + 3) (signatures_with before (signature_of (pieces_of 32 line))) (λ signatures. signatures_below signatures below rest)
+    then_line (length before + 3) (signatures_with before (signature_of (pieces_of 32 line)))
+    (λ signatures. signatures_below signatures below rest)
 
 -- the signatures of these lines
 abbrev pub signatures_from : List Signature → List (List ℕ) → Result (List Signature) SetFault

@@ -27,7 +27,8 @@ pub record JoinsAs (before : List Signature) (name digits : List ℕ) (signature
   pub spells : SpellsPattern digits
   pub few : length before < MAX_SIGNATURES
   pub short : byte_count (patterns_of before) + length spells.bytes ≤ MAX_BYTES
-  pub joined : signatures_with before signature ≡ Ok (before ++ record { name = name; pattern = record { bytes = spells.bytes } } ∷ [])
+  pub joined : signatures_with before signature
+      ≡ Ok (before ++ record { name = name; pattern = record { bytes = spells.bytes } } ∷ [])
 
 -- a call stops at the fault that is wanted, or for memory, which is refused before the other lines are judged
 abbrev pub IsFault : {A F : Type 0} → Refusal F → Result A F → Type 0

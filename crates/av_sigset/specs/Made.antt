@@ -23,10 +23,12 @@ unfoldable pub fault_in : ℕ → ℕ → List (List ℕ) → Option SetFault
 fault_in count bytes [] = None
 fault_in count bytes (p ∷ patterns) =
     if length p == 0 || nat_lt MAX_PATTERN (length p) then Some (record { line = count + 3; kind = Length })
-    else if nat_le MAX_SIGNATURES count || nat_lt MAX_BYTES (bytes + length p) then Some (record { line = count + 3; kind = TooMany })
+    else if nat_le MAX_SIGNATURES count || nat_lt MAX_BYTES (bytes + length p)
+    then Some (record { line = count + 3; kind = TooMany })
     else fault_in (count + 1) (bytes + length p) patterns
 
 -- the set of these patterns under this version, or the line of the first that can't stand in a file
 abbrev pub set_made : ℕ → List (List ℕ) → Result NumberedSet SetFault
 set_made version patterns =
-    if version == 0 then bad_line 2 Version else unless (fault_in 0 0 patterns) (record { version = version; signatures = serial_signatures 0 patterns })
+    if version == 0 then bad_line 2 Version
+    else unless (fault_in 0 0 patterns) (record { version = version; signatures = serial_signatures 0 patterns })

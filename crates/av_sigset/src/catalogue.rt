@@ -60,7 +60,8 @@ impl Catalogue {
 
     /// Why a set of this version can't be published, where it can't: OldVersion, CatalogueFull. It takes no memory.
     pub fn refusal(&self, version: Version) -> Option<CatalogueFault>
-        ensures { MatchOption result (may_publish self.now.sets version ≡ Ok tt) (λ fault. may_publish self.now.sets version ≡ Err fault) }
+        ensures { MatchOption result (may_publish self.now.sets version ≡ Ok tt)
+            (λ fault. may_publish self.now.sets version ≡ Err fault) }
     {
         refusal_of(self.sets.as_slice(), version)
     }
@@ -120,7 +121,8 @@ impl Catalogue {
 
 // Why a set of this version can't stand behind these.
 fn refusal_of(sets: &[SignatureSet], version: Version) -> Option<CatalogueFault>
-    ensures { MatchOption result (may_publish (reverse sets.now) version ≡ Ok tt) (λ fault. may_publish (reverse sets.now) version ≡ Err fault) }
+    ensures { MatchOption result (may_publish (reverse sets.now) version ≡ Ok tt)
+        (λ fault. may_publish (reverse sets.now) version ≡ Err fault) }
 {
     let latest = match sets.last() {
         Some(set) => set.version().get(),

@@ -12,7 +12,8 @@ use av_base::line::{LF, first_piece};
 
 /// The first bad one of these lines. Looks for a name in each line above it, so it serves where memory is refused.
 pub fn fault_in(lines: &[u8]) -> Option<SetFault>
-    ensures { MatchOption result (IsOk (signatures_from [] (pieces_of 10 lines.now))) (λ f. signatures_from [] (pieces_of 10 lines.now) ≡ Err f) }
+    ensures { MatchOption result (IsOk (signatures_from [] (pieces_of 10 lines.now)))
+        (λ f. signatures_from [] (pieces_of 10 lines.now) ≡ Err f) }
 {
     let mut rest = lines;
     let mut count = 0usize;

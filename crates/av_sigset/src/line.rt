@@ -46,7 +46,8 @@ pub fn words_of(line: &[u8]) -> Result<Words<'_>, SetFaultKind>
 
 // Why digits spell no pattern.
 fn fault_of(digits: &[u8]) -> Option<SetFaultKind>
-    ensures { MatchOption result (SpellsPattern digits.now) (λ kind. (name : List ℕ) → signature_under name (decode_of digits.now) ≡ Err kind) }
+    ensures { MatchOption result (SpellsPattern digits.now) (λ kind. (name : List ℕ)
+        → signature_under name (decode_of digits.now) ≡ Err kind) }
 {
     if !is_hex(digits) {
         return Some(SetFaultKind::Hex);
