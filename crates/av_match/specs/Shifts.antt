@@ -16,7 +16,8 @@ AreBelow m shifts = (k : ℕ) → k < 65536 → slice_index shifts k < m
 
 -- the pair that ends a word of at most m bytes lets the window move no further than to where that word would begin
 abbrev pub ReachWord : List ℕ → ℕ → List ℕ → Type 0
-ReachWord word m shifts = 2 ≤ length word → length word ≤ m → slice_index shifts (pair_at word (length word - 2)) + length word ≤ m
+ReachWord word m shifts =
+    2 ≤ length word → length word ≤ m → slice_index shifts (pair_at word (length word - 2)) + length word ≤ m
 
 -- a shift for each pair of bytes, and the first of the words are taken in
 pub record AreLowered (words : List (List ℕ)) (done m : ℕ) (shifts : List ℕ) : Type 0 where
