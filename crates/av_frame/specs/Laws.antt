@@ -23,12 +23,14 @@ ReadsSpellings = (body : List ℕ) → AreBytes body → (m : Body) → (decoded
 abbrev pub HasOneSpelling : Type 0
 HasOneSpelling = (m : Body) (one other : List ℕ) → Spells one m → Spells other m → one ≡ other
 
+-- a body spells one message at most
 abbrev pub SpellsOneMessage : Type 0
 SpellsOneMessage = (body : List ℕ) (one other : Body) → Spells body one → Spells body other → one ≡ other
 
 -- no frame is a proper beginning of another
 abbrev pub NoFrameBeginsAnother : Type 0
-NoFrameBeginsAnother = (m n : Body) (more : List ℕ) → IsInRange m → IsInRange n → frame n ≡ frame m ++ more → (m ≡ n) × (more ≡ [])
+NoFrameBeginsAnother =
+    (m n : Body) (more : List ℕ) → IsInRange m → IsInRange n → frame n ≡ frame m ++ more → (m ≡ n) × (more ≡ [])
 
 -- bytes that begin with a frame begin with no other one
 abbrev pub BeginsWithOneFrame : Type 0

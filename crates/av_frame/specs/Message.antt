@@ -47,17 +47,22 @@ IsInRange (Updated version) = IsCount version
 abbrev pub id_in_range : MessageId → Bool
 id_in_range id = nat_le 1 id.boot && nat_le 1 id.seq
 
+-- a verdict that a set gives of a content
 abbrev pub verdict_in_range : Verdict → Bool
 verdict_in_range Clean = true
 verdict_in_range (Infected index end_at) = nat_le index MAX_INDEX && nat_le 1 end_at && nat_le end_at MAX_LENGTH
 
+-- an outcome whose fields are in their ranges
 abbrev pub outcome_in_range : Outcome → Bool
 outcome_in_range (Judged version verdict) = nat_le 1 version && verdict_in_range verdict
 outcome_in_range (Failed cause) = true
 
+-- some bytes of a content, from a place on
 abbrev pub part_in_range : ℕ → List ℕ → Bool
-part_in_range offset bytes = nat_le 1 (length bytes) && nat_le (length bytes) MAX_CHUNK && nat_le (offset + length bytes) MAX_LENGTH
+part_in_range offset bytes =
+    nat_le 1 (length bytes) && nat_le (length bytes) MAX_CHUNK && nat_le (offset + length bytes) MAX_LENGTH
 
+-- a message whose fields are in their ranges
 abbrev pub in_range : Body → Bool
 in_range (Scan id stream generation size) =
     id_in_range id && nat_le 1 stream && nat_le 1 generation && nat_le generation MAX_GENERATION && nat_le size MAX_LENGTH

@@ -17,9 +17,11 @@ use Rattle.av_frame.specs.Message.{in_range}
 abbrev pub number8 : List ℕ → ℕ → ℕ
 number8 bytes at = from_be_bytes w64 (take 8 (drop at bytes))
 
+-- the number of four bytes from a place on
 abbrev pub number4 : List ℕ → ℕ → ℕ
 number4 bytes at = from_be_bytes w32 (take 4 (drop at bytes))
 
+-- the id of a question, behind the kind
 abbrev pub id_at : List ℕ → MessageId
 id_at bytes = record { boot = number8 bytes 1; seq = number8 bytes 9 }
 
@@ -30,8 +32,10 @@ checked m = if in_range m then Ok m else Err fault.Range
 -- the message that a body of each kind gives, read field by field, or the fault of its shape or of a range
 unfoldable pub scan_of : List ℕ → Result Body FrameFault
 scan_of body =
-    if length body == 41 then checked (Scan (id_at body) (number8 body 17) (number8 body 25) (number8 body 33)) else Err fault.Shape
+    if length body == 41 then checked (Scan (id_at body) (number8 body 17) (number8 body 25) (number8 body 33))
+    else Err fault.Shape
 
+-- a Chunk, or its fault
 unfoldable pub chunk_of : List ℕ → Result Body FrameFault
 chunk_of body = if nat_le 26 (length body) then checked (Chunk (id_at body) (number8 body 17) (drop 25 body)) else Err fault.Shape
 
@@ -40,31 +44,41 @@ abbrev pub no_chunk_with : MessageId → ℕ → Option NoChunkCause → Result 
 no_chunk_with id offset None = Err fault.Range
 no_chunk_with id offset (Some cause) = checked (NoChunk id offset cause)
 
+-- a NoChunk, or its fault
 unfoldable pub no_chunk_of : List ℕ → Result Body FrameFault
 no_chunk_of body =
-    if length body == 26 then no_chunk_with (id_at body) (number8 body 17) (no_chunk_cause (slice_index body 25)) else Err fault.Shape
+    if length body == 26 then no_chunk_with (id_at body) (number8 body 17) (no_chunk_cause (slice_index body 25))
+    else Err fault.Shape
 
+-- an Abort, or its fault
 unfoldable pub abort_of : List ℕ → Result Body FrameFault
 abort_of body = if length body == 17 then checked (Abort (id_at body)) else Err fault.Shape
 
+-- a Hello, or its fault
 unfoldable pub hello_of : List ℕ → Result Body FrameFault
 hello_of body = if length body == 17 then checked (Hello (number8 body 1) (number8 body 9)) else Err fault.Shape
 
+-- a Read, or its fault
 unfoldable pub read_of : List ℕ → Result Body FrameFault
 read_of body = if length body == 29 then checked (Read (id_at body) (number8 body 17) (number4 body 25)) else Err fault.Shape
 
+-- a Reply of the verdict clean, or its fault
 unfoldable pub clean_of : List ℕ → Result Body FrameFault
 clean_of body = if length body == 26 then checked (Reply (id_at body) (Judged (number8 body 18) Clean)) else Err fault.Shape
 
+-- a Reply of the verdict infected, or its fault
 unfoldable pub infected_of : List ℕ → Result Body FrameFault
 infected_of body =
-    if length body == 38 then checked (Reply (id_at body) (Judged (number8 body 18) (Infected (number4 body 26) (number8 body 30)))) else Err fault.Shape
+    if length body == 38
+    then checked (Reply (id_at body) (Judged (number8 body 18) (Infected (number4 body 26) (number8 body 30))))
+    else Err fault.Shape
 
 -- a failed reply with a cause that its number names, or Range
 abbrev pub failed_with : MessageId → Option FailCause → Result Body FrameFault
 failed_with id None = Err fault.Range
 failed_with id (Some cause) = checked (Reply id (Failed cause))
 
+-- a Reply of a scan that failed, or its fault
 unfoldable pub failed_of : List ℕ → Result Body FrameFault
 failed_of body = if length body == 19 then failed_with (id_at body) (fail_cause (slice_index body 18)) else Err fault.Shape
 
@@ -76,6 +90,7 @@ reply_of body =
     (if slice_index body 17 == 1 then infected_of body else
     (if slice_index body 17 == 2 then failed_of body else Err fault.Range)))
 
+-- an Updated, or its fault
 unfoldable pub updated_of : List ℕ → Result Body FrameFault
 updated_of body = if length body == 9 then checked (Updated (number8 body 1)) else Err fault.Shape
 
@@ -121,5 +136,6 @@ fault_by size kind status =
     (if kind == 7 && nat_lt 2 status then fault.Range else
     (if kind == 7 && not (fits_status status size) then fault.Shape else fault.Range))))
 
+-- the fault of a body that spells no message
 abbrev pub fault_of : List ℕ → FrameFault
 fault_of body = fault_by (length body) (slice_index body 0) (slice_index body 17)

@@ -13,6 +13,7 @@ use Rattle.av_frame.specs.Message.{IsInRange}
 unfoldable pub field8 : ℕ → List ℕ
 field8 n = to_be_bytes w64 n
 
+-- a number in four bytes, the highest first
 unfoldable pub field4 : ℕ → List ℕ
 field4 n = to_be_bytes w32 n
 
@@ -41,12 +42,13 @@ spelling (Updated version) = 8 ∷ field8 version
 abbrev pub Spells : List ℕ → Body → Type 0
 Spells body m = IsInRange m × (body ≡ spelling m)
 
--- how many bytes spell an outcome, and a message
+-- how many bytes spell an outcome
 abbrev pub outcome_size : Outcome → ℕ
 outcome_size (Judged version Clean) = 9
 outcome_size (Judged version (Infected index end_at)) = 21
 outcome_size (Failed cause) = 2
 
+-- how many bytes spell a message, its kind among them
 abbrev pub size_of : Body → ℕ
 size_of (Scan id stream generation size) = 41
 size_of (Chunk id offset bytes) = 25 + length bytes

@@ -47,7 +47,8 @@ pub fn read_frames(alloc: Global, pieces: &[ByteList]) -> Result<ReadFrames, All
 // Takes every message off that the feed has, and answers the fault behind them, where there is one.
 fn take_all(feed: &mut Feed, messages: &mut Vec<Message>) -> Result<Option<FrameFault>, AllocError>
     requires { feed.old.broken ≡ false }
-    ensures bytes { OnOk result (flat_map frame messages.new.items ++ feed.new.rest ≡ flat_map frame messages.old.items ++ feed.old.rest) }
+    ensures bytes { OnOk result (flat_map frame messages.new.items ++ feed.new.rest
+        ≡ flat_map frame messages.old.items ++ feed.old.rest) }
     ensures in_range { AllByRecursion IsInRange messages.old.items → AllByRecursion IsInRange messages.new.items }
     ensures ends { IfOk result (λ fault. Ends feed.new.rest fault) }
     ensures sound { IfOk result (λ fault. fault ≡ None → feed.new.broken ≡ false) }
