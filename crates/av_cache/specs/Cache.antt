@@ -10,6 +10,7 @@ pub record Cache : Type 0 where
   pub capacity : ℕ
   pub entries : List Entry
 
+-- a cache that holds nothing
 abbrev pub empty_cache : ℕ → Cache
 empty_cache capacity = record { capacity = capacity; entries = [] }
 
@@ -21,6 +22,7 @@ has_key stream generation version e = (stream == e.stream) && ((generation == e.
 abbrev pub look : ℕ → ℕ → ℕ → List Entry → Option Entry
 look stream generation version es = find (has_key stream generation version) es
 
+-- the verdict that an entry keeps
 abbrev pub verdict_of : Entry → Verdict
 verdict_of e = e.verdict
 
