@@ -28,10 +28,12 @@ refer t k = record t { contexts = change (λ c. Some (referred c)) t.contexts k 
 abbrev pub refer_at : Contexts → ℕ → Result (ℕ × Contexts) ContextFault
 refer_at t k = if is_spent (at t.contexts k) then Err RefsSpent else Ok (k, refer t k)
 
+-- attaching to a stream that has this attachment or none: one that is there stays, and the caller gets it
 abbrev pub keep_at : Contexts → ℕ → ℕ → Option ℕ → Result (Set × Contexts) ContextFault
 keep_at t stream k None = if is_spent (at t.contexts k) then Err RefsSpent else Ok (Attached, attach t stream k)
 keep_at t stream k (Some old) = if is_spent (at t.contexts old) then Err RefsSpent else Ok (AlreadyDefined old, refer t old)
 
+-- attaching to a stream unless it has an attachment
 abbrev pub set_keep : Contexts → ℕ → ℕ → Result (Set × Contexts) ContextFault
 set_keep t stream k = keep_at t stream k (at t.attachments stream)
 
@@ -42,13 +44,16 @@ pass (Some old) t = record t { contexts = change (λ c. Some (passed c)) t.conte
 
 -- attaching to a stream in place of what it has
 abbrev pub set_replace : Contexts → ℕ → ℕ → Result (Option ℕ × Contexts) ContextFault
-set_replace t stream k = if is_spent (at t.contexts k) then Err RefsSpent else Ok (at t.attachments stream, pass (at t.attachments stream) (attach t stream k))
+set_replace t stream k =
+    if is_spent (at t.contexts k) then Err RefsSpent
+    else Ok (at t.attachments stream, pass (at t.attachments stream) (attach t stream k))
 
 -- a reference to what is attached to a stream
 abbrev pub get_at : Contexts → Option ℕ → Result (ℕ × Contexts) ContextFault
 get_at t None = Err NotFound
 get_at t (Some k) = refer_at t k
 
+-- a reference to what a stream has
 abbrev pub get : Contexts → ℕ → Result (ℕ × Contexts) ContextFault
 get t stream = get_at t (at t.attachments stream)
 
@@ -57,6 +62,7 @@ abbrev pub delete_at : Contexts → ℕ → Option ℕ → Result Contexts Conte
 delete_at t stream None = Err NotFound
 delete_at t stream (Some k) = Ok (record { contexts = change detached t.contexts k; attachments = without t.attachments stream })
 
+-- detaching what a stream has
 abbrev pub delete : Contexts → ℕ → Result Contexts ContextFault
 delete t stream = delete_at t stream (at t.attachments stream)
 
@@ -76,5 +82,6 @@ set_state t k state = record t { contexts = change (λ c. Some (with_state state
 abbrev pub state_at : Contexts → ℕ → Option ContextState
 state_at t k = option_map (λ c. c.state) (at t.contexts k)
 
+-- the state of what is attached to a stream
 abbrev pub state_of : Contexts → ℕ → Option ContextState
 state_of t stream = option_and_then (λ k. state_at t k) (at t.attachments stream)

@@ -35,5 +35,6 @@ detached c = if c.references == 1 then None else Some (record c { references = c
 abbrev pub loosened : Context → Option Context
 loosened c = if c.references == c.attached then None else Some (record c { references = c.references - c.attached; attached = 0 })
 
+-- a context in another state
 abbrev pub with_state : ContextState → Context → Context
 with_state state c = record c { state = state }

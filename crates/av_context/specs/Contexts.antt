@@ -12,6 +12,7 @@ pub record Contexts : Type 0 where
   pub contexts : List (ℕ × Context)
   pub attachments : List (ℕ × ℕ)
 
+-- no context, and nothing attached
 abbrev pub no_contexts : Contexts
 no_contexts = record { contexts = []; attachments = [] }
 
@@ -60,7 +61,8 @@ all_detached (a ∷ rest) m = all_detached rest (change detached m a.1)
 abbrev pub attachments_to : List (ℕ × ℕ) → ℕ → ℕ
 attachments_to m k = sum_by (λ key. if key == k then 1 else 0) (values_of m)
 
--- what is at a key agrees with its number of attachments: a context counts each of them, and is there as long as anything refers to it
+-- what is at a key agrees with its number of attachments: a context counts each of them, and is there as long as anything
+-- refers to it
 abbrev pub CountsAgree : Option Context → ℕ → Type 0
 CountsAgree None n = n ≡ 0
 CountsAgree (Some c) n = (c.attached ≡ n) × (c.attached ≤ c.references) × (0 < c.references)

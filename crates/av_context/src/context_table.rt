@@ -50,7 +50,8 @@ impl ContextTable {
     /// how many contexts there are.
     pub fn allocate(&mut self, state: ContextState) -> Result<ContextRef, AllocError>
         ensures free { IfOk result (λ context. at self.old.contexts context ≡ None) }
-        ensures ok { IfOk result (λ context. self.new ≡ record self.old { contexts = with self.old.contexts context (fresh state) }) }
+        ensures ok { IfOk result
+            (λ context. self.new ≡ record self.old { contexts = with self.old.contexts context (fresh state) }) }
         ensures err { OnErr result (self.new ≡ self.old) }
     {
         let key = self.rows.insert(state)?;
