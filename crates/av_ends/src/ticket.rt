@@ -96,7 +96,8 @@ impl Ticket {
     pub fn poll(&self, note: &mut TicketNote) -> Option<&Answer>
         requires { IsNoteOf self.now note.old }
         ensures same { IsNoteOf self.now note.new }
-        ensures shown { MatchOption result ((note.old.note.known ≡ None) × (note.new.note.known ≡ None)) (λ r. (note.new.note.known ≡ Some r.now) × (fits self.now.open_id self.now.least r.now ≡ true)) }
+        ensures shown { MatchOption result ((note.old.note.known ≡ None) × (note.new.note.known ≡ None))
+            (λ r. (note.new.note.known ≡ Some r.now) × (fits self.now.open_id self.now.least r.now ≡ true)) }
         ensures known { (a : _) → note.old.note.known ≡ Some a → note.new.note.known ≡ Some a }
     {
         let mut trial = note.note.again();
