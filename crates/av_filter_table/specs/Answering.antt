@@ -19,13 +19,16 @@ abbrev pub stream_generation : Option Stream → ℕ
 stream_generation None = 0
 stream_generation (Some x) = x.generation
 
+-- the bytes of a stream, none where there is no stream
 abbrev pub stream_bytes : Option Stream → List ℕ
 stream_bytes None = []
 stream_bytes (Some x) = x.bytes
 
+-- the present generation of a stream, by its number
 abbrev pub present_generation : Store → ℕ → ℕ
 present_generation v s = stream_generation (stream_at s v.streams)
 
+-- the present bytes of a stream, by its number
 abbrev pub present_bytes : Store → ℕ → List ℕ
 present_bytes v s = stream_bytes (stream_at s v.streams)
 

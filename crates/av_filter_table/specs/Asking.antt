@@ -20,18 +20,29 @@ next_question t v s = record { id = next_id t; stream = s; generation = present_
 
 -- a stream's scan is asked for
 unfoldable pub asks : Table → Store → ℕ → Table
-asks t v s = record t { sequence = t.sequence + 1; contexts = set_at t.contexts s (Some (Scanning (next_id t))); questions = t.questions ++ next_question t v s ∷ [] }
+asks t v s =
+    record t {
+      sequence = t.sequence + 1;
+      contexts = set_at t.contexts s (Some (Scanning (next_id t)));
+      questions = t.questions ++ next_question t v s ∷ [];
+    }
 
 -- a question ends, its stream has this context, and its opens leave the table
 unfoldable pub ended : Table → Question → Option ContextState → Table
-ended t q c = record t { contexts = set_at t.contexts q.stream c; questions = without_question q.id t.questions; pended = other_opens q.id t.pended }
+ended t q c =
+    record t {
+      contexts = set_at t.contexts q.stream c;
+      questions = without_question q.id t.questions;
+      pended = other_opens q.id t.pended;
+    }
 
 -- a question ends with this verdict under this version, which is the floor from then on, and the cache keeps it
 abbrev pub settled : Table → Question → ℕ → Verdict → Table
 settled t q version r =
     record (ended t q (Some (Judged version r))) {
       floor = version;
-      cache = put t.limits.cache (record { stream = q.stream; generation = q.generation; version = version; verdict = r }) t.cache;
+      cache =
+          put t.limits.cache (record { stream = q.stream; generation = q.generation; version = version; verdict = r }) t.cache;
     }
 
 -- each scan that runs is lost, and the context of its stream is Modified
@@ -47,12 +58,17 @@ is_spent p = nat_le 8 p.held.rescans
 abbrev pub is_held : MessageId → Pended → Bool
 is_held id p = waits_for id p && not (is_spent p)
 
+-- an open that waits for this question and has no rescan left
 abbrev pub is_lost : MessageId → Pended → Bool
 is_lost id p = waits_for id p && is_spent p
 
 -- an open waits for another question, and has seen one rescan more
 abbrev pub again_under : MessageId → Pended → Pended
-again_under id p = record { question = id; held = record { open_id = p.held.open_id; stream = p.held.stream; least = p.held.least; rescans = p.held.rescans + 1 } }
+again_under id p =
+    record {
+      question = id;
+      held = record { open_id = p.held.open_id; stream = p.held.stream; least = p.held.least; rescans = p.held.rescans + 1 };
+    }
 
 -- an open of the old question waits for the new one; any other stays
 abbrev pub moved : MessageId → MessageId → Pended → Pended
@@ -64,7 +80,8 @@ moved_opens old new ps = map (moved old new) (filter (λ p. not (is_lost old p))
 
 -- a question has ended, and is asked anew for those of its opens that have a rescan left
 abbrev pub asked_again : Table → Store → Question → Table
-asked_again t v q = asks (record t { questions = without_question q.id t.questions; pended = moved_opens q.id (next_id t) t.pended }) v q.stream
+asked_again t v q =
+    asks (record t { questions = without_question q.id t.questions; pended = moved_opens q.id (next_id t) t.pended }) v q.stream
 
 -- why an open is not asked for again
 abbrev pub again_cause : Pended → Cause

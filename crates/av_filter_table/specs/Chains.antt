@@ -23,10 +23,12 @@ abbrev pub first_of : ℕ → Opens → Option ℕ
 first_of n [] = None
 first_of n (e ∷ p) = if waits_for n e then Some e.0 else first_of n p
 
+-- the place of the last open of a question
 abbrev pub last_of : ℕ → Opens → Option ℕ
 last_of n [] = None
 last_of n (e ∷ p) = option_or (last_of n p) (if waits_for n e then Some e.0 else None)
 
+-- how many opens wait for a question
 abbrev pub count_of : ℕ → Opens → ℕ
 count_of n [] = 0
 count_of n (e ∷ p) = if waits_for n e then count_of n p + 1 else count_of n p
@@ -59,9 +61,11 @@ plains p = map plain p
 abbrev pub is_of : ℕ → ℕ × Waiting → Bool
 is_of n x = x.0 == n
 
+-- the waiting opens of a question
 abbrev pub of : ℕ → List (ℕ × Waiting) → List (ℕ × Waiting)
 of n xs = filter (is_of n) xs
 
+-- the waiting opens of all other questions
 abbrev pub others : ℕ → List (ℕ × Waiting) → List (ℕ × Waiting)
 others n xs = filter (λ x. not (is_of n x)) xs
 
@@ -74,6 +78,7 @@ abbrev pub last_after : Option ℕ → Option ℕ → Option ℕ
 last_after None last = None
 last_after (Some k) last = last
 
+-- a question without the first of its opens
 abbrev pub shorter : Asked → Option ℕ → Asked
 shorter x next = record x { first = next; last = last_after next x.last; opens = x.opens - 1 }
 

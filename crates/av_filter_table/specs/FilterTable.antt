@@ -28,6 +28,7 @@ held_of boot x = record { question = id_of boot x.0; held = x.1 }
 abbrev pub questions_of : ℕ → Questions → List Question
 questions_of boot q = map (asked_of boot) (essences q)
 
+-- the held opens, in the order of their places, with the ids of their questions
 abbrev pub pended_of : ℕ → Opens → List Pended
 pended_of boot p = map (held_of boot) (plains p)
 
@@ -41,7 +42,8 @@ AreNumbered p = keys_of p ≡ map number_of (plains p)
 
 -- the context of a question's stream is being scanned by it, and its reference is the only one that is out
 abbrev pub AreScanned : ℕ → List (ℕ × (ℕ × (ℕ × ℕ))) → List (ℕ × Known) → Type 0
-AreScanned boot es k = (n : ℕ) → IfSome (at es n) (λ y. at k y.0 ≡ Some (record { key = y.1.1; state = Scanning (id_of boot n); held = 1 }))
+AreScanned boot es k =
+    (n : ℕ) → IfSome (at es n) (λ y. at k y.0 ≡ Some (record { key = y.1.1; state = Scanning (id_of boot n); held = 1 }))
 
 -- no question is of this stream
 abbrev pub IsUnasked : ℕ → List (ℕ × (ℕ × (ℕ × ℕ))) → Type 0
@@ -58,7 +60,8 @@ pub record IsConsistent (boot sequence : ℕ) (q : Questions) (p : Opens) (k : L
   pub free : (s : ℕ) → IsUnasked s (essences q) → held_out (at k s) ≡ 0
 
 -- what holds of a table between calls: its rows are consistent, it was mounted, and its cache has the size of the limits
-pub record IsSound (boot sequence capacity : ℕ) (limits : LimitValues) (q : Questions) (p : Opens) (k : List (ℕ × Known)) : Type 0 where
+pub record IsSound (boot sequence capacity : ℕ) (limits : LimitValues) (q : Questions) (p : Opens)
+    (k : List (ℕ × Known)) : Type 0 where
   pub rows : IsConsistent boot sequence q p k
   pub mounted : 1 ≤ boot
   pub sized : capacity ≡ limits.cache

@@ -28,7 +28,19 @@ pub record Table : Type 0 where
 
 -- a filter just mounted
 abbrev pub mounted : Mode → LimitValues → ℕ → Table
-mounted mode limits boot = record { mode = mode; limits = limits; boot = boot; sequence = 0; connected = false; floor = 0; contexts = []; questions = []; pended = []; cache = [] }
+mounted mode limits boot =
+    record {
+      mode = mode;
+      limits = limits;
+      boot = boot;
+      sequence = 0;
+      connected = false;
+      floor = 0;
+      contexts = [];
+      questions = [];
+      pended = [];
+      cache = [];
+    }
 
 -- what is known of the content of a stream
 abbrev pub context_of : List (ℕ × ContextState) → ℕ → Option ContextState
@@ -51,6 +63,7 @@ is_written Modified = true
 is_written (Scanning id) = false
 is_written (Judged v r) = false
 
+-- the content changed since it was judged or asked about
 abbrev pub is_modified : Option ContextState → Bool
 is_modified None = false
 is_modified (Some c) = is_written c
@@ -59,9 +72,11 @@ is_modified (Some c) = is_written c
 abbrev pub question_of : ℕ → List Question → Option Question
 question_of s qs = find (λ q. q.stream == s) qs
 
+-- the question of this id
 abbrev pub question_at : MessageId → List Question → Option Question
 question_at id qs = find (λ q. same_id q.id id) qs
 
+-- the other questions
 abbrev pub without_question : MessageId → List Question → List Question
 without_question id qs = filter (λ q. not (same_id q.id id)) qs
 
@@ -69,9 +84,11 @@ without_question id qs = filter (λ q. not (same_id q.id id)) qs
 abbrev pub waits_for : MessageId → Pended → Bool
 waits_for id p = same_id p.question id
 
+-- the opens that wait for this question
 abbrev pub opens_of : MessageId → List Pended → List Pended
 opens_of id ps = filter (waits_for id) ps
 
+-- the opens that wait for another
 abbrev pub other_opens : MessageId → List Pended → List Pended
 other_opens id ps = filter (λ p. not (waits_for id p)) ps
 

@@ -22,8 +22,10 @@ pub fn refuse_opens(
     cause: Cause,
 )
     requires there { IsSome (question_at (id_of table.old.boot question) table.old.questions) }
-    requires room { vec_len answers.old + length (opens_of (id_of table.old.boot question) table.old.pended) ≤ vec_capacity answers.old }
-    ensures answers { answers.new.items ≡ answers.old.items ++ by_mode table.old volume.now cause (opens_of (id_of table.old.boot question) table.old.pended) }
+    requires room { vec_len answers.old + length (opens_of (id_of table.old.boot question) table.old.pended)
+        ≤ vec_capacity answers.old }
+    ensures answers { answers.new.items
+        ≡ answers.old.items ++ by_mode table.old volume.now cause (opens_of (id_of table.old.boot question) table.old.pended) }
     ensures table { table.new ≡ record table.old { pended = other_opens (id_of table.old.boot question) table.old.pended } }
 {
     let mode = table.mode();
@@ -44,8 +46,10 @@ pub fn refuse_question(
     state: ContextState,
 ) -> Result<Vec<Answer>, AllocError>
     requires { IsSome (question_at (id_of table.old.boot question) table.old.questions) }
-    ensures answers { IfOk result (λ answers. answers.items ≡ by_mode table.old volume.now cause (opens_of (id_of table.old.boot question) table.old.pended)) }
-    ensures table { OnOk result (IfSome (question_at (id_of table.old.boot question) table.old.questions) (λ q. table.new ≡ ended table.old q (Some state))) }
+    ensures answers { IfOk result (λ answers. answers.items
+        ≡ by_mode table.old volume.now cause (opens_of (id_of table.old.boot question) table.old.pended)) }
+    ensures table { OnOk result (IfSome (question_at (id_of table.old.boot question) table.old.questions)
+        (λ q. table.new ≡ ended table.old q (Some state))) }
     ensures err { OnErr result (table.new ≡ table.old) }
 {
     let mut answers = Vec::with_capacity(alloc, table.opens_of(question))?;
@@ -80,8 +84,10 @@ pub fn judge_opens(
 )
     requires there { IsSome (question_at (id_of table.old.boot question) table.old.questions) }
     requires leasts { MayJudge version (opens_of (id_of table.old.boot question) table.old.pended) }
-    requires room { vec_len answers.old + length (opens_of (id_of table.old.boot question) table.old.pended) ≤ vec_capacity answers.old }
-    ensures answers { answers.new.items ≡ answers.old.items ++ all_judged verdict generation version (opens_of (id_of table.old.boot question) table.old.pended) }
+    requires room { vec_len answers.old + length (opens_of (id_of table.old.boot question) table.old.pended)
+        ≤ vec_capacity answers.old }
+    ensures answers { answers.new.items ≡ answers.old.items
+        ++ all_judged verdict generation version (opens_of (id_of table.old.boot question) table.old.pended) }
     ensures table { table.new ≡ record table.old { pended = other_opens (id_of table.old.boot question) table.old.pended } }
 {
     'judged: while let Some(held) = table.take_open(question) {
@@ -112,8 +118,11 @@ pub fn settle_question(
     requires there { IsSome (question_at (id_of table.old.boot question) table.old.questions) }
     requires floor { table.old.floor ≤ version }
     requires leasts { MayJudge version table.old.pended }
-    ensures answers { IfOk result (λ answers. IfSome (question_at (id_of table.old.boot question) table.old.questions) (λ q. answers.items ≡ all_judged verdict q.generation version (opens_of (id_of table.old.boot question) table.old.pended))) }
-    ensures table { OnOk result (IfSome (question_at (id_of table.old.boot question) table.old.questions) (λ q. table.new ≡ settled table.old q version verdict)) }
+    ensures answers { IfOk result
+        (λ answers. IfSome (question_at (id_of table.old.boot question) table.old.questions) (λ q. answers.items
+        ≡ all_judged verdict q.generation version (opens_of (id_of table.old.boot question) table.old.pended))) }
+    ensures table { OnOk result (IfSome (question_at (id_of table.old.boot question) table.old.questions)
+        (λ q. table.new ≡ settled table.old q version verdict)) }
     ensures err { OnErr result (table.new ≡ table.old) }
 {
     let id = MessageId {

@@ -54,7 +54,8 @@ pub fn append(
 fn link(pended: &mut Numbered<Waits, PendedOpen>, last: Option<u64>, number: u64)
     requires { IfSome last (λ k. IsSome (at pended.old k)) }
     ensures none { IfNone last (pended.new ≡ pended.old) }
-    ensures some { IfSome last (λ k. IfSome (at pended.old k) (λ x. pended.new ≡ with pended.old k (record x.0 { next = Some number }, x.1))) }
+    ensures some { IfSome last
+        (λ k. IfSome (at pended.old k) (λ x. pended.new ≡ with pended.old k (record x.0 { next = Some number }, x.1))) }
 {
     let Some(last) = last else {
         return;
@@ -236,7 +237,8 @@ pub fn pop_first(
 fn unlink(questions: &mut Numbered<Asked, ContextRef>, question: u64, next: Option<u64>)
     requires { IfSome (at questions.old question) (λ x. 1 ≤ x.0.opens) }
     ensures none { IfNone (at questions.old question) (questions.new ≡ questions.old) }
-    ensures some { IfSome (at questions.old question) (λ x. PutsAt questions.old questions.new question (Some (shorter x.0 next, x.1))) }
+    ensures some { IfSome (at questions.old question)
+        (λ x. PutsAt questions.old questions.new question (Some (shorter x.0 next, x.1))) }
 {
     let Some(asked) = questions.row(question) else {
         return;

@@ -32,7 +32,8 @@ pub fn move_opens(
     requires chained { AreChained questions.old pended.old }
     requires fresh { of new (plains pended.old) ≡ [] }
     requires room { vec_len answers.old + length (of old (plains pended.old)) ≤ vec_capacity answers.old }
-    ensures answers { answers.new.items ≡ answers.old.items ++ refusals mode volume.now Unsettled (overs old (plains pended.old)) }
+    ensures answers { answers.new.items
+        ≡ answers.old.items ++ refusals mode volume.now Unsettled (overs old (plains pended.old)) }
     ensures moved { plains pended.new ≡ moved_all old new (plains pended.old) }
     ensures numbered { AreNumbered pended.old → AreNumbered pended.new }
     ensures chained { AreChained questions.new pended.new }

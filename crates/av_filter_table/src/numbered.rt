@@ -115,7 +115,8 @@ impl<R, V> Numbered<R, V> {
         R: Drop,
         requires there { IsSome (at self.old number) }
         requires callable { IfSome (at self.old number) (λ p. F.pre change p.1) }
-        ensures { IfSome (at self.old number) (λ p. IsSomeAnd (at self.new number) (λ q. F.post change p.1 q.1 × PutsAt self.old self.new number (Some (row, q.1)))) }
+        ensures { IfSome (at self.old number) (λ p. IsSomeAnd (at self.new number) (λ q. F.post change p.1 q.1
+            × PutsAt self.old self.new number (Some (row, q.1)))) }
     {
         let Some(key) = self.index.get(&number).copied() else {
             unreachable!()
@@ -221,7 +222,8 @@ fn release<V>(mut values: Vec<Option<V>>)
 fn change_at<V, F: FnOnce(V) -> V>(values: &mut Vec<Option<V>>, key: usize, change: F)
     requires there { IsSome (slot_at values.old.items key) }
     requires callable { IfSome (slot_at values.old.items key) (λ v. F.pre change v) }
-    ensures here { IfSome (slot_at values.old.items key) (λ v. IsSomeAnd (slot_at values.new.items key) (λ w. F.post change v w)) }
+    ensures here { IfSome (slot_at values.old.items key)
+        (λ v. IsSomeAnd (slot_at values.new.items key) (λ w. F.post change v w)) }
     ensures others { SameBut key values.old.items values.new.items }
 {
     let Some(slot) = values.get_mut(key) else {

@@ -48,7 +48,9 @@ impl StreamContexts {
     /// takes memory.
     pub fn hold(&mut self, stream: StreamId, state: ContextState) -> Result<ContextRef, AllocError>
         requires { held_of (at self.old stream) < 2 ^ 63 }
-        ensures ok { IfOk result (λ context. PutsAt self.old self.new stream (Some (record { key = context; state = state; held = held_of (at self.old stream) + 1 }))) }
+        ensures ok { IfOk result
+            (λ context. PutsAt self.old self.new stream
+            (Some (record { key = context; state = state; held = held_of (at self.old stream) + 1 }))) }
         ensures ascend { IsAscending self.old }
         ensures same { IfOk result (λ context. IfSome (at self.old stream) (λ m. m.key ≡ context)) }
         ensures err { OnErr result (self.new ≡ self.old) }
@@ -146,7 +148,9 @@ fn attach(
 ) -> Result<ContextRef, AllocError>
     requires none { at table.old.attachments stream ≡ None }
     requires once { AreAttached table.old }
-    ensures ok { IfOk result (λ context. PutsAt (known_of table.old) (known_of table.new) stream (Some (record { key = context; state = state; held = 1 }))) }
+    ensures ok { IfOk result
+        (λ context. PutsAt (known_of table.old) (known_of table.new) stream
+        (Some (record { key = context; state = state; held = 1 }))) }
     ensures once { AreAttached table.new }
     ensures err { OnErr result (table.new ≡ table.old) }
 {

@@ -61,14 +61,20 @@ impl FilterTable {
         answers: &mut Vec<Answer>,
     ) -> Result<MessageId, AllocError>
         requires there { IsSome (question_at (id_of self.old.boot question) self.old.questions) }
-        requires accepted { IfSome (question_at (id_of self.old.boot question) self.old.questions) (λ q. result_err (change_of volume.old (change_by q.stream rewriting)) ≡ None) }
-        requires next { IfSome (question_at (id_of self.old.boot question) self.old.questions) (λ q. present_generation volume.old q.stream + 1 < 2 ^ 64) }
+        requires accepted { IfSome (question_at (id_of self.old.boot question) self.old.questions)
+            (λ q. result_err (change_of volume.old (change_by q.stream rewriting)) ≡ None) }
+        requires next { IfSome (question_at (id_of self.old.boot question) self.old.questions)
+            (λ q. present_generation volume.old q.stream + 1 < 2 ^ 64) }
         requires left { self.old.sequence + 1 < 2 ^ 64 }
-        requires room { vec_len answers.old + length (opens_of (id_of self.old.boot question) self.old.pended) ≤ vec_capacity answers.old }
+        requires room { vec_len answers.old + length (opens_of (id_of self.old.boot question) self.old.pended)
+            ≤ vec_capacity answers.old }
         ensures id { IfOk result (λ id. id ≡ next_id self.old) }
-        ensures volume { OnOk result (IfSome (question_at (id_of self.old.boot question) self.old.questions) (λ q. change_of volume.old (change_by q.stream rewriting.entry) ≡ Ok volume.new)) }
-        ensures answers { OnOk result (answers.new.items ≡ answers.old.items ++ by_mode self.old volume.new Unsettled (filter (is_lost (id_of self.old.boot question)) self.old.pended)) }
-        ensures ok { OnOk result (IfSome (question_at (id_of self.old.boot question) self.old.questions) (λ q. self.new ≡ asked_again self.old volume.new q)) }
+        ensures volume { OnOk result (IfSome (question_at (id_of self.old.boot question) self.old.questions)
+            (λ q. change_of volume.old (change_by q.stream rewriting.entry) ≡ Ok volume.new)) }
+        ensures answers { OnOk result (answers.new.items ≡ answers.old.items
+            ++ by_mode self.old volume.new Unsettled (filter (is_lost (id_of self.old.boot question)) self.old.pended)) }
+        ensures ok { OnOk result (IfSome (question_at (id_of self.old.boot question) self.old.questions)
+            (λ q. self.new ≡ asked_again self.old volume.new q)) }
         ensures err { OnErr result ((self.new ≡ self.old) × (answers.new ≡ answers.old) × (volume.new ≡ volume.old)) }
     {
         let _numbers_ascend = self.questions.len();

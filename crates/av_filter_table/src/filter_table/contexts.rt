@@ -47,7 +47,8 @@ impl FilterTable {
         version: Version,
     ) -> Option<Verdict>
         ensures verdict { result ≡ option_map verdict_of (look stream generation version self.old.cache) }
-        ensures order { self.new ≡ record self.old { cache = moved (look stream generation version self.old.cache) self.old.cache } }
+        ensures order { self.new
+            ≡ record self.old { cache = moved (look stream generation version self.old.cache) self.old.cache } }
     {
         self.cache.look(stream, generation, version)
     }
@@ -61,7 +62,11 @@ impl FilterTable {
         version: Version,
         verdict: Verdict,
     ) -> Result<(), AllocError>
-        ensures ok { OnOk result (self.new ≡ record self.old { cache = put self.old.limits.cache (record { stream = stream; generation = generation; version = version; verdict = verdict }) self.old.cache }) }
+        ensures ok { OnOk result (self.new
+            ≡ record self.old {
+              cache = put self.old.limits.cache
+                  (record { stream = stream; generation = generation; version = version; verdict = verdict }) self.old.cache;
+            }) }
         ensures err { OnErr result (self.new ≡ self.old) }
     {
         self.cache.put(stream, generation, version, verdict)

@@ -28,7 +28,11 @@ impl FilterTable {
     ) -> Result<(), AllocFailed<PendedOpen>>
         requires there { IsSome (question_at (id_of self.old.boot question) self.old.questions) }
         requires last { AllByRecursion (λ n. n < held.open_id) (open_numbers self.old.pended) }
-        ensures ok { OnOk result (self.new ≡ record self.old { pended = self.old.pended ++ record { question = id_of self.old.boot question; held = held } ∷ [] }) }
+        ensures ok { OnOk result (self.new
+            ≡ record self.old {
+              pended = self.old.pended
+                  ++ record { question = id_of self.old.boot question; held = held } ∷ [];
+            }) }
         ensures err { OnErr result (self.new ≡ self.old) }
         ensures back { IfErr result (λ failed. failed.value ≡ held) }
     {
@@ -49,8 +53,12 @@ impl FilterTable {
         requires { IsSome (question_at (id_of self.old.boot question) self.old.questions) }
         ensures none { IfNone result (opens_of (id_of self.old.boot question) self.old.pended ≡ []) }
         ensures unchanged { IfNone result (self.new ≡ self.old) }
-        ensures some { IfSome result (λ held. opens_of (id_of self.old.boot question) self.old.pended ≡ record { question = id_of self.old.boot question; held = held } ∷ opens_of (id_of self.old.boot question) self.new.pended) }
-        ensures others { other_opens (id_of self.old.boot question) self.new.pended ≡ other_opens (id_of self.old.boot question) self.old.pended }
+        ensures some { IfSome result
+            (λ held. opens_of (id_of self.old.boot question) self.old.pended
+            ≡ record { question = id_of self.old.boot question; held = held }
+            ∷ opens_of (id_of self.old.boot question) self.new.pended) }
+        ensures others { other_opens (id_of self.old.boot question) self.new.pended
+            ≡ other_opens (id_of self.old.boot question) self.old.pended }
         ensures rest { self.new ≡ record self.old { pended = self.new.pended } }
     {
         let _numbers_ascend = self.questions.len();
@@ -61,7 +69,8 @@ impl FilterTable {
     /// and of opens.
     pub fn pop_open(&mut self) -> Option<PendedOpen>
         ensures none { IfNone result ((self.old.pended ≡ []) × (self.new ≡ self.old)) }
-        ensures some { IfSome result (λ held. (id : MessageId) × (self.old.pended ≡ record { question = id; held = held } ∷ self.new.pended)) }
+        ensures some { IfSome result (λ held. (id : MessageId)
+            × (self.old.pended ≡ record { question = id; held = held } ∷ self.new.pended)) }
         ensures rest { self.new ≡ record self.old { pended = self.new.pended } }
     {
         chains::pop_first(&mut self.questions, &mut self.pended)
@@ -100,10 +109,13 @@ impl FilterTable {
     ) -> Result<MessageId, AllocError>
         requires there { IsSome (question_at (id_of self.old.boot question) self.old.questions) }
         requires left { self.old.sequence + 1 < 2 ^ 64 }
-        requires room { vec_len answers.old + length (opens_of (id_of self.old.boot question) self.old.pended) ≤ vec_capacity answers.old }
+        requires room { vec_len answers.old + length (opens_of (id_of self.old.boot question) self.old.pended)
+            ≤ vec_capacity answers.old }
         ensures id { IfOk result (λ id. id ≡ next_id self.old) }
-        ensures answers { OnOk result (answers.new.items ≡ answers.old.items ++ by_mode self.old volume.now Unsettled (filter (is_lost (id_of self.old.boot question)) self.old.pended)) }
-        ensures ok { OnOk result (IfSome (question_at (id_of self.old.boot question) self.old.questions) (λ q. self.new ≡ asked_again self.old volume.now q)) }
+        ensures answers { OnOk result (answers.new.items ≡ answers.old.items
+            ++ by_mode self.old volume.now Unsettled (filter (is_lost (id_of self.old.boot question)) self.old.pended)) }
+        ensures ok { OnOk result (IfSome (question_at (id_of self.old.boot question) self.old.questions)
+            (λ q. self.new ≡ asked_again self.old volume.now q)) }
         ensures err { OnErr result ((self.new ≡ self.old) × (answers.new ≡ answers.old)) }
     {
         let _numbers_ascend = self.questions.len();

@@ -58,7 +58,14 @@ impl FilterTable {
         requires none { question_of stream self.old.questions ≡ None }
         requires left { self.old.sequence + 1 < 2 ^ 64 }
         ensures id { IfOk result (λ id. id ≡ next_id self.old) }
-        ensures ok { OnOk result (self.new ≡ record self.old { sequence = self.old.sequence + 1; contexts = set_at self.old.contexts stream (Some (Scanning (next_id self.old))); questions = self.old.questions ++ record { id = next_id self.old; stream = stream; generation = generation } ∷ [] }) }
+        ensures ok { OnOk result (self.new
+            ≡ record self.old {
+              sequence = self.old.sequence
+                  + 1;
+              contexts = set_at self.old.contexts stream (Some (Scanning (next_id self.old)));
+              questions = self.old.questions
+                  ++ record { id = next_id self.old; stream = stream; generation = generation } ∷ [];
+            }) }
         ensures err { OnErr result (self.new ≡ self.old) }
     {
         let seq = self.sequence + 1;
@@ -96,7 +103,16 @@ impl FilterTable {
         requires left { self.old.sequence + 1 < 2 ^ 64 }
         requires last { AllByRecursion (λ n. n < held.open_id) (open_numbers self.old.pended) }
         ensures id { IfOk result (λ id. id ≡ next_id self.old) }
-        ensures ok { OnOk result (self.new ≡ record self.old { sequence = self.old.sequence + 1; contexts = set_at self.old.contexts stream (Some (Scanning (next_id self.old))); questions = self.old.questions ++ record { id = next_id self.old; stream = stream; generation = generation } ∷ []; pended = self.old.pended ++ record { question = next_id self.old; held = held } ∷ [] }) }
+        ensures ok { OnOk result (self.new
+            ≡ record self.old {
+              sequence = self.old.sequence
+                  + 1;
+              contexts = set_at self.old.contexts stream (Some (Scanning (next_id self.old)));
+              questions = self.old.questions
+                  ++ record { id = next_id self.old; stream = stream; generation = generation } ∷ [];
+              pended = self.old.pended
+                  ++ record { question = next_id self.old; held = held } ∷ [];
+            }) }
         ensures err { OnErr result (self.new ≡ self.old) }
         ensures back { IfErr result (λ failed. failed.value ≡ held) }
     {
@@ -145,7 +161,8 @@ impl FilterTable {
     pub fn end_question(&mut self, question: u64, state: ContextState)
         requires there { IsSome (question_at (id_of self.old.boot question) self.old.questions) }
         requires none { opens_of (id_of self.old.boot question) self.old.pended ≡ [] }
-        ensures { IfSome (question_at (id_of self.old.boot question) self.old.questions) (λ q. self.new ≡ ended self.old q (Some state)) }
+        ensures { IfSome (question_at (id_of self.old.boot question) self.old.questions)
+            (λ q. self.new ≡ ended self.old q (Some state)) }
     {
         let _numbers_ascend = self.questions.len();
         let Some((asked, context)) = self.questions.remove(question) else {
@@ -173,7 +190,12 @@ impl FilterTable {
     pub fn pop_question(&mut self, state: ContextState) -> Option<Question>
         requires { self.old.pended ≡ [] }
         ensures none { IfNone result ((self.old.questions ≡ []) × (self.new ≡ self.old)) }
-        ensures some { IfSome result (λ q. (self.old.questions ≡ q ∷ self.new.questions) × (self.new ≡ record self.old { contexts = set_at self.old.contexts q.stream (Some state); questions = self.new.questions })) }
+        ensures some { IfSome result (λ q. (self.old.questions ≡ q ∷ self.new.questions)
+            × (self.new ≡ record self.old {
+              contexts = set_at self.old.contexts q.stream
+                  (Some state);
+              questions = self.new.questions;
+            })) }
         ensures ascend { IfSome result (λ _. IsAscending self.old.contexts) }
     {
         let _numbers_ascend = self.questions.len();
