@@ -4,7 +4,11 @@ pub mod QuestionLemmas
 pub mod VolumeLemmas
 pub mod FitLemmas
 pub mod BoundLemmas
+pub mod RoomLemmas
 pub mod ReadyLemmas
 pub mod ClosingLemmas
 pub mod OpeningLemmas
 pub mod FilterLemmas
+pub mod TimesLemmas
+pub mod CountLemmas
+pub mod OnceLemmas

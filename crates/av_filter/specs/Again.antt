@@ -17,7 +17,8 @@ use Rattle.av_store.specs.Store.{Store}
 abbrev pub scan_message : Table → Store → ℕ → Body
 scan_message t v s = Scan (next_id t) s (present_generation v s) (length (present_bytes v s))
 
--- a question ends, and is asked anew for those of its opens that have a rescan left, if a number is; else all its opens are answered. `early` is sent before
+-- a question ends, and is asked anew for those of its opens that have a rescan left, if a number is; else all its opens are
+-- answered. `early` is sent before
 unfoldable pub again : Table → Store → Question → List Body → Reaction
 again t v q early =
     if list_any (is_held q.id) t.pended && sequence_left t

@@ -9,7 +9,8 @@ use Rattle.av_store.specs.Rows.{stream_at}
 use Rattle.av_store.specs.Store.{Store}
 use Rattle.av_store.specs.declared.stream.Stream.{Stream}
 
--- its stream is there at this generation, its number is the next of the volume, and the floor that it finds is not below its least
+-- its stream is there at this generation, its number is the next of the volume, and the floor that it finds is not below its
+-- least
 pub record IsArrival (a : Arrival) (t : Table) (v : Store) : Type 0 where
   pub present : Stream
   pub there : stream_at a.stream v.streams ≡ Some present

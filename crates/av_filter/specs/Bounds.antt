@@ -23,4 +23,5 @@ pub record AreInBounds (v : Store) : Type 0 where
 -- an empty volume is so, and every event leaves it so
 pub record KeepsBounds : Type 0 where
   pub starts : (number : ℕ) (limits : LimitValues) → AreInRange limits → AreInBounds (empty_store number limits)
-  pub events : (t : Table) (v : Store) (e : FilterEvent) → AreInBounds v → filter_refusal t v e ≡ None → AreInBounds (filter_step t v e).volume
+  pub events : (t : Table) (v : Store) (e : FilterEvent) → AreInBounds v → filter_refusal t v e ≡ None
+      → AreInBounds (filter_step t v e).volume

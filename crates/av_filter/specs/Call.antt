@@ -15,7 +15,8 @@ pub record Reacts (out : Out) (t : Table) (v : Store) (r : Reaction) : Type 0 wh
   pub table : t ≡ r.table
   pub volume : v ≡ r.volume
 
--- A call took table and volume to t' and v'. It is refused by its fault, or for want of memory where it has none, and changes nothing then; else it is the reaction.
+-- A call took table and volume to t' and v'. It is refused by its fault, or for want of memory where it has none, and changes
+-- nothing then; else it is the reaction.
 abbrev pub Meets : {F : Type 0} → Table → Store → Table → Store → Result Out (Refusal F) → Option F → Reaction → Type 0
 Meets t v t' v' (Ok out) fault r = (fault ≡ None) × Reacts out t' v' r
 Meets t v t' v' (Err (Fault f)) fault r = (fault ≡ Some f) × (t' ≡ t) × (v' ≡ v)

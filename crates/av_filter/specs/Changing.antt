@@ -28,7 +28,14 @@ rewritten t v s (Some q) = again t v q (Abort q.id ∷ [])
 -- a stream was removed
 unfoldable pub removed : Table → Store → ℕ → Option Question → Reaction
 removed t v s None = only (record t { contexts = set_at t.contexts s None }) v Quiet
-removed t v s (Some q) = record { table = ended t q None; volume = v; answers = map (λ p. denied StreamRemoved p.held) (opens_of q.id t.pended); messages = Abort q.id ∷ []; note = Quiet }
+removed t v s (Some q) =
+    record {
+      table = ended t q None;
+      volume = v;
+      answers = map (λ p. denied StreamRemoved p.held) (opens_of q.id t.pended);
+      messages = Abort q.id ∷ [];
+      note = Quiet;
+    }
 
 -- what a change of the volume that was accepted does: a creation nothing, the others end what is known of the stream
 unfoldable pub changes : Table → Store → Change → Reaction
@@ -40,4 +47,5 @@ changes t v (Remove s) = removed t (changed_volume v (Remove s)) s (question_of 
 -- a cleanup
 unfoldable pub cleaned : Table → Store → ℕ → Option Stream → Reaction
 cleaned t v s None = only t v NoStream
-cleaned t v s (Some x) = if is_modified (context_of t.contexts s) && can_ask t then sends (asks t v s) v (scan_message t v s) else only t v Quiet
+cleaned t v s (Some x) =
+    if is_modified (context_of t.contexts s) && can_ask t then sends (asks t v s) v (scan_message t v s) else only t v Quiet

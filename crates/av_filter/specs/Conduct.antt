@@ -34,7 +34,14 @@ pub data FilterEvent : Type 0 where
 -- a question's time is up
 unfoldable pub times_out : Table → Store → Option Question → Reaction
 times_out t v None = only t v NoWaiter
-times_out t v (Some q) = record { table = ended t q (Some Modified); volume = v; answers = by_mode t v TimedOut (opens_of q.id t.pended); messages = Abort q.id ∷ []; note = Quiet }
+times_out t v (Some q) =
+    record {
+      table = ended t q (Some Modified);
+      volume = v;
+      answers = by_mode t v TimedOut (opens_of q.id t.pended);
+      messages = Abort q.id ∷ [];
+      note = Quiet;
+    }
 
 -- the service is lost, and with it each scan that runs
 unfoldable pub disconnects : Table → Store → Reaction
@@ -53,7 +60,14 @@ booted v = record v { boot = v.boot + 1 }
 
 -- a restart: every open is answered by the mode, and a filter just mounted goes on, in the next boot
 unfoldable pub restarts : Table → Store → Reaction
-restarts t v = record { table = mounted t.mode t.limits (v.boot + 1); volume = booted v; answers = by_mode t v FilterRestart t.pended; messages = []; note = Quiet }
+restarts t v =
+    record {
+      table = mounted t.mode t.limits (v.boot + 1);
+      volume = booted v;
+      answers = by_mode t v FilterRestart t.pended;
+      messages = [];
+      note = Quiet;
+    }
 
 -- what each event does, where it is not refused
 unfoldable pub filter_step : Table → Store → FilterEvent → Reaction

@@ -18,12 +18,14 @@ use Rattle.av_store.specs.Store.{Store}
 -- what an open is told
 abbrev pub answer_of : Mode → Store → Ending → Waiting → Answer
 answer_of mode v Removed w = denied StreamRemoved w
-answer_of mode v Unsettled w = refused mode (present_generation v w.stream) (if nat_le 8 w.rescans then cause.Unsettled else cause.Busy) w
+answer_of mode v Unsettled w =
+    refused mode (present_generation v w.stream) (if nat_le 8 w.rescans then cause.Unsettled else cause.Busy) w
 
 -- the same of an open as the table has it, and of several in their order
 abbrev pub told : Table → Store → Ending → Pended → Answer
 told t v ending p = answer_of t.mode v ending p.held
 
+-- the answers to these opens at the end of their question
 abbrev pub all_told : Table → Store → Ending → List Pended → List Answer
 all_told t v ending ps = map (told t v ending) ps
 

@@ -53,7 +53,8 @@ abbrev pub IsPresent : Streams → Question → Type 0
 IsPresent ss q = (x : Stream) × (stream_at q.stream ss ≡ Some x) × (q.generation ≡ x.generation)
 
 -- A table fits a volume: the boots agree; each context and each question is of a stream that is there, a question of its present
--- generation, one a stream; each open waits for a question of its stream, its number was taken, and its least is not above the floor.
+-- generation, one a stream; each open waits for a question of its stream, its number was taken, and its least is not above
+-- the floor.
 pub record Fits (t : Table) (v : Store) : Type 0 where
   pub boots : t.boot ≡ v.boot
   pub rises : Rises t.contexts
@@ -70,4 +71,5 @@ pub record Fits (t : Table) (v : Store) : Type 0 where
 -- each event that is not refused keeps the fit, and a filter just mounted has it
 pub record KeepsFit : Type 0 where
   pub mounts : (mode : Mode) (limits : LimitValues) (v : Store) → Fits (mounted mode limits v.boot) v
-  pub events : (t : Table) (v : Store) (e : FilterEvent) → Fits t v → filter_refusal t v e ≡ None → Fits (filter_step t v e).table (filter_step t v e).volume
+  pub events : (t : Table) (v : Store) (e : FilterEvent) → Fits t v → filter_refusal t v e ≡ None
+      → Fits (filter_step t v e).table (filter_step t v e).volume

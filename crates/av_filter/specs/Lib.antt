@@ -7,6 +7,7 @@ pub mod Changing
 pub mod Conduct
 pub mod Ending
 pub mod Fit
+pub mod Once
 pub mod Opening
 pub mod Reaction
 pub mod Ready

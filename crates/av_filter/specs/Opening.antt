@@ -37,12 +37,19 @@ answers_with t v a = record { table = t; volume = v; answers = a ∷ []; message
 -- or waits for a question
 abbrev pub pends : Table → Store → ℕ → ℕ → MessageId → List Body → Reaction
 pends t v s least id messages =
-    record { table = record t { pended = t.pended ++ record { question = id; held = new_open v s least } ∷ [] }; volume = v; answers = []; messages = messages; note = Submitted v.opens }
+    record {
+      table = record t { pended = t.pended ++ record { question = id; held = new_open v s least } ∷ [] };
+      volume = v;
+      answers = [];
+      messages = messages;
+      note = Submitted v.opens;
+    }
 
 -- by what the cache has of the content under the floor
 unfoldable pub open_cached : Table → Store → ℕ → ℕ → Stream → Option Entry → Reaction
 open_cached t v s least x (Some e) =
-    answers_with (record t { contexts = set_at t.contexts s (Some (Judged t.floor e.verdict)); cache = in_front e t.cache }) v (judged e.verdict x.generation t.floor (new_open v s least))
+    answers_with (record t { contexts = set_at t.contexts s (Some (Judged t.floor e.verdict)); cache = in_front e t.cache }) v
+    (judged e.verdict x.generation t.floor (new_open v s least))
 open_cached t v s least x None =
     if not (has_room t) then answers_with t v (refused t.mode x.generation Busy (new_open v s least))
     else (if not t.connected then answers_with t v (refused t.mode x.generation NotConnected (new_open v s least))
@@ -51,7 +58,8 @@ open_cached t v s least x None =
 
 -- by the question of the stream
 unfoldable pub open_asked : Table → Store → ℕ → ℕ → Stream → Option Question → Reaction
-open_asked t v s least x (Some q) = if has_room t then pends t v s least q.id [] else answers_with t v (refused t.mode x.generation Busy (new_open v s least))
+open_asked t v s least x (Some q) =
+    if has_room t then pends t v s least q.id [] else answers_with t v (refused t.mode x.generation Busy (new_open v s least))
 open_asked t v s least x None = open_cached t v s least x (look s x.generation t.floor t.cache)
 
 -- by the verdict of its context under the floor

@@ -39,10 +39,23 @@ reads t v id offset count (Some q) =
 -- it replies
 unfoldable pub replies : Table → Store → Outcome → Option Question → Reaction
 replies t v outcome None = only t v NoWaiter
-replies t v (Failed cause) (Some q) = record { table = ended t q (Some context.Modified); volume = v; answers = by_mode t v ScanFailed (opens_of q.id t.pended); messages = []; note = Quiet }
+replies t v (Failed cause) (Some q) =
+    record {
+      table = ended t q (Some context.Modified);
+      volume = v;
+      answers = by_mode t v ScanFailed (opens_of q.id t.pended);
+      messages = [];
+      note = Quiet;
+    }
 replies t v (Judged version r) (Some q) =
     if nat_lt version t.floor then again t v q []
-    else record { table = settled t q version r; volume = v; answers = all_judged r q.generation version (opens_of q.id t.pended); messages = []; note = Quiet }
+    else record {
+      table = settled t q version r;
+      volume = v;
+      answers = all_judged r q.generation version (opens_of q.id t.pended);
+      messages = [];
+      note = Quiet;
+    }
 
 -- what each message does; those that only a filter sends do nothing
 unfoldable pub receives : Table → Store → Body → Reaction

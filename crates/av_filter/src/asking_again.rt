@@ -65,7 +65,8 @@ fn ask_anew(
     requires room { vec_len answers.old + length (opens_of question.now.id table.old.pended) ≤ vec_capacity answers.old }
     ensures id { IfOk result (λ id. id ≡ next_id table.old) }
     ensures can { OnOk result (IsId (next_id table.old)) }
-    ensures answers { OnOk result (answers.new.items ≡ answers.old.items ++ by_mode table.old volume.now Unsettled (filter (is_lost question.now.id) table.old.pended)) }
+    ensures answers { OnOk result (answers.new.items
+        ≡ answers.old.items ++ by_mode table.old volume.now Unsettled (filter (is_lost question.now.id) table.old.pended)) }
     ensures table { OnOk result (table.new ≡ asked_again table.old volume.now question.now) }
     ensures err { OnErr result (table.new ≡ table.old) }
 {

@@ -45,7 +45,9 @@ pub(crate) fn rewrite(
     rewriting: Rewriting<'_>,
 ) -> Result<Out, Refusal<FilterFault>>
     requires { IsReady table.old volume.old }
-    ensures { Meets table.old volume.old table.new volume.new result (option_map fault.Store (result_err (change_of volume.old (change_by stream rewriting.entry)))) (rewritten table.old (changed_volume volume.old (change_by stream rewriting.entry)) stream (question_of stream table.old.questions)) }
+    ensures { Meets table.old volume.old table.new volume.new result
+        (option_map fault.Store (result_err (change_of volume.old (change_by stream rewriting.entry)))) (rewritten table.old
+        (changed_volume volume.old (change_by stream rewriting.entry)) stream (question_of stream table.old.questions)) }
 {
     if let Some(fault) = rewriting.refusal(volume, stream) {
         return Err(Refusal::Fault(FilterFault::Store(fault)));
@@ -69,7 +71,8 @@ fn rewrite_asked(
     requires ready { IsReady table.old volume.old }
     requires runs { IsRunning table.old question.now }
     requires accepted { result_err (change_of volume.old (change_by question.now.stream rewriting)) ≡ None }
-    ensures { MeetsAlways table.old volume.old table.new volume.new result (again table.old (changed_volume volume.old (change_by question.now.stream rewriting.entry)) question.now (Abort question.now.id ∷ [])) }
+    ensures { MeetsAlways table.old volume.old table.new volume.new result (again table.old
+        (changed_volume volume.old (change_by question.now.stream rewriting.entry)) question.now (Abort question.now.id ∷ [])) }
 {
     let mut answers = room_for(table, alloc, question)?;
     let abort = Message::abort(question.id);
@@ -117,7 +120,8 @@ fn ask_anew_after(
     ensures id { IfOk result (λ id. id ≡ next_id table.old) }
     ensures can { OnOk result (IsId (next_id table.old)) }
     ensures volume { OnOk result (change_of volume.old (change_by question.now.stream rewriting.entry) ≡ Ok volume.new) }
-    ensures answers { OnOk result (answers.new.items ≡ answers.old.items ++ by_mode table.old volume.new Unsettled (filter (is_lost question.now.id) table.old.pended)) }
+    ensures answers { OnOk result (answers.new.items
+        ≡ answers.old.items ++ by_mode table.old volume.new Unsettled (filter (is_lost question.now.id) table.old.pended)) }
     ensures table { OnOk result (table.new ≡ asked_again table.old volume.new question.now) }
     ensures err { OnErr result ((table.new ≡ table.old) × (volume.new ≡ volume.old)) }
 {
@@ -134,7 +138,8 @@ pub(crate) fn remove(
     stream: StreamId,
 ) -> Result<Out, Refusal<FilterFault>>
     requires { IsReady table.old volume.old }
-    ensures { Meets table.old volume.old table.new volume.new result (filter_refusal table.old volume.old (Changes (Remove stream))) (changes table.old volume.old (Remove stream)) }
+    ensures { Meets table.old volume.old table.new volume.new result
+        (filter_refusal table.old volume.old (Changes (Remove stream))) (changes table.old volume.old (Remove stream)) }
 {
     if !is_there(volume, stream) {
         return Err(Refusal::Fault(FilterFault::Store(StoreFault::NoStream)));
@@ -174,7 +179,8 @@ pub(crate) fn clean_up(
     stream: StreamId,
 ) -> Result<Out, AllocError>
     requires { IsReady table.old volume.now }
-    ensures { MeetsAlways table.old volume.now table.new volume.now result (cleaned table.old volume.now stream (stream_at stream volume.now.streams)) }
+    ensures { MeetsAlways table.old volume.now table.new volume.now result
+        (cleaned table.old volume.now stream (stream_at stream volume.now.streams)) }
 {
     if !is_there(volume, stream) {
         return Ok(Out::says(alloc, Note::NoStream));

@@ -42,7 +42,8 @@ pub(crate) fn refuse(
     cause: Cause,
 ) -> Result<Vec<Answer>, AllocError>
     requires { IsRunning table.old question.now }
-    ensures answers { IfOk result (λ answers. answers.items ≡ by_mode table.old volume.now cause (opens_of question.now.id table.old.pended)) }
+    ensures answers { IfOk result
+        (λ answers. answers.items ≡ by_mode table.old volume.now cause (opens_of question.now.id table.old.pended)) }
     ensures table { OnOk result (table.new ≡ ended table.old question.now (Some Modified)) }
     ensures err { OnErr result (table.new ≡ table.old) }
 {
@@ -68,7 +69,8 @@ pub(crate) fn settle(
     requires runs { IsRunning table.old question.now }
     requires floor { table.old.floor ≤ version }
     requires leasts { MayJudge table.old.floor table.old.pended }
-    ensures answers { IfOk result (λ answers. answers.items ≡ all_judged verdict question.now.generation version (opens_of question.now.id table.old.pended)) }
+    ensures answers { IfOk result (λ answers. answers.items
+        ≡ all_judged verdict question.now.generation version (opens_of question.now.id table.old.pended)) }
     ensures table { OnOk result (table.new ≡ settled table.old question.now version verdict) }
     ensures err { OnErr result (table.new ≡ table.old) }
 {
@@ -107,8 +109,10 @@ fn answer_opens(
     answers: &mut Vec<Answer>,
 )
     requires there { IsSome (question_at (id_of table.old.boot question) table.old.questions) }
-    requires room { vec_len answers.old + length (opens_of (id_of table.old.boot question) table.old.pended) ≤ vec_capacity answers.old }
-    ensures answers { answers.new.items ≡ answers.old.items ++ all_told table.old volume.now ending (opens_of (id_of table.old.boot question) table.old.pended) }
+    requires room { vec_len answers.old + length (opens_of (id_of table.old.boot question) table.old.pended)
+        ≤ vec_capacity answers.old }
+    ensures answers { answers.new.items ≡ answers.old.items
+        ++ all_told table.old volume.now ending (opens_of (id_of table.old.boot question) table.old.pended) }
     ensures table { table.new ≡ record table.old { pended = other_opens (id_of table.old.boot question) table.old.pended } }
 {
     let mode = table.mode();

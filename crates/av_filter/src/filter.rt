@@ -53,7 +53,8 @@ impl Filter {
         limits: Limits,
     ) -> Result<Filter, Refusal<BootSpent>>
         requires { AreInBounds volume.old }
-        ensures ok { IfOk result (λ f. (f ≡ mounted mode limits volume.new.boot) × (mount_of volume.old ≡ Ok (volume.new.boot, volume.new))) }
+        ensures ok { IfOk result (λ f. (f ≡ mounted mode limits volume.new.boot)
+            × (mount_of volume.old ≡ Ok (volume.new.boot, volume.new))) }
         ensures err { OnErr result (volume.new ≡ volume.old) }
         ensures why { IfErr result (λ e. Reads (Err e) (mount_of volume.old)) }
         ensures fits { IfOk result (λ f. Fits f volume.new) }
@@ -81,7 +82,8 @@ impl Filter {
     ) -> Result<Out, Refusal<FilterFault>>
         requires fits { Fits self.old volume.old }
         requires bounds { AreInBounds volume.old }
-        ensures event { Meets self.old volume.old self.new volume.new result (filter_refusal self.old volume.old (Opens stream least)) (opened self.old volume.old stream least) }
+        ensures event { Meets self.old volume.old self.new volume.new result
+            (filter_refusal self.old volume.old (Opens stream least)) (opened self.old volume.old stream least) }
         ensures fits { OnOk result (Fits self.new volume.new) }
         ensures bounds { OnOk result (AreInBounds volume.new) }
     {
@@ -107,7 +109,8 @@ impl Filter {
     ) -> Result<Out, Refusal<FilterFault>>
         requires fits { Fits self.old volume.old }
         requires bounds { AreInBounds volume.old }
-        ensures event { Meets self.old volume.old self.new volume.new result (filter_refusal self.old volume.old (Changes (Write stream offset bytes.now))) (changes self.old volume.old (Write stream offset bytes.now)) }
+        ensures event { Meets self.old volume.old self.new volume.new result (filter_refusal self.old volume.old
+            (Changes (Write stream offset bytes.now))) (changes self.old volume.old (Write stream offset bytes.now)) }
         ensures fits { OnOk result (Fits self.new volume.new) }
         ensures bounds { OnOk result (AreInBounds volume.new) }
     {
@@ -126,7 +129,8 @@ impl Filter {
     ) -> Result<Out, Refusal<FilterFault>>
         requires fits { Fits self.old volume.old }
         requires bounds { AreInBounds volume.old }
-        ensures event { Meets self.old volume.old self.new volume.new result (filter_refusal self.old volume.old (Changes (Cut stream length))) (changes self.old volume.old (Cut stream length)) }
+        ensures event { Meets self.old volume.old self.new volume.new result (filter_refusal self.old volume.old
+            (Changes (Cut stream length))) (changes self.old volume.old (Cut stream length)) }
         ensures fits { OnOk result (Fits self.new volume.new) }
         ensures bounds { OnOk result (AreInBounds volume.new) }
     {
@@ -144,7 +148,8 @@ impl Filter {
     ) -> Result<Out, Refusal<FilterFault>>
         requires fits { Fits self.old volume.old }
         requires bounds { AreInBounds volume.old }
-        ensures event { Meets self.old volume.old self.new volume.new result (filter_refusal self.old volume.old (Changes (Remove stream))) (changes self.old volume.old (Remove stream)) }
+        ensures event { Meets self.old volume.old self.new volume.new result
+            (filter_refusal self.old volume.old (Changes (Remove stream))) (changes self.old volume.old (Remove stream)) }
         ensures fits { OnOk result (Fits self.new volume.new) }
         ensures bounds { OnOk result (AreInBounds volume.new) }
     {
@@ -161,7 +166,8 @@ impl Filter {
     ) -> Result<Out, AllocError>
         requires fits { Fits self.old volume.now }
         requires bounds { AreInBounds volume.now }
-        ensures event { MeetsAlways self.old volume.now self.new volume.now result (cleaned self.old volume.now stream (stream_at stream volume.now.streams)) }
+        ensures event { MeetsAlways self.old volume.now self.new volume.now result
+            (cleaned self.old volume.now stream (stream_at stream volume.now.streams)) }
         ensures fits { OnOk result (Fits self.new volume.now) }
     {
         changing::clean_up(&mut self.table, alloc, volume, stream)
@@ -188,7 +194,8 @@ impl Filter {
     pub fn timeout(&mut self, alloc: Global, volume: &Volume, seq: u64) -> Result<Out, AllocError>
         requires fits { Fits self.old volume.now }
         requires bounds { AreInBounds volume.now }
-        ensures event { MeetsAlways self.old volume.now self.new volume.now result (filter_step self.old volume.now (TimesOut seq)) }
+        ensures event { MeetsAlways self.old volume.now self.new volume.now result
+            (filter_step self.old volume.now (TimesOut seq)) }
         ensures fits { OnOk result (Fits self.new volume.now) }
     {
         time_out(&mut self.table, alloc, volume, seq)

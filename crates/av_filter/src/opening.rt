@@ -84,7 +84,8 @@ fn open_unjudged(
     requires ready { IsReady table.old volume.now }
     requires arrival { IsArrival arrival.now table.old volume.now }
     requires unjudged { current (context_of table.old.contexts arrival.now.stream) arrival.now.floor ≡ None }
-    ensures ok { IfOk result (λ out. Reacts out table.new (taken volume.now) (opened table.old volume.now arrival.now.stream arrival.now.least)) }
+    ensures ok { IfOk result
+        (λ out. Reacts out table.new (taken volume.now) (opened table.old volume.now arrival.now.stream arrival.now.least)) }
     ensures err { OnErr result (table.new ≡ table.old) }
 {
     if let Some(question) = running_of(table, arrival.stream) {
@@ -112,7 +113,8 @@ fn join(
     requires unjudged { current (context_of table.old.contexts arrival.now.stream) arrival.now.floor ≡ None }
     requires asked { question_of arrival.now.stream table.old.questions ≡ Some question.now }
     requires runs { IsRunning table.old question.now }
-    ensures ok { IfOk result (λ out. Reacts out table.new (taken volume.now) (opened table.old volume.now arrival.now.stream arrival.now.least)) }
+    ensures ok { IfOk result
+        (λ out. Reacts out table.new (taken volume.now) (opened table.old volume.now arrival.now.stream arrival.now.least)) }
     ensures err { OnErr result (table.new ≡ table.old) }
 {
     let _fits = volume.opens_left();
@@ -137,8 +139,10 @@ fn open_known(
     requires arrival { IsArrival arrival.now table.old volume.now }
     requires unjudged { current (context_of table.old.contexts arrival.now.stream) arrival.now.floor ≡ None }
     requires unasked { question_of arrival.now.stream table.old.questions ≡ None }
-    requires hit { Some verdict ≡ option_map verdict_of (look arrival.now.stream arrival.now.generation arrival.now.floor table.old.cache) }
-    ensures ok { IfOk result (λ out. Reacts out table.new (taken volume.now) (opened table.old volume.now arrival.now.stream arrival.now.least)) }
+    requires hit { Some verdict
+        ≡ option_map verdict_of (look arrival.now.stream arrival.now.generation arrival.now.floor table.old.cache) }
+    ensures ok { IfOk result
+        (λ out. Reacts out table.new (taken volume.now) (opened table.old volume.now arrival.now.stream arrival.now.least)) }
     ensures err { OnErr result (table.new ≡ table.old) }
 {
     let _fits = volume.opens_left();
@@ -172,7 +176,8 @@ fn open_unknown(
     requires unjudged { current (context_of table.old.contexts arrival.now.stream) arrival.now.floor ≡ None }
     requires unasked { question_of arrival.now.stream table.old.questions ≡ None }
     requires miss { look arrival.now.stream arrival.now.generation arrival.now.floor table.old.cache ≡ None }
-    ensures ok { IfOk result (λ out. Reacts out table.new (taken volume.now) (opened table.old volume.now arrival.now.stream arrival.now.least)) }
+    ensures ok { IfOk result
+        (λ out. Reacts out table.new (taken volume.now) (opened table.old volume.now arrival.now.stream arrival.now.least)) }
     ensures err { OnErr result (table.new ≡ table.old) }
 {
     if !has_room(table) {
@@ -222,7 +227,10 @@ fn refuse_at_once(
     arrival: &Arrival,
     cause: Cause,
 ) -> Result<Out, AllocError>
-    ensures ok { IfOk result (λ out. IsAnswered out table.old table.new arrival.now.open_id arrival.now.least (refused table.old.mode arrival.now.generation cause (waiting_from arrival.now.open_id arrival.now.stream arrival.now.least))) }
+    ensures ok { IfOk result
+        (λ out. IsAnswered out table.old table.new arrival.now.open_id arrival.now.least
+        (refused table.old.mode arrival.now.generation cause
+        (waiting_from arrival.now.open_id arrival.now.stream arrival.now.least))) }
     ensures err { OnErr result (table.new ≡ table.old) }
 {
     let answer = arrival

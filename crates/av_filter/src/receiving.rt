@@ -82,7 +82,9 @@ fn read(
 ) -> Result<Out, AllocError>
     requires ready { IsReady table.now volume.now }
     requires asked { IsInRange (Read id offset count) }
-    ensures { IfOk result (λ out. Reacts out table.now volume.now (reads table.now volume.now id offset count (question_at id table.now.questions))) }
+    ensures { IfOk result
+        (λ out. Reacts out table.now volume.now
+        (reads table.now volume.now id offset count (question_at id table.now.questions))) }
 {
     let Some(question) = running_at(table, id) else {
         return Out::sends(
@@ -111,7 +113,8 @@ fn reply(
     outcome: Outcome,
 ) -> Result<Out, AllocError>
     requires { IsReady table.old volume.now }
-    ensures { MeetsAlways table.old volume.now table.new volume.now result (replies table.old volume.now outcome (question_at id table.old.questions)) }
+    ensures { MeetsAlways table.old volume.now table.new volume.now result
+        (replies table.old volume.now outcome (question_at id table.old.questions)) }
 {
     let Some(question) = running_at(table, id) else {
         return Ok(Out::says(alloc, Note::NoWaiter));

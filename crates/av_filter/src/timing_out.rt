@@ -24,7 +24,8 @@ pub(crate) fn time_out(
     seq: u64,
 ) -> Result<Out, AllocError>
     requires { IsReady table.old volume.now }
-    ensures { MeetsAlways table.old volume.now table.new volume.now result (times_out table.old volume.now (question_at (id_of table.old.boot seq) table.old.questions)) }
+    ensures { MeetsAlways table.old volume.now table.new volume.now result
+        (times_out table.old volume.now (question_at (id_of table.old.boot seq) table.old.questions)) }
 {
     let id = MessageId {
         boot: table.boot(),
