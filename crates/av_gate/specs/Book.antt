@@ -41,6 +41,7 @@ state_of b = filter_end (table_at_first b) b.start b.events
 abbrev pub reaction_to : Book → FilterEvent → Reaction
 reaction_to b e = filter_step (state_of b).table (state_of b).volume e
 
+-- the entry of an event with what its reaction gave out
 abbrev pub replied : FilterEvent → Reaction → FilterEntry
 replied e r = record { event = e; answers = r.answers; messages = r.messages; note = r.note }
 
@@ -50,15 +51,19 @@ with_event b e = record b { events = b.events ++ replied e (reaction_to b e) ∷
 
 -- what the caller is told of it: its place in the audit, its note, the floor after it, and how much it gave out
 abbrev pub settled : ℕ → Reaction → Settled
-settled place r = record { place = place; note = r.note; floor = r.table.floor; answers = length r.answers; messages = length r.messages }
+settled place r =
+    record { place = place; note = r.note; floor = r.table.floor; answers = length r.answers; messages = length r.messages }
 
+-- an event happens unless the filter refuses it
 abbrev pub unless_refused : Book → FilterEvent → Option FilterFault → Result (Settled × Book) GateFault
 unless_refused b e (Some f) = Err (Filter f)
 unless_refused b e None = Ok (settled (length b.events) (reaction_to b e), with_event b e)
 
 -- an event is refused by a full audit first and then by the filter, and else happens
 abbrev pub happens : Book → FilterEvent → Result (Settled × Book) GateFault
-happens b e = if nat_le b.limits.audit (length b.events) then Err AuditFull else unless_refused b e (filter_refusal (state_of b).table (state_of b).volume e)
+happens b e =
+    if nat_le b.limits.audit (length b.events) then Err AuditFull
+    else unless_refused b e (filter_refusal (state_of b).table (state_of b).volume e)
 
 -- the same of an answer with a ticket beside it
 abbrev pub settled_of : {T E : Type 0} → Result (T × Settled) E → Result Settled E
@@ -69,6 +74,7 @@ settled_of (Err why) = Err why
 abbrev pub messages_of : List FilterEntry → List Body
 messages_of es = flat_map (λ x. x.messages) es
 
+-- the messages that were not taken yet
 abbrev pub waiting_of : Book → List Body
 waiting_of b = messages_of (drop b.sent b.events)
 
@@ -77,6 +83,7 @@ abbrev pub number_or_none : Option ℕ → ℕ
 number_or_none None = 0
 number_or_none (Some s) = s
 
+-- the number of the stream of this name, or one that no stream has
 abbrev pub stream_of : Store → List ℕ → ℕ
 stream_of v name = number_or_none (number_named name v.streams)
 

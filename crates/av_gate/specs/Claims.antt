@@ -27,7 +27,8 @@ event_called v call.Disconnect = Disconnects
 
 -- the event at the call's place is the call, with the call's note
 abbrev pub Matches : Store → List FilterEntry → SeatCall → Type 0
-Matches v events c = (x : FilterEntry) × (slice_get events c.place ≡ Some x) × (x.event ≡ event_called v c.call) × (x.note ≡ c.note)
+Matches v events c =
+    (x : FilterEntry) × (slice_get events c.place ≡ Some x) × (x.event ≡ event_called v c.call) × (x.note ≡ c.note)
 
 -- the calls' places rise, none below low, and each event there is the call
 abbrev pub RisesFrom : Store → ℕ → List SeatCall → List FilterEntry → Type 0
@@ -43,6 +44,7 @@ abbrev pub PlacesRise : ℕ → List SeatCall → Type 0
 PlacesRise low [] = Unit {0}
 PlacesRise low (c ∷ cs) = (low ≤ c.place) × PlacesRise (c.place + 1) cs
 
+-- the calls of a seat stand in the order of their places
 pub record InOrder (s : Seat) : Type 0 where
   pub places : PlacesRise 0 s.calls.items
 
@@ -50,6 +52,7 @@ pub record InOrder (s : Seat) : Type 0 where
 abbrev pub times_in : ℕ → Seat → ℕ
 times_in place s = count_by (λ c. c.place == place) s.calls.items
 
+-- how often the seats claim a place
 abbrev pub times : ℕ → List Seat → ℕ
 times place seats = sum_by (times_in place) seats
 
@@ -70,17 +73,15 @@ Stands events r = answers_to r.open_id events ≡ r.answer ∷ []
 abbrev pub table_of : Audit → Table
 table_of a = mounted a.mode a.limits a.volume.boot
 
+-- what the audit has is a history of the filter
 abbrev pub IsLegal : Audit → Type 0
 IsLegal a = IsFilterAudit (table_of a) a.volume a.events.items
 
+-- where the audit leads
 abbrev pub end_of : Audit → Kept
 end_of a = filter_end (table_of a) a.volume a.events.items
 
--- for the tests: 1 where something was seen, and the receipt's answer where it was
+-- for the tests: 1 where something was seen
 abbrev pub digit : Bool → ℕ
 digit true = 1
 digit false = 0
-
-abbrev pub shown : Bool → Receipt → List Answer
-shown true r = r.answer ∷ []
-shown false r = []

@@ -9,6 +9,7 @@ use Rattle.av_gate.specs.declared.event.Event.TheVariants as event
 use Rattle.av_store.specs.Files.{Write}
 use Rattle.av_store.specs.Store.{Store}
 
+-- the filter's event
 abbrev pub event_of : Event → FilterEvent
 event_of (event.Open s least) = Opens s least
 event_of (event.Write s offset bytes) = Changes (Write s offset bytes)
@@ -17,7 +18,8 @@ event_of (event.Receive m) = Receives m
 event_of (event.TimeOut seq) = TimesOut seq
 event_of event.Disconnect = Disconnects
 
--- A call took table and volume to t' and v'. It gave out what the conduct says of an event that is not refused, or nothing has changed
+-- A call took table and volume to t' and v'. It gave out what the conduct says of an event that is not refused, or nothing
+-- has changed
 abbrev pub Did : Table → Store → Table → Store → FilterEvent → Option Out → Type 0
 Did t v t' v' e None = (t' ≡ t) × (v' ≡ v)
 Did t v t' v' e (Some out) = (filter_refusal t v e ≡ None) × Reacts out t' v' (filter_step t v e)

@@ -22,6 +22,7 @@ floor_seen s = seen s.floor
 abbrev pub calls_of : Seat → List SeatCall
 calls_of s = s.calls.items
 
+-- a call of a seat, with its place among the events and its note
 abbrev pub seat_call : ℕ → Call → Note → SeatCall
 seat_call place c note = record { place = place; call = c; note = note }
 
@@ -32,5 +33,6 @@ Adds old new c (Err why) = calls_of new ≡ calls_of old
 
 -- the same of an open, which has its ticket's least and number
 abbrev pub AddsOpen : {E : Type 0} → Seat → Seat → List ℕ → Result Ticket E → Type 0
-AddsOpen old new name (Ok t) = (place : ℕ) × (calls_of new ≡ calls_of old ++ seat_call place (call.Open name t.least) (Submitted t.open_id) ∷ [])
+AddsOpen old new name (Ok t) =
+    (place : ℕ) × (calls_of new ≡ calls_of old ++ seat_call place (call.Open name t.least) (Submitted t.open_id) ∷ [])
 AddsOpen old new name (Err why) = calls_of new ≡ calls_of old

@@ -1,7 +1,6 @@
 use crate::entry::Entry;
-use av_base::limits::Limits;
-use av_base::mode::Mode;
-use av_store::volume::Volume;
+use av_base::{Limits, Mode};
+use av_store::Volume;
 
 /// All that happened to the filter of one gate: the volume as the mount left it, mode and limits, and the events in their
 /// order, each with what the filter gave out.

@@ -1,9 +1,8 @@
 ghost use Rattle.std.specs.Prelude.{◌≡◌, IfOk};
 ghost use Rattle.av_gate.specs.declared.call.Call.TheVariants as call;
 
-use av_base::byte_list::ByteList;
-use av_base::number::Version;
-use av_frame::message::Message;
+use av_base::{ByteList, Version};
+use av_frame::Message;
 use std::alloc::{AllocError, Global};
 
 /// What a caller asked of a gate, with its own arguments.

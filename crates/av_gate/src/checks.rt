@@ -1,16 +1,14 @@
 // The tests of a gate's end. They take no memory.
-ghost use Rattle.std.specs.Prelude.{◌≡◌, ◌≤◌, ◌<◌, ◌+◌, ◌==◌, ℕ, IsTrue, IfSome, Some, length, [], ◌∷◌, ◌++◌};
-ghost use Rattle.std.specs.List.{All, count_by, filter};
-ghost use Rattle.av_gate.specs.Claims.{AreCallsOf, InOrder, Matches, PlacesRise, Rises, Stands, digit, shown, times};
-ghost use Rattle.av_pend.specs.Pend.{open_of};
+ghost use Rattle.std.specs.Prelude.{◌≡◌, ◌≤◌, ◌<◌, ◌+◌, ◌==◌, ℕ, IsTrue};
+ghost use Rattle.std.specs.List.{All, count_by};
+ghost use Rattle.av_gate.specs.Claims.{AreCallsOf, InOrder, Matches, PlacesRise, Rises, Stands, digit, times};
 
 use crate::entry::Entry;
-use crate::locked::open_of;
+use crate::locked::Locked;
 use crate::same::is_called;
 use crate::seat::{Seat, SeatCall};
-use av_ends::ticket::Receipt;
-use av_pend::answer::Answer;
-use av_store::volume::Volume;
+use av_ends::Receipt;
+use av_store::Volume;
 
 /// Whether the seats' calls are the events, each once and in each seat's order, their names read in the opening volume.
 pub(crate) fn are_calls_of(seats: &[Seat], start: &Volume, events: &[Entry]) -> bool
@@ -107,41 +105,13 @@ fn has_place(calls: &[SeatCall], place: usize) -> bool
 }
 
 /// Whether each receipt's answer is its open's one answer.
-pub(crate) fn all_stand(events: &[Entry], receipts: &[Receipt]) -> bool
-    ensures { IsTrue result → All (Stands events.now) receipts.now }
+pub(crate) fn all_stand(locked: &Locked, receipts: &[Receipt]) -> bool
+    ensures { IsTrue result → All (Stands locked.now.events) receipts.now }
 {
     for receipt in receipts {
-        if !stands(events, receipt) {
+        if !locked.stands(receipt) {
             return false;
         }
     }
     true
-}
-
-fn stands(events: &[Entry], receipt: &Receipt) -> bool
-    ensures { IsTrue result → Stands events.now receipt.now }
-{
-    let mut seen = false;
-    for entry in events {
-        let Some(now) = find(entry.answers(), receipt, seen) else {
-            return false;
-        };
-        seen = now;
-    }
-    seen
-}
-
-// Goes on from an answer that was seen, or not yet. None where another comes.
-fn find(answers: &[Answer], receipt: &Receipt, mut seen: bool) -> Option<bool>
-    ensures { IfSome result (λ now. shown seen receipt.now ++ filter (λ a. open_of a == receipt.now.open_id) answers.now ≡ shown now receipt.now) }
-{
-    for answer in answers {
-        if open_of(*answer) == receipt.open_id {
-            if seen || *answer != receipt.answer {
-                return None;
-            }
-            seen = true;
-        }
-    }
-    Some(seen)
 }

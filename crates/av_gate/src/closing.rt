@@ -9,7 +9,7 @@ use crate::checks::{all_stand, are_calls_of};
 use crate::gate::{Gate, Inner};
 use crate::locked::Locked;
 use crate::seat::Seat;
-use av_ends::ticket::Receipt;
+use av_ends::Receipt;
 use std::sync::Mutex;
 
 /// Why a gate is not closed, in the order of the tests.
@@ -32,16 +32,18 @@ pub struct Unclosed {
 
 impl Gate {
     ghost use Rattle.av_gate.specs.Claims.{IsLegal, end_of};
+    ghost use Rattle.av_gate.specs.Seats.{IsSeatOf};
 
     /// Ends the gate and gives its audit: Held, Mismatch, all handed back. All seats of the gate have to be there that made a
     /// call; nothing is asked of them. It takes no memory and no lock. The seats cost the logarithm of their calls for each
-    /// event, a receipt all events.
+    /// event, a receipt a look at one place.
     pub fn close(self, seats: Vec<Seat>, receipts: Vec<Receipt>) -> Result<Audit, Unclosed>
         ensures legal { IfOk result (λ a. IsLegal a) }
         ensures calls { IfOk result (λ a. AreCallsOf seats.items a.volume a.events.items) }
         ensures receipts { IfOk result (λ a. All (Stands a.events.items) receipts.items) }
         ensures idle { IfOk result (λ a. (end_of a).table.questions ≡ []) }
         ensures back { IfErr result (λ e. (e.seats ≡ seats) × (e.receipts ≡ receipts)) }
+        ensures gate { IfErr result (λ e. (seat : Seat) → IsSeatOf self seat → IsSeatOf e.gate seat) }
     {
         let Gate {
             inner,
@@ -84,9 +86,7 @@ fn refusal(locked: &Locked, seats: &[Seat], receipts: &[Receipt]) -> Option<Clos
     if locked.is_asking() {
         return Some(CloseFault::Held);
     }
-    if !are_calls_of(seats, locked.start(), locked.events())
-        || !all_stand(locked.events(), receipts)
-    {
+    if !are_calls_of(seats, locked.start(), locked.events()) || !all_stand(locked, receipts) {
         return Some(CloseFault::Mismatch);
     }
     None

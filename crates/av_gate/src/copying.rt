@@ -1,8 +1,8 @@
-ghost use Rattle.std.specs.Prelude.{◌≡◌, ◌≤◌, ◌++◌, IfOk, OnOk, drop, length};
+ghost use Rattle.std.specs.Prelude.{◌≡◌, ◌≢◌, ◌≤◌, ◌<◌, ◌++◌, [], IfOk, OnOk, drop, length};
 ghost use Rattle.av_gate.specs.Book.{messages_of};
 
 use crate::entry::Entry;
-use av_frame::message::Message;
+use av_frame::Message;
 use std::alloc::{AllocError, Global};
 
 /// The messages of these events, in their order.
@@ -29,6 +29,7 @@ fn add_copies(messages: &mut Vec<Message>, more: &[Message]) -> Result<(), Alloc
 /// How many events there are before the first that sent a message.
 pub(crate) fn quiet_ones(entries: &[Entry]) -> usize
     ensures within { result ≤ length entries.now }
+    ensures stopped { result < length entries.now → messages_of entries.now ≢ [] }
     ensures waiting { messages_of (drop result entries.now) ≡ messages_of entries.now }
 {
     let mut count = 0;

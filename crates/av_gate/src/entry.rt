@@ -2,10 +2,9 @@ ghost use Rattle.std.specs.Prelude.{◌≡◌};
 ghost use Rattle.av_gate.specs.Events.{event_of};
 
 use crate::event::Event;
-use av_filter::note::Note;
-use av_filter::out::Out;
-use av_frame::message::Message;
-use av_pend::answer::Answer;
+use av_filter::{Note, Out};
+use av_frame::Message;
+use av_pend::Answer;
 use std::marker::Model;
 
 /// One event of an audit, with all that the filter gave out.

@@ -1,6 +1,5 @@
-use av_base::byte_list::ByteList;
-use av_base::number::{StreamId, Version};
-use av_frame::message::Message;
+use av_base::{ByteList, StreamId, Version};
+use av_frame::Message;
 
 /// What happened to the filter behind a gate. A name that no stream has is stream 0.
 #[derive(Debug, Drop)]

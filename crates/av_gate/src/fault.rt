@@ -1,4 +1,4 @@
-use av_filter::fault::FilterFault;
+use av_filter::FilterFault;
 use thiserror::Error;
 
 /// Why an event of a gate is refused, in the order of the tests.

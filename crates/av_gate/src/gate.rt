@@ -1,4 +1,4 @@
-ghost use Rattle.std.specs.Prelude.{◌≡◌, ◌≤◌, ◌<◌, ◌++◌, ◌∷◌, [], Ok, Err, Some, IfOk, IfErr, IfSome, IsSome, vec_len};
+ghost use Rattle.std.specs.Prelude.{◌≡◌, ◌≢◌, ◌≤◌, ◌<◌, ◌++◌, ◌∷◌, [], Ok, Err, Some, IfOk, IfErr, IfSome, IsSome, IsSomeAnd, vec_len};
 ghost use Rattle.std.specs.Vec.{vec_capacity};
 ghost use Rattle.av_base.specs.Answers.{Reads};
 ghost use Rattle.av_filter.specs.Bounds.{AreInBounds};
@@ -11,18 +11,12 @@ use crate::fault::GateFault;
 use crate::locked::Locked;
 use crate::seat::{Seat, SeatCall};
 use crate::settled::Settled;
-use av_base::limits::Limits;
-use av_base::mode::Mode;
-use av_base::number::Version;
-use av_base::refusal::{Refusal, Refused};
-use av_ends::floor::Floor;
-use av_ends::ticket::Ticket;
-use av_ends::ticket_note::TicketNote;
-use av_filter::note::Note;
-use av_frame::message::Message;
-use av_pend::answer::Answer;
-use av_store::fault::BootSpent;
-use av_store::volume::Volume;
+use av_base::{Limits, Mode, Refusal, Refused, Version};
+use av_ends::{Floor, Ticket, TicketNote};
+use av_filter::Note;
+use av_frame::Message;
+use av_pend::Answer;
+use av_store::{BootSpent, Volume};
 use std::alloc::{AllocError, Global};
 use std::sync::{Condvar, Mutex, Wait};
 
@@ -133,7 +127,12 @@ impl Gate {
             .lock(rt)
             .locked
             .open(alloc, call.is_some(), name, least)?;
-        let _ = self.settle(seat, call, settled);
+        // An open answers none but itself, and nobody can wait for that yet.
+        let quiet = Settled {
+            answers: 0,
+            ..settled
+        };
+        let _ = self.settle(seat, call, quiet);
         Ok(ticket)
     }
 
@@ -316,6 +315,32 @@ impl Gate {
         unreachable!()
     }
 
+    /// Waits until a ticket of this gate shows its answer, or the gate is stopped: None where it is stopped and the ticket
+    /// shows none.
+    pub fn wait_or_stop<'t, R: Wait>(
+        &self,
+        rt: &R,
+        ticket: &'t Ticket,
+        note: &mut TicketNote,
+    ) -> Option<&'t Answer>
+        requires { IsNoteOf ticket.now note.old }
+        ensures same { IsNoteOf ticket.entry.now note.new }
+        ensures shown { IfSome result (λ answer. note.new.note.known ≡ Some answer.now) }
+        ensures known { (a : _) → note.old.note.known ≡ Some a → IsSomeAnd result (λ answer. a ≡ answer.now) }
+    {
+        for _ in rt.forever() {
+            let inner = self.inner.lock(rt);
+            if let Some(shown) = ticket.poll(note) {
+                return Some(shown);
+            }
+            if inner.is_stopped {
+                return None;
+            }
+            drop(self.answered.wait(rt, inner));
+        }
+        unreachable!()
+    }
+
     /// The messages that wait to be sent to the service, in their order. Where memory refuses, they stay.
     pub fn take_outgoing<R: Wait>(
         &self,
@@ -330,7 +355,9 @@ impl Gate {
         &self,
         rt: &R,
         alloc: Global,
-    ) -> Result<Option<Vec<Message>>, AllocError> {
+    ) -> Result<Option<Vec<Message>>, AllocError>
+        ensures some { IfOk result (λ waited. IfSome waited (λ messages. messages.items ≢ [])) }
+    {
         let mut inner = self.sent.wait_while(rt, self.inner.lock(rt), |inner| {
             !inner.is_stopped && !inner.locked.has_outgoing()
         });
@@ -342,10 +369,11 @@ impl Gate {
         })
     }
 
-    /// Ends the waits for messages.
+    /// Ends the waits for messages, once those that wait were taken out, and the waits of `wait_or_stop`.
     pub fn stop<R: Wait>(&self, rt: &R) {
         self.inner.lock(rt).is_stopped = true;
         self.sent.notify_all();
+        self.answered.notify_all();
     }
 
     /// Ends the gate at the end of a program: each open that is held is denied, and nobody hears of it.

@@ -3,9 +3,8 @@ ghost use Rattle.av_filter.specs.Fit.{Fits};
 ghost use Rattle.av_gate.specs.Events.{Did, event_of};
 
 use crate::event::Event;
-use av_filter::filter::Filter;
-use av_filter::out::Out;
-use av_store::volume::Volume;
+use av_filter::{Filter, Out};
+use av_store::Volume;
 use std::alloc::Global;
 
 /// Lets an event happen to a filter and its volume. None where that is refused: nothing has changed.

@@ -1,6 +1,7 @@
 //! The gate: the filter behind a lock that many openers use at once, with an audit of every call.
 #![tactic(auto)]
 
+mod answer_place;
 pub mod audit;
 pub mod call;
 mod checks;

@@ -1,16 +1,17 @@
-ghost use Rattle.std.specs.Prelude.{◌≡◌, ◌≤◌, ◌<◌, ◌↔◌, length, Ok, Err, IsOk, IfOk, IfErr, OnOk, OnErr, IsTrue, MatchBool, ◌≢◌, []};
+ghost use Rattle.std.specs.Prelude.{◌≡◌, ◌≤◌, ◌<◌, ◌↔◌, length, Ok, Err, IsOk, IfOk, IfErr, OnOk, OnErr, IsTrue, MatchBool, ◌≢◌, ◌-◌, []};
 ghost use Rattle.av_base.specs.Answers.{Answers, Reads};
 ghost use Rattle.av_filter.specs.Bounds.{AreInBounds};
 ghost use Rattle.av_filter.specs.Conduct.{Changes, CleansUp, Disconnects, Opens, Receives, TimesOut};
 ghost use Rattle.av_filter.specs.declared.note.Note.TheVariants.{Submitted};
 ghost use Rattle.av_gate.specs.Book.{happens, opening, settled_of, state_of, stream_of, waiting_of};
-ghost use Rattle.av_gate.specs.Claims.{IsLegal};
+ghost use Rattle.av_gate.specs.Claims.{IsLegal, Stands};
 ghost use Rattle.av_gate.specs.Events.{event_of};
 ghost use Rattle.av_gate.specs.Versions.{version_shown};
 ghost use Rattle.av_pend.specs.Pend.{open_of};
 ghost use Rattle.av_store.specs.Files.{Write};
 ghost use Rattle.av_store.specs.Store.{mount_of};
 
+use crate::answer_place::AnswerPlace;
 use crate::audit::Audit;
 use crate::copying::{messages_of, quiet_ones};
 use crate::entry::Entry;
@@ -19,19 +20,13 @@ use crate::fault::GateFault;
 use crate::happening::happen;
 use crate::naming::stream_of;
 use crate::settled::Settled;
-use av_base::byte_list::ByteList;
-use av_base::limits::Limits;
-use av_base::mode::Mode;
-use av_base::number::{OpenId, Version};
-use av_base::refusal::{Refusal, Refused};
-use av_ends::ticket::{Due, Ticket};
-use av_filter::fault::FilterFault;
-use av_filter::filter::Filter;
-use av_filter::laws::{events_keep_fit, volumes_stay_in_bounds};
-use av_frame::message::Message;
-use av_pend::answer::Answer;
-use av_store::fault::BootSpent;
-use av_store::volume::Volume;
+use av_base::{ByteList, Limits, Mode, OpenId, Refusal, Refused, Version};
+use av_ends::{Due, Receipt, Ticket};
+use av_filter::laws::{audits_answer_once, events_keep_fit, volumes_stay_in_bounds};
+use av_filter::{Filter, FilterFault};
+use av_frame::Message;
+use av_pend::Answer;
+use av_store::{BootSpent, Volume};
 use std::alloc::{AllocError, Global};
 use std::collections::BTreeMap;
 use std::marker::Model;
@@ -48,6 +43,8 @@ pub struct Locked {
     sent: usize,
     // The other ends of the tickets whose opens wait, by their opens' numbers.
     owed: BTreeMap<u64, Due>,
+    // Where each open's answer stands, by the order of the opens. No contract sees it: what is found there is looked at.
+    places: Vec<AnswerPlace>,
 }
 
 impl Model for Locked {
@@ -94,6 +91,7 @@ impl Locked {
             events: Vec::new(alloc),
             sent: 0,
             owed: BTreeMap::new(alloc),
+            places: Vec::new(alloc),
         })
     }
 
@@ -123,6 +121,7 @@ impl Locked {
             Ok(settled) => Ok((ticket, settled)),
             Err(why) => {
                 let _ = self.owed.remove(&open_id.get());
+                let _ = self.places.pop();
                 Err(why)
             }
         }
@@ -253,19 +252,30 @@ impl Locked {
             answers: out.answers.len(),
             messages: out.messages.len(),
         };
+        let before = u64::MAX - self.start.opens_left();
         show(&mut self.owed, out.answers.as_slice());
+        place(
+            &mut self.places,
+            before,
+            settled.place,
+            out.answers.as_slice(),
+        );
         self.events.push_reserved(Entry::new(event, out));
         Ok(settled)
     }
 
-    // A ticket for the open of this number, whose answer is owed from now on.
+    // A ticket for the open of this number, whose answer is owed from now on and has room for its place.
     fn owe(&mut self, alloc: Global, open_id: OpenId, least: Version) -> Result<Ticket, AllocError>
         ensures same { self.new ≡ self.old }
         ensures ticket { IfOk result (λ t. (t.open_id ≡ open_id) × (t.least ≡ least)) }
     {
+        self.places.reserve(1)?;
         let (ticket, due) = Ticket::new(alloc, open_id, least)?;
         match self.owed.insert(open_id.get(), due) {
-            Ok(_) => Ok(ticket),
+            Ok(_) => {
+                self.places.push_reserved(AnswerPlace::NOWHERE);
+                Ok(ticket)
+            }
             Err(_) => Err(AllocError),
         }
     }
@@ -290,6 +300,7 @@ impl Locked {
 
     /// Whether a message waits. Events that sent none are passed over for good, so that none is looked at twice.
     pub fn has_outgoing(&mut self) -> bool
+        ensures told { MatchBool result (waiting_of self.old ≢ []) (waiting_of self.old ≡ []) }
         ensures sent { self.new ≡ record self.old { sent = self.new.sent } }
         ensures waiting { waiting_of self.new ≡ waiting_of self.old }
     {
@@ -318,6 +329,24 @@ impl Locked {
         self.filter.question_count() > 0
     }
 
+    /// Whether a receipt's answer is its open's one answer in the audit. It looks at one place: no audit answers an open twice.
+    pub fn stands(&self, receipt: &Receipt) -> bool
+        ensures { IsTrue result → Stands self.now.events receipt.now }
+    {
+        audits_answer_once();
+        let before = u64::MAX - self.start.opens_left();
+        let Some(place) = self.places.get(order_of(receipt.open_id, before)) else {
+            return false;
+        };
+        let Some(entry) = self.events.get(place.event) else {
+            return false;
+        };
+        let Some(answer) = entry.answers().get(place.answer) else {
+            return false;
+        };
+        is_told(answer, receipt)
+    }
+
     /// Ends it, and gives its audit. Opens that are held are denied, and nobody hears of it.
     pub fn into_audit(self) -> Audit
         ensures audit { (result.volume ≡ self.start) × (result.mode ≡ self.mode) × (result.limits ≡ self.limits) × (result.events.items ≡ self.events) }
@@ -332,6 +361,7 @@ impl Locked {
             events,
             sent: _,
             owed: _,
+            places: _,
         } = self;
         filter.abandon();
         Audit {
@@ -353,6 +383,7 @@ impl Locked {
             events: _,
             sent: _,
             owed: _,
+            places: _,
         } = self;
         filter.abandon();
     }
@@ -367,8 +398,31 @@ fn show(owed: &mut BTreeMap<u64, Due>, answers: &[Answer]) {
     }
 }
 
+// Keeps where the answers of an event stand. It takes no memory.
+fn place(places: &mut Vec<AnswerPlace>, before: u64, event: usize, answers: &[Answer]) {
+    for (i, answer) in answers.iter().enumerate() {
+        if let Some(place) = places.get_mut(order_of(open_of(*answer), before)) {
+            *place = AnswerPlace { event, answer: i };
+        }
+    }
+}
+
+// How many opens came before this one, where so many numbers were given before the first.
+fn order_of(open_id: OpenId, before: u64) -> usize
+    ensures { result ≡ open_id - before - 1 }
+{
+    open_id.get().saturating_sub(before).saturating_sub(1) as usize
+}
+
+// Whether an answer is the receipt's, and to its open.
+fn is_told(answer: &Answer, receipt: &Receipt) -> bool
+    ensures { IsTrue result ↔ (open_of answer.now ≡ receipt.now.open_id) × (answer.now ≡ receipt.now.answer) }
+{
+    open_of(*answer) == receipt.open_id && *answer == receipt.answer
+}
+
 // The open that an answer is to.
-pub(crate) fn open_of(answer: Answer) -> OpenId
+fn open_of(answer: Answer) -> OpenId
     ensures { result ≡ open_of answer }
 {
     match answer {

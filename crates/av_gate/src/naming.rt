@@ -1,8 +1,8 @@
 ghost use Rattle.std.specs.Prelude.{◌≡◌};
 ghost use Rattle.av_gate.specs.Book.{stream_of};
 
-use av_base::number::StreamId;
-use av_store::volume::Volume;
+use av_base::StreamId;
+use av_store::Volume;
 
 /// The stream of a name, or 0 where there is none.
 pub(crate) fn stream_of(volume: &Volume, name: &[u8]) -> StreamId

@@ -1,13 +1,16 @@
 // Whether two things are the same. What is not may be found the same by no test here; what is may be found different by none.
 ghost use Rattle.std.specs.Prelude.{◌≡◌, IsTrue};
+ghost use Rattle.av_filter.specs.Conduct.{Changes};
 ghost use Rattle.av_gate.specs.Claims.{event_called};
 ghost use Rattle.av_gate.specs.Events.{event_of};
+ghost use Rattle.av_store.specs.Files.{Write};
 
 use crate::call::Call;
 use crate::event::Event;
 use crate::naming::stream_of;
-use av_frame::message::{Body, Message};
-use av_store::volume::Volume;
+use av_base::StreamId;
+use av_frame::{Body, Message};
+use av_store::Volume;
 
 /// Whether an event is what was called, its name read in this volume.
 pub(crate) fn is_called(event: &Event, call: &Call, volume: &Volume) -> bool
@@ -25,18 +28,10 @@ pub(crate) fn is_called(event: &Event, call: &Call, volume: &Volume) -> bool
             name,
             offset,
             bytes,
-        } => match event {
-            Event::Write {
-                stream,
-                offset: at,
-                bytes: written,
-            } => {
-                *stream == stream_of(volume, name.as_slice())
-                    && at == offset
-                    && written.as_slice() == bytes.as_slice()
-            }
-            _ => false,
-        },
+        } => {
+            let stream = stream_of(volume, name.as_slice());
+            is_write(event, stream, *offset, bytes.as_slice())
+        }
         Call::CleanUp { name } => match event {
             Event::CleanUp { stream } => *stream == stream_of(volume, name.as_slice()),
             _ => false,
@@ -56,13 +51,27 @@ pub(crate) fn is_called(event: &Event, call: &Call, volume: &Volume) -> bool
     }
 }
 
+fn is_write(event: &Event, stream: StreamId, offset: u64, bytes: &[u8]) -> bool
+    ensures { IsTrue result → event_of event.now ≡ Changes (Write stream offset bytes.now) }
+{
+    match event {
+        Event::Write {
+            stream: written_to,
+            offset: at,
+            bytes: written,
+        } => *written_to == stream && *at == offset && written.as_slice() == bytes,
+        _ => false,
+    }
+}
+
 fn same_message(one: &Message, other: &Message) -> bool
     ensures { IsTrue result → one.now ≡ other.now }
 {
-    same_body(one.body(), other.body())
+    same_sent_down(one.body(), other.body()) || same_sent_up(one.body(), other.body())
 }
 
-fn same_body(one: &Body, other: &Body) -> bool
+// Of the messages that a filter sends to its service.
+fn same_sent_down(one: &Body, other: &Body) -> bool
     ensures { IsTrue result → one.now ≡ other.now }
 {
     match one {
@@ -100,6 +109,15 @@ fn same_body(one: &Body, other: &Body) -> bool
             Body::Abort { id: i } => id == i,
             _ => false,
         },
+        _ => false,
+    }
+}
+
+// Of the messages that a service sends to its filter.
+fn same_sent_up(one: &Body, other: &Body) -> bool
+    ensures { IsTrue result → one.now ≡ other.now }
+{
+    match one {
         Body::Hello { volume, version } => match other {
             Body::Hello {
                 volume: n,
@@ -123,5 +141,6 @@ fn same_body(one: &Body, other: &Body) -> bool
             Body::Updated { version: v } => version == v,
             _ => false,
         },
+        _ => false,
     }
 }

@@ -1,6 +1,6 @@
 use crate::call::Call;
-use av_ends::floor::FloorSeat;
-use av_filter::note::Note;
+use av_ends::FloorSeat;
+use av_filter::Note;
 
 /// One call that was accepted: its place in the audit, its own arguments, and what the filter told.
 #[derive(Debug, Drop)]

@@ -1,5 +1,5 @@
-use av_base::number::Version;
-use av_filter::note::Note;
+use av_base::Version;
+use av_filter::Note;
 
 /// What became of an event that was accepted.
 #[derive(Clone, Copy, Debug, PartialEq, Eq)]

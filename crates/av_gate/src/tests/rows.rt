@@ -1,10 +1,8 @@
 // Scripts of steps through one gate over the streams a and b, each at generation 2, and what comes of them.
 use crate::closing::CloseFault;
 use crate::tests::said::{Said, Step, Told};
-use av_base::cause::Cause;
-use av_base::limits::LimitField;
-use av_base::mode::Mode;
-use av_store::fault::StoreFault;
+use av_base::{Cause, LimitField, Mode};
+use av_store::StoreFault;
 
 #[derive(Clone, Copy)]
 pub struct Row<'a> {

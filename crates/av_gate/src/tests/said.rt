@@ -1,16 +1,10 @@
 // Steps of a gate, and what they say, as plain numbers.
 use crate::fault::GateFault;
-use av_base::cause::Cause;
-use av_base::message_id::MessageId;
-use av_base::number::Version;
-use av_base::refusal::Refusal;
-use av_base::verdict::Verdict;
-use av_filter::fault::FilterFault;
-use av_filter::note::Note;
-use av_frame::message::{Body, Message};
-use av_frame::outcome::Outcome;
-use av_pend::answer::Answer;
-use av_store::fault::StoreFault;
+use av_base::{Cause, MessageId, Refusal, Verdict, Version};
+use av_filter::{FilterFault, Note};
+use av_frame::{Body, Message, Outcome};
+use av_pend::Answer;
+use av_store::StoreFault;
 
 #[derive(Clone, Copy)]
 pub enum Step<'a> {
