@@ -16,10 +16,12 @@ pub data Call : Type 0 where
   By : (event : ServiceEvent) → Call
   Publishes : (version : ℕ) (patterns : List Pattern) → Call
 
+-- what a call makes of the service
 abbrev pub respond : Desk → Call → Response
 respond d (By e) = service_step d e
 respond d (Publishes v ps) = service_step d (service.Publishes v)
 
+-- the publications after a call
 abbrev pub sets_after : List Publication → Call → List Publication
 sets_after sets (By e) = sets
 sets_after sets (Publishes v ps) = record { version = v; patterns = ps } ∷ sets
@@ -34,17 +36,20 @@ abbrev pub IsCatalogue : List Publication → Type 0
 IsCatalogue [] = Unit {0}
 IsCatalogue (q ∷ qs) = (latest_as qs < q.version) × AreSolid q.patterns × IsCatalogue qs
 
+-- a call of the service, with what it gave out
 pub record ServiceEntry : Type 0 where
   pub call : Call
   pub messages : List Body
   pub works : List WorkState
   pub note : Note
 
+-- an entry has what the response gives out
 pub record IsResponse (x : ServiceEntry) (r : Response) : Type 0 where
   pub messages : x.messages ≡ r.messages
   pub works : x.works ≡ r.works
   pub note : x.note ≡ r.note
 
+-- a call that the service does not refuse
 abbrev pub IsAccepted : List Publication → Desk → Call → Type 0
 IsAccepted sets d (By Connects) = connect_refusal d ≡ None
 IsAccepted sets d (By Disconnects) = Unit {0}
@@ -57,7 +62,9 @@ IsAccepted sets d (Publishes v ps) = IsNew sets v ps
 -- no event is refused, and each reply is the conduct's at that place
 abbrev pub IsServiceAudit : List Publication → Desk → List ServiceEntry → Type 0
 IsServiceAudit sets d [] = Unit {0}
-IsServiceAudit sets d (x ∷ xs) = IsAccepted sets d x.call × IsResponse x (respond d x.call) × IsServiceAudit (sets_after sets x.call) (respond d x.call).desk xs
+IsServiceAudit sets d (x ∷ xs) =
+    IsAccepted sets d x.call × IsResponse x (respond d x.call)
+    × IsServiceAudit (sets_after sets x.call) (respond d x.call).desk xs
 
 -- where it leads
 abbrev pub desk_end : Desk → List ServiceEntry → Desk
@@ -69,6 +76,7 @@ abbrev pub sent_up : List Body → List ServiceEntry → List Body
 sent_up up [] = up
 sent_up up (x ∷ xs) = sent_up (up ++ x.messages) xs
 
+-- the works that these entries lent, behind those that were there
 abbrev pub lent_by : List WorkState → List ServiceEntry → List WorkState
 lent_by works [] = works
 lent_by works (x ∷ xs) = lent_by (works ++ x.works) xs
