@@ -1,5 +1,5 @@
 -- Messages copied event by event.
-use Rattle.std.proofs.Common.{◌≡◌, ℕ, ◌+◌, ◌<◌, List, [], ◌∷◌, ◌++◌, get_or, length, take, refl, sym, ap, ◌∙◌, zero, suc, arith}
+use Rattle.std.proofs.Common.{◌≡◌, ℕ, ◌+◌, ◌<◌, List, [], ◌∷◌, ◌++◌, get_or, length, take, sym, ap, ◌∙◌}
 use Rattle.std.proofs.lemmas.List.{take_more}
 use Rattle.std.proofs.lemmas.List.{flat_map_more}
 use Rattle.std.specs.List.{AppendsClones, each_same}
@@ -13,19 +13,3 @@ one_more xs i x old new within is so_far more =
     let copied : new ≡ old ++ x.messages = more.1 ∙ ap (λ ys. old ++ ys) (each_same x.messages more.0 more.2) in
     let longer : take (i + 1) xs ≡ take i xs ++ x ∷ [] = take_more xs i x within ∙ ap (λ (y : ServiceEntry). take i xs ++ y ∷ []) (sym is) in
     copied ∙ ap (λ ys. ys ++ x.messages) so_far ∙ flat_map_more (λ (y : ServiceEntry). y.messages) [] (take i xs) x ∙ ap messages_of (sym longer)
-
-none_front : (xs ys : List Body) → xs ++ ys ≡ [] → (xs ≡ []) × (ys ≡ [])
-none_front [] ys is = (refl, is)
-none_front (x ∷ xs) ys is = absurd cc
-
--- where nothing waits, no event sent anything; and the other way
-pub none_of_each : (xs : List ServiceEntry) (i : ℕ) (x : ServiceEntry) → i < length xs → x ≡ get_or xs i x → messages_of xs ≡ [] → x.messages ≡ []
-none_of_each [] i x within is none = absurd (omega (arith, within))
-none_of_each (y ∷ xs) zero x within is none = ap (λ (z : ServiceEntry). z.messages) is ∙ (none_front y.messages (messages_of xs) none).0
-none_of_each (y ∷ xs) (suc i) x within is none = none_of_each xs i x (omega (arith, within)) is (none_front y.messages (messages_of xs) none).1
-
-pub none_more : (xs : List ServiceEntry) (i : ℕ) (x : ServiceEntry) → i < length xs → x ≡ get_or xs i x → messages_of (take i xs) ≡ [] → x.messages ≡ [] → messages_of (take (i + 1) xs) ≡ []
-none_more xs i x within is so_far none =
-    let longer : take (i + 1) xs ≡ take i xs ++ x ∷ [] = take_more xs i x within ∙ ap (λ (y : ServiceEntry). take i xs ++ y ∷ []) (sym is) in
-    let whole : messages_of (take i xs) ++ x.messages ≡ messages_of (take i xs ++ x ∷ []) = flat_map_more (λ (y : ServiceEntry). y.messages) [] (take i xs) x in
-    ap messages_of longer ∙ sym whole ∙ ap (λ ys. ys ++ x.messages) so_far ∙ none

@@ -9,5 +9,6 @@ use Rattle.av_sigset.specs.Publication.{Publication, latest_as, publication_of}
 abbrev pub opened_by : Audit → List Publication
 opened_by a = opened_at a.opening (map publication_of a.catalogue.sets)
 
+-- the service that an audit begins with
 abbrev pub started_by : Audit → Desk
 started_by a = just_started a.volume_number a.limits (latest_as (opened_by a))

@@ -12,6 +12,7 @@ use Rattle.av_service.specs.declared.out.ServiceOut.{ServiceOut}
 use Rattle.av_sigset.specs.Publication.{Publication, latest_as, publication_of}
 use Rattle.av_sigset.specs.Set.{NumberedSet}
 
+-- what a desk keeps under its lock
 pub record Book : Type 0 where
   pub volume_number : ℕ
   pub limits : LimitValues
@@ -22,10 +23,20 @@ pub record Book : Type 0 where
 
 -- what the code keeps, as a book; and one that was just opened
 abbrev pub book : ℕ → LimitValues → List NumberedSet → ℕ → List ServiceEntry → ℕ → Book
-book number limits sets opening events sent = record { volume_number = number; limits = limits; sets = map publication_of sets; opening = opening; events = events; sent = sent }
+book number limits sets opening events sent =
+    record {
+      volume_number = number;
+      limits = limits;
+      sets = map publication_of sets;
+      opening = opening;
+      events = events;
+      sent = sent;
+    }
 
+-- the book of a desk that just opened over these sets
 abbrev pub new_book : ℕ → LimitValues → List Publication → Book
-new_book number limits sets = record { volume_number = number; limits = limits; sets = sets; opening = length sets; events = []; sent = 0 }
+new_book number limits sets =
+    record { volume_number = number; limits = limits; sets = sets; opening = length sets; events = []; sent = 0 }
 
 -- of these publications the oldest, so many
 abbrev pub opened_at : ℕ → List Publication → List Publication
@@ -35,6 +46,7 @@ opened_at opening sets = drop (length sets - opening) sets
 abbrev pub opened : Book → List Publication
 opened b = opened_at b.opening b.sets
 
+-- the service that a book begins with
 abbrev pub first_desk : Book → Desk
 first_desk b = just_started b.volume_number b.limits (latest_as (opened b))
 
@@ -42,6 +54,7 @@ first_desk b = just_started b.volume_number b.limits (latest_as (opened b))
 abbrev pub state_of : Book → Desk
 state_of b = desk_end (first_desk b) b.events
 
+-- the publications after all events
 abbrev pub sets_end : List Publication → List ServiceEntry → List Publication
 sets_end sets [] = sets
 sets_end sets (x ∷ xs) = sets_end (sets_after sets x.call) xs
@@ -62,6 +75,7 @@ with_event b call = record b { sets = sets_after b.sets call; events = b.events 
 abbrev pub messages_of : List ServiceEntry → List Body
 messages_of xs = flat_map (λ x. x.messages) xs
 
+-- the messages that were not taken yet
 abbrev pub waiting_of : Book → List Body
 waiting_of b = messages_of (drop b.sent b.events)
 
@@ -74,8 +88,8 @@ abbrev pub IsBuilt : List Publication → Option Compiled → Type 0
 IsBuilt [] a = a ≡ None
 IsBuilt (p ∷ ps) a = a ≡ Some (compiled p)
 
--- The service is where the audit leads, under the version published last; the audit is legal from its opening, and led the catalogue to its sets; it is no
--- longer than its limit; and messages were taken out of events that it has.
+-- The service is where the audit leads, under the version published last; the audit is legal from its opening, and led the
+-- catalogue to its sets; it is no longer than its limit; and messages were taken out of events that it has.
 pub record IsKept (b : Book) (desk : Desk) : Type 0 where
   pub leads : desk ≡ state_of b
   pub legal : IsServiceAudit (opened b) (first_desk b) b.events

@@ -22,14 +22,19 @@ of_connect None = None
 of_connect (Some connect.NoSignatures) = Some fault.NoSignatures
 of_connect (Some connect.AlreadyConnected) = Some fault.AlreadyConnected
 
+-- why a version cannot be published: it is no later than the latest, or the catalogue is full
 abbrev pub publish_fault : List Publication → ℕ → Option DeskFault
-publish_fault sets version = if nat_le version (latest_as sets) then Some fault.OldVersion else if nat_le MAX_SETS (length sets) then Some fault.CatalogueFull else None
+publish_fault sets version =
+    if nat_le version (latest_as sets) then Some fault.OldVersion
+    else if nat_le MAX_SETS (length sets) then Some fault.CatalogueFull else None
 
--- A call took the book to b'. It is refused by its fault, or for want of memory where it has none, and changes nothing then; else the event is one more.
+-- A call took the book to b'. It is refused by its fault, or for want of memory where it has none, and changes nothing then;
+-- else the event is one more.
 abbrev pub Refuses : Book → Book → Option DeskFault → Refusal DeskFault → Type 0
 Refuses b b' why (Fault f) = (why ≡ Some f) × (b' ≡ b)
 Refuses b b' why NoMemory = (why ≡ None) × (b' ≡ b)
 
+-- a call added its event to the book, or was refused and left the book as it was
 abbrev pub Adds : {A : Type 0} → Book → Book → Call → Option DeskFault → Result A (Refusal DeskFault) → Type 0
 Adds b b' call why (Ok a) = (why ≡ None) × (b' ≡ with_event b call)
 Adds b b' call why (Err refusal) = Refuses b b' why refusal

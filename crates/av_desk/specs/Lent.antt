@@ -4,6 +4,7 @@ use Rattle.av_match.specs.Scanning.{Compiled}
 use Rattle.av_service.specs.Work.{WorkState}
 use Rattle.av_sigset.specs.Publication.{Publication, published_as}
 
+-- a lent work, with the compiled patterns of its version
 pub record LentState : Type 0 where
   pub work : WorkState
   pub automaton : Compiled
@@ -19,6 +20,7 @@ IsMet None a = Unit {0}
 IsMet (Some k) None = ⊥
 IsMet (Some k) (Some a) = a.version ≡ k.version
 
+-- a work with an automaton, where there are both
 abbrev pub lent_with : Option WorkState → Option Compiled → Option LentState
 lent_with None a = None
 lent_with (Some k) None = None

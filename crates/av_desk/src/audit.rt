@@ -1,6 +1,6 @@
 use crate::entry::Entry;
-use av_base::limits::Limits;
-use av_sigset::catalogue::Catalogue;
+use av_base::Limits;
+use av_sigset::Catalogue;
 
 /// What a desk that was closed gives: where it was opened, and each event in order with its arguments and what it gave
 /// out. The catalogue is as the events left it, with `opening` sets before the first of them.

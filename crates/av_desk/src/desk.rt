@@ -1,4 +1,4 @@
-ghost use Rattle.std.specs.Prelude.{◌≡◌, IfErr, IfOk, map};
+ghost use Rattle.std.specs.Prelude.{◌≡◌, ◌≢◌, [], IfErr, IfOk, IfSome, map};
 ghost use Rattle.av_desk.specs.Audit.{opened_by, started_by};
 ghost use Rattle.av_desk.specs.Book.{sets_end};
 ghost use Rattle.av_service.specs.Audit.{IsCatalogue, IsServiceAudit};
@@ -9,13 +9,10 @@ use crate::fault::DeskFault;
 use crate::lent::Taken;
 use crate::locked::Locked;
 use crate::shared::SharedAutomaton;
-use av_base::limits::Limits;
-use av_base::refusal::{Refusal, Refused};
-use av_frame::message::Message;
-use av_service::done::Done;
-use av_service::note::Note;
-use av_sigset::catalogue::Catalogue;
-use av_sigset::set::SignatureSet;
+use av_base::{Limits, Refusal, Refused};
+use av_frame::Message;
+use av_service::{Done, Note};
+use av_sigset::{Catalogue, SignatureSet};
 use std::alloc::{AllocError, AllocFailed, Global};
 use std::sync::{Condvar, Mutex, Wait};
 
@@ -132,7 +129,9 @@ impl Desk {
         &self,
         rt: &R,
         alloc: Global,
-    ) -> Result<Option<Vec<Message>>, AllocError> {
+    ) -> Result<Option<Vec<Message>>, AllocError>
+        ensures some { IfOk result (λ waited. IfSome waited (λ messages. messages.items ≢ [])) }
+    {
         let mut inner = self.came.wait_while(rt, self.inner.lock(rt), |inner| {
             !inner.is_stopped && !inner.locked.has_outgoing()
         });

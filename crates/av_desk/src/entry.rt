@@ -6,11 +6,9 @@ ghost use Rattle.av_desk.specs.Entry.{call_of};
 
 use crate::event::Event;
 use crate::given::Given;
-use av_base::number::Lease;
-use av_frame::message::Message;
-use av_service::note::Note;
-use av_service::out::ServiceOut;
-use av_service::work::Work;
+use av_base::Lease;
+use av_frame::Message;
+use av_service::{Note, ServiceOut, Work};
 use std::marker::Model;
 
 /// One event of an audit, with what it gave out.

@@ -1,8 +1,7 @@
-use av_base::number::{Lease, Version};
-use av_base::verdict::Verdict;
-use av_frame::message::Message;
-use av_service::done::Done;
-use av_sigset::set::SignatureSet;
+use av_base::{Lease, Verdict, Version};
+use av_frame::Message;
+use av_service::Done;
+use av_sigset::SignatureSet;
 use std::snapshot::Snapshot;
 
 /// What a desk was asked, with its arguments.

@@ -2,7 +2,7 @@ ghost use Rattle.std.specs.Prelude.{◌≡◌};
 ghost use Rattle.av_base.specs.declared.refusal.Refusal.TheVariants.{Fault, NoMemory};
 ghost use Rattle.av_desk.specs.declared.fault.DeskFault.TheVariants.{AuditFull};
 
-use av_base::refusal::{Refusal, Refused};
+use av_base::{Refusal, Refused};
 use thiserror::Error;
 
 /// Why a desk refuses a call, the first that holds. Want of memory comes last and has no word here.

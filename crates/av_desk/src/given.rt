@@ -1,7 +1,7 @@
 ghost use Rattle.std.specs.Prelude.{◌≡◌};
 
-use av_base::number::Lease;
-use av_service::work::Work;
+use av_base::Lease;
+use av_service::Work;
 use std::snapshot::Snapshot;
 
 /// What an audit keeps of a work that was given out: its lease. Clauses see the whole work.

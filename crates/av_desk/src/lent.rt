@@ -3,18 +3,34 @@ ghost use Rattle.av_desk.specs.Lent.{IsMet, lent_with};
 ghost use Rattle.av_match.specs.Scanning.{AreSolid, IsScan, fitting, run};
 
 use crate::shared::SharedAutomaton;
-use av_service::done::Done;
-use av_service::note::Note;
-use av_service::work::Work;
+use av_service::{Done, Note, Work, WorkParcel};
 use std::marker::Model;
 
-/// A work that was lent, with the automaton of its version. It must be spent, by `run` or `discard`.
+/// A work that was lent, with the automaton of its version. It must be spent, by `run`, `discard` or `pack`.
 pub struct Lent {
     work: Work,
     automaton: SharedAutomaton,
 }
 
 impl Model for Lent {
+    ghost use Rattle.std.specs.Prelude.{◌≡◌};
+    ghost use Rattle.av_desk.specs.Lent.{LentState};
+
+    ghost Value = { LentState };
+
+    ghost view = { λ l. record { work = l.work; automaton = l.automaton } };
+
+    ghost invariant = { λ l. l.automaton.version ≡ l.work.version };
+}
+
+/// A lent work that may be let go, as a channel asks of what it carries. `Lent::pack` makes it.
+#[derive(Drop)]
+pub struct LentParcel {
+    work: WorkParcel,
+    automaton: SharedAutomaton,
+}
+
+impl Model for LentParcel {
     ghost use Rattle.std.specs.Prelude.{◌≡◌};
     ghost use Rattle.av_desk.specs.Lent.{LentState};
 
@@ -59,6 +75,30 @@ impl Lent {
     pub fn discard(self) {
         let Lent { work, automaton: _ } = self;
         work.discard();
+    }
+
+    /// The same as a parcel. Takes no memory.
+    pub fn pack(self) -> LentParcel
+        ensures { result ≡ self }
+    {
+        let Lent { work, automaton } = self;
+        LentParcel {
+            work: work.pack(),
+            automaton,
+        }
+    }
+}
+
+impl LentParcel {
+    /// The lent work that was packed.
+    pub fn unpack(self) -> Lent
+        ensures { result ≡ self }
+    {
+        let LentParcel { work, automaton } = self;
+        Lent {
+            work: work.unpack(),
+            automaton,
+        }
     }
 }
 

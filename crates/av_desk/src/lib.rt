@@ -27,6 +27,6 @@ pub use desk::Desk;
 pub use entry::Entry;
 pub use event::Event;
 pub use fault::DeskFault;
-pub use lent::{Lent, Taken};
+pub use lent::{Lent, LentParcel, Taken};
 pub use locked::Locked;
 pub use shared::SharedAutomaton;

@@ -12,9 +12,9 @@ ghost use Rattle.av_sigset.specs.Publication.{publication_of};
 use crate::audit::Audit;
 use crate::entry::Entry;
 use crate::shared::SharedAutomaton;
-use av_base::limits::Limits;
-use av_service::service::Service;
-use av_sigset::catalogue::Catalogue;
+use av_base::Limits;
+use av_service::Service;
+use av_sigset::Catalogue;
 use std::alloc::{AllocError, AllocFailed, Global};
 use std::marker::Model;
 

@@ -2,8 +2,8 @@ ghost use Rattle.std.specs.Prelude.{◌≡◌, IfOk};
 ghost use Rattle.av_sigset.specs.Publication.{publication_of};
 ghost use Rattle.av_desk.specs.Book.{compiled};
 
-use av_match::automaton::Automaton;
-use av_sigset::set::SignatureSet;
+use av_match::Automaton;
+use av_sigset::SignatureSet;
 use std::alloc::{AllocError, Global};
 use std::marker::Model;
 use std::sync::Arc;

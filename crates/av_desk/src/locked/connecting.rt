@@ -11,13 +11,9 @@ use super::Locked;
 use crate::entry::keep_silent;
 use crate::event::Event;
 use crate::fault::DeskFault;
-use av_base::number::Version;
-use av_base::refusal::Refusal;
-use av_service::fault::ConnectFault;
-use av_service::note::Note;
-use av_service::out::ServiceOut;
-use av_service::service::Service;
-use av_sigset::catalogue::Catalogue;
+use av_base::{Refusal, Version};
+use av_service::{ConnectFault, Note, Service, ServiceOut};
+use av_sigset::Catalogue;
 use std::alloc::Global;
 
 impl Locked {

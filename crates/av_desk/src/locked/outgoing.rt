@@ -1,17 +1,20 @@
-ghost use Rattle.std.specs.Prelude.{◌≡◌, IfOk, MatchBool, OnOk, OnErr, [], length};
+ghost use Rattle.std.specs.Prelude.{◌≡◌, ◌≢◌, ◌≤◌, ◌<◌, IfOk, MatchBool, OnOk, OnErr, [], drop, length};
 ghost use Rattle.av_desk.specs.Book.{messages_of, waiting_of};
 
 use super::Locked;
 use crate::entry::Entry;
-use av_frame::message::Message;
+use av_frame::Message;
 use std::alloc::{AllocError, Global};
 
 impl Locked {
-    /// Whether a message waits.
-    pub fn has_outgoing(&self) -> bool
-        ensures { MatchBool result (waiting_of self.now ≡ [] → ⊥) (waiting_of self.now ≡ []) }
+    /// Whether a message waits. Events that sent none are passed over for good, so that none is looked at twice.
+    pub fn has_outgoing(&mut self) -> bool
+        ensures told { MatchBool result (waiting_of self.old ≢ []) (waiting_of self.old ≡ []) }
+        ensures sent { self.new ≡ record self.old { sent = self.new.sent } }
+        ensures waiting { waiting_of self.new ≡ waiting_of self.old }
     {
-        have_messages(&self.events[self.sent..])
+        self.sent += quiet_ones(&self.events[self.sent..]);
+        self.sent < self.events.len()
     }
 
     /// Takes out the messages that wait, in the order in which they were sent. Where memory is refused, they stay.
@@ -26,16 +29,20 @@ impl Locked {
     }
 }
 
-// Whether one of these events sent a message.
-fn have_messages(entries: &[Entry]) -> bool
-    ensures { MatchBool result (messages_of entries.now ≡ [] → ⊥) (messages_of entries.now ≡ []) }
+// How many events there are before the first that sent a message.
+fn quiet_ones(entries: &[Entry]) -> usize
+    ensures within { result ≤ length entries.now }
+    ensures stopped { result < length entries.now → messages_of entries.now ≢ [] }
+    ensures waiting { messages_of (drop result entries.now) ≡ messages_of entries.now }
 {
+    let mut count = 0;
     for entry in entries {
         if !entry.messages().is_empty() {
-            return true;
+            return count;
         }
+        count += 1;
     }
-    false
+    count
 }
 
 // The messages of these events.

@@ -13,13 +13,9 @@ use crate::entry::keep_silent;
 use crate::event::Event;
 use crate::fault::{DeskFault, no_memory};
 use crate::shared::SharedAutomaton;
-use av_base::number::Version;
-use av_base::refusal::{Refusal, Refused};
-use av_service::note::Note;
-use av_service::out::ServiceOut;
-use av_service::service::Service;
-use av_sigset::fault::CatalogueFault;
-use av_sigset::set::SignatureSet;
+use av_base::{Refusal, Refused, Version};
+use av_service::{Note, Service, ServiceOut};
+use av_sigset::{CatalogueFault, SignatureSet};
 use std::alloc::{AllocError, Global};
 use std::snapshot::Snapshot;
 

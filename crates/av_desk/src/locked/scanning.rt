@@ -13,12 +13,9 @@ use crate::event::Event;
 use crate::fault::{DeskFault, full, no_memory};
 use crate::lent::{Taken, lent_of};
 use crate::shared::SharedAutomaton;
-use av_base::refusal::Refused;
-use av_frame::message::Message;
-use av_service::done::Done;
-use av_service::note::Note;
-use av_service::out::ServiceOut;
-use av_service::service::Service;
+use av_base::Refused;
+use av_frame::Message;
+use av_service::{Done, Note, Service, ServiceOut};
 use std::alloc::{AllocError, AllocFailed, Global};
 use std::snapshot::Snapshot;
 

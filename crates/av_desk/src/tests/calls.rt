@@ -4,17 +4,14 @@ use crate::desk::Desk;
 use crate::fault::DeskFault;
 use crate::lent::{Lent, Taken};
 use crate::tests::said::{Said, all_said};
-use av_base::byte_list::ByteList;
-use av_base::limits::{LimitField, LimitValues, Limits};
-use av_base::message_id::MessageId;
-use av_base::number::{Generation, StreamId, Version};
-use av_base::refusal::{Refusal, Refused};
+use av_base::{
+    ByteList, Generation, LimitField, LimitValues, Limits, MessageId, Refusal, Refused, StreamId,
+    Version,
+};
 use av_fakes::{may_refuse, refuse_no_more};
-use av_frame::message::{Body, Message};
-use av_service::done::Done;
-use av_service::note::Note;
-use av_sigset::catalogue::Catalogue;
-use av_sigset::set::SignatureSet;
+use av_frame::{Body, Message};
+use av_service::{Done, Note};
+use av_sigset::{Catalogue, SignatureSet};
 use std::alloc::{AllocError, AllocFailed, Global};
 use std::sync::Wait;
 use std::test::Fail;

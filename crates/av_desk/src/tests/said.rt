@@ -2,11 +2,9 @@
 use crate::audit::Audit;
 use crate::entry::Entry;
 use crate::event::Event;
-use av_base::number::Lease;
-use av_base::verdict::Verdict;
-use av_frame::message::{Body, Message};
-use av_frame::outcome::Outcome;
-use av_service::note::Note;
+use av_base::{Lease, Verdict};
+use av_frame::{Body, Message, Outcome};
+use av_service::Note;
 use std::alloc::{AllocError, Global};
 
 // A message, by the number of its question where it has one.

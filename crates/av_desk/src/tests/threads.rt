@@ -4,10 +4,9 @@ use crate::lent::{Lent, Taken};
 use crate::tests::calls;
 use crate::tests::rows::{JUDGED_TWICE, judged_twice};
 use crate::tests::said::{Said, told};
-use av_base::refusal::Refused;
-use av_base::verdict::Verdict;
+use av_base::{Refused, Verdict};
 use av_fakes::{may_refuse, refuse_no_more};
-use av_frame::message::Message;
+use av_frame::Message;
 use std::alloc::{AllocError, Global};
 use std::process::Abort;
 use std::sync::Wait;
@@ -40,8 +39,8 @@ fn awaited<R: Threads + Wait + Abort + Sync>(rt: &R, alloc: Global) -> Result<()
     let shared = &desk;
     let (sent, judged) = thread::join(
         rt,
-        || collect(rt, alloc, shared),
-        || then_stopped(rt, alloc, shared),
+        move || collect(rt, alloc, shared),
+        move || then_stopped(rt, alloc, shared),
     );
     judged?;
     let sent = sent?;
