@@ -1,0 +1,20 @@
+-- The worked run of both engines, computed.
+use Rattle.std.proofs.Common.{refl, Bool, true}
+use Rattle.av_filter.specs.Again.{again}
+use Rattle.av_filter.specs.Conduct.{disconnects, filter_step}
+use Rattle.av_filter.specs.Opening.{open_asked, open_cached, open_found, open_judged, opened}
+use Rattle.av_filter.specs.Receiving.{greeted, reads, receives, replies}
+use Rattle.av_filter_table.specs.Asking.{asks, ended, lost_contexts}
+use Rattle.av_match.specs.Scanning.{index_of, moved, resting, run as scan_run, word_after}
+use Rattle.av_service.specs.Conduct.{service_step}
+use Rattle.av_service.specs.Lending.{finished}
+use Rattle.av_service.specs.Scanning.{chunk_found, dropped, receives as service_receives, scan_cached, scan_found}
+use Rattle.av_engines.specs.Examples.{AreWorked}
+
+abbrev computed : Bool
+unfolding again disconnects filter_step open_asked open_cached open_found open_judged opened greeted reads receives replies asks ended lost_contexts index_of moved resting scan_run word_after service_step finished chunk_found dropped service_receives scan_cached scan_found
+computed = true
+
+pub are_worked : AreWorked
+unfolding computed
+are_worked = record { serves = refl; watches = refl; grants = refl; is_over = refl; nothing_behind = refl; not_before = refl; none_at_once = refl; lost = refl }

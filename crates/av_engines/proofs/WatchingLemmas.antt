@@ -1,0 +1,368 @@
+-- The engine of a filter, event by event.
+use Rattle.std.proofs.Common.{ℕ, ◌≡◌, ◌&&◌, not, Bool, true, false, cond, nat_eq, List, [], ◌∷◌, ◌++◌, length, refl, sym, ap, subst, ◌∙◌, append_assoc, append-nil, inl, inr}
+use Rattle.std.specs.Prelude.{Option, Some, None, IfSome, ◌⊎◌}
+use Rattle.std.specs.Io.KnownBytes.{Appends}
+use Rattle.std.specs.List.{flat_map}
+use Rattle.std.proofs.KnownBytes.{Appends-nil, Appends-trans}
+use Rattle.std.proofs.lemmas.Grind.{flat_map-append}
+use Rattle.std.proofs.lemmas.List.{map-append}
+use Rattle.av_base.proofs.DeviceLemmas.{prefix_after}
+use Rattle.av_base.specs.Device.{AppendsPrefix}
+use Rattle.av_filter.specs.Call.{Reacts}
+use Rattle.av_filter.specs.Conduct.{FilterEvent, Disconnects, Opens, Receives, filter_step}
+use Rattle.av_filter.specs.declared.out.Out.{Out}
+use Rattle.av_filter_table.specs.Table.{Table}
+use Rattle.av_frame.specs.Laws.{FaultStays}
+use Rattle.av_frame.specs.declared.message.Body.{Body}
+use Rattle.av_frame.specs.Spelling.{frame}
+use Rattle.av_pend.specs.declared.answer.Answer.{Answer}
+use Rattle.av_store.specs.Store.{Store}
+use Rattle.av_engines.specs.declared.end.End.{End}
+use Rattle.av_engines.specs.declared.end.End.TheVariants.{Done, ReadFault, WriteFault, Frame, Closed, Memory, AuditFull}
+use Rattle.av_engines.specs.declared.exchange.Exchange.{Exchange}
+use Rattle.av_engines.specs.Exchange.{Passes, StopsAs}
+use Rattle.av_engines.specs.FilterEnd.{Hears, IsAt, IsBehind, IsLeft, IsStill, Leaves, Puts, RunsTo, WatchesTo}
+use Rattle.av_engines.specs.Incoming.{Received, Takes, unread}
+use Rattle.av_engines.specs.Spelled.{AreSpelled, IsSent, SpellsAll, SpellsFirst, SpellsUpToFault}
+use Rattle.av_engines.specs.Watching.{Led, Standing, all_happened, filter_run, filter_text, happened, heard, heard_all, is_done, joined, later, opens_of, standing, unled}
+use Rattle.av_engines.proofs.IncomingLemmas.{takes_none, takes_then}
+use Rattle.av_engines.proofs.ExchangeLemmas.{first_spelled, prefix_whole, stopped_sent, stopped_spelled}
+
+-- events after others
+happened_then : (w : Led) (es fs : List FilterEvent) → all_happened w (es ++ fs) ≡ all_happened (all_happened w es) fs
+happened_then w [] fs = refl
+happened_then w (e ∷ es) fs = happened_then (happened w e) es fs
+
+-- what was sent and answered before events stays in front
+abbrev pub behind : Led → Led → Led
+behind w x = record { table = x.table; volume = x.volume; sent = w.sent ++ x.sent; answers = x.answers }
+
+abbrev pub restarted : Led → Led
+restarted w = unled w.table w.volume w.answers
+
+happened_behind : (t : Table) (v : Store) (front back : List Body) (answers : List Answer) (es : List FilterEvent)
+    → all_happened (record { table = t; volume = v; sent = front ++ back; answers = answers }) es
+    ≡ record {
+      table = (all_happened (record { table = t; volume = v; sent = back; answers = answers }) es).table;
+      volume = (all_happened (record { table = t; volume = v; sent = back; answers = answers }) es).volume;
+      sent = front ++ (all_happened (record { table = t; volume = v; sent = back; answers = answers }) es).sent;
+      answers = (all_happened (record { table = t; volume = v; sent = back; answers = answers }) es).answers;
+    }
+happened_behind t v front back answers [] = refl
+happened_behind t v front back answers (e ∷ es) =
+    let r = filter_step t v e in
+    ap (λ l. all_happened (record { table = r.table; volume = r.volume; sent = l; answers = answers ++ r.answers }) es) (append_assoc front back r.messages)
+    ∙ happened_behind r.table r.volume front (back ++ r.messages) (answers ++ r.answers) es
+
+pub happened_from : (w : Led) (es : List FilterEvent) → all_happened w es ≡ behind w (all_happened (restarted w) es)
+happened_from w es =
+    ap (λ l. all_happened (record { table = w.table; volume = w.volume; sent = l; answers = w.answers }) es) (sym (append-nil w.sent))
+    ∙ happened_behind w.table w.volume w.sent [] w.answers es
+
+-- what a call finds is where events led
+found : (w : Led) (t : Table) (v : Store) (answers : List Answer) → IsAt w t v answers → unled t v answers ≡ restarted w
+found w t v answers at =
+    ap (λ k. unled k v answers) at.table ∙ ap (λ k. unled w.table k answers) at.volume ∙ ap (λ k. unled w.table w.volume k) at.answered
+
+pub at_then : (w : Led) (t t' : Table) (v v' : Store) (answers answers' : List Answer) (fs : List FilterEvent)
+    → IsAt w t v answers → IsAt (all_happened (unled t v answers) fs) t' v' answers' → IsAt (all_happened w fs) t' v' answers'
+at_then w t t' v v' answers answers' fs first second =
+    let same : all_happened w fs ≡ behind w (all_happened (unled t v answers) fs) =
+    happened_from w fs ∙ ap (λ x. behind w (all_happened x fs)) (sym (found w t v answers first)) in
+    record {
+      table = second.table ∙ ap (λ (x : Led). x.table) (sym same);
+      volume = second.volume ∙ ap (λ (x : Led). x.volume) (sym same);
+      answered = second.answered ∙ ap (λ (x : Led). x.answers) (sym same);
+    }
+
+pub behind_then : (w : Led) (es : List FilterEvent) (t t' : Table) (v v' : Store) (answers answers' : List Answer)
+    → IsAt (all_happened w es) t v answers → IsBehind (unled t v answers) t' v' answers' → IsBehind w t' v' answers'
+behind_then w es t t' v v' answers answers' first second = record {
+  events = es ++ second.events;
+  at = subst (λ x. IsAt x t' v' answers') (sym (happened_then w es second.events)) (at_then (all_happened w es) t t' v v' answers answers' second.events first second.at);
+}
+
+pub puts_then : (w : Led) (t t' : Table) (v v' : Store) (answers answers' : List Answer) (waited waits more : List ℕ) (fs : List FilterEvent)
+    → Puts w t v answers waited waits → Puts (all_happened (unled t v answers) fs) t' v' answers' waits more → Puts (all_happened w fs) t' v' answers' waited more
+puts_then w t t' v v' answers answers' waited waits more fs first second =
+    let x = all_happened (unled t v answers) fs in
+    let same : all_happened w fs ≡ behind w x =
+    happened_from w fs ∙ ap (λ k. behind w (all_happened k fs)) (sym (found w t v answers first.at)) in
+    record {
+      at = at_then w t t' v v' answers answers' fs first.at second.at;
+      sent =
+          second.sent
+          ∙ ap (λ l. l ++ flat_map frame x.sent) first.sent
+          ∙ append_assoc waited (flat_map frame w.sent) (flat_map frame x.sent)
+          ∙ ap (λ l. waited ++ l) (sym (flat_map-append frame w.sent x.sent))
+          ∙ ap (λ (k : Led). waited ++ flat_map frame k.sent) (sym same);
+    }
+
+-- nothing happened yet
+pub puts_none : (t : Table) (v : Store) (answers : List Answer) (waited : List ℕ) → Puts (unled t v answers) t v answers waited waited
+puts_none t v answers waited = record { at = record { table = refl; volume = refl; answered = refl }; sent = sym (append-nil waited) }
+
+pub behind_none : (t : Table) (v : Store) (answers : List Answer) → IsBehind (unled t v answers) t v answers
+behind_none t v answers = record { events = []; at = record { table = refl; volume = refl; answered = refl } }
+
+-- one open more was submitted
+pub submitted_more : (w : Led) (t t' : Table) (v v' : Store) (answers answers' : List Answer) (waited waits more : List ℕ) (ss ts : List ℕ) (s : ℕ)
+    → ts ≡ ss ++ s ∷ [] → Puts (all_happened w (opens_of ss)) t v answers waited waits → Puts (all_happened (unled t v answers) (Opens s 0 ∷ [])) t' v' answers' waits more
+    → Puts (all_happened w (opens_of ts)) t' v' answers' waited more
+submitted_more w t t' v v' answers answers' waited waits more ss ts s is first second =
+    let events : opens_of ts ≡ opens_of ss ++ Opens s 0 ∷ [] = ap opens_of is ∙ map-append (λ n. Opens n 0) ss (s ∷ []) in
+    let same : all_happened w (opens_of ts) ≡ all_happened (all_happened w (opens_of ss)) (Opens s 0 ∷ []) = ap (all_happened w) events ∙ happened_then w (opens_of ss) (Opens s 0 ∷ []) in
+    subst (λ x. Puts x t' v' answers' waited more) (sym same) (puts_then _ t t' v v' answers answers' waited waits more (Opens s 0 ∷ []) first second)
+
+-- one event happened, and its answers were kept
+pub behind_event : (e : FilterEvent) (out : Out) (t t' : Table) (v v' : Store) (answers mid given : List Answer)
+    → Reacts out t' v' (filter_step t v e) → mid ≡ answers → given ≡ mid ++ out.answers.items → IsBehind (unled t v answers) t' v' given
+behind_event e out t t' v v' answers mid given reacts same kept = record {
+  events = e ∷ [];
+  at = record {
+    table = reacts.table;
+    volume = reacts.volume;
+    answered = kept ∙ ap (λ l. l ++ out.answers.items) same ∙ ap (λ l. answers ++ l) reacts.answers;
+  };
+}
+
+-- a message left the filter connected, and the opens were submitted
+submits : (opens : List ℕ) (submitted : Bool) (w : Led) → w.table.connected ≡ true → submitted ≡ false → joined opens submitted w ≡ record { led = all_happened w (opens_of opens); submitted = true }
+submits opens submitted w first second = rw (first, second) refl
+
+pub hears_submitted : (opens : List ℕ) (s : Standing) (m : Body) (t t' : Table) (v v' : Store) (answers answers' : List Answer) (waited waits more : List ℕ) (submitted : Bool)
+    → Puts (happened s.led (Receives m)) t v answers waited waits → t.connected ≡ true → s.submitted ≡ false
+    → Puts (all_happened (unled t v answers) (opens_of opens)) t' v' answers' waits more → submitted ≡ true → Hears (heard opens s m) t' v' answers' submitted waited more
+hears_submitted opens s m t t' v v' answers answers' waited waits more submitted first connected before second now =
+    let w = happened s.led (Receives m) in
+    let same = submits opens s.submitted w (ap (λ (k : Table). k.connected) (sym first.at.table) ∙ connected) before in
+    subst (λ x. Hears x t' v' answers' submitted waited more) (sym same)
+    (record { puts = puts_then w t t' v v' answers answers' waited waits more (opens_of opens) first second; submitted_is = now })
+
+-- ---- messages one by one
+
+abbrev joined_as : Bool → Bool → List FilterEvent → Led → Standing
+joined_as b submitted es w = cond b (record { led = all_happened w es; submitted = true }) (record { led = w; submitted = submitted })
+
+abbrev behind_all : Led → Standing → Standing
+behind_all w s = record { led = behind w s.led; submitted = s.submitted }
+
+joined_by : (b : Bool) (submitted : Bool) (es : List FilterEvent) (w x : Led) → joined_as b submitted es (behind w x) ≡ behind_all w (joined_as b submitted es x)
+joined_by true submitted es w x = ap (λ k. record { led = k; submitted = true }) (happened_behind x.table x.volume w.sent x.sent x.answers es)
+joined_by false submitted es w x = refl
+
+-- a message, behind what happened before
+heard_from : (opens : List ℕ) (s : Standing) (m : Body) → heard opens s m ≡ behind_all s.led (heard opens (record { led = restarted s.led; submitted = s.submitted }) m)
+heard_from opens s m =
+    let x = happened (restarted s.led) (Receives m) in
+    ap (joined opens s.submitted) (happened_from s.led (Receives m ∷ []))
+    ∙ joined_by (x.table.connected && not s.submitted) s.submitted (opens_of opens) s.led x
+
+-- one more, as long as opens are left to be answered
+by_case : (b : Bool) (s x y : Standing) (H : Standing → Standing) (P : Standing → Bool) → P s ≡ b → P (cond b s x) ≡ false → (P x ≡ false → y ≡ H x) → cond b s y ≡ H (cond b s x)
+by_case true s x y H P e h f = absurd cc
+by_case false s x y H P e h f = f h
+
+heard_more : (opens : List ℕ) (first : ℕ) (s : Standing) (ms : List Body) (m : Body) → is_done first (length opens) (heard_all opens first s ms) ≡ false
+    → heard_all opens first s (ms ++ m ∷ []) ≡ heard opens (heard_all opens first s ms) m
+heard_more opens first s [] m left = rw left refl
+heard_more opens first s (k ∷ ms) m left =
+    by_case (is_done first (length opens) s) s (heard_all opens first (heard opens s k) ms) (heard_all opens first (heard opens s k) (ms ++ m ∷ [])) (λ t. heard opens t m) (is_done first (length opens)) refl left
+    (λ h. heard_more opens first (heard opens s k) ms m h)
+
+-- Some messages were handled. The frames that were written, and those that wait to go out, are the text of them.
+pub record IsWatching (opens : List ℕ) (old : Table) (store : Store) (from now : Received) (waits : List ℕ) (a b w u : Option (List ℕ)) (t : Table) (v : Store) (answers : List Answer) (submitted : Bool) : Type 0 where
+  pub messages : List Body
+  pub taken : Takes from now a b messages
+  pub at : IsAt (filter_run old store opens messages).led t v answers
+  pub submitted_is : submitted ≡ (filter_run old store opens messages).submitted
+  pub written : List ℕ
+  pub went : Appends w u written
+  pub text : filter_text old store opens messages ≡ written ++ waits
+
+pub watching_begins : (opens : List ℕ) (t : Table) (v : Store) (from : Received) (waits : List ℕ) (a w : Option (List ℕ)) (answers : List Answer) (submitted : Bool)
+    → waits ≡ [] → answers ≡ [] → submitted ≡ false → IsWatching opens t v from from waits a a w w t v answers submitted
+watching_begins opens t v from waits a w answers submitted none first before = record {
+  messages = [];
+  taken = takes_none from a;
+  at = record { table = refl; volume = refl; answered = first };
+  submitted_is = before;
+  written = [];
+  went = Appends-nil w;
+  text = sym none;
+}
+
+-- whether all opens are answered, by what the code counts
+pub done_is : (opens : List ℕ) (old : Table) (store : Store) (from now : Received) (waits : List ℕ) (a b w u : Option (List ℕ)) (t : Table) (v : Store) (answers : List Answer) (submitted : Bool) (first answered : ℕ)
+    → (h : IsWatching opens old store from now waits a b w u t v answers submitted) → first ≡ store.opens → answered ≡ later first answers
+    → is_done store.opens (length opens) (filter_run old store opens h.messages) ≡ nat_eq answered (length opens)
+done_is opens old store from now waits a b w u t v answers submitted first answered h same counted =
+    let all = ap (later first) h.at.answered in
+    ap (λ n. nat_eq n (length opens)) (sym (counted ∙ all ∙ ap (λ n. later n (filter_run old store opens h.messages).led.answers) same))
+
+pub watching_goes_on : (opens : List ℕ) (old : Table) (store : Store) (from : Received) (x y : Exchange) (a b c w v u : Option (List ℕ))
+    (t t' : Table) (k k' : Store) (answers answers' : List Answer) (submitted submitted' : Bool) (m : Body) (waits : List ℕ)
+    → (h : IsWatching opens old store from x.incoming x.outgoing a b w v t k answers submitted)
+    → is_done store.opens (length opens) (filter_run old store opens h.messages) ≡ false
+    → Passes x y b c v u (m ∷ [])
+    → Hears (heard opens (standing t k answers submitted) m) t' k' answers' submitted' y.outgoing waits
+    → IsWatching opens old store from y.incoming waits a c w u t' k' answers' submitted'
+watching_goes_on opens old store from x y a b c w v u t t' k k' answers answers' submitted submitted' m waits h left passes hears =
+    let before = filter_run old store opens h.messages in
+    let here : standing t k answers submitted ≡ record { led = restarted before.led; submitted = before.submitted } =
+    ap (λ l. record { led = l; submitted = submitted }) (found before.led t k answers h.at) ∙ ap (λ s. record { led = restarted before.led; submitted = s }) h.submitted_is in
+    let after = heard opens (standing t k answers submitted) m in
+    let more : filter_run old store opens (h.messages ++ m ∷ []) ≡ behind_all before.led after =
+    heard_more opens store.opens (standing old store [] false) h.messages m left ∙ heard_from opens before m ∙ ap (λ s. behind_all before.led (heard opens s m)) (sym here) in
+    record {
+      messages = h.messages ++ m ∷ [];
+      taken = takes_then from x.incoming y.incoming a b c h.messages (m ∷ []) h.taken passes.taken;
+      at = record {
+        table = hears.puts.at.table ∙ ap (λ (s : Standing). s.led.table) (sym more);
+        volume = hears.puts.at.volume ∙ ap (λ (s : Standing). s.led.volume) (sym more);
+        answered = hears.puts.at.answered ∙ ap (λ (s : Standing). s.led.answers) (sym more);
+      };
+      submitted_is = hears.submitted_is ∙ ap (λ (s : Standing). s.submitted) (sym more);
+      written = h.written ++ x.outgoing;
+      went = Appends-trans w v u h.written x.outgoing h.went passes.sent;
+      text =
+          ap (λ (s : Standing). flat_map frame s.led.sent) more
+          ∙ flat_map-append frame before.led.sent after.led.sent
+          ∙ ap (λ l. l ++ flat_map frame after.led.sent) h.text
+          ∙ ap (λ l. (h.written ++ x.outgoing) ++ l) (sym (hears.puts.sent ∙ ap (λ l. l ++ flat_map frame after.led.sent) passes.empty));
+    }
+
+still : (e : End) (x y : Exchange) (b c v u : Option (List ℕ)) (done : Bool) (w : Led) (t : Table) (k : Store) (answers : List Answer) → StopsAs e x y b c v u → done ≡ false → IsAt w t k answers
+    → IsStill e done w t k answers
+still Done x y b c v u done w t k answers stops left at = absurd stops.1
+still ReadFault x y b c v u done w t k answers stops left at = (left, at)
+still WriteFault x y b c v u done w t k answers stops left at = at
+still Frame x y b c v u done w t k answers stops left at = (left, at)
+still Closed x y b c v u done w t k answers stops left at = (left, at)
+still Memory x y b c v u done w t k answers stops left at = record { events = []; at = at }
+still AuditFull x y b c v u done w t k answers stops left at = absurd stops.1
+
+pub watching_stops : FaultStays → (e : End) (opens : List ℕ) (old : Table) (store : Store) (from : Received) (x y : Exchange) (a b c w v u : Option (List ℕ))
+    (t : Table) (k : Store) (answers : List Answer) (submitted : Bool) → unread from ≡ []
+    → (h : IsWatching opens old store from x.incoming x.outgoing a b w v t k answers submitted)
+    → is_done store.opens (length opens) (filter_run old store opens h.messages) ≡ false
+    → StopsAs e x y b c v u → RunsTo opens old store t k answers a w u e
+watching_stops stays e opens old store from x y a b c w v u t k answers submitted none h ongoing stops = record {
+  messages = h.messages;
+  spelled = stopped_spelled stays e from x y a b c v u h.messages none h.taken stops;
+  sent = subst (IsSent e w u) (sym h.text) (stopped_sent e x y b c w v u h.written h.went stops);
+  left = still e x y b c v u _ _ t k answers stops ongoing h.at;
+}
+
+-- memory was refused to the message that came last
+pub watching_fails : (opens : List ℕ) (old : Table) (store : Store) (from : Received) (x y : Exchange) (a b c w v u : Option (List ℕ))
+    (t t' : Table) (k k' : Store) (answers answers' : List Answer) (submitted : Bool) (m : Body) → unread from ≡ []
+    → IsWatching opens old store from x.incoming x.outgoing a b w v t k answers submitted
+    → Passes x y b c v u (m ∷ []) → IsBehind (unled t k answers) t' k' answers' → RunsTo opens old store t' k' answers' a w u Memory
+watching_fails opens old store from x y a b c w v u t t' k k' answers answers' submitted m none h passes behind = record {
+  messages = h.messages;
+  spelled = first_spelled from x.incoming a b h.messages none h.taken;
+  sent = prefix_whole w u _ (subst (Appends w u) (sym h.text) (Appends-trans w v u h.written x.outgoing h.went passes.sent));
+  left = behind_then (filter_run old store opens h.messages).led [] t t' k k' answers answers' h.at behind;
+}
+
+-- all opens are answered, and what waited to go out went out, or a front of it
+pub watching_ends : (opens : List ℕ) (old : Table) (store : Store) (from now : Received) (waits : List ℕ) (a b w v u : Option (List ℕ)) (t : Table) (k : Store) (answers : List Answer) (submitted : Bool)
+    → unread from ≡ [] → (h : IsWatching opens old store from now waits a b w v t k answers submitted)
+    → is_done store.opens (length opens) (filter_run old store opens h.messages) ≡ true → Appends v u waits → RunsTo opens old store t k answers a w u Done
+watching_ends opens old store from now waits a b w v u t k answers submitted none h done sent = record {
+  messages = h.messages;
+  spelled = first_spelled from now a b h.messages none h.taken;
+  sent = subst (Appends w u) (sym h.text) (Appends-trans w v u h.written waits h.went sent);
+  left = (done, h.at);
+}
+
+pub watching_breaks : (opens : List ℕ) (old : Table) (store : Store) (from now : Received) (waits : List ℕ) (a b w v u : Option (List ℕ)) (t : Table) (k : Store) (answers : List Answer) (submitted : Bool)
+    → unread from ≡ [] → IsWatching opens old store from now waits a b w v t k answers submitted → AppendsPrefix v u waits → RunsTo opens old store t k answers a w u WriteFault
+watching_breaks opens old store from now waits a b w v u t k answers submitted none h sent = record {
+  messages = h.messages;
+  spelled = first_spelled from now a b h.messages none h.taken;
+  sent = subst (AppendsPrefix w u) (sym h.text) (prefix_after w v u h.written waits h.went sent);
+  left = h.at;
+}
+
+-- ---- the disconnection at the end
+
+first_of_all : (messages : List Body) (a : Option (List ℕ)) → IfSome a (SpellsAll messages) → IfSome a (SpellsFirst messages)
+first_of_all messages None all = tt
+first_of_all messages (Some xs) all = record { more = all.0; whole = all.1.whole; in_range = all.1.in_range }
+
+first_to_fault : (messages : List Body) (a : Option (List ℕ)) → IfSome a (SpellsUpToFault messages) → IfSome a (SpellsFirst messages)
+first_to_fault messages None all = tt
+first_to_fault messages (Some xs) all = record { more = all.0; whole = all.2.whole; in_range = all.2.in_range }
+
+-- what holds of another end holds of Memory
+refused_spelled : (e : End) (messages : List Body) (a : Option (List ℕ)) → AreSpelled e a messages → AreSpelled Memory a messages
+refused_spelled Done messages a spelled = spelled
+refused_spelled ReadFault messages a spelled = spelled
+refused_spelled WriteFault messages a spelled = spelled
+refused_spelled Frame messages a spelled = first_to_fault messages a spelled
+refused_spelled Closed messages a spelled = first_of_all messages a spelled
+refused_spelled Memory messages a spelled = spelled
+refused_spelled AuditFull messages a spelled = absurd spelled
+
+refused_sent : (e : End) (w u : Option (List ℕ)) (text : List ℕ) → IsSent e w u text → IsSent Memory w u text
+refused_sent Done w u text sent = prefix_whole w u text sent
+refused_sent ReadFault w u text sent = prefix_whole w u text sent
+refused_sent WriteFault w u text sent = sent
+refused_sent Frame w u text sent = prefix_whole w u text sent
+refused_sent Closed w u text sent = prefix_whole w u text sent
+refused_sent Memory w u text sent = sent
+refused_sent AuditFull w u text sent = prefix_whole w u text sent
+
+-- where a disconnection led
+left_at : (w : Led) (t t' : Table) (v : Store) (answers answers' : List Answer) → IsAt w t v answers → IsAt (happened (unled t v answers) Disconnects) t' v answers' → IsAt (happened w Disconnects) t' v answers'
+left_at w t t' v answers answers' first second = at_then w t t' v v answers answers' (Disconnects ∷ []) first second
+
+kept_at : (w : Led) (t t' : Table) (v : Store) (answers answers' : List Answer) → IsAt w t v answers → t' ≡ t → answers' ≡ answers → IsAt w t' v answers'
+kept_at w t t' v answers answers' at table same = record { table = table ∙ at.table; volume = at.volume; answered = same ∙ at.answered }
+
+-- an engine that would end otherwise than by Memory, with this left of its run, ends so or with Memory
+ends_as : (opens : List ℕ) (old : Table) (store : Store) (a w u : Option (List ℕ)) (e end : End) (t t' : Table) (v : Store) (answers answers' : List Answer)
+    → (runs : RunsTo opens old store t v answers a w u e) → IsAt (filter_run old store opens runs.messages).led t v answers
+    → (IsAt (happened (filter_run old store opens runs.messages).led Disconnects) t' v answers' → IsLeft e (is_done store.opens (length opens) (filter_run old store opens runs.messages)) (filter_run old store opens runs.messages).led t' v answers')
+    → ((end ≡ e) × IsAt (happened (unled t v answers) Disconnects) t' v answers') ⊎ ((end ≡ Memory) × (t' ≡ t) × (answers' ≡ answers))
+    → WatchesTo opens old store t' v answers' a w u end
+ends_as opens old store a w u e end t t' v answers answers' runs at left (inl k) =
+    subst (λ x. WatchesTo opens old store t' v answers' a w u x) (sym k.0)
+    (record { messages = runs.messages; spelled = runs.spelled; sent = runs.sent; left = left (left_at _ t t' v answers answers' at k.1) })
+ends_as opens old store a w u e end t t' v answers answers' runs at left (inr k) =
+    subst (λ x. WatchesTo opens old store t' v answers' a w u x) (sym k.0)
+    (record {
+      messages = runs.messages;
+      spelled = refused_spelled e runs.messages a runs.spelled;
+      sent = refused_sent e w u _ runs.sent;
+      left = record { events = []; at = kept_at _ t t' v answers answers' at k.1 k.2 };
+    })
+
+pub watched : (opens : List ℕ) (old : Table) (store : Store) (a w u : Option (List ℕ)) (e end : End) (t t' : Table) (v : Store) (answers answers' : List Answer)
+    → RunsTo opens old store t v answers a w u e → Leaves e end t v answers t' answers' → WatchesTo opens old store t' v answers' a w u end
+watched opens old store a w u Done end t t' v answers answers' runs leaves =
+    subst (λ x. WatchesTo opens old store t' v answers' a w u x) (sym leaves.0)
+    (record { messages = runs.messages; spelled = runs.spelled; sent = runs.sent; left = (runs.left.0, kept_at _ t t' v answers answers' runs.left.1 leaves.1 leaves.2) })
+watched opens old store a w u ReadFault end t t' v answers answers' runs leaves = ends_as opens old store a w u ReadFault end t t' v answers answers' runs runs.left.1 (λ at. (runs.left.0, at)) leaves
+watched opens old store a w u WriteFault end t t' v answers answers' runs leaves = ends_as opens old store a w u WriteFault end t t' v answers answers' runs runs.left (λ at. at) leaves
+watched opens old store a w u Frame end t t' v answers answers' runs leaves = ends_as opens old store a w u Frame end t t' v answers answers' runs runs.left.1 (λ at. (runs.left.0, at)) leaves
+watched opens old store a w u Closed end t t' v answers answers' runs leaves = ends_as opens old store a w u Closed end t t' v answers answers' runs runs.left.1 (λ at. (runs.left.0, at)) leaves
+watched opens old store a w u Memory end t t' v answers answers' runs leaves =
+    subst (λ x. WatchesTo opens old store t' v answers' a w u x) (sym leaves.0)
+    (record { messages = runs.messages; spelled = runs.spelled; sent = runs.sent; left = record { events = runs.left.events; at = kept_at _ t t' v answers answers' runs.left.at leaves.1 leaves.2 } })
+watched opens old store a w u AuditFull end t t' v answers answers' runs leaves = absurd runs.spelled
+
+nothing_spelled : (a : Option (List ℕ)) → IfSome a (SpellsFirst [])
+nothing_spelled None = tt
+nothing_spelled (Some xs) = record { more = xs; whole = refl; in_range = tt }
+
+-- memory was refused before the first read
+pub nothing_watched : (opens : List ℕ) (t : Table) (v : Store) (a w : Option (List ℕ)) (answers : List Answer) → answers ≡ [] → RunsTo opens t v t v answers a w w Memory
+nothing_watched opens t v a w answers none = record {
+  messages = [];
+  spelled = nothing_spelled a;
+  sent = prefix_whole w w [] (Appends-nil w);
+  left = record { events = []; at = record { table = refl; volume = refl; answered = none } };
+}

@@ -1,0 +1,65 @@
+use Rattle.std.proofs.Common.{◌+◌, ◌≤◌, ◌∙◌, length, sym, subst, eq-eqb}
+use Rattle.std.proofs.lemmas.Bool.{ne_eqb}
+use Rattle.av_store.specs.Store.{greatest}
+use Rattle.av_engines.proofs.IncomingLemmas.{takes_less}
+use Rattle.av_engines.proofs.WatchingLemmas.{done_is, watching_begins, watching_goes_on, watching_stops, watching_fails, watching_ends, watching_breaks}
+use Rattle.av_engines.proofs.watching.watch.Goals as goal
+
+pub messages-init : goal.messages-init
+messages-init g c = record {
+  watching = watching_begins _ _ _ _ _ _ _ _ _ c.requires.nothing.1 c.requires.none.0 c.requires.none.2;
+  left = λ _. c.requires.left;
+  fits = c.requires.fits;
+  bounds = c.requires.bounds;
+  first = c.requires.none.1;
+}
+
+pub returns-in-Err-clause-runs : goal.returns-in-Err-clause-runs
+returns-in-Err-clause-runs g c =
+    let h = c.messages.invariant.watching in
+    let open_still = done_is _ _ _ _ _ _ _ _ _ _ _ _ _ _ _ _ h c.messages.invariant.first c.messages.tally.counted ∙ ne_eqb _ _ c.messages-test.true in
+    watching_stops c.bytes_spell_one_list.ensures.fault _ _ _ _ _ c.messages.exchange c.next.new.self _ _ _ _ _ _ _ _ _ _ c.requires.nothing.0 h open_still c.in-Err.ensures.stops
+
+pub returns-in-Err-hear-clause-runs : goal.returns-in-Err-hear-clause-runs
+returns-in-Err-hear-clause-runs g c =
+    watching_fails _ _ _ _ c.messages.exchange c.next.new.self _ _ _ _ _ _ _ _ _ _ _ _ _ _ c.requires.nothing.0 c.messages.invariant.watching c.in-Ok.ensures.message c.hear.ensures.behind
+
+pub messages-smaller-in-Ok-hear : goal.messages-smaller-in-Ok-hear
+messages-smaller-in-Ok-hear g c = takes_less _ _ _ _ _ c.in-Ok.ensures.message.taken
+
+pub messages-smaller : goal.messages-smaller
+messages-smaller g c = takes_less _ _ _ _ _ c.in-Ok.ensures.message.taken
+
+pub messages-preserved-in-Ok-hear : goal.messages-preserved-in-Ok-hear
+messages-preserved-in-Ok-hear g c =
+    let h = c.messages.invariant.watching in
+    let open_still = done_is _ _ _ _ _ _ _ _ _ _ _ _ _ _ _ _ h c.messages.invariant.first c.messages.tally.counted ∙ ne_eqb _ _ c.messages-test.true in
+    record {
+      watching = watching_goes_on _ _ _ _ c.messages.exchange c.next.new.self _ _ _ _ _ _ _ _ _ _ _ _ _ _ _ _ h open_still c.in-Ok.ensures.message c.in-Ok-hear.ensures.ok;
+      left = λ before. let kept = c.in-Ok-hear.ensures.left before in subst (λ n. n + length c.args.opens.now ≤ greatest) (sym kept.1) (c.messages.invariant.left kept.0);
+      fits = c.hear.ensures.fits;
+      bounds = c.hear.ensures.bounds;
+      first = c.hear.ensures.first ∙ c.messages.invariant.first;
+    }
+
+pub messages-preserved : goal.messages-preserved
+messages-preserved g c =
+    let h = c.messages.invariant.watching in
+    let open_still = done_is _ _ _ _ _ _ _ _ _ _ _ _ _ _ _ _ h c.messages.invariant.first c.messages.tally.counted ∙ ne_eqb _ _ c.messages-test.true in
+    record {
+      watching = watching_goes_on _ _ _ _ c.messages.exchange c.next.new.self _ _ _ _ _ _ _ _ _ _ _ _ _ _ _ _ h open_still c.in-Ok.ensures.message c.in-Ok-hear.ensures.ok;
+      left = λ before. let kept = c.in-Ok-hear.ensures.left before in subst (λ n. n + length c.args.opens.now ≤ greatest) (sym kept.1) (c.messages.invariant.left kept.0);
+      fits = c.hear.ensures.fits;
+      bounds = c.hear.ensures.bounds;
+      first = c.hear.ensures.first ∙ c.messages.invariant.first;
+    }
+
+pub returns-in-Ok-flush-clause-runs : goal.returns-in-Ok-flush-clause-runs
+returns-in-Ok-flush-clause-runs g c =
+    let h = c.messages.invariant.watching in
+    let done = done_is _ _ _ _ _ _ _ _ _ _ _ _ _ _ _ _ h c.messages.invariant.first c.messages.tally.counted ∙ eq-eqb _ _ c.messages-test.false in
+    watching_ends _ _ _ _ _ _ _ _ _ _ _ _ _ _ _ c.requires.nothing.0 h done c.in-Ok-flush.ensures.ok
+
+pub returns-in-Err-flush-clause-runs : goal.returns-in-Err-flush-clause-runs
+returns-in-Err-flush-clause-runs g c =
+    watching_breaks _ _ _ _ _ _ _ _ _ _ _ _ _ _ _ c.requires.nothing.0 c.messages.invariant.watching c.in-Err-flush.ensures.err

@@ -1,0 +1,69 @@
+-- The worked run of both engines: one open of a stream `ABC`, under a set of version 1 that looks for `XX`.
+use Rattle.std.specs.Prelude.{ℕ, ◌≡◌, true, List, [], ◌∷◌, ◌++◌}
+use Rattle.av_base.specs.Limits.{greatest_values}
+use Rattle.av_base.specs.declared.cause.Cause.TheVariants.{PortDisconnected}
+use Rattle.av_base.specs.declared.message_id.MessageId.{MessageId}
+use Rattle.av_base.specs.declared.mode.Mode.TheVariants.{FailClosed}
+use Rattle.av_base.specs.declared.verdict.Verdict.TheVariants.{Clean}
+use Rattle.av_filter.specs.Conduct.{Disconnects}
+use Rattle.av_filter_table.specs.Table.{Table, mounted}
+use Rattle.av_frame.specs.declared.message.Body.{Body}
+use Rattle.av_frame.specs.declared.message.Body.TheVariants.{Scan, Chunk, Hello, Read, Reply}
+use Rattle.av_frame.specs.declared.outcome.Outcome.TheVariants.{Judged}
+use Rattle.av_match.specs.Scanning.{as_pattern}
+use Rattle.av_pend.specs.declared.answer.Answer.TheVariants.{Denied, Granted}
+use Rattle.av_service.specs.Desk.{Desk, just_started}
+use Rattle.av_sigset.specs.declared.signature.Pattern.{Pattern}
+use Rattle.av_store.specs.Store.{Store}
+use Rattle.av_engines.specs.Serving.{service_run}
+use Rattle.av_engines.specs.Watching.{filter_run, happened, is_done}
+
+-- a volume with one stream of three bytes
+abbrev pub worked_store : Store
+worked_store =
+    record {
+      number = 1;
+      boot = 1;
+      opens = 0;
+      last = 1;
+      limits = greatest_values;
+      streams = (1, record { name = 97 ∷ []; generation = 2; bytes = 65 ∷ 66 ∷ 67 ∷ [] }) ∷ [];
+    }
+
+-- a filter just mounted on it
+abbrev pub worked_table : Table
+worked_table = mounted FailClosed greatest_values 1
+
+-- a service just started
+abbrev pub worked_desk : Desk
+worked_desk = just_started 1 greatest_values 1
+
+-- one signature of two bytes that the stream lacks
+abbrev pub worked_patterns : ℕ → List Pattern
+worked_patterns version = as_pattern (88 ∷ 88 ∷ []) ∷ []
+
+-- the first question of the first boot
+abbrev pub first_id : MessageId
+first_id = record { boot = 1; seq = 1 }
+
+-- what the filter sends, and the service
+abbrev pub down : List Body
+down = Scan first_id 1 2 3 ∷ Chunk first_id 0 (65 ∷ 66 ∷ 67 ∷ []) ∷ []
+
+-- what the service sends in the worked run
+abbrev pub up : List Body
+up = Hello 1 1 ∷ Read first_id 0 3 ∷ Reply first_id (Judged 1 Clean) ∷ []
+
+-- Each side's text of what the other sends is that of the worked run. A message behind the last answer changes nothing; and
+-- where the service is lost before its reply, the open is denied.
+pub record AreWorked : Type 0 where
+  pub serves : (service_run worked_patterns worked_desk down).sent ≡ up
+  pub watches : (filter_run worked_table worked_store (1 ∷ []) up).led.sent ≡ down
+  pub grants : (filter_run worked_table worked_store (1 ∷ []) up).led.answers ≡ Granted 1 0 1 2 1 ∷ []
+  pub is_over : is_done 0 1 (filter_run worked_table worked_store (1 ∷ []) up) ≡ true
+  pub nothing_behind : filter_run worked_table worked_store (1 ∷ []) (up ++ Read first_id 0 3 ∷ [])
+      ≡ filter_run worked_table worked_store (1 ∷ []) up
+  pub not_before : (filter_run worked_table worked_store (1 ∷ []) (Hello 2 1 ∷ [])).led.sent ≡ []
+  pub none_at_once : (filter_run worked_table worked_store [] up).led.sent ≡ []
+  pub lost : (happened (filter_run worked_table worked_store (1 ∷ []) (Hello 1 1 ∷ [])).led Disconnects).answers
+      ≡ Denied 1 PortDisconnected ∷ []

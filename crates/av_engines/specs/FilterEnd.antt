@@ -1,0 +1,78 @@
+-- How the engine of a filter ends.
+use Rattle.std.specs.Prelude.{ℕ, ◌≡◌, Bool, true, false, List, ◌++◌, ◌⊎◌, length, Option}
+use Rattle.std.specs.List.{flat_map}
+use Rattle.av_engines.specs.declared.end.End.{End}
+use Rattle.av_engines.specs.declared.end.End.TheVariants.{Done, WriteFault, Memory, AuditFull}
+use Rattle.av_engines.specs.Spelled.{AreSpelled, IsSent}
+use Rattle.av_engines.specs.Watching.{Led, Standing, all_happened, filter_run, filter_text, happened, is_done, unled}
+use Rattle.av_filter.specs.Conduct.{FilterEvent, Disconnects}
+use Rattle.av_filter_table.specs.Table.{Table}
+use Rattle.av_frame.specs.declared.message.Body.{Body}
+use Rattle.av_frame.specs.Spelling.{frame}
+use Rattle.av_pend.specs.declared.answer.Answer.{Answer}
+use Rattle.av_store.specs.Store.{Store}
+
+-- a filter, its volume and the answers so far are where events led
+pub record IsAt (w : Led) (t : Table) (v : Store) (answers : List Answer) : Type 0 where
+  pub table : t ≡ w.table
+  pub volume : v ≡ w.volume
+  pub answered : answers ≡ w.answers
+
+-- they are where some further events led
+pub record IsBehind (w : Led) (t : Table) (v : Store) (answers : List Answer) : Type 0 where
+  pub events : List FilterEvent
+  pub at : IsAt (all_happened w events) t v answers
+
+-- Where the run of the messages is left: as it is, where all opens are answered; disconnected, where the input ended or
+-- failed and they are not, or where a write failed; and where memory was refused, behind some further events.
+abbrev pub IsLeft : End → Bool → Led → Table → Store → List Answer → Type 0
+IsLeft Done done w t v answers = (done ≡ true) × IsAt w t v answers
+IsLeft Memory done w t v answers = IsBehind w t v answers
+IsLeft WriteFault done w t v answers = IsAt (happened w Disconnects) t v answers
+IsLeft _ done w t v answers = (done ≡ false) × IsAt (happened w Disconnects) t v answers
+
+-- some messages of the input were handled, and the filter sent its text of them and answered as its conduct does
+pub record WatchesTo (opens : List ℕ) (t : Table) (v : Store) (t' : Table) (v' : Store) (answers : List Answer)
+    (input held holds : Option (List ℕ)) (end : End) : Type 0 where
+  pub messages : List Body
+  pub spelled : AreSpelled end input messages
+  pub sent : IsSent end held holds (filter_text t v opens messages)
+  pub left : IsLeft end (is_done v.opens (length opens) (filter_run t v opens messages))
+      (filter_run t v opens messages).led t' v' answers
+
+-- the same before the filter is disconnected
+abbrev pub IsStill : End → Bool → Led → Table → Store → List Answer → Type 0
+IsStill Done done w t v answers = (done ≡ true) × IsAt w t v answers
+IsStill Memory done w t v answers = IsBehind w t v answers
+IsStill WriteFault done w t v answers = IsAt w t v answers
+IsStill _ done w t v answers = (done ≡ false) × IsAt w t v answers
+
+-- the same before the filter is disconnected
+pub record RunsTo (opens : List ℕ) (t : Table) (v : Store) (t' : Table) (v' : Store) (answers : List Answer)
+    (input held holds : Option (List ℕ)) (end : End) : Type 0 where
+  pub messages : List Body
+  pub spelled : AreSpelled end input messages
+  pub sent : IsSent end held holds (filter_text t v opens messages)
+  pub left : IsStill end (is_done v.opens (length opens) (filter_run t v opens messages))
+      (filter_run t v opens messages).led t' v' answers
+
+-- events led from a table, a volume and answers to others, and their frames wait to go out behind those that did
+pub record Puts (w : Led) (t : Table) (v : Store) (answers : List Answer) (waited waits : List ℕ) : Type 0 where
+  pub at : IsAt w t v answers
+  pub sent : waits ≡ waited ++ flat_map frame w.sent
+
+-- the same of a message, behind which the opens were submitted or were not
+pub record Hears (s : Standing) (t : Table) (v : Store) (answers : List Answer) (submitted : Bool)
+    (waited waits : List ℕ) : Type 0 where
+  pub puts : Puts s.led t v answers waited waits
+  pub submitted_is : submitted ≡ s.submitted
+
+-- An engine that would end so ends as it says, and its filter is disconnected before, where it had to be; where memory was
+-- refused to that, nothing has changed, and the end is Memory.
+abbrev pub Leaves : End → End → Table → Store → List Answer → Table → List Answer → Type 0
+Leaves Done end t v answers t' answers' = (end ≡ Done) × (t' ≡ t) × (answers' ≡ answers)
+Leaves Memory end t v answers t' answers' = (end ≡ Memory) × (t' ≡ t) × (answers' ≡ answers)
+Leaves AuditFull end t v answers t' answers' = (end ≡ AuditFull) × (t' ≡ t) × (answers' ≡ answers)
+Leaves would end t v answers t' answers' =
+    ((end ≡ would) × IsAt (happened (unled t v answers) Disconnects) t' v answers')
+    ⊎ ((end ≡ Memory) × (t' ≡ t) × (answers' ≡ answers))

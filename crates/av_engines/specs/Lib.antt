@@ -1,0 +1,9 @@
+pub mod Incoming
+pub mod Outgoing
+pub mod Exchange
+pub mod Spelled
+pub mod Serving
+pub mod ServiceEnd
+pub mod Watching
+pub mod FilterEnd
+pub mod Examples

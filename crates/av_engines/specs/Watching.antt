@@ -1,0 +1,80 @@
+-- The filter over a stream of frames: what it sends and answers as messages come, the opens submitted right after the first
+-- message that leaves it connected.
+use Rattle.std.specs.Prelude.{ℕ, ◌&&◌, ◌==◌, Bool, true, false, not, nat_lt, List, [], ◌∷◌, ◌++◌, length, map, if◌then◌else◌}
+use Rattle.std.specs.List.{count_by, flat_map}
+use Rattle.av_filter.specs.Conduct.{FilterEvent, Opens, Receives, filter_step}
+use Rattle.av_filter.specs.Reaction.{Reaction}
+use Rattle.av_filter_table.specs.Table.{Table}
+use Rattle.av_frame.specs.declared.message.Body.{Body}
+use Rattle.av_frame.specs.Spelling.{frame}
+use Rattle.av_pend.specs.declared.answer.Answer.{Answer}
+use Rattle.av_pend.specs.Pend.{open_of}
+use Rattle.av_store.specs.Store.{Store}
+
+-- where events led a filter and its volume, and what it sent and answered meanwhile
+pub record Led : Type 0 where
+  pub table : Table
+  pub volume : Store
+  pub sent : List Body
+  pub answers : List Answer
+
+-- the filter after one more event
+abbrev pub gone_on : Led → Reaction → Led
+gone_on w r = record { table = r.table; volume = r.volume; sent = w.sent ++ r.messages; answers = w.answers ++ r.answers }
+
+-- where an event leads an engine
+abbrev pub happened : Led → FilterEvent → Led
+happened w e = gone_on w (filter_step w.table w.volume e)
+
+-- events happen in turn
+abbrev pub all_happened : Led → List FilterEvent → Led
+all_happened w [] = w
+all_happened w (e ∷ es) = all_happened (happened w e) es
+
+-- the opens of these streams, which want no version
+abbrev pub opens_of : List ℕ → List FilterEvent
+opens_of streams = map (λ s. Opens s 0) streams
+
+-- the engine between two messages: where the filter is, and whether the opens were submitted
+pub record Standing : Type 0 where
+  pub led : Led
+  pub submitted : Bool
+
+-- the filter is connected after a message, or it isn't
+abbrev pub joined : List ℕ → Bool → Led → Standing
+joined opens submitted w =
+    if w.table.connected && not submitted then record { led = all_happened w (opens_of opens); submitted = true }
+    else record { led = w; submitted = submitted }
+
+-- a message comes
+abbrev pub heard : List ℕ → Standing → Body → Standing
+heard opens s m = joined opens s.submitted (happened s.led (Receives m))
+
+-- how many answers are to opens of a later number than this one
+abbrev pub later : ℕ → List Answer → ℕ
+later first answers = count_by (λ a. nat_lt first (open_of a)) answers
+
+-- so many opens behind this number are answered
+abbrev pub is_done : ℕ → ℕ → Standing → Bool
+is_done first count s = later first s.led.answers == count
+
+-- messages come in turn, as long as opens are left to be answered
+abbrev pub heard_all : List ℕ → ℕ → Standing → List Body → Standing
+heard_all opens first s [] = s
+heard_all opens first s (m ∷ ms) = if is_done first (length opens) s then s else heard_all opens first (heard opens s m) ms
+
+-- a filter of which nothing was sent or answered yet, and no open is submitted
+abbrev pub unled : Table → Store → List Answer → Led
+unled t v answers = record { table = t; volume = v; sent = []; answers = answers }
+
+-- an engine with these answers, and whether its opens were submitted
+abbrev pub standing : Table → Store → List Answer → Bool → Standing
+standing t v answers submitted = record { led = unled t v answers; submitted = submitted }
+
+-- where messages lead an engine that has submitted nothing
+abbrev pub filter_run : Table → Store → List ℕ → List Body → Standing
+filter_run t v opens ms = heard_all opens v.opens (standing t v [] false) ms
+
+-- what is written meanwhile
+abbrev pub filter_text : Table → Store → List ℕ → List Body → List ℕ
+filter_text t v opens ms = flat_map frame (filter_run t v opens ms).led.sent

@@ -1,0 +1,49 @@
+ghost use Rattle.std.specs.Prelude.{◌≡◌, ◌∷◌, [], IfErr, IfOk};
+ghost use Rattle.av_engines.specs.Exchange.{Passes, StopsAs};
+ghost use Rattle.av_engines.specs.Incoming.{nothing_yet};
+
+use crate::end::End;
+use crate::incoming::Incoming;
+use crate::outgoing::Outgoing;
+use av_base::WriteFault;
+use av_frame::Message;
+use std::alloc::{AllocError, Global};
+use std::io::{Read, Write};
+
+/// Both directions of a stream of frames.
+#[derive(Drop)]
+pub struct Exchange {
+    pub incoming: Incoming,
+    pub outgoing: Outgoing,
+}
+
+impl Exchange {
+    /// A stream of which nothing was read yet, and nothing waits to go out.
+    pub fn new(alloc: Global, turns: u64) -> Result<Exchange, AllocError>
+        ensures { IfOk result (λ x. (x.incoming ≡ nothing_yet turns) × (x.outgoing ≡ [])) }
+    {
+        Ok(Exchange {
+            incoming: Incoming::new(alloc, turns)?,
+            outgoing: Outgoing::new(alloc),
+        })
+    }
+
+    /// Sends what waits to go out, and then gives the next message.
+    pub fn next<R: Read, W: Write>(
+        &mut self,
+        reader: &mut R,
+        writer: &mut W,
+    ) -> Result<Message, End>
+        ensures message { IfOk result
+            (λ m. Passes self.old self.new (R.remaining reader.old) (R.remaining reader.new) (W.contents writer.old)
+            (W.contents writer.new) (m ∷ [])) }
+        ensures stops { IfErr result
+            (λ e. StopsAs e self.old self.new (R.remaining reader.old) (R.remaining reader.new) (W.contents writer.old)
+            (W.contents writer.new)) }
+    {
+        match self.outgoing.flush(writer) {
+            Ok(()) => self.incoming.next(reader),
+            Err(WriteFault) => Err(End::WriteFault),
+        }
+    }
+}

@@ -1,0 +1,123 @@
+ghost use Rattle.std.specs.Prelude.{◌≡◌, ◌∷◌, ◌<◌, [], false, IfErr, IfOk, OnErr, OnOk};
+ghost use Rattle.av_engines.specs.Incoming.{EndsAs, GivesFront, HasNoFront, Reads, ReadsNothing, Takes, nothing_yet, unread};
+ghost use Rattle.av_engines.specs.declared.end.End.TheVariants.{Memory};
+
+use crate::end::End;
+use av_base::Refusal;
+use av_frame::{Feed, FeedFault, Message};
+use std::alloc::{AllocError, Global};
+use std::io::Read;
+use std::marker::Model;
+
+// How many bytes are read at once: two frames of the greatest length, or some hundred small ones.
+const PIECE: usize = 8_192;
+
+/// The messages of a stream of frames, read from any reader as they are wanted. What was read and not taken yet is kept, so
+/// all reads of a stream go through one value. It holds a buffer of 8 KiB and the bytes of the frames that came.
+#[derive(Drop)]
+pub struct Incoming {
+    feed: Feed,
+    // What was read last; its first `waiting` bytes are not in the feed yet.
+    buffer: Vec<u8>,
+    waiting: usize,
+    turns: u64,
+}
+
+impl Model for Incoming {
+    ghost use Rattle.std.specs.Prelude.{take};
+    ghost use Rattle.av_engines.specs.Incoming.{IsKept, Received};
+
+    ghost Value = { Received };
+
+    ghost view = { λ i. record { fed = i.feed; waiting = take i.waiting i.buffer.items; turns = i.turns } };
+
+    ghost invariant = { λ i. IsKept i.feed i.buffer.items i.waiting };
+}
+
+impl Incoming {
+    /// A stream of which nothing was read yet, and of which at most `turns` reads will be made.
+    pub fn new(alloc: Global, turns: u64) -> Result<Incoming, AllocError>
+        ensures { IfOk result (λ i. i ≡ nothing_yet turns) }
+    {
+        let mut buffer = Vec::new(alloc);
+        buffer.resize(PIECE, 0)?;
+        Ok(Incoming {
+            feed: Feed::new(alloc),
+            buffer,
+            waiting: 0,
+            turns,
+        })
+    }
+
+    /// The next whole message of the stream, for which as many reads are made as are needed: none where it came with an
+    /// earlier one. Else Frame, where what came next is no frame of a message, also at every later call; Closed, where the
+    /// input ended, also within a frame; ReadFault, where a read failed or none is left; Memory. All but Frame may be called
+    /// again: nothing that came is lost.
+    pub fn next<R: Read>(&mut self, reader: &mut R) -> Result<Message, End>
+        ensures message { IfOk result (λ m. Takes self.old self.new (R.remaining reader.old) (R.remaining reader.new) (m ∷ [])) }
+        ensures nothing { OnErr result (Takes self.old self.new (R.remaining reader.old) (R.remaining reader.new) []) }
+        ensures end { IfErr result (λ e. EndsAs e self.new (R.remaining reader.new)) }
+    {
+        'reads: loop {
+            self.settle()?;
+            match self.front()? {
+                Some(message) => return Ok(message),
+                None => self.read(reader)?,
+            }
+        }
+    }
+
+    // Puts what waits into the feed.
+    fn settle(&mut self) -> Result<(), End>
+        ensures ok { OnOk result ((unread self.new ≡ unread self.old) × (self.new.waiting ≡ [])
+            × (self.new.turns ≡ self.old.turns)) }
+        ensures err { IfErr result (λ e. (e ≡ Memory) × (self.new ≡ self.old)) }
+    {
+        if self.waiting == 0 {
+            return Ok(());
+        }
+        match self.feed.push(&self.buffer[..self.waiting]) {
+            Ok(()) => {
+                self.waiting = 0;
+                Ok(())
+            }
+            Err(Refusal::NoMemory) => Err(End::Memory),
+            Err(Refusal::Fault(_)) => unreachable!(),
+        }
+    }
+
+    // Takes the message at the front off, once it is whole.
+    fn front(&mut self) -> Result<Option<Message>, End>
+        requires { self.old.waiting ≡ [] }
+        ensures taken { IfOk result (λ o. GivesFront self.old self.new o) }
+        ensures err { IfErr result (λ e. HasNoFront e self.old self.new) }
+    {
+        match self.feed.next() {
+            Ok(message) => Ok(message),
+            Err(Refusal::NoMemory) => Err(End::Memory),
+            Err(Refusal::Fault(_)) => Err(End::Frame),
+        }
+    }
+
+    // One read.
+    fn read<R: Read>(&mut self, reader: &mut R) -> Result<(), End>
+        requires waiting { self.old.waiting ≡ [] }
+        requires sound { self.old.fed.broken ≡ false }
+        ensures ok { OnOk result (Reads self.old self.new (R.remaining reader.old) (R.remaining reader.new)) }
+        ensures turns { OnOk result (self.new.turns < self.old.turns) }
+        ensures err { IfErr result (λ e. ReadsNothing e self.old self.new (R.remaining reader.old) (R.remaining reader.new)) }
+    {
+        if self.turns == 0 {
+            return Err(End::ReadFault);
+        }
+        self.turns -= 1;
+        match reader.read(&mut self.buffer) {
+            Ok(0) => Err(End::Closed),
+            Ok(count) => {
+                self.waiting = count;
+                Ok(())
+            }
+            Err(_) => Err(End::ReadFault),
+        }
+    }
+}

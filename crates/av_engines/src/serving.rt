@@ -1,0 +1,211 @@
+ghost use Rattle.std.specs.Prelude.{◌≡◌, ◌≤◌, ◌∷◌, ◌++◌, [], false, None, IfOk, IsSome, OnOk};
+ghost use Rattle.std.specs.List.{flat_map};
+ghost use Rattle.av_engines.specs.Incoming.{unread};
+ghost use Rattle.av_engines.specs.ServiceEnd.{HearsTo, Puts, RunsTo, ServesTo, always};
+ghost use Rattle.av_engines.specs.Serving.{gone_on, heard, patterns_at, unserved, worked};
+ghost use Rattle.av_frame.specs.Spelling.{frame};
+ghost use Rattle.av_service.specs.Conduct.{Connects, Disconnects, connect_refusal, service_step};
+ghost use Rattle.av_sigset.specs.Catalogue.{set_at};
+
+use crate::end::End;
+use crate::exchange::Exchange;
+use crate::outgoing::Outgoing;
+use av_base::Refusal;
+use av_frame::Message;
+use av_frame::laws::bytes_spell_one_list;
+use av_match::Automaton;
+use av_service::laws::works_are_lent_under_the_present_version;
+use av_service::{Service, ServiceOut, Work};
+use av_sigset::Catalogue;
+use std::alloc::{AllocError, AllocFailed, Global};
+use std::io::{Read, Write};
+
+/// Runs a scanning service over a stream of frames: it connects, handles each message that comes, and runs each work at
+/// once, under the set of its version. It ends with ReadFault, also once `turns` reads were made; WriteFault; Frame; Closed;
+/// each of these disconnects the service; or with Memory, which leaves it where the messages led, or within the last of them.
+/// It holds the automaton of the set, a buffer and the frames of one message.
+pub fn serve_service<R: Read, W: Write>(
+    alloc: Global,
+    service: &mut Service,
+    catalogue: &Catalogue,
+    reader: &mut R,
+    writer: &mut W,
+    turns: u64,
+) -> End
+    requires idle { service.old.connected ≡ false }
+    requires version { 1 ≤ service.old.version }
+    requires set { IsSome (set_at catalogue.now.sets service.old.version) }
+    ensures { ServesTo catalogue.now.sets service.old service.new (R.remaining reader.old) (W.contents writer.old)
+        (W.contents writer.new) result }
+{
+    let end = serve(alloc, service, catalogue, reader, writer, turns);
+    if end != End::Memory {
+        leave(alloc, service);
+    }
+    end
+}
+
+// The same, without the disconnection.
+fn serve<R: Read, W: Write>(
+    alloc: Global,
+    service: &mut Service,
+    catalogue: &Catalogue,
+    reader: &mut R,
+    writer: &mut W,
+    turns: u64,
+) -> End
+    requires idle { service.old.connected ≡ false }
+    requires version { 1 ≤ service.old.version }
+    requires set { IsSome (set_at catalogue.now.sets service.old.version) }
+    ensures { RunsTo catalogue.now.sets service.old service.new (R.remaining reader.old) (W.contents writer.old)
+        (W.contents writer.new) result }
+{
+    works_are_lent_under_the_present_version();
+    let Ok(automaton) = automaton_of(alloc, service, catalogue) else {
+        return End::Memory;
+    };
+    let Ok(mut exchange) = Exchange::new(alloc, turns) else {
+        return End::Memory;
+    };
+    match greet(alloc, service, &mut exchange.outgoing) {
+        Ok(()) => hear_all(alloc, service, &automaton, &mut exchange, reader, writer),
+        Err(_) => End::Memory,
+    }
+}
+
+// The automaton of the set under which a service judges.
+fn automaton_of(
+    alloc: Global,
+    service: &Service,
+    catalogue: &Catalogue,
+) -> Result<Automaton, AllocError>
+    requires version { 1 ≤ service.now.version }
+    requires set { IsSome (set_at catalogue.now.sets service.now.version) }
+    ensures { IfOk result (λ a. a.patterns ≡ patterns_at catalogue.now.sets service.now.version) }
+{
+    let Some(version) = service.version() else {
+        unreachable!()
+    };
+    let Some(set) = catalogue.at(version) else {
+        unreachable!()
+    };
+    Automaton::build(alloc, set)
+}
+
+// Connects, and puts the greeting.
+fn greet(alloc: Global, service: &mut Service, outgoing: &mut Outgoing) -> Result<(), AllocError>
+    requires { connect_refusal service.old ≡ None }
+    ensures { OnOk result
+        (Puts (gone_on (unserved service.old) (service_step service.old Connects)) service.new outgoing.old outgoing.new) }
+{
+    match service.connect(alloc) {
+        Ok(out) => put_plain(outgoing, out),
+        Err(Refusal::NoMemory) => Err(AllocError),
+        Err(Refusal::Fault(_)) => unreachable!(),
+    }
+}
+
+// Handles each message that comes, until none does.
+fn hear_all<R: Read, W: Write>(
+    alloc: Global,
+    service: &mut Service,
+    automaton: &Automaton,
+    exchange: &mut Exchange,
+    reader: &mut R,
+    writer: &mut W,
+) -> End
+    requires { unread exchange.old.incoming ≡ [] }
+    ensures { HearsTo (always automaton.now.patterns) service.old service.new exchange.old.outgoing (R.remaining reader.old)
+        (W.contents writer.old) (W.contents writer.new) result }
+{
+    bytes_spell_one_list();
+    'messages: loop {
+        let message = match exchange.next(reader, writer) {
+            Ok(message) => message,
+            Err(end) => return end,
+        };
+        match hear(alloc, service, automaton, &mut exchange.outgoing, &message) {
+            Ok(()) => {}
+            Err(_) => return End::Memory,
+        }
+    }
+}
+
+// Handles a message, and puts what the service sends.
+fn hear(
+    alloc: Global,
+    service: &mut Service,
+    automaton: &Automaton,
+    outgoing: &mut Outgoing,
+    message: &Message,
+) -> Result<(), AllocError>
+    ensures { OnOk result
+        (Puts (heard (always automaton.now.patterns) (unserved service.old) message.now) service.new outgoing.old outgoing.new) }
+{
+    let out = service.message(alloc, message)?;
+    let ServiceOut {
+        messages,
+        work,
+        note: _,
+    } = out;
+    match work {
+        None => outgoing.put(messages.as_slice()),
+        Some(work) => match outgoing.put(messages.as_slice()) {
+            Ok(()) => bring_back(alloc, service, automaton, outgoing, work),
+            Err(refused) => {
+                work.discard();
+                Err(refused)
+            }
+        },
+    }
+}
+
+// Runs a work and takes it back to the service.
+fn bring_back(
+    alloc: Global,
+    service: &mut Service,
+    automaton: &Automaton,
+    outgoing: &mut Outgoing,
+    work: Work,
+) -> Result<(), AllocError>
+    ensures { OnOk result
+        (Puts (worked (always automaton.now.patterns) (unserved service.old) (work ∷ [])) service.new outgoing.old outgoing.new) }
+{
+    match service.finish(alloc, work.run(automaton)) {
+        Ok(out) => put_plain(outgoing, out),
+        Err(AllocFailed { value: done }) => {
+            done.discard();
+            Err(AllocError)
+        }
+    }
+}
+
+// Puts the messages of an event. A work, which it doesn't lend, is let go.
+fn put_plain(outgoing: &mut Outgoing, out: ServiceOut) -> Result<(), AllocError>
+    ensures { OnOk result (outgoing.new ≡ outgoing.old ++ flat_map frame out.messages.items) }
+{
+    let ServiceOut {
+        messages,
+        work,
+        note: _,
+    } = out;
+    if let Some(work) = work {
+        work.discard();
+    }
+    outgoing.put(messages.as_slice())
+}
+
+// Disconnects the service.
+fn leave(alloc: Global, service: &mut Service)
+    ensures { service.new ≡ (service_step service.old Disconnects).desk }
+{
+    let out = service.disconnect(alloc);
+    let ServiceOut {
+        messages: _,
+        work,
+        note: _,
+    } = out;
+    if let Some(work) = work {
+        work.discard();
+    }
+}

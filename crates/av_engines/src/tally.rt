@@ -1,0 +1,83 @@
+ghost use Rattle.std.specs.Prelude.{◌≡◌, ◌+◌, ◌≤◌, ◌++◌, [], false, length, OnErr, OnOk, vec_len};
+ghost use Rattle.std.specs.Vec.{vec_capacity};
+ghost use Rattle.av_engines.specs.Watching.{later};
+ghost use Rattle.av_pend.specs.Pend.{open_of};
+
+use av_base::OpenId;
+use av_filter::Filter;
+use av_pend::Answer;
+use std::alloc::{AllocError, Global};
+
+/// The answers that a filter gave so far, and how many of them are to opens behind a number; and whether those opens were
+/// submitted.
+#[derive(Drop)]
+pub struct Tally {
+    pub answers: Vec<Answer>,
+    pub first: u64,
+    pub answered: usize,
+    pub submitted: bool,
+    ghost counted: { answered ≡ later first answers.items },
+}
+
+impl Tally {
+    /// No answer. It takes no memory.
+    pub fn new(alloc: Global, first: u64) -> Tally
+        ensures answers { result.answers.items ≡ [] }
+        ensures first { result.first ≡ first }
+        ensures submitted { result.submitted ≡ false }
+    {
+        Tally {
+            answers: Vec::new(alloc),
+            first,
+            answered: 0,
+            submitted: false,
+        }
+    }
+
+    /// Makes room for the answers of one event of a filter.
+    pub fn make_room(&mut self, filter: &Filter) -> Result<(), AllocError>
+        ensures room { OnOk result (vec_len self.new.answers + length filter.now.pended + 1 ≤ vec_capacity self.new.answers) }
+        ensures answers { self.new.answers.items ≡ self.old.answers.items }
+        ensures rest { (self.new.first ≡ self.old.first) × (self.new.submitted ≡ self.old.submitted) }
+    {
+        match filter.pended_count().checked_add(1) {
+            Some(most) => self.answers.reserve(most),
+            None => Err(AllocError),
+        }
+    }
+
+    /// Adds the answers of an event, for which there is room.
+    pub fn add(&mut self, answers: Vec<Answer>)
+        requires { vec_len self.old.answers + vec_len answers ≤ vec_capacity self.old.answers }
+        ensures answers { self.new.answers.items ≡ self.old.answers.items ++ answers.items }
+        ensures rest { (self.new.first ≡ self.old.first) × (self.new.submitted ≡ self.old.submitted) }
+    {
+        let mut answers = answers;
+        self.answered += count_later(self.first, answers.as_slice());
+        self.answers.append(&mut answers).unwrap();
+    }
+}
+
+// How many of these answers are to opens behind this number.
+fn count_later(first: u64, answers: &[Answer]) -> usize
+    ensures { result ≡ later first answers.now }
+{
+    let mut count = 0;
+    'answers: for answer in answers {
+        if first < open_of(answer).get() {
+            count += 1;
+        }
+    }
+    count
+}
+
+// The open that an answer is for.
+fn open_of(answer: &Answer) -> OpenId
+    ensures { result ≡ open_of answer.now }
+{
+    match answer {
+        Answer::Granted { open_id, .. } => *open_id,
+        Answer::Unscanned { open_id, .. } => *open_id,
+        Answer::Denied { open_id, .. } => *open_id,
+    }
+}

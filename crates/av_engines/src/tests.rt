@@ -1,0 +1,247 @@
+mod cut;
+mod floods;
+mod frames;
+mod sides;
+mod sockets;
+
+use self::cut::CutReader;
+use self::frames::{DOWN, UP};
+use self::sides::{served, watched};
+use crate::end::End;
+use crate::watching::Watched;
+use av_base::{Cause, Generation, OpenId, StreamId, Version};
+use av_fakes::{FakeReader, FakeWriter, Fault};
+use av_pend::Answer;
+use std::alloc::Global;
+use std::test::Fail;
+
+// The end of a run of the filter's engine with one open, how many of the worked bytes are out, and nothing else, and what the
+// open was told.
+fn is_watched(watched: &Watched, writer: &FakeWriter, end: End, out: usize, told: Told) -> bool {
+    watched.end == end && writer.taken() == &DOWN[..out.min(77)] && told.is(&watched.answers)
+}
+
+// What open 1 was told.
+#[derive(Clone, Copy)]
+enum Told {
+    Nothing,
+    Granted,
+    Lost,
+}
+
+impl Told {
+    fn is(self, answers: &[Answer]) -> bool {
+        match self {
+            Told::Nothing => answers.is_empty(),
+            Told::Granted => answers == [granted()].as_slice(),
+            Told::Lost => answers == [lost()].as_slice(),
+        }
+    }
+}
+
+fn granted() -> Answer {
+    Answer::Granted {
+        open_id: OpenId::new(1),
+        least: Version::new(0),
+        stream: StreamId::new(1),
+        generation: Generation::new(2),
+        version: Version::new(1),
+    }
+}
+
+fn lost() -> Answer {
+    Answer::Denied {
+        open_id: OpenId::new(1),
+        cause: Cause::PortDisconnected,
+    }
+}
+
+// What the worked input leaves of which so many bytes came: how many bytes are out, and what open 1 was told.
+fn left_by(came: usize) -> (usize, Told) {
+    match came {
+        0..=20 => (0, Told::Nothing),
+        21..=53 => (45, Told::Lost),
+        _ => (77, Told::Lost),
+    }
+}
+
+#[test]
+fn the_worked_run_is_written_byte_by_byte_however_it_is_cut(rt: HostRuntime) -> Result<(), Fail> {
+    let cuts: [&[usize]; 5] = [&[], &[2], &[23], &[56], &[2, 23, 56]];
+    for cut in cuts {
+        assert!(rt; runs_cut(rt.alloc(), cut)?);
+    }
+    for piece in [1, 7, 84, 8_192] {
+        assert!(rt; runs_in_pieces(rt.alloc(), piece)?, "in pieces of {piece}");
+    }
+    Ok(())
+}
+
+fn runs_cut(alloc: Global, cuts: &[usize]) -> Result<bool, Fail> {
+    let mut reader = CutReader::new(&UP, cuts);
+    let mut writer = FakeWriter::new(alloc);
+    let run = watched(alloc, &mut reader, &mut writer, 1_000)?;
+    let watched = is_watched(&run, &writer, End::Done, 77, Told::Granted);
+    let mut back = CutReader::new(&DOWN, cuts);
+    let mut answer = FakeWriter::new(alloc);
+    let end = served(alloc, &mut back, &mut answer, 1_000)?;
+    Ok(watched && end == End::Closed && answer.taken() == UP.as_slice())
+}
+
+fn runs_in_pieces(alloc: Global, piece: usize) -> Result<bool, Fail> {
+    let mut reader = FakeReader::new(&UP).in_pieces_of(piece);
+    let mut writer = FakeWriter::new(alloc);
+    let run = watched(alloc, &mut reader, &mut writer, 1_000)?;
+    let watched = is_watched(&run, &writer, End::Done, 77, Told::Granted);
+    let mut back = FakeReader::new(&DOWN).in_pieces_of(piece);
+    let mut answer = FakeWriter::new(alloc);
+    let end = served(alloc, &mut back, &mut answer, 1_000)?;
+    Ok(watched && end == End::Closed && answer.taken() == UP.as_slice())
+}
+
+#[test]
+fn an_input_that_ends_anywhere_closes_and_answers_what_was_submitted(
+    rt: HostRuntime,
+) -> Result<(), Fail> {
+    for came in 0..84usize {
+        assert!(rt;
+            closes_after(rt.alloc(), came, 8_192)?,
+            "after {came} bytes"
+        );
+        assert!(rt;
+            closes_after(rt.alloc(), came, 1)?,
+            "after {came} bytes, each read alone"
+        );
+    }
+    Ok(())
+}
+
+fn closes_after(alloc: Global, came: usize, piece: usize) -> Result<bool, Fail> {
+    let mut reader = FakeReader::new(&UP[..came.min(84)]).in_pieces_of(piece);
+    let mut writer = FakeWriter::new(alloc);
+    let run = watched(alloc, &mut reader, &mut writer, 1_000)?;
+    let (out, told) = left_by(came);
+    Ok(is_watched(&run, &writer, End::Closed, out, told))
+}
+
+#[test]
+fn a_read_that_fails_anywhere_leaves_what_came_before_it(rt: HostRuntime) -> Result<(), Fail> {
+    for read in 1..85u64 {
+        assert!(rt; fails_at_read(rt.alloc(), read, 1_000)?, "at read {read}");
+        assert!(rt;
+            fails_at_read(rt.alloc(), 1_000, read)? || read == 84,
+            "at {read} reads"
+        );
+    }
+    Ok(())
+}
+
+// The input comes byte by byte, and the read of this number fails or is one too many.
+fn fails_at_read(alloc: Global, read: u64, turns: u64) -> Result<bool, Fail> {
+    let mut reader = FakeReader::new(&UP).in_pieces_of(1).failing_at(read);
+    let mut writer = FakeWriter::new(alloc);
+    let run = watched(alloc, &mut reader, &mut writer, turns)?;
+    let (out, told) = left_by(read.saturating_sub(1).min(turns) as usize);
+    Ok(is_watched(&run, &writer, End::ReadFault, out, told))
+}
+
+#[test]
+fn a_write_that_fails_anywhere_leaves_what_was_written_before_it(
+    rt: HostRuntime,
+) -> Result<(), Fail> {
+    for write in 1..78u64 {
+        assert!(rt;
+            breaks_at(rt.alloc(), write, Fault::Fails { write })?,
+            "write {write} fails"
+        );
+        assert!(rt;
+            breaks_at(rt.alloc(), write, Fault::TakesNothing { write })?,
+            "write {write} takes no byte"
+        );
+    }
+    Ok(())
+}
+
+fn breaks_at(alloc: Global, write: u64, fault: Fault) -> Result<bool, Fail> {
+    let mut writer = FakeWriter::new(alloc).in_pieces_of(1).with(fault);
+    let run = watched(alloc, &mut FakeReader::new(&UP), &mut writer, 1_000)?;
+    let out = write.saturating_sub(1) as usize;
+    Ok(is_watched(&run, &writer, End::WriteFault, out, Told::Lost))
+}
+
+#[test]
+fn a_writer_that_cannot_be_flushed_is_a_write_fault(rt: HostRuntime) -> Result<(), Fail> {
+    let mut writer = FakeWriter::new(rt.alloc()).with(Fault::KeepsUnflushed);
+    let run = watched(rt.alloc(), &mut FakeReader::new(&UP), &mut writer, 1_000)?;
+    assert!(rt; is_watched(&run, &writer, End::WriteFault, 45, Told::Lost));
+    let end = served(rt.alloc(), &mut FakeReader::new(&DOWN), &mut writer, 1_000)?;
+    assert!(rt; end == End::WriteFault);
+    Ok(())
+}
+
+#[test]
+fn what_was_sent_is_flushed(rt: HostRuntime) -> Result<(), Fail> {
+    let mut writer = FakeWriter::new(rt.alloc());
+    let _ = watched(rt.alloc(), &mut FakeReader::new(&UP), &mut writer, 1_000)?;
+    assert!(rt; writer.flushed() == 77);
+    Ok(())
+}
+
+#[test]
+fn a_wrong_frame_ends_an_engine(rt: HostRuntime) -> Result<(), Fail> {
+    let empty = [0u8; 4];
+    assert!(rt; frame_fault(rt.alloc(), &empty, 0, Told::Nothing)?);
+    let mut greeted = [0u8; 26];
+    greeted[..21].copy_from_slice(&UP[..21]);
+    greeted[24] = 1;
+    greeted[25] = 9;
+    assert!(rt; frame_fault(rt.alloc(), &greeted, 45, Told::Lost)?);
+    Ok(())
+}
+
+fn frame_fault(alloc: Global, input: &[u8], out: usize, told: Told) -> Result<bool, Fail> {
+    let mut writer = FakeWriter::new(alloc);
+    let run = watched(alloc, &mut FakeReader::new(input), &mut writer, 1_000)?;
+    Ok(is_watched(&run, &writer, End::Frame, out, told))
+}
+
+#[test]
+fn a_service_answers_what_came_before_its_input_ended(rt: HostRuntime) -> Result<(), Fail> {
+    for came in 0..78usize {
+        assert!(rt; serves_until(rt.alloc(), came)?, "after {came} bytes");
+    }
+    Ok(())
+}
+
+fn serves_until(alloc: Global, came: usize) -> Result<bool, Fail> {
+    let out = match came {
+        0..=44 => 21,
+        45..=76 => 54,
+        _ => 84,
+    };
+    let mut reader = FakeReader::new(&DOWN[..came.min(77)]);
+    let mut writer = FakeWriter::new(alloc);
+    let end = served(alloc, &mut reader, &mut writer, 1_000)?;
+    Ok(end == End::Closed && writer.taken() == &UP[..out])
+}
+
+#[test]
+fn no_open_is_done_at_once(rt: HostRuntime) -> Result<(), Fail> {
+    let mut writer = FakeWriter::new(rt.alloc());
+    let run = sides::watched_opens(
+        rt.alloc(),
+        &[],
+        &mut FakeReader::new(&UP).failing_at(1),
+        &mut writer,
+        0,
+    )?;
+    assert!(rt; is_watched(&run, &writer, End::Done, 0, Told::Nothing));
+    Ok(())
+}
+
+#[test]
+fn refused_or_not_an_engine_ends_with_a_front_of_its_text(rt: HostRuntime) -> Result<(), Fail> {
+    assert!(rt; sides::refused_watch(rt.alloc())?);
+    assert!(rt; sides::refused_serve(rt.alloc())?);
+    Ok(())
+}

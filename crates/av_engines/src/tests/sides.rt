@@ -1,0 +1,151 @@
+// Both engines over a volume of one stream, `ABC`, and a set of version 1 with the pattern `XX`.
+ghost use Rattle.std.specs.Prelude.{IfOk};
+ghost use Rattle.av_filter.specs.Bounds.{AreInBounds};
+
+use crate::end::End;
+use crate::serving::serve_service;
+use crate::tests::frames::{DOWN, UP};
+use crate::watching::{Watched, serve_filter};
+use av_base::{LimitField, LimitValues, Limits, Mode, StreamId, Version};
+use av_fakes::{FakeReader, FakeWriter, may_refuse, refuse_no_more};
+use av_filter::Filter;
+use av_service::Service;
+use av_sigset::{Catalogue, SignatureSet};
+use av_store::Volume;
+use std::alloc::Global;
+use std::io::{Read, Write};
+
+/// A side could not be made.
+#[derive(Clone, Copy, Debug)]
+pub struct Unmade;
+
+pub fn volume_of_one(alloc: Global) -> Result<Volume, Unmade>
+    ensures { IfOk result (λ v. AreInBounds v) }
+{
+    let mut volume = Volume::new(alloc, 1, Limits::greatest());
+    let _in_range = Limits::greatest().values();
+    let Ok(first) = volume.create(alloc, b"a") else {
+        return Err(Unmade);
+    };
+    match volume.write(first, 0, b"ABC") {
+        Ok(_) => Ok(volume),
+        Err(_) => Err(Unmade),
+    }
+}
+
+pub fn catalogue_of_one(alloc: Global) -> Result<Catalogue, Unmade> {
+    let mut catalogue = Catalogue::new(alloc);
+    let patterns: [&[u8]; 1] = [b"XX"];
+    let Ok(set) = SignatureSet::from_patterns(alloc, Version::new(1), &patterns) else {
+        return Err(Unmade);
+    };
+    match catalogue.publish(set) {
+        Ok(()) => Ok(catalogue),
+        Err(_) => Err(Unmade),
+    }
+}
+
+// The filter's engine with one open of stream 1.
+pub fn watched<R: Read, W: Write>(
+    alloc: Global,
+    reader: &mut R,
+    writer: &mut W,
+    turns: u64,
+) -> Result<Watched, Unmade> {
+    watched_opens(alloc, &[StreamId::new(1)], reader, writer, turns)
+}
+
+pub fn watched_opens<R: Read, W: Write>(
+    alloc: Global,
+    opens: &[StreamId],
+    reader: &mut R,
+    writer: &mut W,
+    turns: u64,
+) -> Result<Watched, Unmade> {
+    let mut volume = volume_of_one(alloc)?;
+    let mode = Mode::FailClosed;
+    let Ok(mut filter) = Filter::mount(alloc, &mut volume, mode, Limits::greatest()) else {
+        return Err(Unmade);
+    };
+    if volume.opens_left() < opens.len() as u64 {
+        filter.abandon();
+        return Err(Unmade);
+    }
+    may_refuse(alloc);
+    let watched = serve_filter(
+        alloc,
+        &mut volume,
+        &mut filter,
+        opens,
+        reader,
+        writer,
+        turns,
+    );
+    refuse_no_more(alloc);
+    filter.abandon();
+    Ok(watched)
+}
+
+// The service's engine.
+pub fn served<R: Read, W: Write>(
+    alloc: Global,
+    reader: &mut R,
+    writer: &mut W,
+    turns: u64,
+) -> Result<End, Unmade> {
+    served_within(alloc, Limits::greatest(), reader, writer, turns)
+}
+
+pub fn served_within<R: Read, W: Write>(
+    alloc: Global,
+    limits: Limits,
+    reader: &mut R,
+    writer: &mut W,
+    turns: u64,
+) -> Result<End, Unmade> {
+    let catalogue = catalogue_of_one(alloc)?;
+    let Ok(mut service) = Service::start(alloc, 1, &catalogue, limits) else {
+        return Err(Unmade);
+    };
+    let Some(version) = service.version() else {
+        return Err(Unmade);
+    };
+    if service.connected() || catalogue.at(version).is_none() {
+        return Err(Unmade);
+    }
+    may_refuse(alloc);
+    let end = serve_service(alloc, &mut service, &catalogue, reader, writer, turns);
+    refuse_no_more(alloc);
+    Ok(end)
+}
+
+// With each request refused in turn: Memory with a front of the text, or the whole run.
+pub fn refused_watch(alloc: Global) -> Result<bool, Unmade> {
+    let mut writer = FakeWriter::new(alloc);
+    let run = watched(alloc, &mut FakeReader::new(&UP), &mut writer, 1_000)?;
+    let out = writer.taken();
+    Ok(match run.end {
+        End::Done => out == DOWN.as_slice(),
+        End::Memory | End::WriteFault => DOWN.starts_with(out),
+        _ => false,
+    })
+}
+
+pub fn refused_serve(alloc: Global) -> Result<bool, Unmade> {
+    let mut writer = FakeWriter::new(alloc);
+    let end = served(alloc, &mut FakeReader::new(&DOWN), &mut writer, 1_000)?;
+    let out = writer.taken();
+    Ok(match end {
+        End::Closed => out == UP.as_slice(),
+        End::Memory | End::WriteFault => UP.starts_with(out),
+        _ => false,
+    })
+}
+
+// The greatest limits but this many jobs.
+pub fn limits_of_jobs(jobs: u64) -> Result<Limits, Unmade> {
+    match Limits::check(LimitValues::greatest().with(LimitField::Jobs, jobs)) {
+        Ok(limits) => Ok(limits),
+        Err(_) => Err(Unmade),
+    }
+}

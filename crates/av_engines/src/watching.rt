@@ -1,0 +1,351 @@
+ghost use Rattle.std.specs.Prelude.{◌≡◌, ◌≤◌, ◌<◌, ◌+◌, ◌++◌, ◌∷◌, [], length, false, IfOk, OnErr, OnOk, vec_len};
+ghost use Rattle.std.specs.List.{flat_map};
+ghost use Rattle.std.specs.Vec.{vec_capacity};
+ghost use Rattle.av_engines.specs.FilterEnd.{Hears, IsAt, IsBehind, Leaves, Puts, RunsTo, WatchesTo};
+ghost use Rattle.av_engines.specs.Incoming.{unread};
+ghost use Rattle.av_engines.specs.Watching.{all_happened, happened, heard, opens_of, standing, unled};
+ghost use Rattle.av_filter.specs.Bounds.{AreInBounds};
+ghost use Rattle.av_filter.specs.Call.{MeetsAlways, Reacts};
+ghost use Rattle.av_filter.specs.Conduct.{Disconnects, Opens, Receives, filter_step};
+ghost use Rattle.av_filter.specs.Fit.{Fits};
+ghost use Rattle.av_frame.specs.Spelling.{frame};
+ghost use Rattle.av_store.specs.Store.{greatest};
+
+use crate::end::End;
+use crate::exchange::Exchange;
+use crate::outgoing::Outgoing;
+use crate::tally::Tally;
+use av_base::{Refusal, StreamId, Version};
+use av_filter::{Filter, Out};
+use av_frame::Message;
+use av_frame::laws::bytes_spell_one_list;
+use av_pend::Answer;
+use av_store::Volume;
+use std::alloc::{AllocError, Global};
+use std::io::{Read, Write};
+
+/// How the engine of a filter ended, and each answer that the filter gave meanwhile, the oldest first.
+#[derive(Debug, Drop)]
+pub struct Watched {
+    pub end: End,
+    pub answers: Vec<Answer>,
+}
+
+impl Watched {
+    // The end of an engine, with what its tally has.
+    fn of(end: End, tally: Tally) -> Watched
+        ensures end { result.end ≡ end }
+        ensures answers { result.answers.items ≡ tally.answers.items }
+    {
+        Watched {
+            end,
+            answers: tally.answers,
+        }
+    }
+}
+
+/// Runs a filter over a stream of frames: it handles each message that comes, and submits an open of each of these streams,
+/// in order, for any version, right after the first message that leaves it connected. It ends with Done once all of them are
+/// answered, at once where there are none, and what was sent went out. Else with ReadFault, also once `turns` reads were
+/// made; WriteFault; Frame; Closed; each of these disconnects the filter, so that each open that was submitted is answered;
+/// or with Memory, also where it is refused to that. It holds the answers, a buffer, and the frames of one message.
+pub fn serve_filter<R: Read, W: Write>(
+    alloc: Global,
+    volume: &mut Volume,
+    filter: &mut Filter,
+    opens: &[StreamId],
+    reader: &mut R,
+    writer: &mut W,
+    turns: u64,
+) -> Watched
+    requires fits { Fits filter.old volume.old }
+    requires bounds { AreInBounds volume.old }
+    requires left { volume.old.opens + length opens.now ≤ greatest }
+    ensures watches { WatchesTo opens.now filter.old volume.old filter.new volume.new result.answers.items
+        (R.remaining reader.old) (W.contents writer.old) (W.contents writer.new) result.end }
+    ensures fits { Fits filter.new volume.new }
+    ensures bounds { AreInBounds volume.new }
+{
+    let taken = u64::MAX - volume.opens_left();
+    let mut tally = Tally::new(alloc, taken);
+    let would = begin(
+        alloc, volume, filter, opens, &mut tally, reader, writer, turns,
+    );
+    let end = leave(alloc, volume, filter, &mut tally, would);
+    Watched::of(end, tally)
+}
+
+// The same, without the disconnection.
+fn begin<R: Read, W: Write>(
+    alloc: Global,
+    volume: &mut Volume,
+    filter: &mut Filter,
+    opens: &[StreamId],
+    tally: &mut Tally,
+    reader: &mut R,
+    writer: &mut W,
+    turns: u64,
+) -> End
+    requires fits { Fits filter.old volume.old }
+    requires bounds { AreInBounds volume.old }
+    requires left { volume.old.opens + length opens.now ≤ greatest }
+    requires none { (tally.old.answers.items ≡ []) × (tally.old.first ≡ volume.old.opens) × (tally.old.submitted ≡ false) }
+    ensures runs { RunsTo opens.now filter.old volume.old filter.new volume.new tally.new.answers.items (R.remaining reader.old)
+        (W.contents writer.old) (W.contents writer.new) result }
+    ensures fits { Fits filter.new volume.new }
+    ensures bounds { AreInBounds volume.new }
+{
+    match Exchange::new(alloc, turns) {
+        Ok(mut exchange) => {
+            let line = &mut exchange;
+            watch(alloc, volume, filter, opens, tally, line, reader, writer)
+        }
+        Err(_) => End::Memory,
+    }
+}
+
+// Handles each message that comes, until all opens are answered or none comes.
+fn watch<R: Read, W: Write>(
+    alloc: Global,
+    volume: &mut Volume,
+    filter: &mut Filter,
+    opens: &[StreamId],
+    tally: &mut Tally,
+    exchange: &mut Exchange,
+    reader: &mut R,
+    writer: &mut W,
+) -> End
+    requires fits { Fits filter.old volume.old }
+    requires bounds { AreInBounds volume.old }
+    requires left { volume.old.opens + length opens.now ≤ greatest }
+    requires nothing { (unread exchange.old.incoming ≡ []) × (exchange.old.outgoing ≡ []) }
+    requires none { (tally.old.answers.items ≡ []) × (tally.old.first ≡ volume.old.opens) × (tally.old.submitted ≡ false) }
+    ensures runs { RunsTo opens.now filter.old volume.old filter.new volume.new tally.new.answers.items (R.remaining reader.old)
+        (W.contents writer.old) (W.contents writer.new) result }
+    ensures fits { Fits filter.new volume.new }
+    ensures bounds { AreInBounds volume.new }
+{
+    bytes_spell_one_list();
+    'messages: while tally.answered != opens.len() {
+        let message = match exchange.next(reader, writer) {
+            Ok(message) => message,
+            Err(end) => return end,
+        };
+        let outgoing = &mut exchange.outgoing;
+        match hear(alloc, volume, filter, opens, tally, outgoing, &message) {
+            Ok(()) => {}
+            Err(_) => return End::Memory,
+        }
+    }
+    match exchange.outgoing.flush(writer) {
+        Ok(()) => End::Done,
+        Err(_) => End::WriteFault,
+    }
+}
+
+// Handles a message, and submits the opens where it is the first that leaves the filter connected.
+fn hear(
+    alloc: Global,
+    volume: &mut Volume,
+    filter: &mut Filter,
+    opens: &[StreamId],
+    tally: &mut Tally,
+    outgoing: &mut Outgoing,
+    message: &Message,
+) -> Result<(), AllocError>
+    requires fits { Fits filter.old volume.old }
+    requires bounds { AreInBounds volume.old }
+    requires left { tally.old.submitted ≡ false → volume.old.opens + length opens.now ≤ greatest }
+    ensures ok { OnOk result
+        (Hears (heard opens.now (standing filter.old volume.old tally.old.answers.items tally.old.submitted) message.now)
+        filter.new volume.new tally.new.answers.items tally.new.submitted outgoing.old outgoing.new) }
+    ensures behind { IsBehind
+        (unled filter.old volume.old tally.old.answers.items) filter.new volume.new tally.new.answers.items }
+    ensures left { OnOk result (tally.new.submitted ≡ false
+        → (tally.old.submitted ≡ false) × (volume.new.opens ≡ volume.old.opens)) }
+    ensures fits { Fits filter.new volume.new }
+    ensures bounds { AreInBounds volume.new }
+    ensures first { tally.new.first ≡ tally.old.first }
+{
+    receive(alloc, volume, filter, tally, outgoing, message)?;
+    if filter.connected() && !tally.submitted {
+        tally.submitted = true;
+        submit_all(alloc, volume, filter, opens, tally, outgoing)?;
+    }
+    Ok(())
+}
+
+// Submits an open of each of these streams.
+fn submit_all(
+    alloc: Global,
+    volume: &mut Volume,
+    filter: &mut Filter,
+    opens: &[StreamId],
+    tally: &mut Tally,
+    outgoing: &mut Outgoing,
+) -> Result<(), AllocError>
+    requires fits { Fits filter.old volume.old }
+    requires bounds { AreInBounds volume.old }
+    requires left { volume.old.opens + length opens.now ≤ greatest }
+    ensures ok { OnOk result
+        (Puts (all_happened (unled filter.old volume.old tally.old.answers.items) (opens_of opens.now)) filter.new volume.new
+        tally.new.answers.items outgoing.old outgoing.new) }
+    ensures behind { IsBehind
+        (unled filter.old volume.old tally.old.answers.items) filter.new volume.new tally.new.answers.items }
+    ensures fits { Fits filter.new volume.new }
+    ensures bounds { AreInBounds volume.new }
+    ensures rest { (tally.new.first ≡ tally.old.first) × (tally.new.submitted ≡ tally.old.submitted) }
+{
+    'opens: for stream in opens {
+        submit(alloc, volume, filter, tally, outgoing, *stream)?;
+    }
+    Ok(())
+}
+
+// Disconnects the filter, where its engine did not end with Done or Memory. The end; Memory, where it was refused to that.
+fn leave(alloc: Global, volume: &Volume, filter: &mut Filter, tally: &mut Tally, end: End) -> End
+    requires fits { Fits filter.old volume.now }
+    requires bounds { AreInBounds volume.now }
+    ensures leaves { Leaves end result filter.old volume.now tally.old.answers.items filter.new tally.new.answers.items }
+    ensures fits { Fits filter.new volume.now }
+{
+    if matches!(end, End::Done | End::Memory | End::AuditFull) {
+        return end;
+    }
+    match disconnect(alloc, volume, filter, tally) {
+        Ok(()) => end,
+        Err(_) => End::Memory,
+    }
+}
+
+// Disconnects the filter, behind room for its answers.
+#[tactic(auto, using(crate::proofs::EventLemmas::few_disconnected), unfolding(av_filter::specs::Conduct::filter_step))]
+fn disconnect(
+    alloc: Global,
+    volume: &Volume,
+    filter: &mut Filter,
+    tally: &mut Tally,
+) -> Result<(), AllocError>
+    requires fits { Fits filter.old volume.now }
+    requires bounds { AreInBounds volume.now }
+    ensures ok { OnOk result
+        (IsAt (happened (unled filter.old volume.now tally.old.answers.items) Disconnects) filter.new
+        volume.now tally.new.answers.items) }
+    ensures err { OnErr result ((filter.new ≡ filter.old) × (tally.new.answers.items ≡ tally.old.answers.items)) }
+    ensures fits { Fits filter.new volume.now }
+{
+    tally.make_room(filter)?;
+    let out = filter.disconnect(alloc, volume)?;
+    tally.add(out.answers);
+    Ok(())
+}
+
+// A message comes, behind room for its answers.
+fn receive(
+    alloc: Global,
+    volume: &Volume,
+    filter: &mut Filter,
+    tally: &mut Tally,
+    outgoing: &mut Outgoing,
+    message: &Message,
+) -> Result<(), AllocError>
+    requires fits { Fits filter.old volume.now }
+    requires bounds { AreInBounds volume.now }
+    ensures ok { OnOk result
+        (Puts (all_happened (unled filter.old volume.now tally.old.answers.items) (Receives message.now ∷ [])) filter.new
+        volume.now tally.new.answers.items outgoing.old outgoing.new) }
+    ensures behind { IsBehind
+        (unled filter.old volume.now tally.old.answers.items) filter.new volume.now tally.new.answers.items }
+    ensures fits { Fits filter.new volume.now }
+    ensures rest { (tally.new.first ≡ tally.old.first) × (tally.new.submitted ≡ tally.old.submitted) }
+{
+    tally.make_room(filter)?;
+    let out = tell(alloc, volume, filter, message)?;
+    give(tally, outgoing, out)
+}
+
+// A message comes to the filter.
+#[tactic(auto, using(crate::proofs::EventLemmas::few_received), unfolding(av_filter::specs::Conduct::filter_step))]
+fn tell(
+    alloc: Global,
+    volume: &Volume,
+    filter: &mut Filter,
+    message: &Message,
+) -> Result<Out, AllocError>
+    requires fits { Fits filter.old volume.now }
+    requires bounds { AreInBounds volume.now }
+    ensures event { MeetsAlways filter.old volume.now filter.new volume.now result
+        (filter_step filter.old volume.now (Receives message.now)) }
+    ensures few { IfOk result (λ out. length out.answers.items ≤ length filter.old.pended + 1) }
+    ensures fits { Fits filter.new volume.now }
+{
+    filter.message(alloc, volume, message)
+}
+
+// An open of a stream comes, behind room for its answer.
+fn submit(
+    alloc: Global,
+    volume: &mut Volume,
+    filter: &mut Filter,
+    tally: &mut Tally,
+    outgoing: &mut Outgoing,
+    stream: StreamId,
+) -> Result<(), AllocError>
+    requires left { volume.old.opens < greatest }
+    requires fits { Fits filter.old volume.old }
+    requires bounds { AreInBounds volume.old }
+    ensures ok { OnOk result
+        (Puts (all_happened (unled filter.old volume.old tally.old.answers.items) (Opens stream 0 ∷ [])) filter.new volume.new
+        tally.new.answers.items outgoing.old outgoing.new) }
+    ensures behind { IsBehind
+        (unled filter.old volume.old tally.old.answers.items) filter.new volume.new tally.new.answers.items }
+    ensures taken { OnOk result (volume.new.opens ≡ volume.old.opens + 1) }
+    ensures fits { Fits filter.new volume.new }
+    ensures bounds { AreInBounds volume.new }
+    ensures rest { (tally.new.first ≡ tally.old.first) × (tally.new.submitted ≡ tally.old.submitted) }
+{
+    tally.make_room(filter)?;
+    let out = open(alloc, volume, filter, stream)?;
+    give(tally, outgoing, out)
+}
+
+// An open of a stream comes to the filter.
+#[tactic(auto, using(crate::proofs::EventLemmas::few_opened, crate::proofs::EventLemmas::opens_taken), unfolding(av_filter::specs::Conduct::filter_step, av_filter::specs::Conduct::filter_refusal))]
+fn open(
+    alloc: Global,
+    volume: &mut Volume,
+    filter: &mut Filter,
+    stream: StreamId,
+) -> Result<Out, AllocError>
+    requires left { volume.old.opens < greatest }
+    requires fits { Fits filter.old volume.old }
+    requires bounds { AreInBounds volume.old }
+    ensures event { MeetsAlways filter.old volume.old filter.new volume.new result
+        (filter_step filter.old volume.old (Opens stream 0)) }
+    ensures few { IfOk result (λ out. length out.answers.items ≤ length filter.old.pended + 1) }
+    ensures taken { OnOk result (volume.new.opens ≡ volume.old.opens + 1) }
+    ensures fits { Fits filter.new volume.new }
+    ensures bounds { AreInBounds volume.new }
+{
+    match filter.open(alloc, volume, stream, Version::new(0)) {
+        Ok(out) => Ok(out),
+        Err(Refusal::NoMemory) => Err(AllocError),
+        Err(Refusal::Fault(_)) => unreachable!(),
+    }
+}
+
+// Adds the answers of an event, for which there is room, and puts its messages.
+fn give(tally: &mut Tally, outgoing: &mut Outgoing, out: Out) -> Result<(), AllocError>
+    requires { vec_len tally.old.answers + vec_len out.answers ≤ vec_capacity tally.old.answers }
+    ensures answers { tally.new.answers.items ≡ tally.old.answers.items ++ out.answers.items }
+    ensures messages { OnOk result (outgoing.new ≡ outgoing.old ++ flat_map frame out.messages.items) }
+    ensures rest { (tally.new.first ≡ tally.old.first) × (tally.new.submitted ≡ tally.old.submitted) }
+{
+    let Out {
+        answers,
+        messages,
+        ..
+    } = out;
+    tally.add(answers);
+    outgoing.put(messages.as_slice())
+}
