@@ -1,0 +1,5 @@
+pub mod Weighing
+pub mod Moves
+pub mod Channels
+pub mod Sending
+pub mod Workers

@@ -1,0 +1,9 @@
+pub mod Weights
+pub mod Tally
+pub mod Channel
+pub mod Run
+pub mod Items
+pub mod Worker
+pub mod Handle
+pub mod Crew
+pub mod Pool

@@ -1,0 +1,5 @@
+mod calls;
+mod many;
+mod meeting;
+mod refusals;
+mod threads;
