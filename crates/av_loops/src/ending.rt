@@ -1,0 +1,15 @@
+ghost use Rattle.std.specs.Prelude.{◌≢◌};
+ghost use Rattle.av_engines.specs.declared.end.End.TheVariants.{Done};
+
+use av_base::Refusal;
+use av_engines::End;
+
+/// How a loop ends at the refusal of an event that only a full audit or want of memory refuses.
+pub(crate) fn end_of<F: Drop>(refusal: Refusal<F>) -> End
+    ensures { result ≢ Done }
+{
+    match refusal {
+        Refusal::Fault(_) => End::AuditFull,
+        Refusal::NoMemory => End::Memory,
+    }
+}

@@ -1,0 +1,3 @@
+mod desk_side;
+mod gate_side;
+mod meeting;
