@@ -1,17 +1,14 @@
 -- The headline of two legal audits put together.
-use Rattle.std.proofs.Common.{◌≡◌, ℕ, ◌+◌, ◌≤◌, List, [], ◌∷◌, ◌++◌, map, None, sym, ap, ◌∙◌, subst, arith}
+use Rattle.std.proofs.Common.{◌≡◌, ℕ, List, [], ◌∷◌, ◌++◌, map, None, sym, subst}
 use Rattle.std.specs.List.{AllByRecursion as Each}
 use Rattle.std.proofs.lemmas.List.Elements.{All-from_recursion}
-use Rattle.std.proofs.lemmas.Bool.Decides.{nat_tests}
 use Rattle.av_base.specs.declared.limits.LimitValues.{LimitValues}
 use Rattle.av_base.specs.declared.mode.Mode.{Mode}
-use Rattle.av_filter.specs.Audit.{FilterEntry, IsFilterAudit, answers_given, filter_end, opens_of_event, opens_taken, sent_down}
+use Rattle.av_filter.specs.Audit.{IsFilterAudit, filter_end, sent_down}
 use Rattle.av_filter.specs.Conduct.{FilterEvent, Opens, Changes, CleansUp, TimesOut, filter_refusal, filter_step}
 use Rattle.av_filter.specs.Conduct as filter_events
 use Rattle.av_filter.specs.Reaction.{Reaction}
-use Rattle.av_filter_table.specs.Table.{Table, mounted}
-use Rattle.av_filter_table.specs.declared.pended.Pended.{Pended}
-use Rattle.av_pend.specs.Pend.{open_of}
+use Rattle.av_filter_table.specs.Table.{mounted}
 use Rattle.av_service.specs.Audit.{By, Call, IsAccepted, IsServiceAudit, Publishes, desk_end, lent_by, respond, sent_up}
 use Rattle.av_service.specs.Conduct.{ServiceEvent, Connects, Disconnects, Receives, Finishes, Restarts}
 use Rattle.av_service.specs.Conduct as service_events
@@ -20,13 +17,10 @@ use Rattle.av_service.specs.Response.{Response}
 use Rattle.av_sigset.specs.Publication.{Publication, latest_as}
 use Rattle.av_store.specs.Files.{File}
 use Rattle.av_store.specs.Store.{Store}
-use Rattle.av_world.proofs.CountLemmas.{Balanced, filter_balanced, opens_after}
 use Rattle.av_filter.proofs.EachLemmas.{each-append, each-map}
-use Rattle.av_world.proofs.TimesLemmas.{times_map-append}
 use Rattle.av_world.proofs.SceneLemmas.{Lawful, lawful_filter, lawful_call, lawful_opening, answers_just, sets_same, held_right}
-use Rattle.av_world.specs.Audits.{AreLegal, AuditAnswersOnce, AuditsGrantOnlyClean, AuditsHoldOneVerdict, CameDown, CameUp, FinishesItsWorks, IsDelivered, IsOfWorks, OfFilter, OfService, SideEntry, answers_in, filter_side, once_between, past_end, service_side}
-use Rattle.av_world.specs.Headline.{IsJustified, once_up_to}
-use Rattle.av_world.specs.Held.{times}
+use Rattle.av_world.specs.Audits.{AreLegal, AuditsGrantOnlyClean, AuditsHoldOneVerdict, CameDown, CameUp, FinishesItsWorks, IsDelivered, IsOfWorks, OfFilter, OfService, SideEntry, answers_in, filter_side, past_end, service_side}
+use Rattle.av_world.specs.Headline.{IsJustified}
 use Rattle.av_world.specs.Past.{Past}
 use Rattle.av_world.specs.Scene.{Answered, MayReact, MayRespond, Scene, opening, past_call, past_filter, told_at}
 
@@ -92,43 +86,6 @@ ends mode (OfService x ∷ es) c l f s w d =
     let after : Lawful mode next = subst (λ ms. Lawful mode (record next { up = c.up ++ ms })) (sym s.1.messages) (subst (λ ks. Lawful mode (record next { up = c.up ++ r.messages; works = c.works ++ ks })) (sym s.1.works) (lawful_call mode c x.call l may)) in
     let rest : Ends mode next es = ends mode es next after f s.2 w.1 d.1 in
     record { lawful = rest.lawful; answers = rest.answers }
-
--- the third part is the filter's alone
-between : (low middle high n : ℕ) → low ≤ middle → middle ≤ high → once_between low high n ≡ once_between low middle n + once_between middle high n
-between low middle high n le ge = grind (arith, nat_tests)
-
-up_to : (low high n : ℕ) → low ≤ high → once_between low high n + once_up_to low n ≡ once_up_to high n
-up_to low high n le = grind (arith, nat_tests)
-
-none_between : (k n : ℕ) → once_between k (k + 0) n ≡ 0
-none_between k n = grind (arith, nat_tests)
-
-taken : (k : ℕ) (f : FilterEvent) → opens_after k f ≡ k + opens_of_event f
-taken k (Opens s n) = omega arith
-taken k _ = omega arith
-
-counted : (t : Table) (v : Store) (xs : List FilterEntry) → IsFilterAudit t v xs → (n : ℕ) → times n (map (λ (p : Pended). p.held.open_id) (filter_end t v xs).table.pended) + times n (map open_of (answers_given xs)) ≡ times n (map (λ (p : Pended). p.held.open_id) t.pended) + once_between v.opens (v.opens + opens_taken xs) n
-counted t v [] f n = omega (arith, none_between v.opens n)
-counted t v (x ∷ xs) f n =
-    let r : Reaction = filter_step t v x.event in
-    let b : Balanced t v (opens_after v.opens x.event) r = filter_balanced t v x.event in
-    let ih = counted r.table r.volume xs f.2 n in
-    let opens : r.volume.opens ≡ v.opens + opens_of_event x.event = b.opens ∙ taken v.opens x.event in
-    let far : r.volume.opens + opens_taken xs ≡ v.opens + (opens_of_event x.event + opens_taken xs) = omega (arith, opens) in
-    omega (
-      arith,
-      ih,
-      b.kept n,
-      ap (λ k. once_up_to k n) b.opens,
-      up_to v.opens r.volume.opens n (omega (arith, opens)),
-      between v.opens r.volume.opens (r.volume.opens + opens_taken xs) n (omega (arith, opens)) (omega arith),
-      ap (λ k. once_between v.opens k n) far,
-      times_map-append open_of n x.answers (answers_given xs),
-      ap (λ given. times n (map open_of given)) f.1.answers,
-    )
-
-pub answers_once : (v : Store) (mode : Mode) (limits : LimitValues) (xs : List FilterEntry) → IsFilterAudit (mounted mode limits v.boot) v xs → AuditAnswersOnce (mounted mode limits v.boot) v xs
-answers_once v mode limits xs f n = omega (arith, counted (mounted mode limits v.boot) v xs f n)
 
 module _ (mode : Mode) (limits : LimitValues) (number : ℕ) (service_limits : LimitValues) (fs : List File) (v : Store) (sets : List Publication) (es : List SideEntry) (legal : AreLegal mode limits number service_limits fs v sets es) where
   abbrev first : Scene

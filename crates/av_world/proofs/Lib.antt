@@ -1,7 +1,6 @@
 pub mod AskedLemmas
 pub mod AuditLemmas
 pub mod ContentLemmas
-pub mod CountLemmas
 pub mod DeliveryLemmas
 pub mod DeskLemmas
 pub mod ExampleLemmas
@@ -30,7 +29,6 @@ pub mod SoundLemmas
 pub mod SpanLemmas
 pub mod StageLemmas
 pub mod StepLemmas
-pub mod TimesLemmas
 pub mod WholeLemmas
 pub mod WordLemmas
 pub mod WorkLemmas

@@ -1,7 +1,9 @@
 -- A work that is run and taken back is what its event asks for.
-use Rattle.std.proofs.Common.{◌≡◌, ℕ, zero, suc, List, [], ◌∷◌, ◌++◌, map, slice_get, slice_set, Option, None, Some, Ok, refl, sym, ap, ◌∙◌, subst, length}
+use Rattle.std.proofs.Common.{◌≡◌, ℕ, zero, suc, List, [], ◌∷◌, ◌++◌, map, slice_get, slice_set, Option, None, Some, Result, Ok, Err, IfOk, refl, sym, ap, ◌∙◌, subst, length}
 use Rattle.std.proofs.lemmas.List.{length-set}
+use Rattle.std.proofs.lemmas.Option.{none-some, same_Some}
 use Rattle.std.specs.Option.{option_to_list}
+use Rattle.std.specs.Result.{result_ok}
 use Rattle.av_frame.specs.declared.message.Body.{Body}
 use Rattle.av_match.specs.Scanning.{Compiled, ScanState, fitting, if_found, run}
 use Rattle.av_service.specs.Call.{Responds}
@@ -23,11 +25,19 @@ use Rattle.av_world.specs.declared.report.Line.TheVariants.{Silent}
 use Rattle.av_world.specs.declared.report.Note.TheVariants as note
 
 -- the automaton that was built of the set of a version is of that version
+pub compiled_for : (sets : List NumberedSet) (version : ℕ) (s : NumberedSet) (a : Compiled) → set_at sets version ≡ Some s → a ≡ record { version = s.version; patterns = patterns_of s.signatures } → Compiles (set_at sets version) a
+compiled_for sets version s a found built = subst (λ o. Compiles o a) (sym found) (ap (λ (x : Compiled). x.patterns) built)
+
+-- and of the version that it has itself
 pub compiled_as : (sets : List NumberedSet) (version : ℕ) (s : NumberedSet) (a : Compiled) → set_at sets version ≡ Some s → a ≡ record { version = s.version; patterns = patterns_of s.signatures } → Compiles (set_at sets a.version) a
 compiled_as sets version s a found built =
     let named : a.version ≡ version = ap (λ (x : Compiled). x.version) built ∙ (found_published sets version s found).1 in
-    let there : set_at sets a.version ≡ Some s = ap (set_at sets) named ∙ found in
-    subst (λ o. Compiles o a) (sym there) (ap (λ (x : Compiled). x.patterns) built)
+    subst (λ v. Compiles (set_at sets v) a) (sym named) (compiled_for sets version s a found built)
+
+-- what holds of the value of a result holds of what is taken out of it
+pub taken_out : {T E : Type 0} (P : T → Type 0) (r : Result T E) (x : T) → result_ok r ≡ Some x → IfOk r P → P x
+taken_out P (Ok y) x h p = subst P (same_Some y x h) p
+taken_out P (Err e) x h p = absurd (none-some x h)
 
 -- what is taken from a place and put back leaves the list as it was
 pub put_back_same : {A : Type 0} (xs : List A) (i : ℕ) (x y : A) → slice_get xs i ≡ Some x → slice_set (slice_set xs i y) i x ≡ xs

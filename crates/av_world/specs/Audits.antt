@@ -1,13 +1,12 @@
 -- The audits of a filter and of a service, each legal by itself, and the headline of the two put together.
-use Rattle.std.specs.Prelude.{◌≡◌, ℕ, ◌+◌, ◌&&◌, nat_lt, nat_le, List, [], ◌∷◌, ◌++◌, map, if◌then◌else◌, All}
+use Rattle.std.specs.Prelude.{◌≡◌, ℕ, List, [], ◌∷◌, ◌++◌, map, All}
 use Rattle.av_base.specs.declared.limits.LimitValues.{LimitValues}
 use Rattle.av_base.specs.declared.mode.Mode.{Mode}
-use Rattle.av_filter.specs.Audit.{FilterEntry, IsFilterAudit, filter_end, answers_given, opens_taken, sent_down}
+use Rattle.av_filter.specs.Audit.{FilterEntry, IsFilterAudit, filter_end, sent_down}
 use Rattle.av_filter.specs.Conduct.{FilterEvent}
 use Rattle.av_filter.specs.Conduct as filter
 use Rattle.av_filter_table.specs.Table.{Table, mounted}
 use Rattle.av_frame.specs.declared.message.Body.{Body}
-use Rattle.av_pend.specs.Pend.{open_of}
 use Rattle.av_service.specs.Audit.{By, Call, IsCatalogue, IsServiceAudit, ServiceEntry, desk_end, sent_up, sets_after}
 use Rattle.av_service.specs.Conduct.{Receives, Finishes}
 use Rattle.av_service.specs.Desk.{Desk, just_started}
@@ -17,7 +16,7 @@ use Rattle.av_store.specs.Files.{File}
 use Rattle.av_store.specs.Seen.{Keeps}
 use Rattle.av_store.specs.Store.{Store}
 use Rattle.av_world.specs.Headline.{IsJustified}
-use Rattle.av_world.specs.Held.{held_among, times}
+use Rattle.av_world.specs.Held.{held_among}
 use Rattle.av_world.specs.Past.{Past, IsRightEntry}
 use Rattle.av_world.specs.Safety.{Among}
 use Rattle.av_world.specs.Scene.{Answered, opening_past, past_call, past_filter, told_at}
@@ -28,20 +27,24 @@ abbrev pub IsOfWorks : List Publication → List WorkState → Call → Type 0
 IsOfWorks sets works (By (Finishes lease scan hit)) = (k : WorkState) × Among k works × (Finishes lease scan hit ≡ done sets k)
 IsOfWorks sets works _ = Unit {0}
 
+-- each work that comes back had been lent, under a set that was published
 abbrev pub FinishesItsWorks : List Publication → List WorkState → List ServiceEntry → Type 0
 FinishesItsWorks sets works [] = Unit {0}
-FinishesItsWorks sets works (x ∷ xs) = IsOfWorks sets works x.call × FinishesItsWorks (sets_after sets x.call) (works ++ x.works) xs
+FinishesItsWorks sets works (x ∷ xs) =
+    IsOfWorks sets works x.call × FinishesItsWorks (sets_after sets x.call) (works ++ x.works) xs
 
 -- Both, put together.
 pub data SideEntry : Type 0 where
   OfFilter : (entry : FilterEntry) → SideEntry
   OfService : (entry : ServiceEntry) → SideEntry
 
+-- the filter's entries
 abbrev pub filter_side : List SideEntry → List FilterEntry
 filter_side [] = []
 filter_side (OfFilter x ∷ es) = x ∷ filter_side es
 filter_side (OfService x ∷ es) = filter_side es
 
+-- the service's entries
 abbrev pub service_side : List SideEntry → List ServiceEntry
 service_side [] = []
 service_side (OfFilter x ∷ es) = service_side es
@@ -52,10 +55,12 @@ abbrev pub CameUp : List Body → FilterEvent → Type 0
 CameUp up (filter.Receives m) = Among m up
 CameUp up _ = Unit {0}
 
+-- a message that comes to the service had been sent by the filter
 abbrev pub CameDown : List Body → Call → Type 0
 CameDown down (By (Receives m)) = Among m down
 CameDown down _ = Unit {0}
 
+-- each message that comes had been sent by the other side before
 abbrev pub IsDelivered : List Body → List Body → List SideEntry → Type 0
 IsDelivered down up [] = Unit {0}
 IsDelivered down up (OfFilter x ∷ es) = CameUp up x.event × IsDelivered (down ++ x.messages) up es
@@ -67,6 +72,7 @@ past_end p [] = p
 past_end p (OfFilter x ∷ es) = past_end (past_filter p x.event) es
 past_end p (OfService x ∷ es) = past_end (past_call p x.call) es
 
+-- the answers of all entries, each with the past that it was given in
 abbrev pub answers_in : Past → List SideEntry → List Answered
 answers_in p [] = []
 answers_in p (OfFilter x ∷ es) = map (told_at (past_filter p x.event)) x.answers ++ answers_in (past_filter p x.event) es
@@ -76,20 +82,18 @@ answers_in p (OfService x ∷ es) = answers_in (past_call p x.call) es
 abbrev pub AuditsHoldOneVerdict : List File → Table → Store → List Publication → Desk → List SideEntry → Type 0
 AuditsHoldOneVerdict fs t v sets d es =
     let k = filter_end t v (filter_side es) in
-    All (IsRightEntry (past_end (opening_past fs sets) es)) (held_among k.table k.volume.streams (desk_end d (service_side es)) (sent_down [] (filter_side es)) (sent_up [] (service_side es)))
+    All (IsRightEntry (past_end (opening_past fs sets) es))
+    (held_among k.table k.volume.streams (desk_end d (service_side es))
+    (sent_down [] (filter_side es)) (sent_up [] (service_side es)))
 
+-- each answer of two audits is justified by the past at which it was given
 abbrev pub AuditsGrantOnlyClean : Mode → List File → List Publication → List SideEntry → Type 0
 AuditsGrantOnlyClean mode fs sets es = All (λ a. IsJustified mode a.past a.answer) (answers_in (opening_past fs sets) es)
 
--- open numbers are counted from the opening volume's last
-abbrev pub once_between : ℕ → ℕ → ℕ → ℕ
-once_between low high n = if nat_lt low n && nat_le n high then 1 else 0
-
-abbrev pub AuditAnswersOnce : Table → Store → List FilterEntry → Type 0
-AuditAnswersOnce t v xs = (n : ℕ) → times n (map (λ p. p.held.open_id) (filter_end t v xs).table.pended) + times n (map open_of (answers_given xs)) ≡ once_between v.opens (v.opens + opens_taken xs) n
-
--- both audits are legal from their openings, a catalogue that publications made among these, and each message that came had been sent
-pub record AreLegal (mode : Mode) (limits : LimitValues) (number : ℕ) (service_limits : LimitValues) (fs : List File) (v : Store) (sets : List Publication) (es : List SideEntry) : Type 0 where
+-- both audits are legal from their openings, a catalogue that publications made among these, and each message that came had
+-- been sent
+pub record AreLegal (mode : Mode) (limits : LimitValues) (number : ℕ) (service_limits : LimitValues) (fs : List File)
+    (v : Store) (sets : List Publication) (es : List SideEntry) : Type 0 where
   pub volume : Keeps v fs
   pub catalogue : IsCatalogue sets
   pub filter : IsFilterAudit (mounted mode limits v.boot) v (filter_side es)

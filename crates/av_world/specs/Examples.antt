@@ -47,6 +47,7 @@ pub data Word : Type 0 where
   Quiet Welcome NoWaiter Ignored Repeat Orphan AbsentStream WrongVolume Connected StaleVersion : Word
   Submitted : (open_id : ℕ) → Word
 
+-- the word of a note
 abbrev pub word_of : Note → Word
 word_of (Filter filter_note.Quiet) = Quiet
 word_of (Filter (filter_note.Submitted n)) = Submitted n
@@ -67,10 +68,14 @@ pub data Said : Type 0 where
   Told : (answers : List Answer) (down up : List Body) (note : Word) → Said
   Not : (why : StepFault) → Said
 
+-- what an outcome adds to the lists of a world, or why there is none
 abbrev pub said_by : WorldState → world.Outcome → Said
 said_by w (Err why) = Not why
-said_by w (Ok p) = Told (map (λ a. a.answer) (drop (length w.answers) p.1.answers)) (drop (length w.down) p.1.down) (drop (length w.up) p.1.up) (word_of p.0.note)
+said_by w (Ok p) =
+    Told (map (λ a. a.answer) (drop (length w.answers) p.1.answers)) (drop (length w.down) p.1.down) (drop (length w.up) p.1.up)
+    (word_of p.0.note)
 
+-- what each of these events says, one after the other
 unfoldable pub says : List Event → WorldState → List Said
 says [] w = []
 says (e ∷ es) w = said_by w (step_of w e) ∷ says es (after w e)
@@ -80,18 +85,23 @@ unfoldable pub run : List Event → WorldState → WorldState
 run [] w = w
 run (e ∷ es) w = run es (after w e)
 
+-- a name
 abbrev pub a : List ℕ
 a = 97 ∷ []
 
+-- another name
 abbrev pub b : List ℕ
 b = 98 ∷ []
 
+-- the content "ABC"
 abbrev pub abc : List ℕ
 abc = 0x41 ∷ 0x42 ∷ 0x43 ∷ []
 
+-- a pattern of these bytes
 abbrev pub pattern_of : List ℕ → Pattern
 pattern_of bytes = record { bytes = bytes }
 
+-- a set of one pattern, "XX"
 abbrev pub xx : List Pattern
 xx = pattern_of (0x58 ∷ 0x58 ∷ []) ∷ []
 
@@ -103,18 +113,23 @@ prepared = Publish 1 xx ∷ Create a ∷ Write a 0 abc ∷ Connect ∷ Up 1 ∷ 
 abbrev pub scanned : List Event
 scanned = prepared ++ Open a 0 ∷ Down 1 ∷ Up 2 ∷ Down 2 ∷ Run 1 ∷ []
 
+-- the id of a question, by its boot and sequence
 abbrev pub id : ℕ → ℕ → MessageId
 id b q = record { boot = b; seq = q }
 
+-- nothing was said
 abbrev pub quiet : Said
 quiet = Told [] [] [] Quiet
 
+-- nothing but a note
 abbrev pub notes : Word → Said
 notes n = Told [] [] [] n
 
+-- the verdict clean under a version
 abbrev pub clean : ℕ → Outcome
 clean v = Judged v Clean
 
+-- what these events say behind others, in a world of this mode with the greatest limits
 abbrev pub saying : List Event → Mode → List Event → List Said
 saying before mode es = says es (run before (start 1 mode greatest_values))
 
@@ -136,7 +151,9 @@ WholePath =
 
 -- the reply comes, and a second open is answered by the context
 abbrev pub GrantedTwice : Type 0
-GrantedTwice = saying scanned FailClosed (Up 3 ∷ Open a 0 ∷ []) ≡ Told (Granted 1 0 1 2 1 ∷ []) [] [] Quiet ∷ Told (Granted 2 0 1 2 1 ∷ []) [] [] (Submitted 2) ∷ []
+GrantedTwice =
+    saying scanned FailClosed (Up 3 ∷ Open a 0 ∷ [])
+    ≡ Told (Granted 1 0 1 2 1 ∷ []) [] [] Quiet ∷ Told (Granted 2 0 1 2 1 ∷ []) [] [] (Submitted 2) ∷ []
 
 -- a write while the scan runs: a new question, and the old reply finds no waiter
 abbrev pub WrittenMeanwhile : Type 0
@@ -149,10 +166,15 @@ WrittenMeanwhile =
 
 -- a timeout is no verdict
 abbrev pub TimedOutClosed : Type 0
-TimedOutClosed = saying scanned FailClosed (Timeout 1 ∷ Up 3 ∷ []) ≡ Told (Denied 1 TimedOut ∷ []) (Abort (id 1 1) ∷ []) [] Quiet ∷ notes NoWaiter ∷ []
+TimedOutClosed =
+    saying scanned FailClosed (Timeout 1 ∷ Up 3 ∷ [])
+    ≡ Told (Denied 1 TimedOut ∷ []) (Abort (id 1 1) ∷ []) [] Quiet ∷ notes NoWaiter ∷ []
 
+-- in fail-open mode a timeout lets the open through, and the late reply finds no question
 abbrev pub TimedOutOpen : Type 0
-TimedOutOpen = saying scanned FailOpen (Timeout 1 ∷ Up 3 ∷ []) ≡ Told (Unscanned 1 1 2 TimedOut ∷ []) (Abort (id 1 1) ∷ []) [] Quiet ∷ notes NoWaiter ∷ []
+TimedOutOpen =
+    saying scanned FailOpen (Timeout 1 ∷ Up 3 ∷ [])
+    ≡ Told (Unscanned 1 1 2 TimedOut ∷ []) (Abort (id 1 1) ∷ []) [] Quiet ∷ notes NoWaiter ∷ []
 
 -- the filter restarts: a reply to the old boot finds no waiter
 abbrev pub Restarted : Type 0
@@ -185,7 +207,8 @@ Stale =
 -- a publication while a work is out: the work is an orphan, and the scan begins afresh
 abbrev pub Orphaned : Type 0
 Orphaned =
-    saying (prepared ++ Open a 0 ∷ Down 1 ∷ Up 2 ∷ Down 2 ∷ []) FailClosed (Publish 2 (pattern_of (0x41 ∷ 0x42 ∷ []) ∷ []) ∷ Run 1 ∷ Up 4 ∷ Down 3 ∷ Run 2 ∷ Up 5 ∷ Run 1 ∷ [])
+    saying (prepared ++ Open a 0 ∷ Down 1 ∷ Up 2 ∷ Down 2 ∷ []) FailClosed
+    (Publish 2 (pattern_of (0x41 ∷ 0x42 ∷ []) ∷ []) ∷ Run 1 ∷ Up 4 ∷ Down 3 ∷ Run 2 ∷ Up 5 ∷ Run 1 ∷ [])
     ≡ Told [] [] (Updated 2 ∷ Read (id 1 1) 0 3 ∷ []) Quiet
     ∷ notes Orphan
     ∷ Told [] (Chunk (id 1 1) 0 abc ∷ []) [] Quiet
@@ -198,7 +221,8 @@ Orphaned =
 -- the same, where the scan that began afresh has lent again when the old work comes back: it isn't taken for the new one
 abbrev pub OrphanedLater : Type 0
 OrphanedLater =
-    saying (prepared ++ Open a 0 ∷ Down 1 ∷ Up 2 ∷ Down 2 ∷ []) FailClosed (Publish 2 (pattern_of (0x41 ∷ 0x42 ∷ []) ∷ []) ∷ Up 3 ∷ Up 4 ∷ Down 3 ∷ Run 1 ∷ Run 2 ∷ Up 5 ∷ [])
+    saying (prepared ++ Open a 0 ∷ Down 1 ∷ Up 2 ∷ Down 2 ∷ []) FailClosed
+    (Publish 2 (pattern_of (0x41 ∷ 0x42 ∷ []) ∷ []) ∷ Up 3 ∷ Up 4 ∷ Down 3 ∷ Run 1 ∷ Run 2 ∷ Up 5 ∷ [])
     ≡ Told [] [] (Updated 2 ∷ Read (id 1 1) 0 3 ∷ []) Quiet
     ∷ quiet
     ∷ Told [] (Chunk (id 1 1) 0 abc ∷ []) [] Quiet
@@ -211,7 +235,8 @@ OrphanedLater =
 -- an abort that overtakes its scan, and a scan that comes twice
 abbrev pub Overtaken : Type 0
 Overtaken =
-    saying prepared FailClosed (Open a 0 ∷ Write a 3 (0x44 ∷ []) ∷ Down 2 ∷ Down 1 ∷ Up 2 ∷ Down 4 ∷ Down 1 ∷ Down 1 ∷ Down 9 ∷ [])
+    saying prepared FailClosed
+    (Open a 0 ∷ Write a 3 (0x44 ∷ []) ∷ Down 2 ∷ Down 1 ∷ Up 2 ∷ Down 4 ∷ Down 1 ∷ Down 1 ∷ Down 9 ∷ [])
     ≡ Told [] (Scan (id 1 1) 1 2 3 ∷ []) [] (Submitted 1)
     ∷ Told [] (Abort (id 1 1) ∷ Scan (id 1 2) 1 3 4 ∷ []) [] Quiet
     ∷ notes Ignored
@@ -240,7 +265,9 @@ RepliedTwice = saying scanned FailClosed (Up 3 ∷ Up 3 ∷ []) ≡ Told (Grante
 -- chunks of one byte
 abbrev pub ByteByByte : Type 0
 ByteByByte =
-    saying_with (record greatest_values { chunk = 1 }) (Publish 1 (pattern_of abc ∷ []) ∷ Create a ∷ Write a 0 abc ∷ Connect ∷ Up 1 ∷ []) (Open a 0 ∷ Down 1 ∷ Up 2 ∷ Down 2 ∷ Run 1 ∷ Up 3 ∷ Down 3 ∷ Run 2 ∷ Up 4 ∷ Down 4 ∷ Run 3 ∷ Up 5 ∷ [])
+    saying_with (record greatest_values { chunk = 1 })
+    (Publish 1 (pattern_of abc ∷ []) ∷ Create a ∷ Write a 0 abc ∷ Connect ∷ Up 1 ∷ [])
+    (Open a 0 ∷ Down 1 ∷ Up 2 ∷ Down 2 ∷ Run 1 ∷ Up 3 ∷ Down 3 ∷ Run 2 ∷ Up 4 ∷ Down 4 ∷ Run 3 ∷ Up 5 ∷ [])
     ≡ Told [] (Scan (id 1 1) 1 2 3 ∷ []) [] (Submitted 1)
     ∷ Told [] [] (Read (id 1 1) 0 1 ∷ []) Quiet
     ∷ Told [] (Chunk (id 1 1) 0 (0x41 ∷ []) ∷ []) [] Quiet
@@ -258,7 +285,9 @@ ByteByByte =
 -- a publication in the midst of a scan: what the scan kept under the old set is gone with it
 abbrev pub ScannedAfresh : Type 0
 ScannedAfresh =
-    saying_with (record greatest_values { chunk = 1 }) (Publish 1 xx ∷ Create a ∷ Write a 0 abc ∷ Connect ∷ Up 1 ∷ Open a 0 ∷ Down 1 ∷ Up 2 ∷ Down 2 ∷ Run 1 ∷ []) (Publish 2 (pattern_of (0x41 ∷ 0x42 ∷ []) ∷ []) ∷ Up 5 ∷ Down 3 ∷ Run 2 ∷ Up 6 ∷ Down 4 ∷ Run 3 ∷ Up 7 ∷ [])
+    saying_with (record greatest_values { chunk = 1 })
+    (Publish 1 xx ∷ Create a ∷ Write a 0 abc ∷ Connect ∷ Up 1 ∷ Open a 0 ∷ Down 1 ∷ Up 2 ∷ Down 2 ∷ Run 1 ∷ [])
+    (Publish 2 (pattern_of (0x41 ∷ 0x42 ∷ []) ∷ []) ∷ Up 5 ∷ Down 3 ∷ Run 2 ∷ Up 6 ∷ Down 4 ∷ Run 3 ∷ Up 7 ∷ [])
     ≡ Told [] [] (Updated 2 ∷ Read (id 1 1) 0 1 ∷ []) Quiet
     ∷ Told [] (Chunk (id 1 1) 0 (0x41 ∷ []) ∷ []) [] Quiet
     ∷ quiet
@@ -273,46 +302,63 @@ ScannedAfresh =
 abbrev pub rewrite : Event
 rewrite = Write a 0 (0x41 ∷ [])
 
+-- writes spend the rescans of an open, which is denied at the last
 abbrev pub SpentByWrites : Type 0
 SpentByWrites =
-    saying (prepared ++ Open a 0 ∷ rewrite ∷ rewrite ∷ rewrite ∷ rewrite ∷ rewrite ∷ rewrite ∷ rewrite ∷ []) FailClosed (rewrite ∷ rewrite ∷ [])
-    ≡ Told [] (Abort (id 1 8) ∷ Scan (id 1 9) 1 10 3 ∷ []) [] Quiet ∷ Told (Denied 1 Unsettled ∷ []) (Abort (id 1 9) ∷ []) [] Quiet ∷ []
+    saying (prepared ++ Open a 0 ∷ rewrite ∷ rewrite ∷ rewrite ∷ rewrite ∷ rewrite ∷ rewrite ∷ rewrite ∷ []) FailClosed
+    (rewrite ∷ rewrite ∷ [])
+    ≡ Told [] (Abort (id 1 8) ∷ Scan (id 1 9) 1 10 3 ∷ []) [] Quiet
+    ∷ Told (Denied 1 Unsettled ∷ []) (Abort (id 1 9) ∷ []) [] Quiet ∷ []
 
 -- the port is lost
 abbrev pub PortLost : Type 0
 PortLost =
     saying (prepared ++ Open a 0 ∷ []) FailClosed (DisconnectFilter ∷ Open a 0 ∷ Open b 0 ∷ Write b 0 (0x41 ∷ []) ∷ [])
-    ≡ Told (Denied 1 PortDisconnected ∷ []) [] [] Quiet ∷ Told (Denied 2 NotConnected ∷ []) [] [] (Submitted 2) ∷ Told (Denied 3 NoStream ∷ []) [] [] (Submitted 3) ∷ Not NoSuchName ∷ []
+    ≡ Told (Denied 1 PortDisconnected ∷ []) [] [] Quiet
+    ∷ Told (Denied 2 NotConnected ∷ []) [] [] (Submitted 2)
+    ∷ Told (Denied 3 NoStream ∷ []) [] [] (Submitted 3) ∷ Not NoSuchName ∷ []
 
 -- the stream is removed
 abbrev pub RemovedMeanwhile : Type 0
-RemovedMeanwhile = saying (prepared ++ Open a 0 ∷ []) FailClosed (Remove a ∷ []) ≡ Told (Denied 1 StreamRemoved ∷ []) (Abort (id 1 1) ∷ []) [] Quiet ∷ []
+RemovedMeanwhile =
+    saying (prepared ++ Open a 0 ∷ []) FailClosed (Remove a ∷ [])
+    ≡ Told (Denied 1 StreamRemoved ∷ []) (Abort (id 1 1) ∷ []) [] Quiet ∷ []
 
 -- a scan at cleanup, and a limit of one pended open
 abbrev pub CleanedUp : Type 0
 CleanedUp =
     saying_with (record greatest_values { pended = 1 }) prepared (Cleanup a ∷ Cleanup a ∷ Open a 0 ∷ Open a 0 ∷ [])
-    ≡ Told [] (Scan (id 1 1) 1 2 3 ∷ []) [] Quiet ∷ quiet ∷ Told [] [] [] (Submitted 1) ∷ Told (Denied 2 Busy ∷ []) [] [] (Submitted 2) ∷ []
+    ≡ Told [] (Scan (id 1 1) 1 2 3 ∷ []) [] Quiet ∷ quiet ∷ Told [] [] [] (Submitted 1)
+    ∷ Told (Denied 2 Busy ∷ []) [] [] (Submitted 2) ∷ []
 
 -- a limit of one job
 abbrev pub JobsAtLimit : Type 0
 JobsAtLimit =
-    saying_with (record greatest_values { jobs = 1 }) (prepared ++ Create b ∷ Write b 0 (0x41 ∷ []) ∷ Open a 0 ∷ Open b 0 ∷ Down 1 ∷ []) (Down 2 ∷ Up 3 ∷ [])
+    saying_with (record greatest_values { jobs = 1 })
+    (prepared ++ Create b ∷ Write b 0 (0x41 ∷ []) ∷ Open a 0 ∷ Open b 0 ∷ Down 1 ∷ []) (Down 2 ∷ Up 3 ∷ [])
     ≡ Told [] [] (Reply (id 1 2) (Failed JobsFull) ∷ []) Quiet ∷ Told (Denied 2 ScanFailed ∷ []) [] [] Quiet ∷ []
 
 -- an open that asks for more than is published: the ninth stale reply spends it
 abbrev pub stale_rounds : List Event
-stale_rounds = Up 4 ∷ Down 4 ∷ Up 5 ∷ Down 5 ∷ Up 6 ∷ Down 6 ∷ Up 7 ∷ Down 7 ∷ Up 8 ∷ Down 8 ∷ Up 9 ∷ Down 9 ∷ Up 10 ∷ Down 10 ∷ []
+stale_rounds =
+    Up 4 ∷ Down 4 ∷ Up 5 ∷ Down 5 ∷ Up 6 ∷ Down 6 ∷ Up 7 ∷ Down 7 ∷ Up 8 ∷ Down 8 ∷ Up 9 ∷ Down 9 ∷ Up 10 ∷ Down 10 ∷ []
 
+-- replies under too old a version spend the rescans of an open, which is denied at the last
 abbrev pub SpentByStaleReplies : Type 0
 SpentByStaleReplies =
-    saying (prepared ++ Open a 9 ∷ Down 1 ∷ Up 2 ∷ Down 2 ∷ Run 1 ∷ []) FailClosed (Up 3 ∷ Down 3 ∷ []) ++ saying (prepared ++ Open a 9 ∷ Down 1 ∷ Up 2 ∷ Down 2 ∷ Run 1 ∷ Up 3 ∷ Down 3 ∷ stale_rounds) FailClosed (Up 11 ∷ [])
-    ≡ Told [] (Scan (id 1 2) 1 2 3 ∷ []) [] Quiet ∷ Told [] [] (Reply (id 1 2) (clean 1) ∷ []) Quiet ∷ Told (Denied 1 Unsettled ∷ []) [] [] Quiet ∷ []
+    saying (prepared ++ Open a 9 ∷ Down 1 ∷ Up 2 ∷ Down 2 ∷ Run 1 ∷ []) FailClosed (Up 3 ∷ Down 3 ∷ [])
+    ++ saying (prepared ++ Open a 9 ∷ Down 1 ∷ Up 2 ∷ Down 2 ∷ Run 1 ∷ Up 3 ∷ Down 3 ∷ stale_rounds) FailClosed (Up 11 ∷ [])
+    ≡ Told [] (Scan (id 1 2) 1 2 3 ∷ []) [] Quiet
+    ∷ Told [] [] (Reply (id 1 2) (clean 1) ∷ []) Quiet
+    ∷ Told (Denied 1 Unsettled ∷ []) [] [] Quiet ∷ []
 
 -- another content is no hit of the cache, and a late hello doesn't lower the floor
 abbrev pub NewContent : Type 0
-NewContent = saying (scanned ++ Up 3 ∷ Open a 0 ∷ Write a 0 (0x58 ∷ 0x58 ∷ []) ∷ []) FailClosed (Open a 0 ∷ []) ≡ Told [] (Scan (id 1 2) 1 3 3 ∷ []) [] (Submitted 3) ∷ []
+NewContent =
+    saying (scanned ++ Up 3 ∷ Open a 0 ∷ Write a 0 (0x58 ∷ 0x58 ∷ []) ∷ []) FailClosed (Open a 0 ∷ [])
+    ≡ Told [] (Scan (id 1 2) 1 3 3 ∷ []) [] (Submitted 3) ∷ []
 
+-- a Hello under an older version than the floor does not connect
 abbrev pub LateHello : Type 0
 LateHello = saying (prepared ++ Publish 2 xx ∷ Up 2 ∷ DisconnectFilter ∷ []) FailClosed (Up 1 ∷ []) ≡ notes StaleVersion ∷ []
 
@@ -326,6 +372,7 @@ InOrder =
 abbrev pub ServiceRestarted : Type 0
 ServiceRestarted = saying scanned FailClosed (RestartService ∷ Connect ∷ []) ≡ quiet ∷ Told [] [] (Hello 1 1 ∷ []) Quiet ∷ []
 
+-- what each of these further runs says
 abbrev pub MoreScripts : Type 0
 MoreScripts =
     record {
@@ -347,21 +394,35 @@ MoreScripts =
 
 -- the premise of the whole path can be met
 abbrev pub PathBegins : Type 0
-PathBegins = IsReady (run (prepared ++ Open a 0 ∷ []) (start 1 FailClosed greatest_values)) (record { id = id 1 1; stream = 1; generation = 2 }) 1
+PathBegins =
+    IsReady (run (prepared ++ Open a 0 ∷ []) (start 1 FailClosed greatest_values))
+    (record { id = id 1 1; stream = 1; generation = 2 }) 1
 
 -- and a history of both sides can be legal
 abbrev pub file_of_abc : File
 file_of_abc = record { name = a; here = true; generation = 5; bytes = abc }
 
+-- a volume with one file
 abbrev pub volume_of_abc : Store
-volume_of_abc = record { number = 1; boot = 1; opens = 7; last = 1; limits = greatest_values; streams = (1, record { name = a; generation = 5; bytes = abc }) ∷ [] }
+volume_of_abc =
+    record {
+      number = 1;
+      boot = 1;
+      opens = 7;
+      last = 1;
+      limits = greatest_values;
+      streams = (1, record { name = a; generation = 5; bytes = abc }) ∷ [];
+    }
 
+-- an entry of the filter
 abbrev pub reply : FilterEvent → List Answer → List Body → filter_notes.Note → SideEntry
 reply f given ms n = OfFilter (record { event = f; answers = given; messages = ms; note = n })
 
+-- an entry of the service
 abbrev pub response : ServiceEvent → List Body → List WorkState → SideEntry
 response e ms ks = OfService (record { call = audit.By e; messages = ms; works = ks; note = service_note.Quiet })
 
+-- a lent work that was begun and not run
 abbrev pub some_work : WorkState
 some_work = record { lease = 1; id = id 1 1; version = 3; scan = begin 3 3; chunk = abc }
 
@@ -375,10 +436,12 @@ some_audits =
     ∷ response (service.Receives (Scan (id 1 1) 1 5 3)) (Read (id 1 1) 0 3 ∷ []) []
     ∷ reply (filter.Receives (Read (id 1 1) 0 3)) [] (Chunk (id 1 1) 0 abc ∷ []) filter_note.Quiet
     ∷ response (service.Receives (Chunk (id 1 1) 0 abc)) [] (some_work ∷ [])
-    ∷ response (service.Finishes 1 (record { version = 3; length = 3; fed = 3; node = 0; hit = None }) None) (Reply (id 1 1) (clean 3) ∷ []) []
+    ∷ response (service.Finishes 1 (record { version = 3; length = 3; fed = 3; node = 0; hit = None }) None)
+    (Reply (id 1 1) (clean 3) ∷ []) []
     ∷ reply (filter.Receives (Reply (id 1 1) (clean 3))) (Granted 8 0 1 5 3 ∷ []) [] filter_note.Quiet
     ∷ []
 
+-- there are legal audits
 abbrev pub CanBeLegal : Type 0
 CanBeLegal = AreLegal FailClosed greatest_values 1 greatest_values (file_of_abc ∷ []) volume_of_abc [] some_audits
 

@@ -1,5 +1,5 @@
 -- What stands in a world: the verdicts that are held, and the opens that were submitted, wait, or were answered.
-use Rattle.std.specs.Prelude.{ℕ, suc, ◌+◌, ◌==◌, nat_le, List, [], ◌∷◌, ◌++◌, length, map, flat_map, Option, Some, None, if◌then◌else◌}
+use Rattle.std.specs.Prelude.{ℕ, suc, ◌+◌, nat_le, List, [], ◌∷◌, ◌++◌, length, map, flat_map, Option, Some, None, if◌then◌else◌}
 use Rattle.av_base.specs.MessageId.{same_id}
 use Rattle.av_base.specs.declared.message_id.MessageId.{MessageId}
 use Rattle.av_base.specs.declared.verdict.Verdict.{Verdict}
@@ -23,20 +23,24 @@ pub record Asked : Type 0 where
   pub generation : ℕ
   pub length : ℕ
 
+-- what a message asks about, where it asks under this id
 abbrev pub asked_by : MessageId → Body → Option Asked
 asked_by id (Scan i s g l) = if same_id i id then Some (record { stream = s; generation = g; length = l }) else None
 asked_by id _ = None
 
+-- the first, if there is one, else the second
 abbrev pub or_else : Option Asked → Option Asked → Option Asked
 or_else None o = o
 or_else (Some a) o = Some a
 
+-- what a question asked about: what the first Scan of its id names
 unfoldable pub asked : List Body → MessageId → Option Asked
 asked [] id = None
 asked (m ∷ ms) id = or_else (asked_by id m) (asked ms id)
 
 -- ---- verdicts: in the contexts, both caches, and the replies that were sent
 
+-- a verdict of a content under a version
 abbrev pub entry : ℕ → ℕ → ℕ → Verdict → Entry
 entry s g v r = record { stream = s; generation = g; version = v; verdict = r }
 
@@ -46,6 +50,7 @@ state_held s g (context.Judged v r) = entry s g v r ∷ []
 state_held s g context.Modified = []
 state_held s g (context.Scanning id) = []
 
+-- the verdict that a context keeps, if it has one
 abbrev pub held_in : ℕ → ℕ → Option ContextState → List Entry
 held_in s g None = []
 held_in s g (Some c) = state_held s g c
@@ -60,26 +65,32 @@ abbrev pub held_by : Option Asked → ℕ → Verdict → List Entry
 held_by None v r = []
 held_by (Some a) v r = entry a.stream a.generation v r ∷ []
 
+-- the verdict that a reply carries, about what its question asked
 abbrev pub held_reply : List Body → Body → List Entry
 held_reply down (Reply id (Judged v r)) = held_by (asked down id) v r
 held_reply down _ = []
 
+-- every verdict that stands in contexts, caches and replies
 abbrev pub held_among : Table → Streams → Desk → List Body → List Body → List Entry
 held_among t streams d down up = held_contexts t.contexts streams ++ t.cache ++ d.cache ++ flat_map (held_reply down) up
 
+-- every verdict that stands in a world
 unfoldable pub held : WorldState → List Entry
 held w = held_among w.table w.volume.streams w.desk w.down w.up
 
 -- ---- opens
 
+-- how many opens were submitted
 unfoldable pub submitted : List Event → ℕ
 submitted [] = 0
 submitted (Open name least ∷ es) = submitted es + 1
 submitted (_ ∷ es) = submitted es
 
+-- the numbers of the opens that wait
 abbrev pub pended : WorldState → List ℕ
 pended w = map (λ p. p.held.open_id) w.table.pended
 
+-- the numbers of the opens that were answered
 abbrev pub answered : WorldState → List ℕ
 answered w = map (λ a. open_of a.answer) w.answers
 
@@ -87,8 +98,3 @@ answered w = map (λ a. open_of a.answer) w.answers
 unfoldable pub history_at : ℕ → List Event → List Event
 history_at n [] = []
 history_at n (e ∷ es) = if nat_le (suc (length es)) n then e ∷ es else history_at n es
-
--- how often a number stands in a list
-abbrev pub times : ℕ → List ℕ → ℕ
-times n [] = 0
-times n (m ∷ ms) = (if m == n then 1 else 0) + times n ms

@@ -4,6 +4,7 @@ use Rattle.std.specs.Io.KnownBytes.{Appends, Keeps}
 use Rattle.av_base.specs.Device.{AppendsPrefix}
 use Rattle.av_world.specs.Script.{ScriptText, script_of}
 use Rattle.av_world.specs.Text.{script_text}
+use Rattle.av_world.specs.declared.run_script.TheConstants.{MAX_SCRIPT}
 use Rattle.av_world.specs.declared.run_script.RunFault.{RunFault}
 use Rattle.av_world.specs.declared.run_script.RunFault.TheVariants.{BadScript, NoMemory, Read, TooLong, Write}
 use Rattle.av_world.specs.declared.script.ScriptFault.{ScriptFault}
@@ -13,6 +14,7 @@ abbrev pub PrintsAll : Option (List ℕ) → Option (List ℕ) → Result Script
 PrintsAll old new (Ok s) = Appends old new (script_text s)
 PrintsAll old new (Err f) = ⊥
 
+-- all lines of a script were written
 abbrev pub Prints : Option (List ℕ) → Option (List ℕ) → List ℕ → Type 0
 Prints old new input = PrintsAll old new (script_of input)
 
@@ -21,6 +23,7 @@ abbrev pub PrintsSome : Option (List ℕ) → Option (List ℕ) → Result Scrip
 PrintsSome old new (Ok s) = AppendsPrefix old new (script_text s)
 PrintsSome old new (Err f) = Keeps old new
 
+-- a front of the lines of a script was written
 abbrev pub PrintsFront : Option (List ℕ) → Option (List ℕ) → List ℕ → Type 0
 PrintsFront old new input = PrintsSome old new (script_of input)
 
@@ -35,7 +38,7 @@ IsLate (BadScript line) = ⊥
 -- a script that is too long or bad is told as what it is
 abbrev pub IsTrueOf : RunFault → List ℕ → Type 0
 IsTrueOf (BadScript line) input = script_of input ≡ Err (record { line = line })
-IsTrueOf TooLong input = 1048576 < length input
+IsTrueOf TooLong input = MAX_SCRIPT < length input
 IsTrueOf Read input = Unit {0}
 IsTrueOf NoMemory input = Unit {0}
 IsTrueOf Write input = Unit {0}

@@ -38,6 +38,7 @@ abbrev pub carry_up : Table → Store → List Publication → Desk → List Bod
 carry_up t v sets d [] = says d Quiet
 carry_up t v sets d (m ∷ ms) = carry_down sets d (filter_step t v (filter_events.Receives m)).messages
 
+-- the service's response after so many rounds: its messages to the filter, what comes back, and each work run
 unfoldable pub rounds : Table → Store → List Publication → ℕ → Response → Response
 rounds t v sets zero r = r
 rounds t v sets (suc n) r = rounds t v sets n (carry_up t v sets r.desk r.messages)
@@ -52,6 +53,7 @@ pub record IsReady (w : WorldState) (q : Question) (n : ℕ) : Type 0 where
   pub enough : length (present_bytes w.volume q.stream) ≤ n * min w.desk.limits.chunk w.table.limits.chunk
   pub leases : w.desk.last_lease + n ≤ most_leases
 
+-- the Scan message of a question
 abbrev pub scan_for : WorldState → Question → Body
 scan_for w q = Scan q.id q.stream q.generation (length (present_bytes w.volume q.stream))
 
@@ -63,4 +65,7 @@ pub record EndsWithVerdict (w : WorldState) (q : Question) (n : ℕ) : Type 0 wh
   pub published : published_as (map publication_of w.sets) w.desk.version ≡ Some patterns
   pub count : ℕ
   pub within : count ≤ n
-  pub replied : (rounds w.table w.volume (map publication_of w.sets) count (service_step w.desk (service_events.Receives (scan_for w q)))).messages ≡ Reply q.id (Judged w.desk.version (verdict patterns bytes)) ∷ []
+  pub replied :
+      (rounds w.table w.volume (map publication_of w.sets) count
+      (service_step w.desk (service_events.Receives (scan_for w q)))).messages
+      ≡ Reply q.id (Judged w.desk.version (verdict patterns bytes)) ∷ []

@@ -40,6 +40,7 @@ last_up w = Up (length w.up)
 abbrev pub round : WorldState → List Event
 round w = Up (length w.up) ∷ Down (suc (length w.down)) ∷ Run (suc (length w.works)) ∷ []
 
+-- the message is a reply
 abbrev pub is_reply : Option Body → Bool
 is_reply None = false
 is_reply (Some (Reply id outcome)) = true
@@ -58,6 +59,7 @@ chunks w q = div_ceil (length (present_bytes w.volume q.stream)) (min w.desk.lim
 abbrev pub scan_comes : WorldState → Question → Event
 scan_comes w q = Down (suc (before_scan q.id w.down))
 
+-- the deliveries and runs that bring the verdict of a question
 abbrev pub settling : WorldState → Question → List Event
 settling w q = scan_comes w q ∷ to_reply (chunks w q) (after w (scan_comes w q))
 
@@ -75,6 +77,7 @@ abbrev pub finishing_of : WorldState → List Pended → List Event
 finishing_of w [] = []
 finishing_of w (p ∷ ps) = reconnecting ++ settling_all w.table.questions (onward reconnecting w)
 
+-- the events that answer each open that waits
 unfoldable pub finishing : WorldState → List Event
 finishing w = finishing_of w w.table.pended
 
@@ -100,7 +103,8 @@ pub record CanFinish (w : WorldState) : Type 0 where
 
 -- ---- what holds after it
 
--- a message comes, a work is run, or the service connects anew: no timeout, no disconnection of the filter, no restart, no change of a file
+-- a message comes, a work is run, or the service connects anew: no timeout, no disconnection of the filter, no restart, no
+-- change of a file
 abbrev pub IsCarrying : Event → Type 0
 IsCarrying (Down place) = Unit {0}
 IsCarrying (Up place) = Unit {0}
@@ -109,15 +113,17 @@ IsCarrying Connect = Unit {0}
 IsCarrying DisconnectService = Unit {0}
 IsCarrying _ = ⊥
 
--- an open is among the answers with the verdict of the present content of its stream under the latest set: granted, or denied for infection
+-- an open is among the answers with the verdict of the present content of its stream under the latest set: granted, or denied
+-- for infection
 pub record GetsVerdict (w : WorldState) (answers : List Given) (p : Pended) : Type 0 where
   pub verdict : Verdict
   pub right : IsVerdictOf (past w.history) p.held.stream (present_generation w.volume p.held.stream) (latest w.sets) verdict
   pub event : ℕ
   pub given : Among (given_at event (judged verdict (present_generation w.volume p.held.stream) (latest w.sets) p.held)) answers
 
--- Each of the events happens, and carries; they are two, two a question, and three a chunk, at most. Then no open waits, the volume and
--- the sets are what they were, each open that waited got the verdict of its stream's content, and no other answer was given.
+-- Each of the events happens, and carries; they are two, two a question, and three a chunk, at most. Then no open waits, the
+-- volume and the sets are what they were, each open that waited got the verdict of its stream's content, and no other answer
+-- was given.
 pub record Finishes (w : WorldState) : Type 0 where
   pub happens : (at_last w).history ≡ reverse (finishing w) ++ w.history
   pub carries : AllByRecursion IsCarrying (finishing w)

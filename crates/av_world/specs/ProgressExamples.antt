@@ -14,6 +14,7 @@ use Rattle.av_world.specs.World.{WorldState, start}
 use Rattle.av_world.specs.declared.event.Event.{Event}
 use Rattle.av_world.specs.declared.event.Event.TheVariants.{Create, Write, Open, Down, Up, Run, Connect, DisconnectFilter, DisconnectService, RestartService}
 
+-- the world after these events
 abbrev pub led : LimitValues → List Event → WorldState
 led limits es = run es (start 1 FailClosed limits)
 
@@ -21,14 +22,20 @@ led limits es = run es (start 1 FailClosed limits)
 abbrev pub answers_then : WorldState → List Answer
 answers_then w = map (λ g. g.answer) (at_last w).answers
 
+-- the opens that wait after the finishing events
 abbrev pub waiting_then : WorldState → List ℕ
 waiting_then w = pended (at_last w)
 
--- ---- two questions in the midst of their scans: both were begun, and a work of the first is out. Chunks are of two bytes, and the second stream is infected
+-- ---- two questions in the midst of their scans: both were begun, and a work of the first is out. Chunks are of two bytes,
+-- and the second stream is infected
 
+-- two streams with a scan each, one of them infected
 abbrev pub two_scans : WorldState
-two_scans = led (record greatest_values { chunk = 2 }) (prepared ++ Create b ∷ Write b 0 (0x58 ∷ 0x58 ∷ []) ∷ Open a 0 ∷ Open b 0 ∷ Down 1 ∷ Down 2 ∷ Up 2 ∷ Down 3 ∷ [])
+two_scans =
+    led (record greatest_values { chunk = 2 })
+    (prepared ++ Create b ∷ Write b 0 (0x58 ∷ 0x58 ∷ []) ∷ Open a 0 ∷ Open b 0 ∷ Down 1 ∷ Down 2 ∷ Up 2 ∷ Down 3 ∷ [])
 
+-- what finishes them
 abbrev pub TwoScans : Type 0
 TwoScans =
     finishing two_scans
@@ -49,31 +56,38 @@ TwoScans =
     ∷ Up 9
     ∷ []
 
+-- both opens are answered by the verdicts
 abbrev pub TwoAnswers : Type 0
 TwoAnswers = answers_then two_scans ≡ Granted 1 0 1 2 1 ∷ Denied 2 Infected ∷ []
 
 -- ---- the service has restarted, when the reply of a scan was still to come: its cache is empty, and it isn't connected
 
+-- the service restarted in the midst of a scan
 abbrev pub restarted : WorldState
 restarted = led greatest_values (scanned ++ RestartService ∷ [])
 
+-- what finishes it
 abbrev pub AfterRestart : Type 0
 AfterRestart = finishing restarted ≡ DisconnectService ∷ Connect ∷ Down 1 ∷ Up 5 ∷ Down 3 ∷ Run 2 ∷ Up 6 ∷ []
 
+-- the open is granted
 abbrev pub RestartAnswers : Type 0
 RestartAnswers = answers_then restarted ≡ Granted 1 0 1 2 1 ∷ []
 
 -- the service had judged the content, and lost the connection alone: its cache answers
 abbrev pub AfterDisconnection : Type 0
-AfterDisconnection = finishing (led greatest_values (scanned ++ DisconnectService ∷ [])) ≡ DisconnectService ∷ Connect ∷ Down 1 ∷ Up 5 ∷ []
+AfterDisconnection =
+    finishing (led greatest_values (scanned ++ DisconnectService ∷ [])) ≡ DisconnectService ∷ Connect ∷ Down 1 ∷ Up 5 ∷ []
 
 -- the content was written while its open waited, and was asked about again: the answer is about the content as it is now
 abbrev pub written_meanwhile : WorldState
 written_meanwhile = led greatest_values (prepared ++ Open a 0 ∷ Write a 0 (0x58 ∷ 0x58 ∷ []) ∷ [])
 
+-- what finishes a scan whose content was written meanwhile
 abbrev pub AfterWrite : Type 0
 AfterWrite = finishing written_meanwhile ≡ DisconnectService ∷ Connect ∷ Down 3 ∷ Up 3 ∷ Down 4 ∷ Run 1 ∷ Up 4 ∷ []
 
+-- the open is denied for what the content is now
 abbrev pub WriteAnswers : Type 0
 WriteAnswers = answers_then written_meanwhile ≡ Denied 1 Infected ∷ []
 
@@ -91,6 +105,7 @@ Unpublished = waiting_then (led greatest_values (prepared ++ Open a 9 ∷ [])) �
 abbrev pub without_leases : WorldState → WorldState
 without_leases w = record w { desk = record w.desk { last_lease = most_leases } }
 
+-- with no lease left the open waits on
 abbrev pub NoLease : Type 0
 NoLease = waiting_then (without_leases (led greatest_values (prepared ++ Open a 0 ∷ []))) ≡ 1 ∷ []
 

@@ -1,5 +1,5 @@
 -- What an event of a world asks for.
-use Rattle.std.specs.Prelude.{ℕ, ◌≡◌, List, Option, None, Some, Result, Ok, Err, IsOk}
+use Rattle.std.specs.Prelude.{ℕ, ◌≡◌, List, Option, None, Some, Result, Ok, Err}
 use Rattle.std.specs.Option.{option_map}
 use Rattle.av_frame.specs.declared.message.Body.{Body}
 use Rattle.av_service.specs.Work.{WorkState}
@@ -56,6 +56,7 @@ abbrev pub frame_fault : Option Body → Option StepFault
 frame_fault None = Some fault.NoSuchFrame
 frame_fault (Some m) = None
 
+-- why a work cannot be run
 abbrev pub work_fault : Option WorkState → Option StepFault
 work_fault None = Some fault.NoSuchWork
 work_fault (Some x) = None

@@ -41,11 +41,14 @@ IsFront xs ys = (rest : List ℕ) × (xs ++ rest ≡ ys)
 
 -- a work that was lent under the loan's lease goes on with this scan under this version, by bytes that come next
 abbrev pub IsWorkOf : ℕ → ScanState → List ℕ → Loan → WorkState → Type 0
-IsWorkOf version scan rest l k = k.lease ≡ l.lease → (k.scan ≡ scan) × (k.version ≡ version) × (length k.chunk ≡ l.count) × IsFront k.chunk rest
+IsWorkOf version scan rest l k =
+    k.lease ≡ l.lease → (k.scan ≡ scan) × (k.version ≡ version) × (length k.chunk ≡ l.count) × IsFront k.chunk rest
 
+-- what is lent of a job has its lease given, its bytes left to scan, and a work of its scan and version
 abbrev pub LoanFits : List WorkState → ℕ → ℕ → ScanState → List ℕ → Option Loan → Type 0
 LoanFits works last version scan rest None = Unit {0}
-LoanFits works last version scan rest (Some l) = (l.lease ≤ last) × (l.count ≤ length rest) × AllByRecursion (IsWorkOf version scan rest l) works
+LoanFits works last version scan rest (Some l) =
+    (l.lease ≤ last) × (l.count ≤ length rest) × AllByRecursion (IsWorkOf version scan rest l) works
 
 -- the works that did not come back
 abbrev pub works_of : List (Option WorkState) → List WorkState
@@ -53,7 +56,8 @@ works_of [] = []
 works_of (None ∷ works) = works_of works
 works_of (Some k ∷ works) = k ∷ works_of works
 
--- a job has judged a beginning of the content that its scan was asked about, as many bytes as its offset, and keeps their scan under the set of this version; what is lent goes on from there
+-- a job has judged a beginning of the content that its scan was asked about, as many bytes as its offset, and keeps their
+-- scan under the set of this version; what is lent goes on from there
 pub record JudgesItsContent (p : Past) (down : List Body) (works : List WorkState) (last version : ℕ) (j : Job) : Type 0 where
   pub told : asked down j.id ≡ Some (record { stream = j.stream; generation = j.generation; length = j.length })
   pub bytes : List ℕ
@@ -68,9 +72,11 @@ pub record JudgesItsContent (p : Past) (down : List Body) (works : List WorkStat
   pub scanned : j.scan ≡ scan_of scanner version j.length patterns judged
   pub loan : LoanFits works last version j.scan rest j.loan
 
+-- a job of the service judges the content that it was asked about
 abbrev pub JudgesRightly : WorldState → Job → Type 0
 JudgesRightly w j = JudgesItsContent (past w.history) w.down (works_of w.works) w.desk.last_lease w.desk.version j
 
+-- all jobs do
 abbrev pub JobsJudgeRightly : WorldState → Type 0
 JobsJudgeRightly w = All (JudgesRightly w) w.desk.jobs
 
@@ -89,22 +95,32 @@ pub record Waits (t : Table) (id : MessageId) (n : ℕ) : Type 0 where
 -- why an event at this table and volume leaves an open denied or unscanned; p: the past after the event
 pub data Explains (p : Past) (t : Table) (v : Store) : FilterEvent → ℕ → Cause → Type 0 where
   no_stream : (s least n : ℕ) → stream_at s v.streams ≡ None → Explains p t v (Opens s least) n NoStream
-  judged_now : (s least n version index end_at : ℕ) → least ≤ version → IsVerdictOf p s (generation_of p.streams s) version (Infected index end_at) → Explains p t v (Opens s least) n cause.Infected
-  judged_late : (id : MessageId) (o : Outcome) (q : Question) (n version index end_at : ℕ) → question_at id t.questions ≡ Some q → (w : Waits t q.id n) → w.waiting.held.least ≤ version
-      → IsVerdictOf p q.stream (generation_of p.streams q.stream) version (Infected index end_at) → Explains p t v (Receives (Reply id o)) n cause.Infected
+  judged_now : (s least n version index end_at : ℕ) → least ≤ version
+      → IsVerdictOf p s (generation_of p.streams s) version (Infected index end_at)
+      → Explains p t v (Opens s least) n cause.Infected
+  judged_late : (id : MessageId) (o : Outcome) (q : Question) (n version index end_at : ℕ) → question_at id t.questions ≡ Some q
+      → (w : Waits t q.id n) → w.waiting.held.least ≤ version
+      → IsVerdictOf p q.stream (generation_of p.streams q.stream) version (Infected index end_at)
+      → Explains p t v (Receives (Reply id o)) n cause.Infected
   not_connected : (s least n : ℕ) → t.connected ≡ false → Explains p t v (Opens s least) n NotConnected
   opens_full : (s least n : ℕ) → t.limits.pended ≤ length t.pended → Explains p t v (Opens s least) n Busy
   questions_full : (s least n : ℕ) → t.limits.questions ≤ length t.questions → Explains p t v (Opens s least) n Busy
   no_number : (s least n : ℕ) → greatest ≤ t.sequence → Explains p t v (Opens s least) n Busy
   no_number_changed : (c : Change) (n : ℕ) → greatest ≤ t.sequence → Explains p t v (Changes c) n Busy
-  no_number_stale : (id : MessageId) (version : ℕ) (r : Verdict) (n : ℕ) → greatest ≤ t.sequence → Explains p t v (Receives (Reply id (Judged version r))) n Busy
+  no_number_stale : (id : MessageId) (version : ℕ) (r : Verdict) (n : ℕ) → greatest ≤ t.sequence
+      → Explains p t v (Receives (Reply id (Judged version r))) n Busy
   timed_out : (seq n : ℕ) → Waits t (record { boot = t.boot; seq = seq }) n → Explains p t v (TimesOut seq) n TimedOut
   disconnected : (n : ℕ) → Explains p t v Disconnects n PortDisconnected
-  failed : (id : MessageId) (why : FailCause) (n : ℕ) → Waits t id n → Explains p t v (Receives (Reply id (Failed why))) n ScanFailed
-  unsettled_write : (s o : ℕ) (b : List ℕ) (q : Question) (n : ℕ) → question_of s t.questions ≡ Some q → (w : Waits t q.id n) → 8 ≤ w.waiting.held.rescans → Explains p t v (Changes (change.Write s o b)) n Unsettled
-  unsettled_cut : (s l : ℕ) (q : Question) (n : ℕ) → question_of s t.questions ≡ Some q → (w : Waits t q.id n) → 8 ≤ w.waiting.held.rescans → Explains p t v (Changes (change.Cut s l)) n Unsettled
-  unsettled_stale : (id : MessageId) (version : ℕ) (r : Verdict) (n : ℕ) → version < t.floor → (w : Waits t id n) → 8 ≤ w.waiting.held.rescans → Explains p t v (Receives (Reply id (Judged version r))) n Unsettled
-  removed : (s : ℕ) (q : Question) (n : ℕ) → question_of s t.questions ≡ Some q → Waits t q.id n → Explains p t v (Changes (change.Remove s)) n StreamRemoved
+  failed : (id : MessageId) (why : FailCause) (n : ℕ) → Waits t id n
+      → Explains p t v (Receives (Reply id (Failed why))) n ScanFailed
+  unsettled_write : (s o : ℕ) (b : List ℕ) (q : Question) (n : ℕ) → question_of s t.questions ≡ Some q → (w : Waits t q.id n)
+      → 8 ≤ w.waiting.held.rescans → Explains p t v (Changes (change.Write s o b)) n Unsettled
+  unsettled_cut : (s l : ℕ) (q : Question) (n : ℕ) → question_of s t.questions ≡ Some q → (w : Waits t q.id n)
+      → 8 ≤ w.waiting.held.rescans → Explains p t v (Changes (change.Cut s l)) n Unsettled
+  unsettled_stale : (id : MessageId) (version : ℕ) (r : Verdict) (n : ℕ) → version < t.floor → (w : Waits t id n)
+      → 8 ≤ w.waiting.held.rescans → Explains p t v (Receives (Reply id (Judged version r))) n Unsettled
+  removed : (s : ℕ) (q : Question) (n : ℕ) → question_of s t.questions ≡ Some q → Waits t q.id n
+      → Explains p t v (Changes (change.Remove s)) n StreamRemoved
   restarted : (n : ℕ) → Explains p t v Restarts n FilterRestart
 
 -- the causes under which fail-open mode lets an open through
@@ -119,4 +135,6 @@ IsExplained p t v f floor (Denied n c) = Explains p t v f n c
 
 -- so is each answer that an event of the world gave
 abbrev pub AnswersExplained : WorldState → Event → WorldState → Type 0
-AnswersExplained w e w' = All (λ a. (f : FilterEvent) × IsFilterEvent w e f × IsExplained (past w'.history) w.table w.volume f w'.table.floor a.answer) (drop (length w.answers) w'.answers)
+AnswersExplained w e w' =
+    All (λ a. (f : FilterEvent) × IsFilterEvent w e f × IsExplained (past w'.history) w.table w.volume f w'.table.floor a.answer)
+    (drop (length w.answers) w'.answers)

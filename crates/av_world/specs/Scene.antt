@@ -42,15 +42,19 @@ abbrev pub past_filter : Past → FilterEvent → Past
 past_filter p (Changes c) = changes p c
 past_filter p _ = p
 
+-- an answer with the past that it was given in
 abbrev pub told_at : Past → Answer → Answered
 told_at p a = record { past = p; answer = a }
 
+-- a scene after a reaction of the filter
 abbrev pub reacts : Scene → Past → Reaction → Scene
 reacts c p r = record c { past = p; volume = r.volume; table = r.table; down = c.down ++ r.messages }
 
+-- a scene after a response of the service
 abbrev pub responds : Scene → Past → Response → Scene
 responds c p r = record c { past = p; desk = r.desk; up = c.up ++ r.messages; works = c.works ++ r.works }
 
+-- the past after a call of the service
 abbrev pub past_call : Past → Call → Past
 past_call p call = record p { sets = sets_after p.sets call }
 
@@ -58,6 +62,7 @@ past_call p call = record p { sets = sets_after p.sets call }
 abbrev pub after_event : Scene → FilterEvent → Scene
 after_event c f = reacts c (past_filter c.past f) (filter_step c.table c.volume f)
 
+-- a scene after a call of the service
 abbrev pub after_call : Scene → Call → Scene
 after_call c call = responds c (past_call c.past call) (respond c.desk call)
 
@@ -66,6 +71,7 @@ abbrev pub MayReact : Scene → FilterEvent → Type 0
 MayReact c (filter.Receives m) = Among m c.up
 MayReact c f = filter_refusal c.table c.volume f ≡ None
 
+-- the same of a call of the service
 abbrev pub MayRespond : Scene → Call → Type 0
 MayRespond c (By Connects) = connect_refusal c.desk ≡ None
 MayRespond c (By Disconnects) = Unit {0}
@@ -75,13 +81,24 @@ MayRespond c (By (service.Publishes v)) = ⊥
 MayRespond c (By (Restarts v)) = v ≡ latest_as c.past.sets
 MayRespond c (Publishes v ps) = IsNew c.past.sets v ps
 
--- at the opening: a filter just mounted on a volume, and a service just started over a catalogue. Of each stream the present content is known, and none before it
+-- at the opening: a filter just mounted on a volume, and a service just started over a catalogue. Of each stream the present
+-- content is known, and none before it
 abbrev pub known_since : File → StreamHistory
 known_since f = record { name = f.name; here = f.here; first = f.generation; bytes = f.bytes; earlier = [] }
 
+-- the past at the opening: each file as it is, and the sets
 abbrev pub opening_past : List File → List Publication → Past
 opening_past fs sets = record { streams = map known_since fs; sets = sets }
 
+-- the scene at the opening
 abbrev pub opening : List File → Store → Mode → LimitValues → ℕ → LimitValues → List Publication → Scene
 opening fs v mode limits number service_limits sets =
-    record { past = opening_past fs sets; volume = v; table = mounted mode limits v.boot; desk = just_started number service_limits (latest_as sets); down = []; up = []; works = [] }
+    record {
+      past = opening_past fs sets;
+      volume = v;
+      table = mounted mode limits v.boot;
+      desk = just_started number service_limits (latest_as sets);
+      down = [];
+      up = [];
+      works = [];
+    }

@@ -24,6 +24,7 @@ pub record ScriptText : Type 0 where
   pub limits : LimitValues
   pub commands : List Command
 
+-- the fault of this line
 abbrev pub bad_at : {A : Type 0} → ℕ → Result A ScriptFault
 bad_at n = Err (record { line = n })
 
@@ -44,8 +45,10 @@ abbrev pub commands_from : ℕ → List (List ℕ) → Result (List Command) Scr
 commands_from n [] = Ok []
 commands_from n (l ∷ ls) = line_then n (line_of l) (commands_from (n + 1) ls)
 
+-- the script of these settings and commands
 abbrev pub heads : ℕ → Mode → LimitValues → Result (List Command) ScriptFault → Result ScriptText ScriptFault
-heads number mode limits commands = map_ok (λ cs. record { number = number; mode = mode; limits = limits; commands = cs }) commands
+heads number mode limits commands =
+    map_ok (λ cs. record { number = number; mode = mode; limits = limits; commands = cs }) commands
 
 -- the limits are judged at the volume line
 abbrev pub mounted_with : ℕ → ℕ → Mode → Result LimitValues LimitFault → List (List ℕ) → Result ScriptText ScriptFault
@@ -68,6 +71,7 @@ header_from values n (l ∷ ls) = elim (line_of l) [
 abbrev pub script_of : List ℕ → Result ScriptText ScriptFault
 script_of text = header_from greatest_values 1 (lines_of text)
 
+-- the commands were read, or the fault is that of the first bad line
 abbrev pub Parses : Result (VecDeque Command Global) (Refusal ScriptFault) → Result (List Command) ScriptFault → Type 0
 Parses (Ok v) wanted = wanted ≡ Ok v.items
 Parses (Err e) wanted = IsRefusal e wanted

@@ -54,12 +54,15 @@ abbrev pub IsSmallResponse : ℕ → ServiceOut → Type 0
 IsSmallResponse n out = length out.messages.items ≤ n + 1
 
 -- the service's event has happened, and what it gave out stands behind what was there; or nothing has changed
-abbrev pub Served : Desk → List Body → List (Option WorkState) → Desk → List Body → List (Option WorkState) → ServiceEvent → Option Note → Type 0
+abbrev pub Served : Desk → List Body → List (Option WorkState) → Desk → List Body → List (Option WorkState) → ServiceEvent
+    → Option Note → Type 0
 Served d up works d' up' works' s None = (d' ≡ d) × (up' ≡ up) × (works' ≡ works)
 Served d up works d' up' works' s (Some n) =
-    (service_refusal d s ≡ None) × (d' ≡ (service_step d s).desk) × (up' ≡ up ++ (service_step d s).messages) × (works' ≡ works ++ map Some (service_step d s).works) × (n ≡ note.Service (service_step d s).note)
+    (service_refusal d s ≡ None) × (d' ≡ (service_step d s).desk) × (up' ≡ up ++ (service_step d s).messages)
+    × (works' ≡ works ++ map Some (service_step d s).works) × (n ≡ note.Service (service_step d s).note)
 
 -- where a report is given the service's event has happened, behind this history; else nothing has changed
 abbrev pub TakesServed : WorldState → WorldState → List Event → Event → ServiceEvent → Option Report → Type 0
 TakesServed old new h e s None = new ≡ old
-TakesServed old new h e s (Some report) = (service_refusal old.desk s ≡ None) × (service_event (at_history h old) e Silent s ≡ Ok (report, at_history (e ∷ h) new))
+TakesServed old new h e s (Some report) =
+    (service_refusal old.desk s ≡ None) × (service_event (at_history h old) e Silent s ≡ Ok (report, at_history (e ∷ h) new))

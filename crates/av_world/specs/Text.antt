@@ -28,7 +28,8 @@ use Rattle.av_world.specs.World.{WorldState, after, start, step_of}
 
 -- what the answers that a step gave tell, and whether its open waits
 abbrev pub opens_text : Report → List Given → List ℕ
-opens_text r answers = let given = between r.before.answers r.after.answers answers in answers_text given ++ pended_text r.note given
+opens_text r answers =
+    let given = between r.before.answers r.after.answers answers in answers_text given ++ pended_text r.note given
 
 -- what was sent and lent in a step, each by its place
 abbrev pub sent_text : Report → List Body → List Body → List (Option WorkState) → List ℕ
@@ -42,8 +43,10 @@ sent_text r down up works =
 
 -- the lines of a step, by the world's lists after it: its own line, opens, messages, work, and its note
 abbrev pub told_text : Report → List Given → List Body → List Body → List (Option WorkState) → List ℕ
-told_text r answers down up works = spelt (line_text r.line ∷ opens_text r answers ∷ sent_text r down up works ∷ note_text r.note ∷ [])
+told_text r answers down up works =
+    spelt (line_text r.line ∷ opens_text r answers ∷ sent_text r down up works ∷ note_text r.note ∷ [])
 
+-- the lines of a report, of what its event added to the world's lists
 abbrev pub report_text : WorldState → Report → List ℕ
 report_text w r = told_text r w.answers w.down w.up w.works
 
@@ -52,6 +55,7 @@ abbrev pub step_text : Result (Report × WorldState) StepFault → List ℕ
 step_text (Ok p) = report_text p.1 p.0
 step_text (Err f) = refused_text (word_of f)
 
+-- the line of a judge command
 abbrev pub judge_text : Result Judged JudgeFault → List ℕ
 judge_text (Ok j) = judged_text j
 judge_text (Err f) = refused_text (judge_word_of f)
@@ -61,6 +65,7 @@ abbrev pub command_text : WorldState → Command → List ℕ
 command_text w (Step e) = step_text (step_of w e)
 command_text w (Judge name) = judge_text (judged_of w name)
 
+-- the world after a command
 abbrev pub command_world : WorldState → Command → WorldState
 command_world w (Step e) = after w e
 command_world w (Judge name) = w

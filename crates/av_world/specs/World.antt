@@ -3,8 +3,6 @@ use Rattle.std.specs.Prelude.{ℕ, zero, suc, pred, ◌≡◌, ◌⊎◌, List, 
 use Rattle.std.specs.Option.{option_map}
 use Rattle.av_base.specs.declared.limits.LimitValues.{LimitValues}
 use Rattle.av_base.specs.declared.mode.Mode.{Mode}
-use Rattle.av_base.specs.declared.refusal.Refusal.{Refusal}
-use Rattle.av_base.specs.declared.refusal.Refusal.TheVariants.{Fault, NoMemory}
 use Rattle.av_base.specs.declared.refusal.Refused.{Refused}
 use Rattle.av_filter.specs.Conduct.{FilterEvent, Opens, Changes, CleansUp, TimesOut, filter_refusal, filter_step}
 use Rattle.av_filter.specs.Conduct as filter
@@ -45,6 +43,7 @@ use Rattle.av_world.specs.declared.report.Places.{Places}
 use Rattle.av_world.specs.declared.report.Report.{Report}
 use Rattle.av_base.specs.Refused.{unless, IsRefusal}
 
+-- a world: both cores, the messages under way, the works that are lent, the answers, and the events that led here
 pub record WorldState : Type 0 where
   pub history : List Event  -- the accepted events, the newest first
   pub volume : Store
@@ -73,6 +72,7 @@ start number mode limits =
 
 -- ---- what a step tells
 
+-- how long the lists of a world are
 abbrev pub places_of : WorldState → Places
 places_of w = record { answers = length w.answers; down = length w.down; up = length w.up; works = length w.works }
 
@@ -87,9 +87,11 @@ change_line id (Some s) = Changed id s.generation (length s.bytes)
 
 -- ---- one event of the filter, and one of the service
 
+-- an answer, with the number of its event
 abbrev pub given_at : ℕ → Answer → Given
 given_at n a = record { event = n; answer = a }
 
+-- a world after a reaction of the filter
 abbrev pub reacted : WorldState → Event → Reaction → WorldState
 reacted w e r =
     record w {
@@ -100,27 +102,36 @@ reacted w e r =
       answers = w.answers ++ map (given_at (suc (length w.history))) r.answers;
     }
 
+-- a world after a response of the service
 abbrev pub responded : WorldState → Event → Response → WorldState
-responded w e r = record w { history = e ∷ w.history; desk = r.desk; up = w.up ++ r.messages; works = w.works ++ map Some r.works }
+responded w e r =
+    record w { history = e ∷ w.history; desk = r.desk; up = w.up ++ r.messages; works = w.works ++ map Some r.works }
 
 -- an answer of a step: its report, and the world after it
 abbrev pub Outcome : Type 0
 Outcome = Result (Report × WorldState) StepFault
 
+-- a fault of the filter, as an event's
 abbrev pub step_fault : FilterFault → StepFault
 step_fault (filter_fault.Store f) = fault.Store f
 step_fault filter_fault.OpensSpent = fault.OpensSpent
 step_fault filter_fault.BootSpent = fault.BootSpent
 
+-- the report of a reaction, and the world after it
 abbrev pub filter_outcome : WorldState → Event → (Store → Line) → Reaction → Report × WorldState
 filter_outcome w e line r = (report_of w (reacted w e r) (line r.volume) (note.Filter r.note), reacted w e r)
 
+-- an event of the filter: refused, or its report and the world after it
 abbrev pub filter_event : WorldState → Event → (Store → Line) → FilterEvent → Outcome
-filter_event w e line f = unless (option_map step_fault (filter_refusal w.table w.volume f)) (filter_outcome w e line (filter_step w.table w.volume f))
+filter_event w e line f =
+    unless (option_map step_fault (filter_refusal w.table w.volume f))
+    (filter_outcome w e line (filter_step w.table w.volume f))
 
+-- the report of a response, and the world after it
 abbrev pub service_outcome : WorldState → Event → Line → Response → Report × WorldState
 service_outcome w e line r = (report_of w (responded w e r) line (note.Service r.note), responded w e r)
 
+-- an event of the service, and the world after it
 abbrev pub service_event : WorldState → Event → Line → ServiceEvent → Outcome
 service_event w e line s = Ok (service_outcome w e line (service_step w.desk s))
 
@@ -135,6 +146,7 @@ abbrev pub named_event : WorldState → Event → (ℕ → Store → Line) → (
 named_event w e line f None = Err fault.NoSuchName
 named_event w e line f (Some s) = filter_event w e (line s) (f s)
 
+-- the line of a stream that was changed, by its number
 abbrev pub changed_line : ℕ → Store → Line
 changed_line s v = change_line s (stream_at s v.streams)
 
@@ -145,14 +157,17 @@ abbrev pub member : {A : Type 0} → List A → ℕ → Option A
 member xs zero = None
 member xs (suc k) = slice_get xs k
 
+-- a message from the filter comes to the service, if there is one
 abbrev pub down_frame : WorldState → Event → Option Body → Outcome
 down_frame w e None = Err fault.NoSuchFrame
 down_frame w e (Some m) = service_event w e Silent (service.Receives m)
 
+-- a message from the service comes to the filter, if there is one
 abbrev pub up_frame : WorldState → Event → Option Body → Outcome
 up_frame w e None = Err fault.NoSuchFrame
 up_frame w e (Some m) = filter_event w e no_line (filter.Receives m)
 
+-- what stands at a place, if the place is there and not empty
 abbrev pub if_there : {A : Type 0} → Option (Option A) → Option A
 if_there None = None
 if_there (Some o) = o
@@ -161,6 +176,7 @@ if_there (Some o) = o
 abbrev pub work_at : List (Option WorkState) → ℕ → Option WorkState
 work_at works k = if_there (member works k)
 
+-- these patterns, or none
 abbrev pub or_none : Option (List Pattern) → List Pattern
 or_none None = []
 or_none (Some ps) = ps
@@ -169,6 +185,7 @@ or_none (Some ps) = ps
 abbrev pub scan_after : List Publication → WorkState → ScanState
 scan_after sets k = scanner.run (or_none (published_as sets k.version)) k.scan (fitting k.scan k.chunk)
 
+-- the service gets a work back, with its scan after the run
 abbrev pub done : List Publication → WorkState → ServiceEvent
 done sets k = Finishes k.lease (scan_after sets k) (scanner.hit (scan_after sets k))
 
@@ -176,18 +193,22 @@ done sets k = Finishes k.lease (scan_after sets k) (scanner.hit (scan_after sets
 abbrev pub back_at : WorldState → ℕ → WorldState
 back_at w k = record w { works = slice_set w.works (pred k) None }
 
+-- a work is run, if it is there
 abbrev pub work_event : WorldState → Event → ℕ → Option WorkState → Outcome
 work_event w e k None = Err fault.NoSuchWork
 work_event w e k (Some x) = service_event (back_at w k) e Silent (done (map publication_of w.sets) x)
 
 -- ---- publications and connections
 
+-- the bytes of patterns
 abbrev pub bytes_of : List Pattern → List (List ℕ)
 bytes_of patterns = map (λ p. p.bytes) patterns
 
+-- a world with one set more, the newest first
 abbrev pub with_set : WorldState → NumberedSet → WorldState
 with_set w s = record w { sets = s ∷ w.sets }
 
+-- a set joins the catalogue, and the service hears of its version
 abbrev pub added : WorldState → Event → NumberedSet → Result (Unit {0}) CatalogueFault → Outcome
 added w e s (Ok free) = service_event (with_set w s) e (Published s.version (length s.signatures)) (service.Publishes s.version)
 added w e s (Err f) = Err (fault.Catalogue f)
@@ -197,6 +218,7 @@ abbrev pub published : WorldState → Event → Result NumberedSet SetFault → 
 published w e (Ok s) = added w e s (may_publish w.sets s.version)
 published w e (Err f) = Err fault.BadSet
 
+-- the service connects, unless it may not
 abbrev pub connected : WorldState → Event → Option ConnectFault → Outcome
 connected w e None = service_event w e Silent service.Connects
 connected w e (Some f) = Err (fault.Connect f)
@@ -207,10 +229,15 @@ connected w e (Some f) = Err (fault.Connect f)
 unfoldable pub step_of : WorldState → Event → Outcome
 step_of w (Publish version patterns) = published w (Publish version patterns) (set_made version (bytes_of patterns))
 step_of w (Create name) = filter_event w (Create name) (λ v. Created v.last) (Changes (change.Create name))
-step_of w (Write name offset bytes) = named_event w (Write name offset bytes) changed_line (λ s. Changes (change.Write s offset bytes)) (number_named name w.volume.streams)
-step_of w (Cut name n) = named_event w (Cut name n) changed_line (λ s. Changes (change.Cut s n)) (number_named name w.volume.streams)
-step_of w (Remove name) = named_event w (Remove name) (λ s v. Removed s) (λ s. Changes (change.Remove s)) (number_named name w.volume.streams)
-step_of w (Open name least) = filter_event w (Open name least) no_line (Opens (unwrap_or (number_named name w.volume.streams) 0) least)
+step_of w (Write name offset bytes) =
+    named_event w (Write name offset bytes) changed_line (λ s. Changes (change.Write s offset bytes))
+    (number_named name w.volume.streams)
+step_of w (Cut name n) =
+    named_event w (Cut name n) changed_line (λ s. Changes (change.Cut s n)) (number_named name w.volume.streams)
+step_of w (Remove name) =
+    named_event w (Remove name) (λ s v. Removed s) (λ s. Changes (change.Remove s)) (number_named name w.volume.streams)
+step_of w (Open name least) =
+    filter_event w (Open name least) no_line (Opens (unwrap_or (number_named name w.volume.streams) 0) least)
 step_of w (Cleanup name) = named_event w (Cleanup name) (λ s. no_line) CleansUp (number_named name w.volume.streams)
 step_of w (Down k) = down_frame w (Down k) (member w.down k)
 step_of w (Up k) = up_frame w (Up k) (member w.up k)
@@ -227,6 +254,7 @@ abbrev pub world_or : WorldState → Outcome → WorldState
 world_or w (Ok p) = p.1
 world_or w (Err f) = w
 
+-- the world after an event, the same where the event is refused
 abbrev pub after : WorldState → Event → WorldState
 after w e = world_or w (step_of w e)
 

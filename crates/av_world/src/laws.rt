@@ -5,6 +5,7 @@ ghost use Rattle.av_base.specs.Limits.{AreInRange};
 ghost use Rattle.av_base.specs.declared.limits.LimitValues.{LimitValues};
 ghost use Rattle.av_base.specs.declared.mode.Mode.{Mode};
 ghost use Rattle.av_filter.specs.Audit.{FilterEntry, IsFilterAudit};
+ghost use Rattle.av_filter.specs.Once.{AuditAnswersOnce};
 ghost use Rattle.av_filter_table.specs.Table.{mounted};
 ghost use Rattle.av_filter_table.specs.declared.question.Question.{Question};
 ghost use Rattle.av_service.specs.Desk.{just_started};
@@ -12,7 +13,7 @@ ghost use Rattle.av_sigset.specs.Publication.{Publication, latest_as};
 ghost use Rattle.av_sigset.specs.Catalogue.{latest};
 ghost use Rattle.av_store.specs.Files.{File};
 ghost use Rattle.av_store.specs.Store.{Store};
-ghost use Rattle.av_world.specs.Audits.{AreLegal, AuditAnswersOnce, AuditsGrantOnlyClean, AuditsHoldOneVerdict, SideEntry};
+ghost use Rattle.av_world.specs.Audits.{AreLegal, AuditsGrantOnlyClean, AuditsHoldOneVerdict, SideEntry};
 ghost use Rattle.av_world.specs.Examples.{ComeTrue};
 ghost use Rattle.av_world.specs.Headline.{AnswersOnce, GrantsOnlyClean, HoldsOneVerdict, NeverDiffers};
 ghost use Rattle.av_world.specs.Path.{EndsWithVerdict, IsReady};
@@ -27,35 +28,48 @@ ghost use Rattle.av_world.specs.declared.event.Event.{Event};
 /// restarts: no two verdicts stand for one stream, generation and version; an open is granted only where the stream's
 /// whole present content is clean under the version that the grant names; and each open is pended or answered, once.
 pub fn headline()
-    ensures one_verdict { (number : ℕ) (mode : Mode) (limits : LimitValues) (history : List Event) → HoldsOneVerdict (world_of (start number mode limits) history) }
-    ensures never_differs { (number : ℕ) (mode : Mode) (limits : LimitValues) (history : List Event) → NeverDiffers (world_of (start number mode limits) history) }
-    ensures only_clean { (number : ℕ) (mode : Mode) (limits : LimitValues) (history : List Event) → GrantsOnlyClean mode (world_of (start number mode limits) history) }
-    ensures answers_once { (number : ℕ) (mode : Mode) (limits : LimitValues) (history : List Event) → AnswersOnce (world_of (start number mode limits) history) }
+    ensures one_verdict { (number : ℕ) (mode : Mode) (limits : LimitValues) (history : List Event)
+        → HoldsOneVerdict (world_of (start number mode limits) history) }
+    ensures never_differs { (number : ℕ) (mode : Mode) (limits : LimitValues) (history : List Event)
+        → NeverDiffers (world_of (start number mode limits) history) }
+    ensures only_clean { (number : ℕ) (mode : Mode) (limits : LimitValues) (history : List Event)
+        → GrantsOnlyClean mode (world_of (start number mode limits) history) }
+    ensures answers_once { (number : ℕ) (mode : Mode) (limits : LimitValues) (history : List Event)
+        → AnswersOnce (world_of (start number mode limits) history) }
 {}
 
 /// Over every list of events: a running job has judged the beginning of the content that it was asked about, and keeps
 /// the scan of that under the present version, from which its work goes on; each grant is at the floor and not below its
 /// open's least; and every other answer is explained by the event that gives it.
 pub fn protocol_safety()
-    ensures judged_bytes { (number : ℕ) (mode : Mode) (limits : LimitValues) (history : List Event) → JobsJudgeRightly (world_of (start number mode limits) history) }
-    ensures explained { (number : ℕ) (mode : Mode) (limits : LimitValues) (history : List Event) (event : Event) → AnswersExplained (world_of (start number mode limits) history) event (after (world_of (start number mode limits) history) event) }
+    ensures judged_bytes { (number : ℕ) (mode : Mode) (limits : LimitValues) (history : List Event)
+        → JobsJudgeRightly (world_of (start number mode limits) history) }
+    ensures explained { (number : ℕ) (mode : Mode) (limits : LimitValues) (history : List Event) (event : Event)
+        → AnswersExplained (world_of (start number mode limits) history) event
+        (after (world_of (start number mode limits) history) event) }
 {}
 
 /// Where a question runs, both sides are connected and the service has room, its scan and then each read, chunk and work
 /// in turn end, after at most as many rounds as the content has chunks, with the reply of its verdict.
 pub fn whole_path()
-    ensures { (number : ℕ) (mode : Mode) (limits : LimitValues) (history : List Event) (q : Question) (n : ℕ) → IsReady (world_of (start number mode limits) history) q n → EndsWithVerdict (world_of (start number mode limits) history) q n }
+    ensures { (number : ℕ) (mode : Mode) (limits : LimitValues) (history : List Event) (q : Question) (n : ℕ)
+        → IsReady (world_of (start number mode limits) history) q n
+        → EndsWithVerdict (world_of (start number mode limits) history) q n }
 {}
 
 /// The headline of two audits, each legal by itself, put together in any order in which each message that came had been
 /// sent by the other side before: from whatever volume and catalogue, each part of the headline holds. The third is the
 /// filter's alone; open numbers are counted from the opening volume's last.
 pub fn audits()
-    ensures one_verdict { (mode : Mode) (limits : LimitValues) (number : ℕ) (service_limits : LimitValues) (files : List File) (v : Store) (sets : List Publication) (es : List SideEntry) → AreLegal mode limits number service_limits files v sets es
-        → AuditsHoldOneVerdict files (mounted mode limits v.boot) v sets (just_started number service_limits (latest_as sets)) es }
-    ensures only_clean { (mode : Mode) (limits : LimitValues) (number : ℕ) (service_limits : LimitValues) (files : List File) (v : Store) (sets : List Publication) (es : List SideEntry) → AreLegal mode limits number service_limits files v sets es
+    ensures one_verdict { (mode : Mode) (limits : LimitValues) (number : ℕ) (service_limits : LimitValues) (files : List File)
+        (v : Store) (sets : List Publication) (es : List SideEntry) → AreLegal mode limits number service_limits files v sets es
+        → AuditsHoldOneVerdict files (mounted mode limits v.boot) v sets
+        (just_started number service_limits (latest_as sets)) es }
+    ensures only_clean { (mode : Mode) (limits : LimitValues) (number : ℕ) (service_limits : LimitValues) (files : List File)
+        (v : Store) (sets : List Publication) (es : List SideEntry) → AreLegal mode limits number service_limits files v sets es
         → AuditsGrantOnlyClean mode files sets es }
-    ensures answers_once { (v : Store) (mode : Mode) (limits : LimitValues) (xs : List FilterEntry) → IsFilterAudit (mounted mode limits v.boot) v xs → AuditAnswersOnce (mounted mode limits v.boot) v xs }
+    ensures answers_once { (v : Store) (mode : Mode) (limits : LimitValues) (xs : List FilterEntry)
+        → IsFilterAudit (mounted mode limits v.boot) v xs → AuditAnswersOnce (mounted mode limits v.boot) v xs }
 {}
 
 /// What worked scripts say, command by command; and that the premises of `whole_path` and `audits` can be met.
@@ -76,11 +90,21 @@ pub fn worlds_stay_whole()
 /// filter, no restart and no change of a file. Leases are left where the history isn't too long; and without such a version
 /// no such event brings a verdict. The worked examples say what stands in the way without each premise.
 pub fn progress()
-    ensures finishes { (number : ℕ) (mode : Mode) (limits : LimitValues) (history : List Event) → 1 ≤ limits.chunk → 1 ≤ limits.jobs → (IsWaiting (world_of (start number mode limits) history) → CanFinish (world_of (start number mode limits) history)) → Finishes (world_of (start number mode limits) history) }
-    ensures soon { (number : ℕ) (mode : Mode) (limits : LimitValues) (history : List Event) → AreInRange limits → length history ≤ 2 ^ 43
-        → (IsWaiting (world_of (start number mode limits) history) → (world_of (start number mode limits) history).table.floor ≤ latest (world_of (start number mode limits) history).sets) → Finishes (world_of (start number mode limits) history) }
-    ensures needs { (number : ℕ) (mode : Mode) (limits : LimitValues) (history events : List Event) → latest (world_of (start number mode limits) history).sets < (world_of (start number mode limits) history).table.floor → AllByRecursion IsCarrying events
-        → GaveNoVerdict (world_of (start number mode limits) history) (onward events (world_of (start number mode limits) history)) }
-    ensures leads { (w : WorldState) (events history : List Event) → onward events (world_of w history) ≡ world_of w (reverse events ++ history) }
+    ensures finishes { (number : ℕ) (mode : Mode) (limits : LimitValues) (history : List Event)
+        → 1 ≤ limits.chunk → 1 ≤ limits.jobs
+        → (IsWaiting (world_of (start number mode limits) history) → CanFinish (world_of (start number mode limits) history))
+        → Finishes (world_of (start number mode limits) history) }
+    ensures soon { (number : ℕ) (mode : Mode) (limits : LimitValues) (history : List Event)
+        → AreInRange limits → length history ≤ 2 ^ 43
+        → (IsWaiting (world_of (start number mode limits) history)
+        → (world_of (start number mode limits) history).table.floor ≤ latest (world_of (start number mode limits) history).sets)
+        → Finishes (world_of (start number mode limits) history) }
+    ensures needs { (number : ℕ) (mode : Mode) (limits : LimitValues) (history events : List Event)
+        → latest (world_of (start number mode limits) history).sets < (world_of (start number mode limits) history).table.floor
+        → AllByRecursion IsCarrying events
+        → GaveNoVerdict (world_of (start number mode limits) history)
+        (onward events (world_of (start number mode limits) history)) }
+    ensures leads { (w : WorldState) (events history : List Event)
+        → onward events (world_of w history) ≡ world_of w (reverse events ++ history) }
     ensures worked { AreWorked }
 {}

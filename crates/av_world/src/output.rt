@@ -33,8 +33,10 @@ pub fn print_report<W: Write>(
     works: &[Option<Work>],
     writer: &mut W,
 ) -> Result<(), WriteFault>
-    ensures ok { OnOk result (Appends (W.contents writer.old) (W.contents writer.new) (told_text report.now answers.now down.now up.now works.now)) }
-    ensures err { OnErr result (AppendsPrefix (W.contents writer.old) (W.contents writer.new) (told_text report.now answers.now down.now up.now works.now)) }
+    ensures ok { OnOk result
+        (Appends (W.contents writer.old) (W.contents writer.new) (told_text report.now answers.now down.now up.now works.now)) }
+    ensures err { OnErr result (AppendsPrefix (W.contents writer.old) (W.contents writer.new)
+        (told_text report.now answers.now down.now up.now works.now)) }
 {
     print_line(&report.line, writer)?;
     print_opens(report, answers, writer)?;
@@ -49,7 +51,8 @@ fn print_opens<W: Write>(
     writer: &mut W,
 ) -> Result<(), WriteFault>
     ensures ok { OnOk result (Appends (W.contents writer.old) (W.contents writer.new) (opens_text report.now answers.now)) }
-    ensures err { OnErr result (AppendsPrefix (W.contents writer.old) (W.contents writer.new) (opens_text report.now answers.now)) }
+    ensures err { OnErr result
+        (AppendsPrefix (W.contents writer.old) (W.contents writer.new) (opens_text report.now answers.now)) }
 {
     let given = part(answers, report.before.answers, report.after.answers);
     print_answers(given, writer)?;
@@ -64,8 +67,10 @@ fn print_sent<W: Write>(
     works: &[Option<Work>],
     writer: &mut W,
 ) -> Result<(), WriteFault>
-    ensures ok { OnOk result (Appends (W.contents writer.old) (W.contents writer.new) (sent_text report.now down.now up.now works.now)) }
-    ensures err { OnErr result (AppendsPrefix (W.contents writer.old) (W.contents writer.new) (sent_text report.now down.now up.now works.now)) }
+    ensures ok { OnOk result
+        (Appends (W.contents writer.old) (W.contents writer.new) (sent_text report.now down.now up.now works.now)) }
+    ensures err { OnErr result
+        (AppendsPrefix (W.contents writer.old) (W.contents writer.new) (sent_text report.now down.now up.now works.now)) }
 {
     let Report { before, after, .. } = *report;
     print_messages(Way::Down, down, before.down, after.down, writer)?;

@@ -50,7 +50,7 @@ pub fn run_script<R: Read, W: Write>(
     turns: u64,
 ) -> Result<(), RunFault>
     ensures ok { OnOk result (IfSome (R.remaining reader.old) (Prints (W.contents writer.old) (W.contents writer.new))) }
-    ensures bound { OnOk result (IfSome (R.remaining reader.old) (λ input. length input ≤ 1048576)) }
+    ensures bound { OnOk result (IfSome (R.remaining reader.old) (λ input. length input ≤ MAX_SCRIPT)) }
     ensures err { OnErr result (IfSome (R.remaining reader.old) (PrintsFront (W.contents writer.old) (W.contents writer.new))) }
     ensures fault { IfErr result (λ f. IfSome (R.remaining reader.old) (IsTrueOf f)) }
     ensures early { IfErr result (λ f. KeepsEarly f (W.contents writer.old) (W.contents writer.new)) }
@@ -89,8 +89,10 @@ fn run_from_boot<W: Write>(
     commands: VecDeque<Command>,
     writer: &mut W,
 ) -> Result<(), RunFault>
-    ensures ok { OnOk result (Appends (W.contents writer.old) (W.contents writer.new) (boot_text ++ commands_text world.old commands.items)) }
-    ensures err { OnErr result (AppendsPrefix (W.contents writer.old) (W.contents writer.new) (boot_text ++ commands_text world.old commands.items)) }
+    ensures ok { OnOk result
+        (Appends (W.contents writer.old) (W.contents writer.new) (boot_text ++ commands_text world.old commands.items)) }
+    ensures err { OnErr result
+        (AppendsPrefix (W.contents writer.old) (W.contents writer.new) (boot_text ++ commands_text world.old commands.items)) }
     ensures late { IfErr result IsLate }
 {
     if write_text(writer, b"boot 1\n").is_err() {
@@ -107,7 +109,8 @@ fn run_commands<W: Write>(
     writer: &mut W,
 ) -> Result<(), RunFault>
     ensures ok { OnOk result (Appends (W.contents writer.old) (W.contents writer.new) (commands_text world.old commands.items)) }
-    ensures err { OnErr result (AppendsPrefix (W.contents writer.old) (W.contents writer.new) (commands_text world.old commands.items)) }
+    ensures err { OnErr result
+        (AppendsPrefix (W.contents writer.old) (W.contents writer.new) (commands_text world.old commands.items)) }
     ensures late { IfErr result IsLate }
 {
     'commands: while let Some(command) = commands.pop_front() {
@@ -149,7 +152,8 @@ fn run_step<W: Write>(
 ) -> Result<(), RunFault>
     ensures world { OnOk result (world.new ≡ after world.old event) }
     ensures ok { OnOk result (Appends (W.contents writer.old) (W.contents writer.new) (step_text (step_of world.old event))) }
-    ensures err { OnErr result (AppendsPrefix (W.contents writer.old) (W.contents writer.new) (step_text (step_of world.old event))) }
+    ensures err { OnErr result
+        (AppendsPrefix (W.contents writer.old) (W.contents writer.new) (step_text (step_of world.old event))) }
     ensures late { IfErr result IsLate }
 {
     match world.step(alloc, event) {

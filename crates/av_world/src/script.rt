@@ -108,7 +108,8 @@ pub fn parse_script(alloc: Global, text: &[u8]) -> Result<Script, Refusal<Script
 
 // The header of a text, or the first bad line up to it.
 fn read_header(text: &[u8]) -> Result<Header<'_>, ScriptFault>
-    ensures header { IfOk result (λ h. script_of text.now ≡ heads h.number h.mode h.limits (commands_from h.line (lines_of h.below.now))) }
+    ensures header { IfOk result
+        (λ h. script_of text.now ≡ heads h.number h.mode h.limits (commands_from h.line (lines_of h.below.now))) }
     ensures fault { IfErr result (λ f. script_of text.now ≡ Err f) }
     ensures lines { IfOk result (λ h. h.line + length h.below.now ≤ 1 + length text.now) }
 {

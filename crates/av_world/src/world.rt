@@ -120,7 +120,8 @@ impl World {
     /// written. It takes no memory.
     pub fn print<W: Write>(&self, report: &Report, writer: &mut W) -> Result<(), WriteFault>
         ensures ok { OnOk result (Appends (W.contents writer.old) (W.contents writer.new) (report_text self.now report.now)) }
-        ensures err { OnErr result (AppendsPrefix (W.contents writer.old) (W.contents writer.new) (report_text self.now report.now)) }
+        ensures err { OnErr result
+            (AppendsPrefix (W.contents writer.old) (W.contents writer.new) (report_text self.now report.now)) }
     {
         print_report(
             report,

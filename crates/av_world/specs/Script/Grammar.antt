@@ -30,9 +30,11 @@ spells_bytes (Ok []) = false
 spells_bytes (Ok (b ∷ bs)) = true
 spells_bytes (Err e) = false
 
+-- a word of bytes in hexadecimal
 abbrev pub is_hex : List ℕ → Bool
 is_hex word = spells_bytes (decode_of word)
 
+-- the bytes of a word, none of another
 abbrev pub or_no_bytes : Result (List ℕ) FromHexError → List ℕ
 or_no_bytes (Ok bs) = bs
 or_no_bytes (Err e) = []
@@ -41,6 +43,7 @@ or_no_bytes (Err e) = []
 abbrev pub bytes_in : List ℕ → List ℕ
 bytes_in word = or_no_bytes (decode_of word)
 
+-- the pattern that a word spells
 abbrev pub pattern_in : List ℕ → Pattern
 pattern_in word = record { bytes = bytes_in word }
 
@@ -48,9 +51,11 @@ pattern_in word = record { bytes = bytes_in word }
 abbrev pub is_hyphen : List ℕ → Bool
 is_hyphen word = bytes_eq word (codes "-")
 
+-- a word of a content: bytes in hexadecimal, or a hyphen for none
 abbrev pub is_content : List ℕ → Bool
 is_content word = is_hyphen word || is_hex word
 
+-- the content that a word spells
 abbrev pub content_in : List ℕ → List ℕ
 content_in word = if is_hyphen word then [] else bytes_in word
 
@@ -59,10 +64,12 @@ abbrev pub is_empty : List ℕ → Bool
 is_empty [] = true
 is_empty (b ∷ bs) = false
 
+-- this, unless the test holds
 abbrev pub unless : {A : Type 0} → Bool → Option A → Option A
 unless true o = None
 unless false o = o
 
+-- this, where the test holds
 abbrev pub when : {A : Type 0} → Bool → Option A → Option A
 when true o = o
 when false o = None
@@ -98,7 +105,9 @@ cut_line (Some p) = unless (is_empty p.0) (option_map (λ n. Says (Step (Cut p.0
 -- a name, a number and a content
 abbrev pub write_line : Option (List ℕ × List ℕ × List ℕ) → Option Line
 write_line None = None
-write_line (Some p) = unless (is_empty p.0) (when (is_content p.2) (option_map (λ n. Says (Step (Write p.0 n (content_in p.2)))) (decimal_of p.1)))
+write_line (Some p) =
+    unless (is_empty p.0)
+    (when (is_content p.2) (option_map (λ n. Says (Step (Write p.0 n (content_in p.2)))) (decimal_of p.1)))
 
 -- the least version that an open accepts: 0 where it isn't said
 abbrev pub least_of : List (List ℕ) → Option ℕ
@@ -114,7 +123,8 @@ open_line (name ∷ rest) = unless (is_empty name) (option_map (λ n. Says (Step
 -- a number, and patterns or none
 abbrev pub publish_line : List (List ℕ) → Option Line
 publish_line [] = None
-publish_line (version ∷ patterns) = when (list_all is_hex patterns) (option_map (λ v. Says (Step (Publish v (map pattern_in patterns)))) (decimal_of version))
+publish_line (version ∷ patterns) =
+    when (list_all is_hex patterns) (option_map (λ v. Says (Step (Publish v (map pattern_in patterns)))) (decimal_of version))
 
 -- the field of the limits that a word names
 abbrev pub field_named : List ℕ → Option LimitField
@@ -130,10 +140,12 @@ field_named word =
     else if bytes_eq word (codes "audit") then Some Audit
     else None
 
+-- a limit line, of its field and its value
 abbrev pub limit_of : Option LimitField → Option ℕ → Option Line
 limit_of None value = None
 limit_of (Some which) value = option_map (λ n. Limit which n) value
 
+-- a limit line, of its two words
 abbrev pub limit_line : Option (List ℕ × List ℕ) → Option Line
 limit_line None = None
 limit_line (Some p) = limit_of (field_named p.0) (decimal_of p.1)
@@ -145,10 +157,12 @@ mode_named word =
     else if bytes_eq word (codes "open") then Some FailOpen
     else None
 
+-- the volume line, of its mode and its number
 abbrev pub volume_of : Option Mode → Option ℕ → Option Line
 volume_of None number = None
 volume_of (Some mode) number = option_map (λ n. Volume n mode) number
 
+-- the volume line, of its two words
 abbrev pub volume_line : Option (List ℕ × List ℕ) → Option Line
 volume_line None = None
 volume_line (Some p) = volume_of (mode_named p.1) (decimal_of p.0)

@@ -30,6 +30,7 @@ numbered_event number_verb.Up place = Up place
 numbered_event number_verb.Work place = Run place
 numbered_event number_verb.Timeout seq = Timeout seq
 
+-- the command of a verb with a number
 abbrev pub numbered_step : NumberVerb → ℕ → Command
 numbered_step verb number = Step (numbered_event verb number)
 
@@ -41,6 +42,7 @@ bare_event bare_verb.DisconnectService = DisconnectService
 bare_event bare_verb.RestartFilter = RestartFilter
 bare_event bare_verb.RestartService = RestartService
 
+-- the command of a verb alone
 abbrev pub bare_step : BareVerb → Command
 bare_step verb = Step (bare_event verb)
 
@@ -49,7 +51,8 @@ abbrev pub meaning : Statement → Line
 meaning statement.Silent = Silent
 meaning (statement.Limit which value) = Limit which value
 meaning (statement.Volume number mode) = Volume number mode
-meaning (statement.Publish version patterns) = Says (Step (Publish version (map pattern_in (rest_of 32 (option_copied patterns)))))
+meaning (statement.Publish version patterns) =
+    Says (Step (Publish version (map pattern_in (rest_of 32 (option_copied patterns)))))
 meaning (statement.Write name offset content) = Says (Step (Write name.now offset (content_in content.now)))
 meaning (statement.Cut name length) = Says (Step (Cut name.now length))
 meaning (statement.Open name least) = Says (Step (Open name.now least))
@@ -69,6 +72,7 @@ command_of (Limit which value) = None
 command_of (Volume number mode) = None
 command_of (Says command) = Some command
 
+-- the command of a line, if it has one
 abbrev pub Commands : Line → Option Command → Type 0
 Commands line command = command ≡ command_of line
 

@@ -10,13 +10,16 @@ use Rattle.av_world.specs.declared.report.Line.TheVariants.{Silent, Published, C
 -- what a step tells of the volume or the catalogue
 abbrev pub line_parts : Line → List (List ℕ)
 line_parts Silent = []
-line_parts (Published version signatures) = codes "version " ∷ decimal version ∷ codes " signatures " ∷ decimal signatures ∷ codes "\n" ∷ []
+line_parts (Published version signatures) =
+    codes "version " ∷ decimal version ∷ codes " signatures " ∷ decimal signatures ∷ codes "\n" ∷ []
 line_parts (Created stream) = codes "stream " ∷ decimal stream ∷ codes " generation 1\n" ∷ []
 line_parts (Changed stream generation size) =
-    codes "stream " ∷ decimal stream ∷ codes " generation " ∷ decimal generation ∷ codes " length " ∷ decimal size ∷ codes "\n" ∷ []
+    codes "stream " ∷ decimal stream ∷ codes " generation " ∷ decimal generation
+    ∷ codes " length " ∷ decimal size ∷ codes "\n" ∷ []
 line_parts (Removed stream) = codes "removed " ∷ decimal stream ∷ codes "\n" ∷ []
 line_parts (Booted boot) = codes "boot " ∷ decimal boot ∷ codes "\n" ∷ []
 
+-- the text of a line
 abbrev pub line_text : Line → List ℕ
 line_text line = spelt (line_parts line)
 
@@ -25,6 +28,8 @@ abbrev pub verdict_parts : Verdict → List (List ℕ)
 verdict_parts Clean = codes " clean\n" ∷ []
 verdict_parts (Infected index end_at) = codes " infected " ∷ decimal index ∷ codes " end " ∷ decimal end_at ∷ codes "\n" ∷ []
 
+-- the line of a verdict that was asked for
 abbrev pub judged_text : Judged → List ℕ
 judged_text j =
-    spelt (codes "judge " ∷ decimal j.stream ∷ codes " generation " ∷ decimal j.generation ∷ codes " version " ∷ decimal j.version ∷ verdict_parts j.verdict)
+    spelt (codes "judge " ∷ decimal j.stream ∷ codes " generation " ∷ decimal j.generation
+    ∷ codes " version " ∷ decimal j.version ∷ verdict_parts j.verdict)

@@ -30,15 +30,23 @@ outcome_parts (Failed cause) = codes " failed " ∷ decimal (fail_number cause) 
 -- a message, behind its place
 abbrev pub message_parts : Body → List (List ℕ)
 message_parts (Scan id stream generation size) =
-    codes " scan " ∷ id_then id (codes " stream " ∷ decimal stream ∷ codes " generation " ∷ decimal generation ∷ codes " length " ∷ decimal size ∷ codes "\n" ∷ [])
-message_parts (Chunk id offset bytes) = codes " chunk " ∷ id_then id (codes " offset " ∷ decimal offset ∷ codes " bytes " ∷ encode_lower bytes ∷ codes "\n" ∷ [])
-message_parts (NoChunk id offset cause) = codes " nochunk " ∷ id_then id (codes " offset " ∷ decimal offset ∷ codes " cause " ∷ decimal (no_chunk_number cause) ∷ codes "\n" ∷ [])
+    codes " scan "
+    ∷ id_then id (codes " stream " ∷ decimal stream ∷ codes " generation " ∷ decimal generation
+    ∷ codes " length " ∷ decimal size ∷ codes "\n" ∷ [])
+message_parts (Chunk id offset bytes) =
+    codes " chunk " ∷ id_then id (codes " offset " ∷ decimal offset ∷ codes " bytes " ∷ encode_lower bytes ∷ codes "\n" ∷ [])
+message_parts (NoChunk id offset cause) =
+    codes " nochunk "
+    ∷ id_then id (codes " offset " ∷ decimal offset ∷ codes " cause " ∷ decimal (no_chunk_number cause) ∷ codes "\n" ∷ [])
 message_parts (Abort id) = codes " abort " ∷ id_then id (codes "\n" ∷ [])
-message_parts (Hello volume version) = codes " hello volume " ∷ decimal volume ∷ codes " version " ∷ decimal version ∷ codes "\n" ∷ []
-message_parts (Read id offset count) = codes " read " ∷ id_then id (codes " offset " ∷ decimal offset ∷ codes " count " ∷ decimal count ∷ codes "\n" ∷ [])
+message_parts (Hello volume version) =
+    codes " hello volume " ∷ decimal volume ∷ codes " version " ∷ decimal version ∷ codes "\n" ∷ []
+message_parts (Read id offset count) =
+    codes " read " ∷ id_then id (codes " offset " ∷ decimal offset ∷ codes " count " ∷ decimal count ∷ codes "\n" ∷ [])
 message_parts (Reply id outcome) = codes " reply " ∷ id_then id (outcome_parts outcome)
 message_parts (Updated version) = codes " updated " ∷ decimal version ∷ codes "\n" ∷ []
 
+-- the line of a message, by its way and place
 abbrev pub message_text : Way → ℕ → Body → List ℕ
 message_text way place message = spelt (way_word way ∷ decimal place ∷ message_parts message)
 
@@ -51,4 +59,6 @@ placed_text text place (x ∷ xs) = text place x ++ placed_text text (place + 1)
 abbrev pub work_text : ℕ → Option WorkState → List ℕ
 work_text place None = []
 work_text place (Some work) =
-    spelt (codes "work " ∷ decimal place ∷ codes " lent " ∷ id_then work.id (codes " offset " ∷ decimal work.scan.fed ∷ codes " length " ∷ decimal (length work.chunk) ∷ codes "\n" ∷ []))
+    spelt (codes "work " ∷ decimal place ∷ codes " lent "
+    ∷ id_then work.id
+    (codes " offset " ∷ decimal work.scan.fed ∷ codes " length " ∷ decimal (length work.chunk) ∷ codes "\n" ∷ []))

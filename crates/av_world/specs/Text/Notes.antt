@@ -27,13 +27,16 @@ service_word service.Repeat = Some (codes "Repeat")
 service_word service.Ignored = Some (codes "Ignored")
 service_word service.Orphan = Some (codes "Orphan")
 
+-- the word of a note that is printed
 abbrev pub note_word : Note → Option (List ℕ)
 note_word (Filter note) = filter_word note
 note_word (Service note) = service_word note
 
+-- the line of this word, if there is one
 abbrev pub noted : Option (List ℕ) → List ℕ
 noted None = []
 noted (Some word) = spelt (codes "note " ∷ word ∷ codes "\n" ∷ [])
 
+-- the line of a note
 abbrev pub note_text : Note → List ℕ
 note_text note = noted (note_word note)

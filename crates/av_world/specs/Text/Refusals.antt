@@ -34,5 +34,6 @@ abbrev pub judge_word_of : JudgeFault → List ℕ
 judge_word_of judge_fault.NoSuchName = codes "NoSuchName"
 judge_word_of judge_fault.NoSignatures = codes "NoSignatures"
 
+-- the line of a refusal
 abbrev pub refused_text : List ℕ → List ℕ
 refused_text word = spelt (codes "refused " ∷ word ∷ codes "\n" ∷ [])

@@ -54,8 +54,10 @@ fn print_granted<W: Write>(
     version: Version,
     writer: &mut W,
 ) -> Result<(), WriteFault>
-    ensures ok { OnOk result (Appends (W.contents writer.old) (W.contents writer.new) (answer_text (Granted open_id least stream generation version))) }
-    ensures err { OnErr result (AppendsPrefix (W.contents writer.old) (W.contents writer.new) (answer_text (Granted open_id least stream generation version))) }
+    ensures ok { OnOk result (Appends (W.contents writer.old) (W.contents writer.new)
+        (answer_text (Granted open_id least stream generation version))) }
+    ensures err { OnErr result (AppendsPrefix (W.contents writer.old) (W.contents writer.new)
+        (answer_text (Granted open_id least stream generation version))) }
 {
     write_parts(
         writer,
@@ -82,8 +84,10 @@ fn print_unscanned<W: Write>(
     cause: Cause,
     writer: &mut W,
 ) -> Result<(), WriteFault>
-    ensures ok { OnOk result (Appends (W.contents writer.old) (W.contents writer.new) (answer_text (Unscanned open_id stream generation cause))) }
-    ensures err { OnErr result (AppendsPrefix (W.contents writer.old) (W.contents writer.new) (answer_text (Unscanned open_id stream generation cause))) }
+    ensures ok { OnOk result
+        (Appends (W.contents writer.old) (W.contents writer.new) (answer_text (Unscanned open_id stream generation cause))) }
+    ensures err { OnErr result (AppendsPrefix (W.contents writer.old) (W.contents writer.new)
+        (answer_text (Unscanned open_id stream generation cause))) }
 {
     write_parts(
         writer,
@@ -103,7 +107,8 @@ fn print_unscanned<W: Write>(
 
 fn print_denied<W: Write>(open_id: OpenId, cause: Cause, writer: &mut W) -> Result<(), WriteFault>
     ensures ok { OnOk result (Appends (W.contents writer.old) (W.contents writer.new) (answer_text (Denied open_id cause))) }
-    ensures err { OnErr result (AppendsPrefix (W.contents writer.old) (W.contents writer.new) (answer_text (Denied open_id cause))) }
+    ensures err { OnErr result
+        (AppendsPrefix (W.contents writer.old) (W.contents writer.new) (answer_text (Denied open_id cause))) }
 {
     write_parts(
         writer,

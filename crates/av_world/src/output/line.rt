@@ -36,8 +36,10 @@ fn print_published<W: Write>(
     signatures: u64,
     writer: &mut W,
 ) -> Result<(), WriteFault>
-    ensures ok { OnOk result (Appends (W.contents writer.old) (W.contents writer.new) (line_text (Published version signatures))) }
-    ensures err { OnErr result (AppendsPrefix (W.contents writer.old) (W.contents writer.new) (line_text (Published version signatures))) }
+    ensures ok { OnOk result
+        (Appends (W.contents writer.old) (W.contents writer.new) (line_text (Published version signatures))) }
+    ensures err { OnErr result
+        (AppendsPrefix (W.contents writer.old) (W.contents writer.new) (line_text (Published version signatures))) }
 {
     write_parts(
         writer,
@@ -71,8 +73,10 @@ fn print_changed<W: Write>(
     length: u64,
     writer: &mut W,
 ) -> Result<(), WriteFault>
-    ensures ok { OnOk result (Appends (W.contents writer.old) (W.contents writer.new) (line_text (Changed stream generation length))) }
-    ensures err { OnErr result (AppendsPrefix (W.contents writer.old) (W.contents writer.new) (line_text (Changed stream generation length))) }
+    ensures ok { OnOk result
+        (Appends (W.contents writer.old) (W.contents writer.new) (line_text (Changed stream generation length))) }
+    ensures err { OnErr result
+        (AppendsPrefix (W.contents writer.old) (W.contents writer.new) (line_text (Changed stream generation length))) }
 {
     write_parts(
         writer,

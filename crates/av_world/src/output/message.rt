@@ -46,8 +46,10 @@ pub fn print_messages<W: Write>(
     to: u64,
     writer: &mut W,
 ) -> Result<(), WriteFault>
-    ensures ok { OnOk result (Appends (W.contents writer.old) (W.contents writer.new) (placed_text (message_text way) (from + 1) (between from to messages.now))) }
-    ensures err { OnErr result (AppendsPrefix (W.contents writer.old) (W.contents writer.new) (placed_text (message_text way) (from + 1) (between from to messages.now))) }
+    ensures ok { OnOk result (Appends (W.contents writer.old) (W.contents writer.new)
+        (placed_text (message_text way) (from + 1) (between from to messages.now))) }
+    ensures err { OnErr result (AppendsPrefix (W.contents writer.old) (W.contents writer.new)
+        (placed_text (message_text way) (from + 1) (between from to messages.now))) }
 {
     for (index, message) in part(messages, from, to).iter().enumerate() {
         let number = from + index as u64 + 1;
@@ -61,8 +63,10 @@ fn print_message<W: Write>(
     message: &Message,
     writer: &mut W,
 ) -> Result<(), WriteFault>
-    ensures ok { OnOk result (Appends (W.contents writer.old) (W.contents writer.new) (message_text place.way place.number message.now)) }
-    ensures err { OnErr result (AppendsPrefix (W.contents writer.old) (W.contents writer.new) (message_text place.way place.number message.now)) }
+    ensures ok { OnOk result
+        (Appends (W.contents writer.old) (W.contents writer.new) (message_text place.way place.number message.now)) }
+    ensures err { OnErr result
+        (AppendsPrefix (W.contents writer.old) (W.contents writer.new) (message_text place.way place.number message.now)) }
 {
     match message.body() {
         Body::Scan {
@@ -95,8 +99,10 @@ fn print_scan<W: Write>(
     length: u64,
     writer: &mut W,
 ) -> Result<(), WriteFault>
-    ensures ok { OnOk result (Appends (W.contents writer.old) (W.contents writer.new) (message_text place.way place.number (Scan id stream generation length))) }
-    ensures err { OnErr result (AppendsPrefix (W.contents writer.old) (W.contents writer.new) (message_text place.way place.number (Scan id stream generation length))) }
+    ensures ok { OnOk result (Appends (W.contents writer.old) (W.contents writer.new)
+        (message_text place.way place.number (Scan id stream generation length))) }
+    ensures err { OnErr result (AppendsPrefix (W.contents writer.old) (W.contents writer.new)
+        (message_text place.way place.number (Scan id stream generation length))) }
 {
     write_parts(
         writer,
@@ -125,8 +131,10 @@ fn print_chunk<W: Write>(
     bytes: &[u8],
     writer: &mut W,
 ) -> Result<(), WriteFault>
-    ensures ok { OnOk result (Appends (W.contents writer.old) (W.contents writer.new) (message_text place.way place.number (Chunk id offset bytes.now))) }
-    ensures err { OnErr result (AppendsPrefix (W.contents writer.old) (W.contents writer.new) (message_text place.way place.number (Chunk id offset bytes.now))) }
+    ensures ok { OnOk result (Appends (W.contents writer.old) (W.contents writer.new)
+        (message_text place.way place.number (Chunk id offset bytes.now))) }
+    ensures err { OnErr result (AppendsPrefix (W.contents writer.old) (W.contents writer.new)
+        (message_text place.way place.number (Chunk id offset bytes.now))) }
 {
     write_parts(
         writer,
@@ -153,8 +161,10 @@ fn print_no_chunk<W: Write>(
     cause: NoChunkCause,
     writer: &mut W,
 ) -> Result<(), WriteFault>
-    ensures ok { OnOk result (Appends (W.contents writer.old) (W.contents writer.new) (message_text place.way place.number (NoChunk id offset cause))) }
-    ensures err { OnErr result (AppendsPrefix (W.contents writer.old) (W.contents writer.new) (message_text place.way place.number (NoChunk id offset cause))) }
+    ensures ok { OnOk result (Appends (W.contents writer.old) (W.contents writer.new)
+        (message_text place.way place.number (NoChunk id offset cause))) }
+    ensures err { OnErr result (AppendsPrefix (W.contents writer.old) (W.contents writer.new)
+        (message_text place.way place.number (NoChunk id offset cause))) }
 {
     write_parts(
         writer,
@@ -175,8 +185,10 @@ fn print_no_chunk<W: Write>(
 }
 
 fn print_abort<W: Write>(place: Place, id: MessageId, writer: &mut W) -> Result<(), WriteFault>
-    ensures ok { OnOk result (Appends (W.contents writer.old) (W.contents writer.new) (message_text place.way place.number (Abort id))) }
-    ensures err { OnErr result (AppendsPrefix (W.contents writer.old) (W.contents writer.new) (message_text place.way place.number (Abort id))) }
+    ensures ok { OnOk result
+        (Appends (W.contents writer.old) (W.contents writer.new) (message_text place.way place.number (Abort id))) }
+    ensures err { OnErr result
+        (AppendsPrefix (W.contents writer.old) (W.contents writer.new) (message_text place.way place.number (Abort id))) }
 {
     write_parts(
         writer,
@@ -198,8 +210,10 @@ fn print_hello<W: Write>(
     version: Version,
     writer: &mut W,
 ) -> Result<(), WriteFault>
-    ensures ok { OnOk result (Appends (W.contents writer.old) (W.contents writer.new) (message_text place.way place.number (Hello volume version))) }
-    ensures err { OnErr result (AppendsPrefix (W.contents writer.old) (W.contents writer.new) (message_text place.way place.number (Hello volume version))) }
+    ensures ok { OnOk result
+        (Appends (W.contents writer.old) (W.contents writer.new) (message_text place.way place.number (Hello volume version))) }
+    ensures err { OnErr result (AppendsPrefix (W.contents writer.old) (W.contents writer.new)
+        (message_text place.way place.number (Hello volume version))) }
 {
     write_parts(
         writer,
@@ -222,8 +236,10 @@ fn print_read<W: Write>(
     count: u32,
     writer: &mut W,
 ) -> Result<(), WriteFault>
-    ensures ok { OnOk result (Appends (W.contents writer.old) (W.contents writer.new) (message_text place.way place.number (Read id offset count))) }
-    ensures err { OnErr result (AppendsPrefix (W.contents writer.old) (W.contents writer.new) (message_text place.way place.number (Read id offset count))) }
+    ensures ok { OnOk result
+        (Appends (W.contents writer.old) (W.contents writer.new) (message_text place.way place.number (Read id offset count))) }
+    ensures err { OnErr result (AppendsPrefix (W.contents writer.old) (W.contents writer.new)
+        (message_text place.way place.number (Read id offset count))) }
 {
     write_parts(
         writer,
@@ -244,8 +260,10 @@ fn print_read<W: Write>(
 }
 
 fn print_updated<W: Write>(place: Place, version: Version, writer: &mut W) -> Result<(), WriteFault>
-    ensures ok { OnOk result (Appends (W.contents writer.old) (W.contents writer.new) (message_text place.way place.number (Updated version))) }
-    ensures err { OnErr result (AppendsPrefix (W.contents writer.old) (W.contents writer.new) (message_text place.way place.number (Updated version))) }
+    ensures ok { OnOk result
+        (Appends (W.contents writer.old) (W.contents writer.new) (message_text place.way place.number (Updated version))) }
+    ensures err { OnErr result (AppendsPrefix (W.contents writer.old) (W.contents writer.new)
+        (message_text place.way place.number (Updated version))) }
 {
     write_parts(
         writer,
@@ -265,8 +283,10 @@ fn print_reply<W: Write>(
     outcome: Outcome,
     writer: &mut W,
 ) -> Result<(), WriteFault>
-    ensures ok { OnOk result (Appends (W.contents writer.old) (W.contents writer.new) (message_text place.way place.number (Reply id outcome))) }
-    ensures err { OnErr result (AppendsPrefix (W.contents writer.old) (W.contents writer.new) (message_text place.way place.number (Reply id outcome))) }
+    ensures ok { OnOk result
+        (Appends (W.contents writer.old) (W.contents writer.new) (message_text place.way place.number (Reply id outcome))) }
+    ensures err { OnErr result (AppendsPrefix (W.contents writer.old) (W.contents writer.new)
+        (message_text place.way place.number (Reply id outcome))) }
 {
     match outcome {
         Outcome::Judged { version, verdict } => match verdict {
@@ -285,8 +305,10 @@ fn print_clean<W: Write>(
     version: Version,
     writer: &mut W,
 ) -> Result<(), WriteFault>
-    ensures ok { OnOk result (Appends (W.contents writer.old) (W.contents writer.new) (message_text place.way place.number (Reply id (Judged version Clean)))) }
-    ensures err { OnErr result (AppendsPrefix (W.contents writer.old) (W.contents writer.new) (message_text place.way place.number (Reply id (Judged version Clean)))) }
+    ensures ok { OnOk result (Appends (W.contents writer.old) (W.contents writer.new)
+        (message_text place.way place.number (Reply id (Judged version Clean)))) }
+    ensures err { OnErr result (AppendsPrefix (W.contents writer.old) (W.contents writer.new)
+        (message_text place.way place.number (Reply id (Judged version Clean)))) }
 {
     write_parts(
         writer,
@@ -312,8 +334,10 @@ fn print_infected<W: Write>(
     end_at: u64,
     writer: &mut W,
 ) -> Result<(), WriteFault>
-    ensures ok { OnOk result (Appends (W.contents writer.old) (W.contents writer.new) (message_text place.way place.number (Reply id (Judged version (Infected index end_at))))) }
-    ensures err { OnErr result (AppendsPrefix (W.contents writer.old) (W.contents writer.new) (message_text place.way place.number (Reply id (Judged version (Infected index end_at))))) }
+    ensures ok { OnOk result (Appends (W.contents writer.old) (W.contents writer.new)
+        (message_text place.way place.number (Reply id (Judged version (Infected index end_at))))) }
+    ensures err { OnErr result (AppendsPrefix (W.contents writer.old) (W.contents writer.new)
+        (message_text place.way place.number (Reply id (Judged version (Infected index end_at))))) }
 {
     write_parts(
         writer,
@@ -341,8 +365,10 @@ fn print_failed<W: Write>(
     cause: FailCause,
     writer: &mut W,
 ) -> Result<(), WriteFault>
-    ensures ok { OnOk result (Appends (W.contents writer.old) (W.contents writer.new) (message_text place.way place.number (Reply id (Failed cause)))) }
-    ensures err { OnErr result (AppendsPrefix (W.contents writer.old) (W.contents writer.new) (message_text place.way place.number (Reply id (Failed cause)))) }
+    ensures ok { OnOk result (Appends (W.contents writer.old) (W.contents writer.new)
+        (message_text place.way place.number (Reply id (Failed cause)))) }
+    ensures err { OnErr result (AppendsPrefix (W.contents writer.old) (W.contents writer.new)
+        (message_text place.way place.number (Reply id (Failed cause)))) }
 {
     write_parts(
         writer,

@@ -18,8 +18,10 @@ pub fn print_works<W: Write>(
     to: u64,
     writer: &mut W,
 ) -> Result<(), WriteFault>
-    ensures ok { OnOk result (Appends (W.contents writer.old) (W.contents writer.new) (placed_text work_text (from + 1) (between from to works.now))) }
-    ensures err { OnErr result (AppendsPrefix (W.contents writer.old) (W.contents writer.new) (placed_text work_text (from + 1) (between from to works.now))) }
+    ensures ok { OnOk result (Appends (W.contents writer.old) (W.contents writer.new)
+        (placed_text work_text (from + 1) (between from to works.now))) }
+    ensures err { OnErr result (AppendsPrefix (W.contents writer.old) (W.contents writer.new)
+        (placed_text work_text (from + 1) (between from to works.now))) }
 {
     for (index, work) in part(works, from, to).iter().enumerate() {
         let number = from + index as u64 + 1;

@@ -161,7 +161,8 @@ fn bare(verb: BareVerb, words: Option<&[u8]>) -> Option<Statement<'_>>
 
 // A verb behind which a side stands, by what it is for each.
 fn sided(filter: BareVerb, service: BareVerb, words: Option<&[u8]>) -> Option<Statement<'_>>
-    ensures { Reads result (side_line (bare_step filter) (bare_step service) (one_word (rest_of 32 (option_copied words.entry)))) }
+    ensures { Reads result
+        (side_line (bare_step filter) (bare_step service) (one_word (rest_of 32 (option_copied words.entry)))) }
 {
     let side = one_word(words)?;
     if side == b"filter".as_slice() {

@@ -21,7 +21,8 @@ pub fn one_word(words: Option<&[u8]>) -> Option<&[u8]>
 
 /// The two words that are left.
 pub fn two_words(words: Option<&[u8]>) -> Option<(&[u8], &[u8])>
-    ensures { MatchOption result (two_words (rest_of 32 (option_copied words.entry)) ≡ None) (λ p. two_words (rest_of 32 (option_copied words.entry)) ≡ Some (p.0.now, p.1.now)) }
+    ensures { MatchOption result (two_words (rest_of 32 (option_copied words.entry)) ≡ None)
+        (λ p. two_words (rest_of 32 (option_copied words.entry)) ≡ Some (p.0.now, p.1.now)) }
 {
     let (first, rest) = first_piece(words?, SPACE);
     let second = one_word(rest)?;
@@ -30,7 +31,8 @@ pub fn two_words(words: Option<&[u8]>) -> Option<(&[u8], &[u8])>
 
 /// The three words that are left.
 pub fn three_words(words: Option<&[u8]>) -> Option<(&[u8], &[u8], &[u8])>
-    ensures { MatchOption result (three_words (rest_of 32 (option_copied words.entry)) ≡ None) (λ p. three_words (rest_of 32 (option_copied words.entry)) ≡ Some (p.0.now, p.1.now, p.2.now)) }
+    ensures { MatchOption result (three_words (rest_of 32 (option_copied words.entry)) ≡ None)
+        (λ p. three_words (rest_of 32 (option_copied words.entry)) ≡ Some (p.0.now, p.1.now, p.2.now)) }
 {
     let (first, rest) = first_piece(words?, SPACE);
     let (second, third) = two_words(rest)?;

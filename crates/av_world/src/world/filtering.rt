@@ -145,7 +145,9 @@ impl Stage {
     ) -> Option<Report>
         requires fits { Fits self.old.table self.old.volume }
         requires bounds { AreInBounds self.old.volume }
-        ensures { (e : Event) → Takes self.old self.new (reverse history.now) e (filter_event (at_history (reverse history.now) self.old) e (line_after call.now) (event_called call.now)) result }
+        ensures { (e : Event)
+            → Takes self.old self.new (reverse history.now) e
+            (filter_event (at_history (reverse history.now) self.old) e (line_after call.now) (event_called call.now)) result }
     {
         let before = self.places();
         let event = (history.len() as u64).checked_add(1)?;

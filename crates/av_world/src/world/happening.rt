@@ -39,7 +39,9 @@ impl Stage {
         requires bounds { AreInBounds self.old.volume }
         requires version { self.old.desk.version ≤ latest self.old.sets }
         requires may { MayAsk self.old.desk.version request.now }
-        ensures { (e : Event) → Takes self.old self.new (reverse history.now) e (outcome_of (at_history (reverse history.now) self.old) e request.now) result }
+        ensures { (e : Event)
+            → Takes self.old self.new (reverse history.now) e
+            (outcome_of (at_history (reverse history.now) self.old) e request.now) result }
     {
         match *request {
             Request::Publish { version, patterns } => self.publish(alloc, version, patterns),
@@ -54,14 +56,16 @@ impl Stage {
     // Lets the service do what it is asked.
     fn serve_event(&mut self, alloc: Global, call: &ServiceCall<'_>) -> Option<Report>
         requires { MayCall self.old.desk.version call.now }
-        ensures { (h : List Event) (e : Event) → Takes self.old self.new h e (served (at_history h self.old) e (event_called self.old.sets call.now)) result }
+        ensures { (h : List Event) (e : Event)
+            → Takes self.old self.new h e (served (at_history h self.old) e (event_called self.old.sets call.now)) result }
     {
         self.service_event(alloc, call)
     }
 
     // Delivers a message to the service.
     fn deliver_down(&mut self, alloc: Global, place: u64) -> Option<Report>
-        ensures { (h : List Event) (e : Event) → Takes self.old self.new h e (down_frame (at_history h self.old) e (member self.old.down place)) result }
+        ensures { (h : List Event) (e : Event)
+            → Takes self.old self.new h e (down_frame (at_history h self.old) e (member self.old.down place)) result }
     {
         let message = delivered(alloc, &self.down, place)?;
         self.service_event(alloc, &ServiceCall::Receive { message: &message })
@@ -71,7 +75,9 @@ impl Stage {
     fn deliver_up(&mut self, alloc: Global, history: &[Event], place: u64) -> Option<Report>
         requires fits { Fits self.old.table self.old.volume }
         requires bounds { AreInBounds self.old.volume }
-        ensures { (e : Event) → Takes self.old self.new (reverse history.now) e (up_frame (at_history (reverse history.now) self.old) e (member self.old.up place)) result }
+        ensures { (e : Event)
+            → Takes self.old self.new (reverse history.now) e
+            (up_frame (at_history (reverse history.now) self.old) e (member self.old.up place)) result }
     {
         let message = delivered(alloc, &self.up, place)?;
         self.filter_event(alloc, history, &FilterCall::Receive { message: &message })

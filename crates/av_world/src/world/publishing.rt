@@ -23,7 +23,9 @@ impl Stage {
         patterns: &Patterns,
     ) -> Option<Report>
         requires { self.old.desk.version ≤ latest self.old.sets }
-        ensures { (h : List Event) (e : Event) → Takes self.old self.new h e (published (at_history h self.old) e (set_made version (bytes_of patterns.now))) result }
+        ensures { (h : List Event) (e : Event)
+            → Takes self.old self.new h e
+            (published (at_history h self.old) e (set_made version (bytes_of patterns.now))) result }
     {
         let before = self.places();
         let set = SignatureSet::from_patterns(alloc, version, patterns.as_slice()).ok()?;

@@ -65,7 +65,8 @@ impl Stage {
     // BadSet, then the catalogue's fault.
     #[tactic(auto, using(crate::proofs::RequestLemmas::can_be_published))]
     fn publish_refusal(&self, version: Version, patterns: &Patterns) -> Option<StepFault>
-        ensures { (h : List Event) (e : Event) → IsFaultOf (published (at_history h self.now) e (set_made version (bytes_of patterns.now))) result }
+        ensures { (h : List Event) (e : Event)
+            → IsFaultOf (published (at_history h self.now) e (set_made version (bytes_of patterns.now))) result }
     {
         if SignatureSet::patterns_fault(version, patterns.as_slice()).is_some() {
             return Some(StepFault::BadSet);
@@ -112,7 +113,8 @@ impl Stage {
 
     // The fault of the service.
     fn service_refusal(&self, call: &ServiceCall<'_>) -> Option<StepFault>
-        ensures { result ≡ option_map fault.Connect (service_refusal self.now.desk (serving.event_called self.now.sets call.now)) }
+        ensures { result
+            ≡ option_map fault.Connect (service_refusal self.now.desk (serving.event_called self.now.sets call.now)) }
     {
         let ServiceCall::Connect = *call else {
             return None;

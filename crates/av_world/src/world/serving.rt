@@ -90,7 +90,8 @@ pub(super) fn serve(
     call: &ServiceCall<'_>,
 ) -> Option<Note>
     requires { MayCall service.old.version call.now }
-    ensures { Served service.old up.old.items works.old.items service.new up.new.items works.new.items (event_called catalogue.now.sets call.now) result }
+    ensures { Served service.old up.old.items works.old.items service.new up.new.items works.new.items
+        (event_called catalogue.now.sets call.now) result }
 {
     let most = service.job_count().checked_add(1)?;
     up.reserve(most).ok()?;

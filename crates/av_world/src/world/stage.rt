@@ -34,7 +34,17 @@ impl Model for Stage {
 
     ghost Value = { WorldState };
 
-    ghost view = { λ s. record { history = []; volume = s.volume; sets = s.catalogue.sets; table = s.filter; desk = s.service; down = s.down.items; up = s.up.items; works = s.works.items; answers = s.answers.items } };
+    ghost view = { λ s. record {
+      history = [];
+      volume = s.volume;
+      sets = s.catalogue.sets;
+      table = s.filter;
+      desk = s.service;
+      down = s.down.items;
+      up = s.up.items;
+      works = s.works.items;
+      answers = s.answers.items;
+    } };
 
     ghost invariant = { λ s. IsPrepared s.catalogue.sets s.automaton };
 }

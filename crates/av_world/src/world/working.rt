@@ -25,7 +25,8 @@ impl Stage {
     /// Runs the work at a place, counted from 1, and takes it back to the service, as the event behind any history. None
     /// where that is refused: nothing has changed, and the work is there to be run.
     pub fn run_work(&mut self, alloc: Global, place: u64) -> Option<Report>
-        ensures { (h : List Event) (e : Event) → Takes self.old self.new h e (work_event (at_history h self.old) e place (work_at self.old.works place)) result }
+        ensures { (h : List Event) (e : Event)
+            → Takes self.old self.new h e (work_event (at_history h self.old) e place (work_at self.old.works place)) result }
     {
         let before = self.places();
         let index = place.checked_sub(1)? as usize;
@@ -57,7 +58,8 @@ impl Stage {
 // Takes a work back to the service.
 #[tactic(auto, using(crate::proofs::ServingLemmas::small_finish))]
 fn finish(service: &mut Service, alloc: Global, done: Done) -> Result<ServiceOut, AllocFailed<Done>>
-    ensures ok { IfOk result (λ out. Responds out service.new (service_step service.old (Finishes done.lease done.scan (if_found done.scan)))) }
+    ensures ok { IfOk result
+        (λ out. Responds out service.new (service_step service.old (Finishes done.lease done.scan (if_found done.scan)))) }
     ensures few { IfOk result (IsSmallResponse (length service.old.jobs)) }
     ensures err { IfErr result (λ e. (e.value ≡ done) × (service.new ≡ service.old)) }
 {
@@ -97,7 +99,8 @@ fn version_at(works: &Vec<Option<Work>>, index: usize) -> Option<Version>
 // Takes the work at a place.
 fn take(works: &mut Vec<Option<Work>>, index: usize) -> Option<Work>
     ensures work { Lends (slice_get works.old.items index) result }
-    ensures left { MatchOption result (works.new.items ≡ works.old.items) (λ work. works.new.items ≡ slice_set works.old.items index None) }
+    ensures left { MatchOption result (works.new.items ≡ works.old.items)
+        (λ work. works.new.items ≡ slice_set works.old.items index None) }
     ensures len { vec_len works.new ≡ vec_len works.old }
     ensures capacity { vec_capacity works.new ≡ vec_capacity works.old }
 {
