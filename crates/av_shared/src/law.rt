@@ -1,10 +1,11 @@
 ghost use Rattle.std.specs.Prelude.{List};
 ghost use Rattle.av_desk.specs.Audit.{opened_by, started_by};
+ghost use Rattle.av_filter.specs.Once.{AuditAnswersOnce};
 ghost use Rattle.av_gate.specs.Claims.{IsLegal, table_of};
 ghost use Rattle.av_service.specs.Audit.{IsCatalogue, IsServiceAudit};
 ghost use Rattle.av_shared.specs.History.{AreOneHistory};
 ghost use Rattle.av_store.specs.Files.{File};
-ghost use Rattle.av_world.specs.Audits.{AuditAnswersOnce, AuditsGrantOnlyClean, AuditsHoldOneVerdict, SideEntry};
+ghost use Rattle.av_world.specs.Audits.{AuditsGrantOnlyClean, AuditsHoldOneVerdict, SideEntry};
 
 use av_world::laws::audits;
 

@@ -1,14 +1,17 @@
 mod between;
 mod frames;
+mod joined;
 mod rows;
+mod threads;
 
 ghost use Rattle.std.specs.Prelude.{IfOk};
 ghost use Rattle.av_desk.specs.Audit.{opened_by, started_by};
 ghost use Rattle.av_filter.specs.Bounds.{AreInBounds};
+ghost use Rattle.av_filter.specs.Once.{AuditAnswersOnce};
 ghost use Rattle.av_gate.specs.Claims.{table_of};
 ghost use Rattle.av_gate.specs.Seats.{IsSeatOf};
 ghost use Rattle.av_shared.specs.History.{AreOneHistory};
-ghost use Rattle.av_world.specs.Audits.{AuditAnswersOnce, AuditsGrantOnlyClean, AuditsHoldOneVerdict};
+ghost use Rattle.av_world.specs.Audits.{AuditsGrantOnlyClean, AuditsHoldOneVerdict};
 
 use self::between::Between;
 use self::rows::{ROWS, Row};
