@@ -1,2 +1,4 @@
+pub mod Opened
 pub mod Scan
 pub mod Status
+pub mod Streams

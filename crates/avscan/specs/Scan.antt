@@ -18,7 +18,8 @@ name_at set i = unwrap_or (option_map (λ s. s.name) (slice_get set.signatures i
 -- the line of a verdict
 abbrev pub verdict_text : NumberedSet → List ℕ → Verdict → List ℕ
 verdict_text set file Clean = spelt (file ∷ codes " clean\n" ∷ [])
-verdict_text set file (Infected i e) = spelt (file ∷ codes " infected " ∷ decimal i ∷ codes " " ∷ name_at set i ∷ codes " end " ∷ decimal e ∷ codes "\n" ∷ [])
+verdict_text set file (Infected i e) =
+    spelt (file ∷ codes " infected " ∷ decimal i ∷ codes " " ∷ name_at set i ∷ codes " end " ∷ decimal e ∷ codes "\n" ∷ [])
 
 -- the line of a file that was scanned
 abbrev pub line_of : NumberedSet → Scanned → List ℕ

@@ -1,4 +1,6 @@
 use Rattle.std.specs.Prelude.{ℕ}
+use Rattle.av_engines.specs.declared.end.End.{End}
+use Rattle.av_engines.specs.declared.end.End.TheVariants as end
 use Rattle.av_world.specs.declared.run_script.RunFault.{RunFault}
 use Rattle.av_world.specs.declared.run_script.RunFault.TheVariants as fault
 use Rattle.avscan.specs.declared.status.Status.{Status}
@@ -19,3 +21,13 @@ status_of fault.TooLong = Refused
 status_of (fault.BadScript line) = Refused
 status_of fault.NoMemory = Memory
 status_of fault.Write = Device
+
+-- the status for the end of a loop over a stream of frames. That the other side closed it is no fault of its own.
+abbrev pub status_of_end : End → Status
+status_of_end end.Done = Done
+status_of_end end.Closed = Done
+status_of_end end.Frame = Refused
+status_of_end end.AuditFull = Refused
+status_of_end end.Memory = Memory
+status_of_end end.ReadFault = Device
+status_of_end end.WriteFault = Device

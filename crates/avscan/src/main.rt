@@ -1,37 +1,57 @@
 //! The program: it reads the words of its command line, and runs a script or scans files over the proved crates.
 #![tactic(auto)]
 
+ghost use Rattle.std.specs.Prelude.{IfOk};
+ghost use Rattle.av_filter.specs.Bounds.{AreInBounds};
+
+mod carrying;
+mod commands;
+mod crew;
 mod faults;
+mod filter;
+mod host;
+mod opened;
+mod opener;
+mod progress;
 mod run;
 mod scan;
 mod scanner;
+mod service;
+mod sockets;
 mod status;
+mod streams;
 #[cfg(test)]
 mod tests;
 mod words;
 
 use av_base::device::read_into;
+use av_store::Volume;
 use faults::{bad_word, out_of_memory, unreadable};
+use filter::filter_volume;
+use host::{Crew, Hosting, host_volume};
+use progress::Progress;
 use run::{TURNS, run_text};
 use scan::{Scanned, print_scanned};
-use scanner::{Input, MAX_FILE, Scanner};
+use scanner::{Input, MAX_FILE, Scanner, read_set};
+use service::serve_at;
 use status::Status;
 use std::alloc::Global;
-use std::io::{BufWriter, Read, Write};
+use std::io::{BufWriter, IsTerminal, Read, Write};
 use std::process::ExitCode;
 use std::{env, fs};
+use streams::{add_file, empty_volume};
 use words::{Request, first_bad_word, read_words};
 
 fn main(rt: HostRuntime) -> ExitCode {
-    ExitCode::from(started(&rt, rt.alloc()).number())
+    ExitCode::from(started(&rt, &rt, rt.alloc()).number())
 }
 
-// Takes the words of the command line as text.
-fn started(rt: &HostRuntime, alloc: Global) -> Status {
+// Takes the words of the command line as text. The system is taken twice, the second time for threads and sockets.
+fn started<R: Hosting>(rt: &HostRuntime, system: &R, alloc: Global) -> Status {
     let mut err = rt.stderr();
     if let Ok(args) = env::args(rt) {
         return match args.collect(alloc) {
-            Ok(words) => asked(rt, alloc, &words),
+            Ok(words) => asked(rt, system, alloc, &words),
             Err(_) => out_of_memory(&mut err),
         };
     }
@@ -42,7 +62,7 @@ fn started(rt: &HostRuntime, alloc: Global) -> Status {
 }
 
 // Does what the words ask for.
-fn asked(rt: &HostRuntime, alloc: Global, words: &Vec<String>) -> Status {
+fn asked<R: Hosting>(rt: &HostRuntime, system: &R, alloc: Global, words: &Vec<String>) -> Status {
     let mut err = rt.stderr();
     let Ok(mut out) = BufWriter::new(alloc, rt.stdout()) else {
         return out_of_memory(&mut err);
@@ -53,13 +73,51 @@ fn asked(rt: &HostRuntime, alloc: Global, words: &Vec<String>) -> Status {
             Ok(mut file) => run_text(alloc, &mut file, &mut out, &mut err),
             Err(_) => unreadable(&mut err, script),
         },
-        Ok(Request::Scan { set, files }) => scan_named(
+        Ok(Request::Scan { set, files, quiet }) => scan_named(
             rt,
             alloc,
             set,
             files.as_slice(),
             &mut out,
-            &mut err,
+            &mut Progress::new(rt, err, !quiet && rt.stderr().is_terminal()),
+        ),
+        Ok(
+            Request::Host {
+                set,
+                files,
+                openers,
+                workers,
+                quiet,
+            },
+        ) => host_named(
+            rt,
+            system,
+            alloc,
+            set,
+            files.as_slice(),
+            Crew { openers, workers },
+            &mut out,
+            &mut Progress::new(rt, err, !quiet && rt.stderr().is_terminal()),
+        ),
+        Ok(Request::Service { socket, set, wait }) => {
+            serve_named(rt, system, alloc, socket, set, wait, &mut out, &mut err)
+        }
+        Ok(
+            Request::Filter {
+                socket,
+                files,
+                wait,
+                quiet,
+            },
+        ) => filter_named(
+            rt,
+            system,
+            alloc,
+            socket,
+            files.as_slice(),
+            wait,
+            &mut out,
+            &mut Progress::new(rt, err, !quiet && rt.stderr().is_terminal()),
         ),
         Err(status) => status,
     }
@@ -72,7 +130,7 @@ fn scan_named<W: Write, E: Write>(
     set: &str,
     names: &[&str],
     out: &mut W,
-    err: &mut E,
+    err: &mut Progress<'_, HostRuntime, E>,
 ) -> Status {
     let Ok(mut buffer) = vec![in alloc; 0u8; MAX_FILE + 2] else {
         return out_of_memory(err);
@@ -84,7 +142,8 @@ fn scan_named<W: Write, E: Write>(
     let Ok(mut scanned) = Vec::with_capacity(alloc, names.len()) else {
         return out_of_memory(err);
     };
-    for name in names {
+    for (done, name) in names.iter().enumerate() {
+        err.step("scanned", done, names.len());
         match scanner.scan(read_file(rt, name, &mut buffer), err) {
             Ok(verdict) => {
                 if scanned.push(Scanned { name, verdict }).is_err() {
@@ -94,7 +153,90 @@ fn scan_named<W: Write, E: Write>(
             Err(status) => return status,
         }
     }
+    err.wipe();
     print_scanned(&scanner, scanned.as_slice(), out, err)
+}
+
+// Opens files by their names, as `host_files` does by their contents. One buffer holds each content on its way into the volume.
+fn host_named<R: Hosting, W: Write, E: Write>(
+    rt: &HostRuntime,
+    system: &R,
+    alloc: Global,
+    set: &str,
+    names: &[&str],
+    crew: Crew,
+    out: &mut W,
+    err: &mut Progress<'_, HostRuntime, E>,
+) -> Status {
+    let Ok(mut buffer) = vec![in alloc; 0u8; MAX_FILE + 2] else {
+        return out_of_memory(err);
+    };
+    let set = match read_set(alloc, read_file(rt, set, &mut buffer), err) {
+        Ok(set) => set,
+        Err(status) => return status,
+    };
+    match volume_of(rt, alloc, names, &mut buffer, err) {
+        Ok(volume) => host_volume(system, alloc, set, volume, names, crew, out, err),
+        Err(status) => status,
+    }
+}
+
+// Opens files by their names, through a filter that a service may join at a socket.
+fn filter_named<R: Hosting, W: Write, E: Write>(
+    rt: &HostRuntime,
+    system: &R,
+    alloc: Global,
+    socket: &str,
+    names: &[&str],
+    seconds: u64,
+    out: &mut W,
+    err: &mut Progress<'_, HostRuntime, E>,
+) -> Status {
+    let Ok(mut buffer) = vec![in alloc; 0u8; MAX_FILE + 2] else {
+        return out_of_memory(err);
+    };
+    match volume_of(rt, alloc, names, &mut buffer, err) {
+        Ok(volume) => filter_volume(system, alloc, socket, volume, names, seconds, out, err),
+        Err(status) => status,
+    }
+}
+
+// Scans under the set of this name for the filter at a socket.
+fn serve_named<R: Hosting, W: Write, E: Write>(
+    rt: &HostRuntime,
+    system: &R,
+    alloc: Global,
+    socket: &str,
+    set: &str,
+    seconds: u64,
+    out: &mut W,
+    err: &mut E,
+) -> Status {
+    let Ok(mut buffer) = vec![in alloc; 0u8; MAX_FILE + 2] else {
+        return out_of_memory(err);
+    };
+    match read_set(alloc, read_file(rt, set, &mut buffer), err) {
+        Ok(set) => serve_at(system, alloc, socket, set, seconds, out, err),
+        Err(status) => status,
+    }
+}
+
+// A volume with these files.
+fn volume_of<E: Write>(
+    rt: &HostRuntime,
+    alloc: Global,
+    names: &[&str],
+    buffer: &mut [u8],
+    err: &mut Progress<'_, HostRuntime, E>,
+) -> Result<Volume, Status>
+    ensures { IfOk result (λ volume. AreInBounds volume) }
+{
+    let mut volume = empty_volume(alloc);
+    'files: for (done, name) in names.iter().enumerate() {
+        err.step("read", done, names.len());
+        add_file(alloc, &mut volume, read_file(rt, name, buffer), err)?;
+    }
+    Ok(volume)
 }
 
 // A file with its content as far as one byte past the limit, where it can be read.

@@ -24,6 +24,36 @@ pub struct Input<'a> {
     pub content: Option<&'a [u8]>,
 }
 
+impl<'a> Input<'a> {
+    /// The content, where it was read. Where it was not, a line to `err` says so.
+    pub fn readable<E: Write>(self, err: &mut E) -> Result<&'a [u8], Status>
+        ensures content { IfOk result (λ content. option_copied self.entry.content ≡ Some content.now) }
+        ensures status { IfErr result (λ status. status ≢ Done) }
+    {
+        match self.content {
+            Some(content) => Ok(content),
+            None => Err(unreadable(err, self.name)),
+        }
+    }
+}
+
+/// The set that a signature file spells. Where there is none, one line to `err` says why.
+pub fn read_set<E: Write>(
+    alloc: Global,
+    file: Input<'_>,
+    err: &mut E,
+) -> Result<SignatureSet, Status>
+    ensures set { IfOk result (SpellsSet (option_copied file.entry.content)) }
+    ensures status { IfErr result (λ status. status ≢ Done) }
+{
+    let content = fitting(file, err)?;
+    match SignatureSet::read(alloc, content) {
+        Ok(set) => Ok(set),
+        Err(Refusal::Fault(fault)) => Err(bad_set(err, fault)),
+        Err(Refusal::NoMemory) => Err(out_of_memory(err)),
+    }
+}
+
 /// A signature set with its automaton: what files are scanned by. Contracts see the set.
 #[derive(Drop)]
 pub struct Scanner {
@@ -48,12 +78,7 @@ impl Scanner {
         ensures set { IfOk result (SpellsSet (option_copied file.entry.content)) }
         ensures status { IfErr result (λ status. status ≢ Done) }
     {
-        let content = fitting(file, err)?;
-        let set = match SignatureSet::read(alloc, content) {
-            Ok(set) => set,
-            Err(Refusal::Fault(fault)) => return Err(bad_set(err, fault)),
-            Err(Refusal::NoMemory) => return Err(out_of_memory(err)),
-        };
+        let set = read_set(alloc, file, err)?;
         let Ok(automaton) = Automaton::build(alloc, &set) else {
             return Err(out_of_memory(err));
         };
@@ -82,9 +107,7 @@ fn fitting<'a, E: Write>(file: Input<'a>, err: &mut E) -> Result<&'a [u8], Statu
     ensures content { IfOk result (λ content. option_copied file.entry.content ≡ Some content.now) }
     ensures status { IfErr result (λ status. status ≢ Done) }
 {
-    let Some(content) = file.content else {
-        return Err(unreadable(err, file.name));
-    };
+    let content = file.readable(err)?;
     if content.len() > MAX_FILE {
         return Err(too_large(err, file.name));
     }

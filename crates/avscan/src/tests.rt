@@ -1,3 +1,5 @@
+mod holding;
+
 use crate::run::run_text;
 use crate::scan::scan_files;
 use crate::scanner::Input;
@@ -149,9 +151,10 @@ fn words_ask_for_a_request_or_end_with_a_status(rt: HostRuntime) -> Result<(), F
         &mut out,
         &mut err,
     ) {
-        Ok(Request::Scan { set, files }) => {
+        Ok(Request::Scan { set, files, quiet }) => {
             assert_eq!(rt; set, "s");
             assert_eq!(rt; files.len(), 2);
+            assert!(rt; !quiet);
         }
         _ => panic!(rt; "no scan"),
     }

@@ -1,8 +1,9 @@
-use crate::faults::{device_failed, out_of_memory};
+use crate::commands::avscan_command;
+use crate::faults::{bad_socket, device_failed, out_of_memory};
 use crate::status::Status;
 use av_base::device::write_text;
 use clap::error::ErrorKind;
-use clap::{Arg, ArgAction, Command, Error};
+use clap::{ArgMatches, Error};
 use std::alloc::{AllocError, Global};
 use std::convert::AsStr;
 use std::env::{Env, FillError};
@@ -12,9 +13,36 @@ use std::io::Write;
 #[derive(Debug, Drop)]
 pub enum Request<'a> {
     /// Run the script in this file, or on standard input for `-`.
-    Run { script: &'a str },
+    Run {
+        script: &'a str,
+    },
     /// Scan these files under the signature file `set`.
-    Scan { set: &'a str, files: Vec<&'a str> },
+    Scan {
+        set: &'a str,
+        files: Vec<&'a str>,
+        quiet: bool,
+    },
+    /// Open these files through a filter and a service in this process, each with 1 to 16 threads.
+    Host {
+        set: &'a str,
+        files: Vec<&'a str>,
+        openers: usize,
+        workers: usize,
+        quiet: bool,
+    },
+    /// Open these files through a filter that one service may join at this socket, within `wait` seconds.
+    Filter {
+        socket: &'a str,
+        files: Vec<&'a str>,
+        wait: u64,
+        quiet: bool,
+    },
+    /// Scan under the signature file `set` for the filter at this socket, which may take `wait` seconds to be there.
+    Service {
+        socket: &'a str,
+        set: &'a str,
+        wait: u64,
+    },
 }
 
 /// Reads the words of the command line, the program's name first. No other word asks for a script on standard input. A
@@ -29,7 +57,7 @@ pub fn read_words<'a, S: AsStr, W: Write, E: Write>(
         return Ok(Request::Run { script: "-" });
     }
     match requested(alloc, words) {
-        Ok(request) => Ok(request),
+        Ok(request) => with_socket(request, err),
         Err(error) => Err(told(alloc, &error, out, err)),
     }
 }
@@ -58,75 +86,67 @@ pub fn first_bad_word<R: Env>(rt: &R, alloc: Global) -> Result<Option<u64>, Allo
 fn requested<'a, S: AsStr>(alloc: Global, words: &'a [S]) -> Result<Request<'a>, Error> {
     let matches = avscan_command(alloc)?.try_get_matches_from(words)?;
     match matches.subcommand() {
-        Some(("scan", scan)) => {
-            let mut files = Vec::new(alloc);
-            if let Some(names) = scan.get_strs("file") {
-                files.extend_from_slice(names)?;
-            }
-            let set = scan.get_str("set").unwrap_or("-");
-            Ok(Request::Scan { set, files })
-        }
+        Some(("scan", scan)) => Ok(Request::Scan {
+            set: text_of(scan, "set"),
+            files: files_of(alloc, scan)?,
+            quiet: scan.get_flag("quiet"),
+        }),
+        Some(("host", host)) => Ok(Request::Host {
+            set: text_of(host, "set"),
+            files: files_of(alloc, host)?,
+            openers: count_of(host, "openers"),
+            workers: count_of(host, "workers"),
+            quiet: host.get_flag("quiet"),
+        }),
+        Some(("filter", filter)) => Ok(Request::Filter {
+            socket: text_of(filter, "socket"),
+            files: files_of(alloc, filter)?,
+            wait: count_of(filter, "wait") as u64,
+            quiet: filter.get_flag("quiet"),
+        }),
+        Some(("service", service)) => Ok(Request::Service {
+            socket: text_of(service, "socket"),
+            set: text_of(service, "set"),
+            wait: count_of(service, "wait") as u64,
+        }),
         Some((_, run)) => Ok(Request::Run {
-            script: run.get_str("script").unwrap_or("-"),
+            script: text_of(run, "script"),
         }),
         None => Ok(Request::Run { script: "-" }),
     }
 }
 
-// The commands of the program.
-fn avscan_command<'a>(alloc: Global) -> Result<Command<'a>, Error> {
-    let run = run_command(alloc)?;
-    let scan = scan_command(alloc)?;
-    Ok(
-        Command::new(alloc, "avscan")
-            .version("0.1.0")
-            .about(
-                "A scan-on-open antivirus filter and its scanning service, over a volume in memory.\nWithout a command it runs the script on its standard input.",
-            )
-            .after_help(
-                "Examples:\n  avscan run examples/late_reply.avs                       run a script\n  avscan run -                                             run the script on standard input\n  avscan scan examples/test.avsig examples/letter.txt      scan a file\n\nExit status: 0 all done, 1 input refused, 2 usage, 3 memory, 4 device.",
-            )
-            .subcommand_required(true)
-            .subcommand(run)?
-            .subcommand(scan)?,
-    )
+// A word that the command requires.
+fn text_of<'a>(matches: &ArgMatches<'a>, name: &str) -> &'a str {
+    matches.get_str(name).unwrap_or("-")
 }
 
-fn run_command<'a>(alloc: Global) -> Result<Command<'a>, Error> {
-    let script = Arg::new(alloc, "script")
-        .required(true)
-        .value_name("SCRIPT")
-        .help("The script's file, or - for standard input");
-    Ok(
-        Command::new(alloc, "run")
-            .about("Runs a script and prints what each command did")
-            .after_help(
-                "A script names a volume and then says what happens, a command a line:\n\n  volume 1 closed\n  publish 1 5858\n  create report\n  write report 0 414243\n  connect\n  up 1\n  open report\n  down 1\n\nIt publishes a signature set of the bytes 58 58 and writes 41 42 43 into a stream. The scanning service connects, the stream is\nopened, and the filter's question is delivered to the service.\n\nCommands:\n  publish V HEX..   create NAME   write NAME OFFSET HEX   cut NAME LENGTH   remove NAME   judge NAME\n  open NAME [LEAST]   cleanup NAME   connect   down K   up K   work K   timeout SEQ\n  disconnect filter|service   restart filter|service\ndocs/FORMATS.md says what each does and prints.\n\nExample:\n  avscan run examples/late_reply.avs",
-            )
-            .arg(script)?,
-    )
+// A number that has a default.
+fn count_of(matches: &ArgMatches<'_>, name: &str) -> usize {
+    matches.get_one::<usize>(name).unwrap_or(1)
 }
 
-fn scan_command<'a>(alloc: Global) -> Result<Command<'a>, Error> {
-    let set = Arg::new(alloc, "set")
-        .required(true)
-        .value_name("SET")
-        .help("The signature file");
-    let file = Arg::new(alloc, "file")
-        .required(true)
-        .value_name("FILE")
-        .action(ArgAction::Append)
-        .num_args(1..)
-        .help("The files to scan, of at most 1,048,576 bytes each");
-    Ok(
-        Command::new(alloc, "scan")
-            .about("Scans files for signatures and prints a line for each")
-            .after_help(
-                "A signature file names a format and a version, and then a signature a line, a name and bytes in hexadecimal:\n\n  avsig 1\n  version 1\n  two.x 5858\n\nA line of the output is `FILE clean` or `FILE infected INDEX NAME end PLACE`: which signature ends first, and at which byte.\ndocs/FORMATS.md has the whole format.\n\nExample:\n  avscan scan examples/test.avsig examples/letter.txt examples/eicar.com.txt",
-            )
-            .arg(set)?
-            .arg(file)?,
-    )
+fn files_of<'a>(alloc: Global, matches: &ArgMatches<'a>) -> Result<Vec<&'a str>, AllocError> {
+    let mut files = Vec::new(alloc);
+    if let Some(names) = matches.get_strs("file") {
+        files.extend_from_slice(names)?;
+    }
+    Ok(files)
+}
+
+// The most bytes of a socket's path: what Linux has room for, less the byte behind its end.
+const MAX_SOCKET: usize = 107;
+
+// The request, where the path of its socket can be one.
+fn with_socket<'a, E: Write>(request: Request<'a>, err: &mut E) -> Result<Request<'a>, Status> {
+    let socket = match &request {
+        Request::Filter { socket, .. } | Request::Service { socket, .. } => *socket,
+        _ => return Ok(request),
+    };
+    if socket.is_empty() || socket.len() > MAX_SOCKET {
+        return Err(bad_socket(err, socket));
+    }
+    Ok(request)
 }
 
 // Writes the help or the fault, and gives the status.

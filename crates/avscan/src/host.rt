@@ -1,0 +1,204 @@
+ghost use Rattle.std.specs.Prelude.{◌≡◌, IfOk};
+ghost use Rattle.av_filter.specs.Bounds.{AreInBounds};
+ghost use Rattle.av_gate.specs.Seats.{IsSeatOf};
+
+use crate::carrying::Wire;
+use crate::crew::{gravest, meet};
+use crate::faults::{device_failed, end_told, out_of_memory};
+use crate::opened::{Opened, print_opened};
+use crate::opener::{Brought, Openings};
+use crate::progress::Progress;
+use crate::scanner::{Input, read_set};
+use crate::status::Status;
+use crate::streams::{VOLUME, add_file, empty_volume};
+use av_base::{Limits, Mode, Refusal};
+use av_desk::Desk;
+use av_engines::End;
+use av_gate::{Gate, Seat};
+use av_pend::Answer;
+use av_pool::Pool;
+use av_sigset::{Catalogue, SignatureSet};
+use av_store::Volume;
+use std::alloc::{AllocError, Global};
+use std::fs::Files;
+use std::io::Write;
+use std::net::Net;
+use std::os::unix::net::UnixStream;
+use std::sync::Wait;
+use std::sync::atomic::Ordering::SeqCst;
+use std::thread::Threads;
+use std::time::Clock;
+
+/// What a host asks of the system.
+pub trait Hosting: Files + Threads + Wait + Net + Clock + Sync + Copy + Send + 'static {}
+
+impl<R: Files + Threads + Wait + Net + Clock + Sync + Copy + Send + 'static> Hosting for R {}
+
+/// How many threads open files, and how many scan: each 1 to 16.
+#[derive(Clone, Copy, Debug, PartialEq, Eq)]
+pub struct Crew {
+    pub openers: usize,
+    pub workers: usize,
+}
+
+/// Opens files through a filter and its scanning service, in threads of this process, and writes a line for each, in the
+/// order given. The set and then each file is judged before any is opened; the first fault ends it, with one line to `err`.
+pub fn host_files<R: Hosting, W: Write, E: Write>(
+    rt: &R,
+    alloc: Global,
+    set: Input<'_>,
+    files: &[Input<'_>],
+    crew: Crew,
+    out: &mut W,
+    err: &mut E,
+) -> Status {
+    let set = match read_set(alloc, set, err) {
+        Ok(set) => set,
+        Err(status) => return status,
+    };
+    let mut volume = empty_volume(alloc);
+    let mut names = Vec::new(alloc);
+    'files: for file in files {
+        if let Err(status) = add_file(alloc, &mut volume, *file, err) {
+            return status;
+        }
+        if names.push(file.name).is_err() {
+            return out_of_memory(err);
+        }
+    }
+    let mut quiet = Progress::new(rt, err, false);
+    host_volume(
+        rt,
+        alloc,
+        set,
+        volume,
+        names.as_slice(),
+        crew,
+        out,
+        &mut quiet,
+    )
+}
+
+/// Opens the streams of a volume by their names, as `host_files` does.
+pub fn host_volume<R: Hosting, C: Clock, W: Write, E: Write>(
+    rt: &R,
+    alloc: Global,
+    set: SignatureSet,
+    volume: Volume,
+    names: &[&str],
+    crew: Crew,
+    out: &mut W,
+    err: &mut Progress<'_, C, E>,
+) -> Status
+    requires { AreInBounds volume }
+{
+    let Ok(desk) = connected_desk(rt, alloc, set) else {
+        return out_of_memory(err);
+    };
+    let Ok((gate, seat)) = Gate::new(alloc, volume, Mode::FailClosed, Limits::greatest()) else {
+        return out_of_memory(err);
+    };
+    let opened = open_at(rt, alloc, &gate, seat, &desk, names, crew, err);
+    gate.abandon();
+    err.wipe();
+    match opened {
+        Ok((opened, end)) => match print_opened(opened.as_slice(), out, err) {
+            Status::Done => end_told(err, end),
+            failed => failed,
+        },
+        Err(end) => end_told(err, end),
+    }
+}
+
+// A desk with this one set, which has greeted the filter.
+fn connected_desk<R: Wait>(rt: &R, alloc: Global, set: SignatureSet) -> Result<Desk, AllocError> {
+    let mut catalogue = Catalogue::new(alloc);
+    if catalogue.publish(set).is_err() {
+        return Err(AllocError);
+    }
+    let Ok(desk) = Desk::new(alloc, VOLUME, catalogue, Limits::greatest()) else {
+        return Err(AllocError);
+    };
+    match desk.connect(rt, alloc) {
+        Ok(_) => Ok(desk),
+        Err(_) => Err(AllocError),
+    }
+}
+
+// Opens the files between this gate and desk: what each was told, and the gravest end of a loop. Else why none was opened.
+fn open_at<'a, R: Hosting, C: Clock, E: Write>(
+    rt: &R,
+    alloc: Global,
+    gate: &Gate,
+    seat: Seat,
+    desk: &Desk,
+    names: &'a [&'a str],
+    crew: Crew,
+    err: &mut Progress<'_, C, E>,
+) -> Result<(Vec<Opened<'a>>, End), End>
+    requires { IsSeatOf gate.now seat }
+{
+    let Ok((gate_stream, desk_stream)) = UnixStream::pair(rt) else {
+        return Err(End::ReadFault);
+    };
+    let (pool, giver, taker) = match Pool::start(*rt, alloc, crew.workers, ()) {
+        Ok(started) => started,
+        Err(Refusal::NoMemory) => return Err(End::Memory),
+        Err(Refusal::Fault(_)) => return Err(End::ReadFault),
+    };
+    let gate_wire = Wire::new(gate_stream);
+    let desk_wire = Wire::new(desk_stream);
+    let openings = Openings::new(names, crew.openers);
+    let (giver, taker, brought, end) = meet(
+        rt, alloc, &gate_wire, gate, seat, &desk_wire, desk, giver, taker, &openings, err,
+    );
+    pool.stop(rt, giver, taker).discard();
+    let end = if gate_wire.lacks_thread.load(SeqCst) || desk_wire.lacks_thread.load(SeqCst) {
+        gravest(end, End::ReadFault)
+    } else {
+        end
+    };
+    let Ok(brought) = brought else {
+        return Err(gravest(end, End::Memory));
+    };
+    let end = gravest(end, end_of_openers(&brought));
+    match opened_files(alloc, names, &brought) {
+        Ok(opened) => Ok((opened, end)),
+        Err(_) => Err(gravest(end, End::Memory)),
+    }
+}
+
+// The gravest end that an opener came to.
+fn end_of_openers(brought: &[Brought]) -> End {
+    let mut end = End::Done;
+    'openers: for opener in brought {
+        end = gravest(end, opener.end);
+    }
+    end
+}
+
+// What each file was told, in the order given, as far as there is an answer. The openers took the files in turn.
+fn opened_files<'a>(
+    alloc: Global,
+    names: &[&'a str],
+    brought: &[Brought],
+) -> Result<Vec<Opened<'a>>, AllocError> {
+    let mut opened = Vec::with_capacity(alloc, names.len())?;
+    for (place, name) in names.iter().enumerate() {
+        let Some(answer) = answer_at(brought, place) else {
+            continue;
+        };
+        let one = Opened { name, answer };
+        if opened.push(one).is_err() {
+            return Err(AllocError);
+        }
+    }
+    Ok(opened)
+}
+
+// The answer of the file at a place.
+fn answer_at(brought: &[Brought], place: usize) -> Option<Answer> {
+    let opener = brought.get(place.checked_rem(brought.len())?)?;
+    let receipt = opener.receipts.get(place.checked_div(brought.len())?)?;
+    Some(receipt.answer)
+}

@@ -1,0 +1,153 @@
+ghost use Rattle.av_ends.specs.Tickets.{IsNoteOf};
+ghost use Rattle.av_gate.specs.Seats.{IsSeatOf};
+
+use av_base::Refusal;
+use av_ends::{Receipt, Ticket, TicketNote};
+use av_engines::End;
+use av_gate::{Gate, Seat};
+use std::alloc::Global;
+use std::sync::Wait;
+use std::sync::atomic::Ordering::SeqCst;
+use std::sync::atomic::{AtomicBool, AtomicU64};
+use std::thread;
+
+/// What openers share.
+#[derive(Drop)]
+pub struct Openings<'a> {
+    pub names: &'a [&'a str],
+    /// How many openers there are.
+    pub openers: usize,
+    // How many files have their answer, and how many openers are done.
+    answered: AtomicU64,
+    at_rest: AtomicU64,
+}
+
+impl<'a> Openings<'a> {
+    /// Openings of these files, of which none has begun.
+    pub fn new(names: &'a [&'a str], openers: usize) -> Openings<'a> {
+        Openings {
+            names,
+            openers,
+            answered: AtomicU64::new(0),
+            at_rest: AtomicU64::new(0),
+        }
+    }
+
+    /// How many files have their answer.
+    pub fn answered(&self) -> usize {
+        self.answered.load(SeqCst) as usize
+    }
+
+    /// Whether all openers are done.
+    pub fn are_over(&self) -> bool {
+        self.at_rest.load(SeqCst) >= self.openers as u64
+    }
+}
+
+/// What one opener has to do: every `openers`-th file from the one of number `first` on, once the service was welcome or is lost.
+#[derive(Clone, Copy, Drop)]
+pub struct Part<'a> {
+    pub openings: &'a Openings<'a>,
+    pub is_over: &'a AtomicBool,
+    pub first: usize,
+}
+
+/// What an opener brings back.
+#[derive(Drop)]
+pub struct Brought {
+    /// What its files were told, in their order.
+    pub receipts: Vec<Receipt>,
+    /// Done, or why it opened no further file.
+    pub end: End,
+}
+
+/// Opens the files of a part, each once the one before has its answer.
+pub fn open_files<R: Wait>(
+    rt: &R,
+    alloc: Global,
+    gate: &Gate,
+    mut seat: Seat,
+    part: Part<'_>,
+) -> Brought
+    requires { IsSeatOf gate.now seat }
+{
+    await_service(rt, gate, &mut seat, part.is_over);
+    let mut receipts = Vec::new(alloc);
+    let end = open_each(rt, alloc, gate, &mut seat, part, &mut receipts);
+    part.openings.at_rest.fetch_add(1, SeqCst);
+    Brought { receipts, end }
+}
+
+fn await_service<R: Wait>(rt: &R, gate: &Gate, seat: &mut Seat, is_over: &AtomicBool)
+    requires { IsSeatOf gate.now seat.old }
+    ensures { IsSeatOf gate.now seat.new }
+{
+    'looks: for _ in rt.forever() {
+        if gate.floor(seat).get() != 0 || is_over.load(SeqCst) {
+            return;
+        }
+        thread::yield_now();
+    }
+}
+
+fn open_each<R: Wait>(
+    rt: &R,
+    alloc: Global,
+    gate: &Gate,
+    seat: &mut Seat,
+    part: Part<'_>,
+    receipts: &mut Vec<Receipt>,
+) -> End
+    requires { IsSeatOf gate.now seat.old }
+    ensures { IsSeatOf gate.now seat.new }
+{
+    let openings = part.openings;
+    let step = openings.openers.max(1);
+    'files: for name in openings.names.iter().skip(part.first).step_by(step) {
+        if receipts.reserve(1).is_err() {
+            return End::Memory;
+        }
+        match open(rt, alloc, gate, seat, name.as_bytes()) {
+            Ok(receipt) => receipts.push_reserved(receipt),
+            Err(end) => return end,
+        }
+        openings.answered.fetch_add(1, SeqCst);
+    }
+    End::Done
+}
+
+// Opens a file and waits for its answer. Closed where the gate was stopped before it came.
+fn open<R: Wait>(
+    rt: &R,
+    alloc: Global,
+    gate: &Gate,
+    seat: &mut Seat,
+    name: &[u8],
+) -> Result<Receipt, End>
+    requires { IsSeatOf gate.now seat.old }
+    ensures { IsSeatOf gate.now seat.new }
+{
+    match gate.open(rt, alloc, seat, name) {
+        Ok(ticket) => answered(rt, gate, ticket),
+        Err(Refusal::Fault(_)) => Err(End::AuditFull),
+        Err(Refusal::NoMemory) => Err(End::Memory),
+    }
+}
+
+// The answer of an open, once it is there.
+fn answered<R: Wait>(rt: &R, gate: &Gate, ticket: Ticket) -> Result<Receipt, End> {
+    let mut note = ticket.note();
+    await_answer(rt, gate, &ticket, &mut note);
+    let Ok(receipt) = ticket.receipt(note) else {
+        return Err(End::Closed);
+    };
+    Ok(receipt)
+}
+
+// Waits until a ticket shows its answer, or the gate is stopped.
+fn await_answer<R: Wait>(rt: &R, gate: &Gate, ticket: &Ticket, note: &mut TicketNote)
+    requires { IsNoteOf ticket.now note.old }
+    ensures { IsNoteOf ticket.now note.new }
+{
+    let _ = gate.wait_or_stop(rt, ticket, note);
+}

@@ -1,0 +1,62 @@
+ghost use Rattle.std.specs.Prelude.{◌≢◌, IfErr, IfOk, OnOk};
+ghost use Rattle.std.specs.Option.{option_copied};
+ghost use Rattle.av_filter.specs.Bounds.{AreInBounds};
+ghost use Rattle.avscan.specs.Streams.{HasFile};
+ghost use Rattle.avscan.specs.declared.status.Status.TheVariants.{Done};
+
+use crate::faults::{file_refused, out_of_memory};
+use crate::scanner::Input;
+use crate::status::Status;
+use av_base::{Limits, Refusal};
+use av_store::{StoreFault, Volume};
+use std::alloc::Global;
+use std::io::Write;
+
+/// The number of the volume in every program.
+pub const VOLUME: u64 = 1;
+
+/// The volume of a program's files: number 1, never mounted, with no stream yet.
+pub fn empty_volume(alloc: Global) -> Volume
+    ensures { AreInBounds result }
+{
+    let limits = Limits::greatest();
+    let _in_range = limits.values();
+    Volume::new(alloc, VOLUME, limits)
+}
+
+/// Makes a file a stream under its path, by one create and one write. Where it can't be one, a line to `err` says why: it
+/// could not be read, BadName, Exists, Full, TooLarge.
+pub fn add_file<E: Write>(
+    alloc: Global,
+    volume: &mut Volume,
+    file: Input<'_>,
+    err: &mut E,
+) -> Result<(), Status>
+    requires { AreInBounds volume.old }
+    ensures file { OnOk result (HasFile volume.old volume.new file.entry.name.now (option_copied file.entry.content)) }
+    ensures bounds { OnOk result (AreInBounds volume.new) }
+    ensures status { IfErr result (λ status. status ≢ Done) }
+{
+    let content = file.readable(err)?;
+    match add_stream(alloc, volume, file.name.as_bytes(), content) {
+        Ok(()) => Ok(()),
+        Err(Refusal::Fault(fault)) => Err(file_refused(err, file.name, fault)),
+        Err(Refusal::NoMemory) => Err(out_of_memory(err)),
+    }
+}
+
+// Makes a content a stream of this name.
+fn add_stream(
+    alloc: Global,
+    volume: &mut Volume,
+    name: &[u8],
+    content: &[u8],
+) -> Result<(), Refusal<StoreFault>>
+    requires { AreInBounds volume.old }
+    ensures file { OnOk result (HasFile volume.old volume.new name.now (Some content.now)) }
+    ensures bounds { OnOk result (AreInBounds volume.new) }
+{
+    let stream = volume.create(alloc, name)?;
+    let _done = volume.write(stream, 0, content)?;
+    Ok(())
+}
