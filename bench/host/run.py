@@ -1,0 +1,143 @@
+#!/usr/bin/env python3
+"""Times cold opens, of files that nobody has judged, through the whole of `avscan host`, beside clamd over its socket in the same run.
+
+Files of 1 KiB, 64 KiB and 1 MiB of random bytes, no two alike, under 1,000 random signatures of 16 bytes. An open's time is the time
+of a run over many files less that over one, divided by their difference: it has the reading of the file, its way into the volume, and
+the audits of both sides. clamd (where it is installed) has the same signatures, no cache, and scans the same files by their paths, one
+session a client. Peak memory is that of the process beside the files' bytes. Also 1, 2 and 4 openers with as many workers over files
+of 1 KiB, and as many clients of clamd."""
+import os, random, shutil, socket, subprocess, sys, tempfile, threading, time
+
+HERE = os.path.dirname(os.path.abspath(__file__))
+ROUNDS = 5
+SIZES = ((1 << 10, 2000, 0.75), (1 << 16, 400, 0.25), (1 << 20, 60, 0.25))
+MANY, LEAST_RATE, MOST_MEMORY = 4000, 15_000, 64 << 20
+
+
+def build_spawn(folder):
+    program = os.path.join(folder, "spawn")
+    subprocess.run(["cc", "-O1", "-o", program, os.path.join(os.path.dirname(HERE), "spawn.c")], check=True)
+    return program
+
+
+def write_files(folder, size, count, chance):
+    names = []
+    for i in range(count):
+        names.append(os.path.join(folder, f"f{size}-{i}"))
+        with open(names[-1], "wb") as file:
+            file.write(chance.randbytes(size))
+    return names
+
+
+def host(spawn, program, rules, names, crew):
+    """Seconds, and bytes of peak memory."""
+    words = [spawn, os.devnull, program, "host", rules, *names, "--openers", str(crew), "--workers", str(crew), "--quiet"]
+    nanoseconds, _, kibibytes, status = subprocess.run(words, stdout=subprocess.PIPE, text=True, check=True).stdout.split()[:4]
+    if status != "0":
+        sys.exit(f"avscan host ended with {status}")
+    return float(nanoseconds) / 1e9, int(kibibytes) * 1024
+
+
+class Clamd:
+    """The daemon with the same signatures, or nothing where it is not installed."""
+
+    def __init__(self, folder, patterns):
+        self.path = os.path.join(folder, "clamd.socket")
+        rules = os.path.join(folder, "rules")
+        os.mkdir(rules)
+        with open(os.path.join(rules, "own.ndb"), "w") as file:
+            file.writelines(f"S{i}:0:*:{pattern.hex()}\n" for i, pattern in enumerate(patterns))
+        conf = os.path.join(folder, "clamd.conf")
+        with open(conf, "w") as file:
+            file.write(f"LocalSocket {self.path}\nDatabaseDirectory {rules}\nForeground yes\nDisableCache yes\nMaxThreads 8\nUser {os.environ.get('USER', 'root')}\n")
+        self.process = subprocess.Popen(["clamd", "-c", conf], stdout=subprocess.DEVNULL, stderr=subprocess.DEVNULL)
+        limit = time.time() + 60
+        while not os.path.exists(self.path):
+            if time.time() > limit or self.process.poll() is not None:
+                raise OSError("clamd did not start")
+            time.sleep(0.05)
+
+    def scan(self, names):
+        """Scans files one after the other in one session."""
+        with socket.socket(socket.AF_UNIX) as session:
+            session.connect(self.path)
+            session.sendall(b"zIDSESSION\0")
+            for name in names:
+                session.sendall(b"zSCAN " + name.encode() + b"\0")
+                answer = b""
+                while not answer.endswith(b"\0"):
+                    answer += session.recv(4096)
+                if b": OK" not in answer:
+                    raise OSError(f"clamd: {answer!r}")
+
+    def time(self, names, clients):
+        threads = [threading.Thread(target=self.scan, args=(names[i::clients],)) for i in range(clients)]
+        begun = time.perf_counter()
+        for thread in threads:
+            thread.start()
+        for thread in threads:
+            thread.join()
+        return time.perf_counter() - begun
+
+    def end(self):
+        self.process.terminate()
+        self.process.wait()
+
+
+def goal(holds, what):
+    print(f"{'met   ' if holds else 'MISSED'} {what}")
+
+
+def main():
+    program = os.path.abspath(sys.argv[1])
+    chance = random.Random(3)
+    with tempfile.TemporaryDirectory() as folder:
+        spawn = build_spawn(folder)
+        patterns = [chance.randbytes(16) for _ in range(1000)]
+        rules = os.path.join(folder, "rules.avsig")
+        with open(rules, "w") as file:
+            file.write("avsig 1\nversion 1\n" + "".join(f"s{i} {pattern.hex()}\n" for i, pattern in enumerate(patterns)))
+        print(f"load {os.getloadavg()[0]:.2f} on {os.cpu_count()} processors; the least of {ROUNDS} rounds")
+        clamd = None
+        if shutil.which("clamd"):
+            clamd = Clamd(folder, patterns)
+        else:
+            print("clamd is not installed: left out")
+        try:
+            measure(folder, spawn, program, rules, chance, clamd)
+        finally:
+            if clamd:
+                clamd.end()
+        print(f"load {os.getloadavg()[0]:.2f} at the end")
+
+
+def measure(folder, spawn, program, rules, chance, clamd):
+    for size, count, most in SIZES:
+        names = write_files(folder, size, count, chance)
+        alone = min(host(spawn, program, rules, names[:1], 1)[0] for _ in range(ROUNDS))
+        runs = [host(spawn, program, rules, names, 1) for _ in range(ROUNDS)]
+        ours = (min(seconds for seconds, _ in runs) - alone) / (count - 1)
+        memory = max(peak for _, peak in runs) - size * count
+        line = f"{size:>9,} bytes: {ours * 1e6:9.1f} us an open, {memory / (1 << 20):6.1f} MiB beside {count} files"
+        if clamd:
+            theirs = min(clamd.time(names, 1) for _ in range(ROUNDS)) / count
+            line += f"; clamd {theirs * 1e6:9.1f} us, ratio {ours / theirs:.2f}"
+        print(line)
+        if clamd:
+            goal(ours <= most * theirs, f"{size:,} bytes: at most {most} of clamd's time")
+        goal(memory <= MOST_MEMORY, f"{size:,} bytes: at most {MOST_MEMORY >> 20} MiB beside volume and automaton")
+        for name in names:
+            os.unlink(name)
+    names = write_files(folder, 1 << 10, MANY, chance)
+    for crew in (1, 2, 4):
+        alone = min(host(spawn, program, rules, names[:1], crew)[0] for _ in range(ROUNDS))
+        ours = (MANY - 1) / (min(host(spawn, program, rules, names, crew)[0] for _ in range(ROUNDS)) - alone)
+        line = f"{crew} openers and workers: {ours:9,.0f} opens of 1 KiB a second"
+        if clamd:
+            line += f"; clamd with {crew} clients {MANY / min(clamd.time(names, crew) for _ in range(ROUNDS)):9,.0f}"
+        print(line)
+        if crew == 4:
+            goal(ours >= LEAST_RATE, f"4 openers: at least {LEAST_RATE:,} opens a second")
+
+
+main()
