@@ -1,0 +1,31 @@
+# Completion of avscan for bash.
+_avscan() {
+    local word=${COMP_WORDS[COMP_CWORD]} before=${COMP_WORDS[COMP_CWORD - 1]} command=${COMP_WORDS[1]-} options
+    if [ "$COMP_CWORD" = 1 ]; then
+        COMPREPLY=($(compgen -W "run scan host filter service help --help --version" -- "$word"))
+        return
+    fi
+    case $before in
+    --openers | --workers)
+        COMPREPLY=($(compgen -W "1 2 4 8 16" -- "$word"))
+        return
+        ;;
+    --wait)
+        COMPREPLY=($(compgen -W "5 30 60 300" -- "$word"))
+        return
+        ;;
+    esac
+    case $command in
+    scan) options="--quiet --help" ;;
+    host) options="--openers --workers --quiet --help" ;;
+    filter) options="--wait --quiet --help" ;;
+    service) options="--wait --help" ;;
+    help) options="run scan host filter service" ;;
+    *) options="--help" ;;
+    esac
+    case $command:$word in
+    help:* | *:-*) COMPREPLY=($(compgen -W "$options" -- "$word")) ;;
+    *) COMPREPLY=($(compgen -f -- "$word")) ;;
+    esac
+}
+complete -o filenames -F _avscan avscan
