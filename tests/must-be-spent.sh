@@ -51,6 +51,7 @@ must_be_spent av_filter filter:Filter
 must_be_spent av_service work:Work done:Done out:ServiceOut
 must_be_spent av_gate gate:Gate
 must_be_spent av_desk lent:Lent lent:Taken
+must_be_spent av_pool pool:Pool stopped:Stopped
 must_be_spent av_world world:World
 echo "$passed passed, $failed failed"
 [ "$failed" = 0 ]

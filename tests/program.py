@@ -3,9 +3,9 @@
 
 Standard output on a full device, closed, and a pipe that nobody reads, with one line and with thousands: the status is 4, or
 the process is ended by the signal, and never 0 with lines lost. Each request for memory refused in turn: one line, status 3,
-and a front of the output. Help texts, and one line for words that are not understood. A word that is not UTF-8 is named. The order of faults of `scan`: words, set, files.
+and a front of the output. Help texts, and one line for words that are not understood. Progress on a terminal, and nowhere else. A word that is not UTF-8 is named. The order of faults of `scan`: words, set, files.
 The last line says how many passed and how many failed."""
-import os, signal, subprocess, sys, tempfile
+import os, pty, signal, subprocess, sys, tempfile, threading, time
 
 SECONDS = 60
 HERE = os.path.dirname(os.path.abspath(__file__))
@@ -74,6 +74,32 @@ def memory(cases, program):
             cases.check(f"avscan {' '.join(words)}", refused > 0, "no request was refused")
 
 
+def memory_of_host(cases, program):
+    """A host with each request refused in turn: all files opened as ever, or one line that says why not, and of each file that has
+    a line what it was told: its verdict, or that the service was lost (3) or is not there (6)."""
+    names = [LETTER, os.path.join(EXAMPLES, "eicar.com.txt")]
+    words = [program, "host", SET, *names]
+    whole = run(words, stdout=subprocess.PIPE).stdout
+    told = [{line, *(f"{name} denied cause {cause}".encode() for cause in (3, 6))} for name, line in zip(names, whole.splitlines())]
+    with tempfile.TemporaryDirectory() as work:
+        library = os.path.join(work, "fail_nth.so")
+        subprocess.run(["cc", "-shared", "-fPIC", "-O1", "-o", library, os.path.join(HERE, "fail_nth.c")], check=True)
+        refused, in_a_row, number = 0, 0, 0
+        while in_a_row < 50:
+            number += 1
+            done = run(words, stdout=subprocess.PIPE, env=dict(os.environ, LD_PRELOAD=library, FAIL_NTH=str(number)))
+            is_whole = (done.returncode, done.stdout, done.stderr) == (0, whole, b"")
+            lines = done.stdout.splitlines()
+            is_part = any(all(line in of for line, of in zip(lines, some)) for some in (told, told[1:])) and len(lines) <= len(told)
+            is_told = (done.returncode, done.stderr) in ((3, b"avscan: no memory\n"), (4, b"avscan: device\n")) and is_part
+            in_a_row = in_a_row + 1 if is_whole else 0
+            refused += is_told
+            if not is_whole and not is_told:
+                cases.check("avscan host", False, f"request {number} refused: status {done.returncode}, {done.stdout!r} {done.stderr!r}")
+                return
+        cases.check("avscan host", refused > 0, "no request was refused")
+
+
 def words(cases, program):
     with tempfile.TemporaryDirectory() as work:
         name = os.path.join(os.fsencode(work), b"caf\xe9.txt")
@@ -123,11 +149,58 @@ def helps(cases, program):
         cases.check(f"avscan {' '.join(words)}", (done.returncode, done.stdout) == (2, b"") and one_line, f"{done}")
 
 
+def slow_run(words, slow, err):
+    """Runs a program that reads, among others, a file whose content comes after half a second. Its status, and what it wrote to
+    standard output."""
+    def feed():
+        time.sleep(0.5)
+        with open(slow, "wb") as file:
+            file.write(b"a letter")
+
+    feeder = threading.Thread(target=feed)
+    feeder.start()
+    done = subprocess.run(words, stdin=subprocess.DEVNULL, stdout=subprocess.PIPE, stderr=err, timeout=SECONDS)
+    feeder.join()
+    return done.returncode, done.stdout
+
+
+def on_terminal(words, slow):
+    """The same with a terminal for standard error, and what was written there."""
+    ours, theirs = pty.openpty()
+    status, out = slow_run(words, slow, theirs)
+    os.close(theirs)
+    shown = b""
+    try:
+        while more := os.read(ours, 4096):
+            shown += more
+    except OSError:
+        pass
+    os.close(ours)
+    return status, out, shown
+
+
+def progress(cases, program):
+    with tempfile.TemporaryDirectory() as work:
+        slow = os.path.join(work, "slow")
+        os.mkfifo(slow)
+        for command in ("scan", "host"):
+            words = [program, command, SET, LETTER, slow, SCRIPT]
+            status, out, shown = on_terminal(words, slow)
+            is_shown = b" of 3 files\x1b[K" in shown and shown.startswith(b"\r") and shown.endswith(b"\r\x1b[K")
+            cases.check(f"{command} on a terminal", status == 0 and out.count(b"\n") == 3 and is_shown, f"{status} {out!r} {shown!r}")
+            got = on_terminal([*words, "--quiet"], slow)
+            cases.check(f"{command} --quiet on a terminal", got == (0, out, b""), f"{got}")
+            with tempfile.TemporaryFile() as err:
+                got = slow_run(words, slow, err)
+                err.seek(0)
+                cases.check(f"{command} without a terminal", got == (0, out) and err.read() == b"", f"{got}")
+
+
 def main():
     if len(sys.argv) != 2:
         sys.exit("usage: tests/program.py PROGRAM")
     cases = Cases()
-    for part in (devices, memory, words, order, helps):
+    for part in (devices, memory, memory_of_host, words, order, helps, progress):
         try:
             part(cases, os.path.abspath(sys.argv[1]))
         except Exception as fault:

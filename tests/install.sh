@@ -1,0 +1,46 @@
+#!/bin/sh
+# What `make install` puts where, of a program that is built: the program runs from there, each manual page renders without a
+# warning where man is there, and bash takes the completions. The last line counts the files.
+# usage: tests/install.sh PROGRAM
+set -eu
+program=$(realpath "$1")
+cd "$(dirname "$0")/.."
+room=$(mktemp -d)
+trap 'rm -rf "$room"' EXIT
+passed=0
+failed=0
+
+# a file below the room, its mode, and a command that has to pass
+check() {
+    file=$room/usr/$1 mode=$2
+    shift 2
+    if [ -s "$file" ] && [ "$(stat -c %a "$file")" = "$mode" ] && "$@" "$file" > "$room/said" 2>&1 && ! [ -s "$room/said" ]; then
+        passed=$((passed + 1))
+    else
+        echo "install: $file is not there, not $mode, or does not do"
+        cat "$room/said" 2> /dev/null || true
+        failed=$((failed + 1))
+    fi
+}
+says_version() {
+    "$1" --version | grep -q '^avscan [0-9]' && "$1" scan examples/test.avsig examples/letter.txt > /dev/null
+}
+renders() {
+    if command -v man > /dev/null; then MANWIDTH=100 man --warnings -l "$1" > /dev/null; fi
+}
+
+make -s install-built PROGRAM="$program" DESTDIR="$room" PREFIX=/usr > "$room/log"
+check bin/avscan 755 says_version
+check share/man/man1/avscan.1 644 renders
+check share/man/man5/avsig.5 644 renders
+check share/man/man5/avscript.5 644 renders
+check share/bash-completion/completions/avscan 644 bash -n
+check share/zsh/site-functions/_avscan 644 true
+check share/fish/vendor_completions.d/avscan.fish 644 true
+found=$(find "$room/usr" -type f | wc -l)
+if [ "$found" != 7 ]; then
+    echo "install: $found files, not 7"
+    failed=$((failed + 1))
+fi
+echo "$passed passed, $failed failed"
+[ "$failed" = 0 ]
