@@ -1,9 +1,11 @@
 # Vizdroun: `make run` shows it at work, `make test` is the whole gate.
 PROGRAM := crates/avscan/out/avscan
 EXAMPLE := examples/late_reply.avs
+FILES := examples/test.avsig examples/letter.txt examples/eicar.com.txt
 PREFIX ?= /usr/local
+SHARE = $(DESTDIR)$(PREFIX)/share
 
-.PHONY: build run try test bench install clean kit
+.PHONY: build run try test bench install install-built clean kit
 
 build: kit
 	@echo "building: proving each crate and compiling avscan (some minutes on the first run)"
@@ -15,6 +17,8 @@ build: kit
 	@echo "built: $(PROGRAM)"
 
 run: build
+	@echo "running: $(PROGRAM) host $(FILES)"
+	@$(PROGRAM) host $(FILES)
 	@echo "running: $(PROGRAM) run $(EXAMPLE)"
 	@$(PROGRAM) run $(EXAMPLE)
 
@@ -28,10 +32,18 @@ test: kit
 bench: build
 	@bench/run.sh
 
-install: build
-	@install -d "$(DESTDIR)$(PREFIX)/bin"
-	@install -m 755 $(PROGRAM) "$(DESTDIR)$(PREFIX)/bin/avscan"
-	@echo "installed: $(DESTDIR)$(PREFIX)/bin/avscan"
+install: build install-built
+
+install-built:
+	@install -D -m 755 $(PROGRAM) "$(DESTDIR)$(PREFIX)/bin/avscan"
+	@install -d "$(SHARE)/man/man1" "$(SHARE)/man/man5"
+	@sh man/page.sh avscan.1 $(PROGRAM) > "$(SHARE)/man/man1/avscan.1"
+	@sh man/page.sh avsig.5 $(PROGRAM) > "$(SHARE)/man/man5/avsig.5"
+	@sh man/page.sh avscript.5 $(PROGRAM) > "$(SHARE)/man/man5/avscript.5"
+	@install -D -m 644 completions/avscan.bash "$(SHARE)/bash-completion/completions/avscan"
+	@install -D -m 644 completions/_avscan "$(SHARE)/zsh/site-functions/_avscan"
+	@install -D -m 644 completions/avscan.fish "$(SHARE)/fish/vendor_completions.d/avscan.fish"
+	@echo "installed: $(DESTDIR)$(PREFIX)/bin/avscan, with its manual pages and completions in $(SHARE)"
 
 clean:
 	@rm -rf crates/*/out
