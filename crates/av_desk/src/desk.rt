@@ -55,8 +55,9 @@ impl Desk {
 
     /// Connects, and greets the filter: AuditFull, NoSignatures, AlreadyConnected.
     pub fn connect<R: Wait>(&self, rt: &R, alloc: Global) -> Result<Note, Refusal<DeskFault>> {
-        let note = self.inner.lock(rt).locked.connect(alloc)?;
-        self.came.notify_all();
+        let mut inner = self.inner.lock(rt);
+        let note = inner.locked.connect(alloc)?;
+        self.wake(&mut inner.locked);
         Ok(note)
     }
 
@@ -70,8 +71,9 @@ impl Desk {
     ) -> Result<Taken, Refused<Message, DeskFault>>
         ensures { IfErr result (λ refused. refused.value ≡ message) }
     {
-        let taken = self.inner.lock(rt).locked.message(alloc, message);
-        self.came.notify_all();
+        let mut inner = self.inner.lock(rt);
+        let taken = inner.locked.message(alloc, message);
+        self.wake(&mut inner.locked);
         taken
     }
 
@@ -84,8 +86,9 @@ impl Desk {
     ) -> Result<Note, Refused<Done, DeskFault>>
         ensures { IfErr result (λ refused. refused.value ≡ done) }
     {
-        let note = self.inner.lock(rt).locked.finish(alloc, done);
-        self.came.notify_all();
+        let mut inner = self.inner.lock(rt);
+        let note = inner.locked.finish(alloc, done);
+        self.wake(&mut inner.locked);
         note
     }
 
@@ -100,8 +103,9 @@ impl Desk {
         ensures { IfErr result (λ refused. refused.value ≡ set) }
     {
         let built = SharedAutomaton::build(alloc, &set).ok();
-        let note = self.inner.lock(rt).locked.publish(alloc, set, built);
-        self.came.notify_all();
+        let mut inner = self.inner.lock(rt);
+        let note = inner.locked.publish(alloc, set, built);
+        self.wake(&mut inner.locked);
         note
     }
 
@@ -113,6 +117,13 @@ impl Desk {
     /// Starts the service anew under the set published last, with an empty cache: AuditFull.
     pub fn restart<R: Wait>(&self, rt: &R, alloc: Global) -> Result<Note, Refusal<DeskFault>> {
         self.inner.lock(rt).locked.restart(alloc)
+    }
+
+    // Wakes who waits for messages where one is to be sent: a chunk that only gives out a work wakes nobody.
+    fn wake(&self, locked: &mut Locked) {
+        if locked.has_outgoing() {
+            self.came.notify_all();
+        }
     }
 
     /// Takes out the messages that wait, in the order in which they were sent. Where memory is refused, they stay.
