@@ -4,14 +4,17 @@
 Files of 1 KiB, 64 KiB and 1 MiB of random bytes, no two alike, under 1,000 random signatures of 16 bytes. An open's time is the time
 of a run over many files less that over one, divided by their difference: it has the reading of the file, its way into the volume, and
 the audits of both sides. clamd (where it is installed) has the same signatures, no cache, and scans the same files by their paths, one
-session a client. Peak memory is that of the process beside the files' bytes. Also 1, 2 and 4 openers with as many workers over files
-of 1 KiB, and as many clients of clamd."""
+session a client. clamonacc (where it is installed and the kernel lets it hold opens) holds each first open of as many such files in a
+folder that it watches, until a clamd with a cache has judged it. Peak memory is that of the process beside the files' bytes. Also 1, 2
+and 4 openers with as many workers over files of 1 KiB, and as many clients of clamd."""
 import os, random, shutil, socket, subprocess, sys, tempfile, threading, time
 
 HERE = os.path.dirname(os.path.abspath(__file__))
 ROUNDS = 5
 SIZES = ((1 << 10, 2000, 0.75), (1 << 16, 400, 0.25), (1 << 20, 60, 0.25))
 MANY, LEAST_RATE, MOST_MEMORY = 4000, 15_000, 64 << 20
+# How many first opens clamonacc holds at most.
+HELD = 200
 
 
 def build_spawn(folder):
@@ -39,18 +42,18 @@ def host(spawn, program, rules, names, crew):
 
 
 class Clamd:
-    """The daemon with the same signatures, or nothing where it is not installed."""
+    """The daemon with the same signatures, in a folder of its own."""
 
-    def __init__(self, folder, patterns):
+    def __init__(self, folder, patterns, lines):
         self.path = os.path.join(folder, "clamd.socket")
         rules = os.path.join(folder, "rules")
         os.mkdir(rules)
         with open(os.path.join(rules, "own.ndb"), "w") as file:
             file.writelines(f"S{i}:0:*:{pattern.hex()}\n" for i, pattern in enumerate(patterns))
-        conf = os.path.join(folder, "clamd.conf")
-        with open(conf, "w") as file:
-            file.write(f"LocalSocket {self.path}\nDatabaseDirectory {rules}\nForeground yes\nDisableCache yes\nMaxThreads 8\nUser {os.environ.get('USER', 'root')}\n")
-        self.process = subprocess.Popen(["clamd", "-c", conf], stdout=subprocess.DEVNULL, stderr=subprocess.DEVNULL)
+        self.conf = os.path.join(folder, "clamd.conf")
+        with open(self.conf, "w") as file:
+            file.write(f"LocalSocket {self.path}\nDatabaseDirectory {rules}\nForeground yes\nMaxThreads 8\n{lines}")
+        self.process = subprocess.Popen(["clamd", "-c", self.conf], stdout=subprocess.DEVNULL, stderr=subprocess.DEVNULL)
         limit = time.time() + 60
         while not os.path.exists(self.path):
             if time.time() > limit or self.process.poll() is not None:
@@ -84,6 +87,41 @@ class Clamd:
         self.process.wait()
 
 
+class Clamonacc:
+    """Opens that clamonacc holds: a folder that it watches, and a clamd under a user whose own opens it lets pass."""
+
+    def __init__(self, folder, patterns, chance):
+        os.chmod(folder, 0o755)
+        daemon, self.watched, self.chance = os.path.join(folder, "onaccess"), os.path.join(folder, "watched"), chance
+        os.mkdir(daemon)
+        os.mkdir(self.watched)
+        shutil.chown(daemon, "clamav")
+        lines = f"User clamav\nOnAccessIncludePath {self.watched}\nOnAccessPrevention yes\nOnAccessExcludeUname clamav\n"
+        self.clamd = Clamd(daemon, patterns, lines)
+        words = ["clamonacc", "--foreground", "-c", self.clamd.conf]
+        self.process = subprocess.Popen(words, stdout=subprocess.DEVNULL, stderr=subprocess.DEVNULL)
+        time.sleep(3)
+
+    def is_running(self):
+        return self.process.poll() is None
+
+    def first_opens(self, size, count):
+        """The seconds of each first open, the least first."""
+        seconds = []
+        for name in write_files(self.watched, size, count, self.chance):
+            begun = time.perf_counter()
+            file = os.open(name, os.O_RDONLY)
+            seconds.append(time.perf_counter() - begun)
+            os.close(file)
+            os.unlink(name)
+        return sorted(seconds)
+
+    def end(self):
+        self.process.terminate()
+        self.process.wait()
+        self.clamd.end()
+
+
 def goal(holds, what):
     print(f"{'met   ' if holds else 'MISSED'} {what}")
 
@@ -100,7 +138,7 @@ def main():
         print(f"load {os.getloadavg()[0]:.2f} on {os.cpu_count()} processors; the least of {ROUNDS} rounds")
         clamd = None
         if shutil.which("clamd"):
-            clamd = Clamd(folder, patterns)
+            clamd = Clamd(folder, patterns, f"DisableCache yes\nUser {os.environ.get('USER', 'root')}\n")
         else:
             print("clamd is not installed: left out")
         try:
@@ -108,6 +146,7 @@ def main():
         finally:
             if clamd:
                 clamd.end()
+        measure_held(folder, patterns, chance)
         print(f"load {os.getloadavg()[0]:.2f} at the end")
 
 
@@ -138,6 +177,23 @@ def measure(folder, spawn, program, rules, chance, clamd):
         print(line)
         if crew == 4:
             goal(ours >= LEAST_RATE, f"4 openers: at least {LEAST_RATE:,} opens a second")
+
+
+def measure_held(folder, patterns, chance):
+    if not shutil.which("clamonacc") or os.geteuid():
+        print("clamonacc is not installed, or this is not root: left out")
+        return
+    clamonacc = Clamonacc(folder, patterns, chance)
+    try:
+        if not clamonacc.is_running():
+            print("clamonacc ended at its start: left out")
+            return
+        for size, count, _ in SIZES:
+            seconds = clamonacc.first_opens(size, min(count, HELD))
+            least, middle, most = (it * 1e6 for it in (seconds[0], seconds[len(seconds) // 2], seconds[-1]))
+            print(f"{size:>9,} bytes: clamonacc {middle:9.1f} us a first open, {least:.1f} at least and {most:.1f} at most")
+    finally:
+        clamonacc.end()
 
 
 main()
