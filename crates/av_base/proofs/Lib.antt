@@ -1,4 +1,5 @@
 pub mod DecimalLemmas
 pub mod DeviceLemmas
+pub mod LimitLemmas
 pub mod LineLemmas
 pub mod PartLemmas

@@ -5,6 +5,7 @@ use Rattle.std.proofs.lemmas.List.{length-take, length-drop}
 use Rattle.std.specs.List.{AllByRecursion as Each, list_any}
 use Rattle.std.specs.Map.{remove_entry, set_value}
 use Rattle.std.specs.Prelude.{is_some}
+use Rattle.av_base.proofs.LimitLemmas.{generation_in}
 use Rattle.av_base.specs.Overwrite.{overwritten}
 use Rattle.av_base.specs.declared.limits.LimitValues.{LimitValues}
 use Rattle.av_base.specs.declared.verdict.Verdict.{Verdict}
@@ -129,7 +130,7 @@ created_in v w name a h =
     subst AreInBounds same
     (record {
       limits = a.limits;
-      streams = each-append (IsInBounds v.limits) v.streams ((v.last + 1, new_stream name) ∷ []) a.streams (record { number = omega arith; low = omega arith; high = a.limits.generation_low; size = omega arith }, tt);
+      streams = each-append (IsInBounds v.limits) v.streams ((v.last + 1, new_stream name) ∷ []) a.streams (record { number = omega arith; low = omega arith; high = (generation_in v.limits a.limits).0; size = omega arith }, tt);
     })))) h
 
 removed_in : (v w : Store) (s : ℕ) → AreInBounds v → remove_of v s ≡ Ok w → AreInBounds w

@@ -8,6 +8,7 @@ use Rattle.std.specs.Prelude.{is_some}
 use Rattle.std.specs.Ordering.{nat_cmp, is_eq}
 use Rattle.std.specs.declared.cmp.Ordering.{Ordering}
 use Rattle.std.specs.declared.cmp.Ordering.TheVariants.{Less, Equal, Greater}
+use Rattle.av_base.proofs.LimitLemmas.{generation_in, length_in}
 use Rattle.av_base.specs.declared.message_id.MessageId.{MessageId}
 use Rattle.av_context.specs.declared.context_state.ContextState.{ContextState}
 use Rattle.av_context.specs.declared.context_state.ContextState.TheVariants.{Scanning}
@@ -96,7 +97,7 @@ content_small v s bytes bounds is = go (stream_at s v.streams) refl is
     go (Some x) there e =
         let same : bytes ≡ x.bytes = cc (e) in
         let size : length x.bytes ≤ v.limits.length = (stream_in v s x bounds there).size in
-        let most = bounds.limits.length_high in
+        let most = (length_in v.limits bounds.limits).1 in
         let equal : length bytes ≡ length x.bytes = ap length same in
         omega arith
 
@@ -108,7 +109,7 @@ next_generation v s bounds = go (stream_at s v.streams) refl
     go None there = omega arith
     go (Some x) there =
         let high : x.generation ≤ v.limits.generation = (stream_in v s x bounds there).high in
-        let most = bounds.limits.generation_high in
+        let most = (generation_in v.limits bounds.limits).1 in
         omega arith
 
 -- what holds of the question that runs under its own number

@@ -8,6 +8,7 @@ use Rattle.av_base.specs.declared.limits.LimitValues.{LimitValues}
 use Rattle.av_base.specs.declared.message_id.MessageId.{MessageId}
 use Rattle.av_base.specs.declared.mode.Mode.{Mode}
 use Rattle.av_base.specs.declared.verdict.Verdict.{Verdict}
+use Rattle.av_base.proofs.LimitLemmas.{chunk_in, jobs_in, length_in}
 use Rattle.av_base.specs.Limits.{AreInRange}
 use Rattle.av_base.specs.MessageId.{same_id}
 use Rattle.av_cache.specs.declared.entry.Entry.{Entry}
@@ -251,7 +252,7 @@ chunks_few w b q =
     let n : ℕ = length (present_bytes w.volume q.stream) in
     let c : ℕ = min w.desk.limits.chunk w.table.limits.chunk in
     let small : n ≤ w.volume.limits.length = stream_small w.volume.limits w.volume.streams q.stream b.streams in
-    omega (arith, small, b.limits.length_high, div-le_self n c)
+    omega (arith, small, (length_in w.volume.limits b.limits).1, div-le_self n c)
 
 all_chunks_few : (w : WorldState) → AreInBounds w.volume → (qs : List Question) → all_chunks w qs ≤ 1048577 * length qs
 all_chunks_few w b [] = omega arith
@@ -269,4 +270,4 @@ can_finish_soon number mode limits history ok short reached =
     let size : 2 ^ 43 ≡ 8796093022208 = refl in
     let long : length w.history ≤ length history = omega (arith, accepted_few (start number mode limits) history) in
     let leases : w.desk.last_lease + all_chunks w w.table.questions ≤ most_leases = omega (arith, s.leases, s.questions, all_chunks_few w s.bounds w.table.questions, long, short, size, most) in
-    can_always_finish number mode limits history ok.chunk_low ok.jobs_low (λ waiting. record { reached = reached waiting; leases = leases })
+    can_always_finish number mode limits history (chunk_in limits ok).0 (jobs_in limits ok).0 (λ waiting. record { reached = reached waiting; leases = leases })

@@ -1,4 +1,5 @@
 use Rattle.std.proofs.Common.{◌≡◌, length, ap, ◌∙◌, arith}
+use Rattle.av_base.proofs.LimitLemmas.{generation_in, length_in}
 use Rattle.av_filter.proofs.ReadyLemmas.{stream_in}
 use Rattle.av_filter_table.specs.Answering.{stream_bytes, stream_generation}
 use Rattle.av_filter.proofs.running.scan_message.Goals as goal
@@ -13,7 +14,7 @@ scan-requires-clause-generation c =
     let is : c.generation_now.result ≡ x.generation = c.generation_now.ensures ∙ ap stream_generation c.requires.there.1 in
     let low = inside.low in
     let high = inside.high in
-    let most = c.requires.bounds.limits.generation_high in (omega arith, omega arith)
+    let most = (generation_in c.args.volume.now.limits c.requires.bounds.limits).1 in (omega arith, omega arith)
 
 pub scan-requires-clause-length : goal.scan-requires-clause-length
 scan-requires-clause-length c =
@@ -21,5 +22,5 @@ scan-requires-clause-length c =
     let inside = stream_in c.args.volume.now c.args.stream x c.requires.bounds c.requires.there.1 in
     let is : c.length_now.result ≡ length x.bytes = c.length_now.ensures ∙ ap (λ o. length (stream_bytes o)) c.requires.there.1 in
     let size = inside.size in
-    let most = c.requires.bounds.limits.length_high in
+    let most = (length_in c.args.volume.now.limits c.requires.bounds.limits).1 in
     omega arith
