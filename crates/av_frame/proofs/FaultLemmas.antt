@@ -1,5 +1,5 @@
 -- Where reading gives no message it gives the fault of the body.
-use Rattle.std.proofs.Common.{ℕ, ◌≡◌, List, length, Bool, true, false, cond, not, nat_eq, nat_lt, nat_le, ◌||◌, ◌&&◌, Result, Ok, Err, refl, sym, ap, subst, arith}
+use Rattle.std.proofs.Common.{ℕ, ◌≡◌, List, length, Bool, true, false, cond, not, nat_eq, nat_lt, ◌||◌, ◌&&◌, Result, Ok, Err, refl, sym, ap, subst, arith}
 use Rattle.std.specs.Prelude.{Option, Some, None, slice_index}
 use Rattle.std.proofs.lemmas.Bool.{eqb-true}
 use Rattle.std.proofs.lemmas.Bool.Decides.{nat_tests}
@@ -9,6 +9,7 @@ use Rattle.av_frame.specs.declared.cause.FailCause.{FailCause}
 use Rattle.av_frame.specs.declared.fault.FrameFault.{FrameFault}
 use Rattle.av_frame.specs.declared.fault.FrameFault.TheVariants as fault
 use Rattle.av_frame.specs.declared.message.Body.{Body}
+use Rattle.av_frame.specs.declared.sizes.TheConstants.{HEAD_SIZE, MAX_BODY}
 use Rattle.av_frame.specs.Message.{in_range}
 use Rattle.av_frame.specs.Reading.{checked, scan_of, chunk_of, no_chunk_with, no_chunk_of, abort_of, hello_of, read_of, clean_of, infected_of, failed_with, failed_of, reply_of, updated_of, plain_of, decoded, fits_kind, fits_status, fault_of}
 
@@ -112,7 +113,7 @@ status_errs body =
 
 reply_errs : (body : List ℕ) → Errs (reply_of body) (of_kind body 7)
 unfolding reply_of
-reply_errs body = errs_cond (not (nat_le 18 (length body))) _ _ _ (status_errs body)
+reply_errs body = errs_cond (not (nat_lt HEAD_SIZE (length body))) _ _ _ (status_errs body)
 
 updated_errs : (body : List ℕ) → Errs (updated_of body) (of_kind body 8)
 unfolding updated_of
@@ -145,5 +146,5 @@ plain_errs body k2 =
 -- the fault that reading gives is the body's
 pub decoded_errs : (body : List ℕ) (f : FrameFault) → decoded body ≡ Err f → f ≡ fault_of body
 unfolding decoded
-decoded_errs body = errs_cond (nat_eq (length body) 0 || nat_lt 4121 (length body)) _ _ _
+decoded_errs body = errs_cond (nat_eq (length body) 0 || nat_lt MAX_BODY (length body)) _ _ _
     (split _ _ _ _ (λ is. subst (λ n. Errs (chunk_of body) (of_kind body n)) (sym (eqb-true _ _ is)) (chunk_errs body)) (plain_errs body))

@@ -13,6 +13,7 @@ use Rattle.av_frame.specs.declared.fault.FrameFault.{FrameFault}
 use Rattle.av_frame.specs.declared.fault.FrameFault.TheVariants as fault
 use Rattle.av_frame.specs.declared.message.Body.{Body}
 use Rattle.av_frame.specs.declared.message.Body.TheVariants.{Scan, Chunk, NoChunk, Abort, Hello, Read, Reply, Updated}
+use Rattle.av_frame.specs.declared.sizes.TheConstants.{MAX_BODY}
 use Rattle.av_frame.specs.Message.{IsInRange}
 use Rattle.av_frame.specs.Spelling.{spelling, size_of, frame, field4}
 use Rattle.av_frame.specs.Reading.{number4, decoded}
@@ -26,7 +27,7 @@ use Rattle.av_frame.proofs.ReadingLemmas.{IsBytes, IsBytes-taken, four, chosen, 
 
 -- ---- how long bodies and frames are
 
-size_bounds : (m : Body) → IsInRange m → (1 ≤ size_of m) × (size_of m ≤ 4121)
+size_bounds : (m : Body) → IsInRange m → (1 ≤ size_of m) × (size_of m ≤ MAX_BODY)
 size_bounds (Scan id stream generation size) fits = (omega arith, omega arith)
 size_bounds (Chunk id offset bytes) fits = (omega arith, omega (arith, fits.1.1))
 size_bounds (NoChunk id offset cause) fits = (omega arith, omega arith)
@@ -38,7 +39,7 @@ size_bounds (Reply id (Judged version (Infected index end_at))) fits = (omega ar
 size_bounds (Reply id (Failed cause)) fits = (omega arith, omega arith)
 size_bounds (Updated version) fits = (omega arith, omega arith)
 
-pub spelling_bounds : (m : Body) → IsInRange m → (1 ≤ length (spelling m)) × (length (spelling m) ≤ 4121)
+pub spelling_bounds : (m : Body) → IsInRange m → (1 ≤ length (spelling m)) × (length (spelling m) ≤ MAX_BODY)
 spelling_bounds m fits = rw length-spelling (size_bounds m fits)
 
 pub length-frame : (m : Body) → length (frame m) ≡ 4 + length (spelling m)
@@ -49,12 +50,12 @@ length-frame m = omega arith
 
 abbrev front_by : ℕ → ℕ → Result Body FrameFault → Result (Option (Body × ℕ)) FrameFault
 front_by len n r =
-    cond (nat_lt len 4) (Ok None) (cond (nat_eq n 0 || nat_lt 4121 n) (Err fault.Length) (cond (nat_lt len (4 + n)) (Ok None) (with_size (4 + n) r)))
+    cond (nat_lt len 4) (Ok None) (cond (nat_eq n 0 || nat_lt MAX_BODY n) (Err fault.Length) (cond (nat_lt len (4 + n)) (Ok None) (with_size (4 + n) r)))
 
-front_by-whole : (len n : ℕ) (r : Result Body FrameFault) → 1 ≤ n → n ≤ 4121 → 4 + n ≤ len → front_by len n r ≡ with_size (4 + n) r
+front_by-whole : (len n : ℕ) (r : Result Body FrameFault) → 1 ≤ n → n ≤ MAX_BODY → 4 + n ≤ len → front_by len n r ≡ with_size (4 + n) r
 front_by-whole len n r low high long =
     let enough : nat_lt len 4 ≡ false = le-ltb _ _ (omega arith) in
-    let good : (nat_eq n 0 || nat_lt 4121 n) ≡ false = grind (arith, nat_tests) in
+    let good : (nat_eq n 0 || nat_lt MAX_BODY n) ≡ false = grind (arith, nat_tests) in
     let whole : nat_lt len (4 + n) ≡ false = le-ltb _ _ long in
     rw (enough, good, whole) refl
 
@@ -103,10 +104,10 @@ front_framed bytes m size fits e =
     let n = number4 bytes 0 in
     let r = decoded (take n (drop 4 bytes)) in
     let by_size = cond (nat_lt (length bytes) (4 + n)) (Ok None) (with_size (4 + n) r) in
-    let by_length = cond (nat_eq n 0 || nat_lt 4121 n) (Err fault.Length) by_size in
+    let by_length = cond (nat_eq n 0 || nat_lt MAX_BODY n) (Err fault.Length) by_size in
     elim (chosen (nat_lt (length bytes) 4) (Ok None) by_length (Ok (Some (m, size))) e) [
       | inl p ↦ absurd cc
-      | inr p ↦ elim (chosen (nat_eq n 0 || nat_lt 4121 n) (Err fault.Length) by_size (Ok (Some (m, size))) p.1) [
+      | inr p ↦ elim (chosen (nat_eq n 0 || nat_lt MAX_BODY n) (Err fault.Length) by_size (Ok (Some (m, size))) p.1) [
         | inl q ↦ absurd cc
         | inr q ↦ elim (chosen (nat_lt (length bytes) (4 + n)) (Ok None) (with_size (4 + n) r) (Ok (Some (m, size))) q.1) [
           | inl s ↦ absurd cc
@@ -128,12 +129,12 @@ body-more a b n long =
     ap (take n) (drop-append-le 4 a b (omega arith)) ∙ take-append-le n (drop 4 a) b (omega (arith, length-drop 4 a))
 
 -- the front's numbers once its length is there
-front_by-bad : (len n : ℕ) (r : Result Body FrameFault) → 4 ≤ len → (nat_eq n 0 || nat_lt 4121 n) ≡ true → front_by len n r ≡ Err fault.Length
+front_by-bad : (len n : ℕ) (r : Result Body FrameFault) → 4 ≤ len → (nat_eq n 0 || nat_lt MAX_BODY n) ≡ true → front_by len n r ≡ Err fault.Length
 front_by-bad len n r long bad =
     let enough : nat_lt len 4 ≡ false = le-ltb _ _ long in
     rw (enough, bad) refl
 
-front_by-good : (len n : ℕ) (r : Result Body FrameFault) → (nat_eq n 0 || nat_lt 4121 n) ≡ false → 4 + n ≤ len → front_by len n r ≡ with_size (4 + n) r
+front_by-good : (len n : ℕ) (r : Result Body FrameFault) → (nat_eq n 0 || nat_lt MAX_BODY n) ≡ false → 4 + n ≤ len → front_by len n r ≡ with_size (4 + n) r
 front_by-good len n r good long =
     let enough : nat_lt len 4 ≡ false = le-ltb _ _ (omega arith) in
     let whole : nat_lt len (4 + n) ≡ false = le-ltb _ _ long in
@@ -146,14 +147,14 @@ front_of-more a b f e =
     let all = a ++ b in
     let r = decoded (take n (drop 4 a)) in
     let by_size = cond (nat_lt (length a) (4 + n)) (Ok None) (with_size (4 + n) r) in
-    let by_length = cond (nat_eq n 0 || nat_lt 4121 n) (Err fault.Length) by_size in
+    let by_length = cond (nat_eq n 0 || nat_lt MAX_BODY n) (Err fault.Length) by_size in
     elim (chosen (nat_lt (length a) 4) (Ok None) by_length (Err f) e) [
       | inl p ↦ absurd cc
       | inr p ↦
           let long : 4 ≤ length a = ltb-false _ _ p.0 in
           let longer : 4 ≤ length all = omega (arith, length-append a b) in
           let same = ap (λ k. front_by (length all) k (decoded (take k (drop 4 all)))) (number4-more a b long) in
-          elim (chosen (nat_eq n 0 || nat_lt 4121 n) (Err fault.Length) by_size (Err f) p.1) [
+          elim (chosen (nat_eq n 0 || nat_lt MAX_BODY n) (Err fault.Length) by_size (Err f) p.1) [
             | inl q ↦ same ∙ front_by-bad (length all) n _ longer q.0 ∙ cc
             | inr q ↦ elim (chosen (nat_lt (length a) (4 + n)) (Ok None) (with_size (4 + n) r) (Err f) q.1) [
               | inl s ↦ absurd cc

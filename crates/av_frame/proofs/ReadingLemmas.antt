@@ -4,7 +4,7 @@ use Rattle.std.specs.Prelude.{Some, None, slice_index}
 use Rattle.std.specs.Int.{w32, w64, to_be_bytes, from_be_bytes}
 use Rattle.std.proofs.lemmas.Nat.{be_bytes_4, be_bytes_8}
 use Rattle.std.proofs.lemmas.List.{take-append-drop, length-take, get_or-take, get_or-drop, get_or_past, drop-drop}
-use Rattle.std.proofs.lemmas.Bool.{cases_lt, eqb-true, leb-true}
+use Rattle.std.proofs.lemmas.Bool.{cases_lt, eqb-true, ltb-true}
 use Rattle.std.proofs.Math.ListN.{drop_of_length-le}
 use Rattle.std.proofs.lemmas.Bool.Decides.{nat_tests}
 use Rattle.av_base.specs.declared.message_id.MessageId.{MessageId}
@@ -20,6 +20,7 @@ use Rattle.av_frame.specs.declared.fault.FrameFault.TheVariants as fault
 use Rattle.av_frame.specs.declared.message.Body.{Body}
 use Rattle.av_frame.specs.declared.message.Body.TheVariants.{Scan, Chunk, NoChunk, Abort, Hello, Read, Reply, Updated}
 use Rattle.av_frame.specs.Cause.{no_chunk_number, no_chunk_cause, fail_number, fail_cause}
+use Rattle.av_frame.specs.declared.sizes.TheConstants.{CHUNK_HEADER}
 use Rattle.av_frame.specs.Message.{IsInRange, in_range}
 use Rattle.av_frame.specs.Spelling.{spelling, Spells, id_fields, field8, field4}
 use Rattle.av_frame.specs.Reading.{number8, number4, id_at, checked, scan_of, chunk_of, no_chunk_with, no_chunk_of, abort_of, hello_of, read_of, clean_of, infected_of, failed_with, failed_of, reply_of, updated_of, plain_of, decoded}
@@ -186,8 +187,8 @@ chunk_takes : (bytes : List ℕ) (m : Body) → IsBytes bytes → slice_index by
 unfolding chunk_of field8
 chunk_takes bytes m fits kind e =
     let p = passed _ _ _ _ e in
-    let long : 26 ≤ length bytes = leb-true _ _ p.0 in
-    let whole : bytes ≡ spelling (Chunk (id_at bytes) (number8 bytes 17) (drop 25 bytes)) =
+    let long : CHUNK_HEADER < length bytes = ltb-true _ _ p.0 in
+    let whole : bytes ≡ spelling (Chunk (id_at bytes) (number8 bytes 17) (drop CHUNK_HEADER bytes)) =
     one bytes 0 (omega arith) ∙ ap (λ b. b ∷ drop 1 bytes) kind ∙ ap (λ xs. 2 ∷ xs) (parts_are (Eight ∷ Eight ∷ Eight ∷ []) 1 bytes fits (omega arith)) in
     spelled bytes _ m (id_fits bytes fits) whole p.1
 

@@ -1,5 +1,5 @@
 -- What is spelled is read again.
-use Rattle.std.proofs.Common.{ℕ, ◌≡◌, ◌+◌, List, length, true, false, cond, nat_eq, nat_lt, nat_le, ◌||◌, Ok, Err, refl, ◌∙◌, ap, arith}
+use Rattle.std.proofs.Common.{ℕ, ◌≡◌, ◌+◌, List, length, true, false, cond, nat_eq, nat_lt, ◌||◌, Ok, Err, refl, ◌∙◌, ap, arith}
 use Rattle.std.specs.Prelude.{Some}
 use Rattle.std.specs.Int.{w64, from_be_bytes, to_be_bytes}
 use Rattle.std.proofs.lemmas.Nat.{from_be_bytes-to_be_bytes_4, from_be_bytes-to_be_bytes_8}
@@ -15,6 +15,7 @@ use Rattle.av_frame.specs.declared.fault.FrameFault.TheVariants as fault
 use Rattle.av_frame.specs.declared.message.Body.{Body}
 use Rattle.av_frame.specs.declared.message.Body.TheVariants.{Scan, Chunk, NoChunk, Abort, Hello, Read, Reply, Updated}
 use Rattle.av_frame.specs.Cause.{no_chunk_number, no_chunk_cause, fail_number, fail_cause}
+use Rattle.av_frame.specs.declared.sizes.TheConstants.{CHUNK_HEADER, MAX_BODY}
 use Rattle.av_frame.specs.Message.{IsId, IsInRange, in_range}
 use Rattle.av_frame.specs.Spelling.{spelling, field8, field4}
 use Rattle.av_frame.specs.Reading.{number8, number4, id_at, checked, scan_of, chunk_of, no_chunk_with, no_chunk_of, abort_of, hello_of, read_of, clean_of, infected_of, failed_with, failed_of, reply_of, updated_of, plain_of, decoded}
@@ -60,12 +61,12 @@ chunk_again : (id : MessageId) (offset : ℕ) (bytes : List ℕ) → IsInRange (
 unfolding decoded chunk_of field8
 chunk_again id offset bytes fits =
     let s = spelling (Chunk id offset bytes) in
-    let size : length s ≡ 25 + length bytes = omega arith in
-    let whole : (nat_eq (length s) 0 || nat_lt 4121 (length s)) ≡ false = grind (arith, nat_tests) in
-    let enough : nat_le 26 (length s) ≡ true = grind (arith, nat_tests) in
+    let size : length s ≡ CHUNK_HEADER + length bytes = omega arith in
+    let whole : (nat_eq (length s) 0 || nat_lt MAX_BODY (length s)) ≡ false = grind (arith, nat_tests) in
+    let enough : nat_lt CHUNK_HEADER (length s) ≡ true = grind (arith, nat_tests) in
     let who : id_at s ≡ id = id_again id fits.0 in
     let first : number8 s 17 ≡ offset = from_be_bytes-to_be_bytes_8 offset (omega (arith, fits.1)) in
-    ap (λ b. cond b (Err fault.Length) (cond (nat_le 26 (length s)) (checked (Chunk (id_at s) (number8 s 17) bytes)) (Err fault.Shape))) whole
+    ap (λ b. cond b (Err fault.Length) (cond (nat_lt CHUNK_HEADER (length s)) (checked (Chunk (id_at s) (number8 s 17) bytes)) (Err fault.Shape))) whole
     ∙ ap (λ b. cond b (checked (Chunk (id_at s) (number8 s 17) bytes)) (Err fault.Shape)) enough
     ∙ ap (λ i. checked (Chunk i (number8 s 17) bytes)) who
     ∙ ap (λ n. checked (Chunk id n bytes)) first

@@ -1,7 +1,7 @@
 use Rattle.std.specs.Prelude.{ℕ, ◌≡◌, ◌+◌, ◌==◌, ◌||◌, Bool, true, false, List, ◌++◌, length, take, drop, Option, None, Some, Result, Ok, Err, nat_lt, if◌then◌else◌}
 use Rattle.av_base.specs.declared.refusal.Refusal.{Refusal}
 use Rattle.av_base.specs.declared.refusal.Refusal.TheVariants.{Fault, NoMemory}
-use Rattle.av_frame.specs.declared.decode.TheConstants.{MAX_BODY}
+use Rattle.av_frame.specs.declared.sizes.TheConstants.{MAX_BODY}
 use Rattle.av_frame.specs.declared.fault.FrameFault.{FrameFault}
 use Rattle.av_frame.specs.declared.fault.FrameFault.TheVariants.{Length}
 use Rattle.av_frame.specs.declared.fault.FeedFault.{FeedFault}

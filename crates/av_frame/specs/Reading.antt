@@ -1,15 +1,15 @@
-use Rattle.std.specs.Prelude.{ℕ, ◌==◌, ◌||◌, ◌&&◌, Bool, List, length, take, drop, Option, None, Some, Result, Ok, Err, nat_lt, nat_le, slice_index, if◌then◌else◌, not}
+use Rattle.std.specs.Prelude.{ℕ, ◌+◌, ◌==◌, ◌||◌, ◌&&◌, Bool, List, length, take, drop, Option, None, Some, Result, Ok, Err, nat_lt, slice_index, if◌then◌else◌, not}
 use Rattle.std.specs.Int.{w32, w64, from_be_bytes}
 use Rattle.av_base.specs.declared.message_id.MessageId.{MessageId}
 use Rattle.av_base.specs.declared.verdict.Verdict.TheVariants.{Clean, Infected}
 use Rattle.av_frame.specs.declared.cause.NoChunkCause.{NoChunkCause}
 use Rattle.av_frame.specs.declared.cause.FailCause.{FailCause}
-use Rattle.av_frame.specs.declared.decode.TheConstants.{MAX_BODY}
 use Rattle.av_frame.specs.declared.fault.FrameFault.{FrameFault}
 use Rattle.av_frame.specs.declared.fault.FrameFault.TheVariants as fault
 use Rattle.av_frame.specs.declared.outcome.Outcome.TheVariants.{Judged, Failed}
 use Rattle.av_frame.specs.declared.message.Body.{Body}
 use Rattle.av_frame.specs.declared.message.Body.TheVariants.{Scan, Chunk, NoChunk, Abort, Hello, Read, Reply, Updated}
+use Rattle.av_frame.specs.declared.sizes.TheConstants.{CHUNK_HEADER, CLEAN_SIZE, FAILED_SIZE, HEAD_SIZE, HELLO_SIZE, INFECTED_SIZE, MAX_BODY, NO_CHUNK_SIZE, READ_SIZE, SCAN_SIZE, UPDATED_SIZE}
 use Rattle.av_frame.specs.Cause.{no_chunk_cause, fail_cause}
 use Rattle.av_frame.specs.Message.{in_range}
 
@@ -32,12 +32,14 @@ checked m = if in_range m then Ok m else Err fault.Range
 -- the message that a body of each kind gives, read field by field, or the fault of its shape or of a range
 unfoldable pub scan_of : List ℕ → Result Body FrameFault
 scan_of body =
-    if length body == 41 then checked (Scan (id_at body) (number8 body 17) (number8 body 25) (number8 body 33))
+    if length body == SCAN_SIZE then checked (Scan (id_at body) (number8 body 17) (number8 body 25) (number8 body 33))
     else Err fault.Shape
 
 -- a Chunk, or its fault
 unfoldable pub chunk_of : List ℕ → Result Body FrameFault
-chunk_of body = if nat_le 26 (length body) then checked (Chunk (id_at body) (number8 body 17) (drop 25 body)) else Err fault.Shape
+chunk_of body =
+    if nat_lt CHUNK_HEADER (length body) then checked (Chunk (id_at body) (number8 body 17) (drop CHUNK_HEADER body))
+    else Err fault.Shape
 
 -- a NoChunk with a cause that its number names, or Range
 abbrev pub no_chunk_with : MessageId → ℕ → Option NoChunkCause → Result Body FrameFault
@@ -47,29 +49,33 @@ no_chunk_with id offset (Some cause) = checked (NoChunk id offset cause)
 -- a NoChunk, or its fault
 unfoldable pub no_chunk_of : List ℕ → Result Body FrameFault
 no_chunk_of body =
-    if length body == 26 then no_chunk_with (id_at body) (number8 body 17) (no_chunk_cause (slice_index body 25))
+    if length body == NO_CHUNK_SIZE then no_chunk_with (id_at body) (number8 body 17) (no_chunk_cause (slice_index body 25))
     else Err fault.Shape
 
 -- an Abort, or its fault
 unfoldable pub abort_of : List ℕ → Result Body FrameFault
-abort_of body = if length body == 17 then checked (Abort (id_at body)) else Err fault.Shape
+abort_of body = if length body == HEAD_SIZE then checked (Abort (id_at body)) else Err fault.Shape
 
 -- a Hello, or its fault
 unfoldable pub hello_of : List ℕ → Result Body FrameFault
-hello_of body = if length body == 17 then checked (Hello (number8 body 1) (number8 body 9)) else Err fault.Shape
+hello_of body = if length body == HELLO_SIZE then checked (Hello (number8 body 1) (number8 body 9)) else Err fault.Shape
 
 -- a Read, or its fault
 unfoldable pub read_of : List ℕ → Result Body FrameFault
-read_of body = if length body == 29 then checked (Read (id_at body) (number8 body 17) (number4 body 25)) else Err fault.Shape
+read_of body =
+    if length body == READ_SIZE then checked (Read (id_at body) (number8 body 17) (number4 body 25))
+    else Err fault.Shape
 
 -- a Reply of the verdict clean, or its fault
 unfoldable pub clean_of : List ℕ → Result Body FrameFault
-clean_of body = if length body == 26 then checked (Reply (id_at body) (Judged (number8 body 18) Clean)) else Err fault.Shape
+clean_of body =
+    if length body == HEAD_SIZE + CLEAN_SIZE then checked (Reply (id_at body) (Judged (number8 body 18) Clean))
+    else Err fault.Shape
 
 -- a Reply of the verdict infected, or its fault
 unfoldable pub infected_of : List ℕ → Result Body FrameFault
 infected_of body =
-    if length body == 38
+    if length body == HEAD_SIZE + INFECTED_SIZE
     then checked (Reply (id_at body) (Judged (number8 body 18) (Infected (number4 body 26) (number8 body 30))))
     else Err fault.Shape
 
@@ -80,19 +86,21 @@ failed_with id (Some cause) = checked (Reply id (Failed cause))
 
 -- a Reply of a scan that failed, or its fault
 unfoldable pub failed_of : List ℕ → Result Body FrameFault
-failed_of body = if length body == 19 then failed_with (id_at body) (fail_cause (slice_index body 18)) else Err fault.Shape
+failed_of body =
+    if length body == HEAD_SIZE + FAILED_SIZE then failed_with (id_at body) (fail_cause (slice_index body 18))
+    else Err fault.Shape
 
 -- a reply's status says how it goes on
 unfoldable pub reply_of : List ℕ → Result Body FrameFault
 reply_of body =
-    if not (nat_le 18 (length body)) then Err fault.Shape else
+    if not (nat_lt HEAD_SIZE (length body)) then Err fault.Shape else
     (if slice_index body 17 == 0 then clean_of body else
     (if slice_index body 17 == 1 then infected_of body else
     (if slice_index body 17 == 2 then failed_of body else Err fault.Range)))
 
 -- an Updated, or its fault
 unfoldable pub updated_of : List ℕ → Result Body FrameFault
-updated_of body = if length body == 9 then checked (Updated (number8 body 1)) else Err fault.Shape
+updated_of body = if length body == UPDATED_SIZE then checked (Updated (number8 body 1)) else Err fault.Shape
 
 -- the message of a kind that has no content in it
 unfoldable pub plain_of : List ℕ → Result Body FrameFault
@@ -114,18 +122,19 @@ decoded body =
 -- how many bytes a body of each kind has; a reply has those up to its status
 abbrev pub fits_kind : ℕ → ℕ → Bool
 fits_kind kind size =
-    if kind == 1 then size == 41 else
-    (if kind == 2 then nat_le 26 size else
-    (if kind == 3 then size == 26 else
-    (if kind == 4 then size == 17 else
-    (if kind == 5 then size == 17 else
-    (if kind == 6 then size == 29 else
-    (if kind == 7 then nat_le 18 size else size == 9))))))
+    if kind == 1 then size == SCAN_SIZE else
+    (if kind == 2 then nat_lt CHUNK_HEADER size else
+    (if kind == 3 then size == NO_CHUNK_SIZE else
+    (if kind == 4 then size == HEAD_SIZE else
+    (if kind == 5 then size == HELLO_SIZE else
+    (if kind == 6 then size == READ_SIZE else
+    (if kind == 7 then nat_lt HEAD_SIZE size else size == UPDATED_SIZE))))))
 
 -- how many bytes a reply of each status has
 abbrev pub fits_status : ℕ → ℕ → Bool
 fits_status status size =
-    if status == 0 then size == 26 else (if status == 1 then size == 38 else size == 19)
+    if status == 0 then size == HEAD_SIZE + CLEAN_SIZE else
+    (if status == 1 then size == HEAD_SIZE + INFECTED_SIZE else size == HEAD_SIZE + FAILED_SIZE)
 
 -- What is wrong with bytes that spell no message: the first that applies.
 abbrev pub fault_by : (size kind status : ℕ) → FrameFault

@@ -6,6 +6,7 @@ use Rattle.av_frame.specs.declared.outcome.Outcome.{Outcome}
 use Rattle.av_frame.specs.declared.outcome.Outcome.TheVariants.{Judged, Failed}
 use Rattle.av_frame.specs.declared.message.Body.{Body}
 use Rattle.av_frame.specs.declared.message.Body.TheVariants.{Scan, Chunk, NoChunk, Abort, Hello, Read, Reply, Updated}
+use Rattle.av_frame.specs.declared.sizes.TheConstants.{CHUNK_HEADER, CLEAN_SIZE, FAILED_SIZE, HEAD_SIZE, HELLO_SIZE, INFECTED_SIZE, NO_CHUNK_SIZE, READ_SIZE, SCAN_SIZE, UPDATED_SIZE}
 use Rattle.av_frame.specs.Cause.{no_chunk_number, fail_number}
 use Rattle.av_frame.specs.Message.{IsInRange}
 
@@ -44,20 +45,20 @@ Spells body m = IsInRange m × (body ≡ spelling m)
 
 -- how many bytes spell an outcome
 abbrev pub outcome_size : Outcome → ℕ
-outcome_size (Judged version Clean) = 9
-outcome_size (Judged version (Infected index end_at)) = 21
-outcome_size (Failed cause) = 2
+outcome_size (Judged version Clean) = CLEAN_SIZE
+outcome_size (Judged version (Infected index end_at)) = INFECTED_SIZE
+outcome_size (Failed cause) = FAILED_SIZE
 
 -- how many bytes spell a message, its kind among them
 abbrev pub size_of : Body → ℕ
-size_of (Scan id stream generation size) = 41
-size_of (Chunk id offset bytes) = 25 + length bytes
-size_of (NoChunk id offset cause) = 26
-size_of (Abort id) = 17
-size_of (Hello volume version) = 17
-size_of (Read id offset count) = 29
-size_of (Reply id outcome) = 17 + outcome_size outcome
-size_of (Updated version) = 9
+size_of (Scan id stream generation size) = SCAN_SIZE
+size_of (Chunk id offset bytes) = CHUNK_HEADER + length bytes
+size_of (NoChunk id offset cause) = NO_CHUNK_SIZE
+size_of (Abort id) = HEAD_SIZE
+size_of (Hello volume version) = HELLO_SIZE
+size_of (Read id offset count) = READ_SIZE
+size_of (Reply id outcome) = HEAD_SIZE + outcome_size outcome
+size_of (Updated version) = UPDATED_SIZE
 
 -- a frame: the body's length in four bytes, then the body
 abbrev pub frame : Body → List ℕ

@@ -10,12 +10,12 @@ use crate::fault::FrameFault;
 use crate::fields::{u32_at, u64_at};
 use crate::message::{Body, Message, is_chunk};
 use crate::outcome::Outcome;
-use av_base::limits::MAX_CHUNK;
+use crate::sizes::{
+    CHUNK_HEADER, CLEAN_SIZE, FAILED_SIZE, HEAD_SIZE, HELLO_SIZE, INFECTED_SIZE, MAX_BODY,
+    NO_CHUNK_SIZE, READ_SIZE, SCAN_SIZE, UPDATED_SIZE,
+};
 use av_base::{ByteList, Generation, MessageId, Refusal, StreamId, Verdict, Version};
 use std::alloc::Global;
-
-/// The most bytes of a body: those of a chunk's kind, question and offset, and the chunk's.
-pub const MAX_BODY: usize = 25 + MAX_CHUNK as usize;
 
 /// The message that a body spells, all of its bytes, or the first fault. A chunk's bytes are copied once; no other
 /// message takes memory.
@@ -55,10 +55,10 @@ fn parts(alloc: Global, body: &[u8]) -> Result<Message, Refusal<FrameFault>>
 fn chunk(alloc: Global, body: &[u8]) -> Result<Message, Refusal<FrameFault>>
     ensures { Reads result (chunk_of body.now) }
 {
-    if body.len() < 26 {
+    if body.len() <= CHUNK_HEADER {
         return Err(Refusal::Fault(FrameFault::Shape));
     }
-    let (_, bytes) = body.split_at(25);
+    let (_, bytes) = body.split_at(CHUNK_HEADER);
     content(alloc, id_of(body), u64_at(body, 17), bytes)
 }
 
@@ -101,7 +101,7 @@ fn plain(body: &[u8]) -> Result<Message, FrameFault>
 fn scan(body: &[u8]) -> Result<Message, FrameFault>
     ensures { result ≡ scan_of body.now }
 {
-    if body.len() != 41 {
+    if body.len() != SCAN_SIZE {
         return Err(FrameFault::Shape);
     }
     in_range(Body::Scan {
@@ -116,7 +116,7 @@ fn scan(body: &[u8]) -> Result<Message, FrameFault>
 fn no_chunk(body: &[u8]) -> Result<Message, FrameFault>
     ensures { result ≡ no_chunk_of body.now }
 {
-    if body.len() != 26 {
+    if body.len() != NO_CHUNK_SIZE {
         return Err(FrameFault::Shape);
     }
     let Some(cause) = NoChunkCause::from_number(body[25]) else {
@@ -133,7 +133,7 @@ fn no_chunk(body: &[u8]) -> Result<Message, FrameFault>
 fn abort(body: &[u8]) -> Result<Message, FrameFault>
     ensures { result ≡ abort_of body.now }
 {
-    if body.len() != 17 {
+    if body.len() != HEAD_SIZE {
         return Err(FrameFault::Shape);
     }
     in_range(Body::Abort { id: id_of(body) })
@@ -143,7 +143,7 @@ fn abort(body: &[u8]) -> Result<Message, FrameFault>
 fn hello(body: &[u8]) -> Result<Message, FrameFault>
     ensures { result ≡ hello_of body.now }
 {
-    if body.len() != 17 {
+    if body.len() != HELLO_SIZE {
         return Err(FrameFault::Shape);
     }
     in_range(Body::Hello {
@@ -156,7 +156,7 @@ fn hello(body: &[u8]) -> Result<Message, FrameFault>
 fn read(body: &[u8]) -> Result<Message, FrameFault>
     ensures { result ≡ read_of body.now }
 {
-    if body.len() != 29 {
+    if body.len() != READ_SIZE {
         return Err(FrameFault::Shape);
     }
     in_range(Body::Read {
@@ -171,7 +171,7 @@ fn read(body: &[u8]) -> Result<Message, FrameFault>
 fn reply(body: &[u8]) -> Result<Message, FrameFault>
     ensures { result ≡ reply_of body.now }
 {
-    if body.len() < 18 {
+    if body.len() <= HEAD_SIZE {
         return Err(FrameFault::Shape);
     }
     match body[17] {
@@ -186,7 +186,7 @@ fn reply(body: &[u8]) -> Result<Message, FrameFault>
 fn clean(body: &[u8]) -> Result<Message, FrameFault>
     ensures { result ≡ clean_of body.now }
 {
-    if body.len() != 26 {
+    if body.len() != HEAD_SIZE + CLEAN_SIZE {
         return Err(FrameFault::Shape);
     }
     let version = Version::new(u64_at(body, 18));
@@ -201,7 +201,7 @@ fn clean(body: &[u8]) -> Result<Message, FrameFault>
 fn infected(body: &[u8]) -> Result<Message, FrameFault>
     ensures { result ≡ infected_of body.now }
 {
-    if body.len() != 38 {
+    if body.len() != HEAD_SIZE + INFECTED_SIZE {
         return Err(FrameFault::Shape);
     }
     let version = Version::new(u64_at(body, 18));
@@ -219,7 +219,7 @@ fn infected(body: &[u8]) -> Result<Message, FrameFault>
 fn failed(body: &[u8]) -> Result<Message, FrameFault>
     ensures { result ≡ failed_of body.now }
 {
-    if body.len() != 19 {
+    if body.len() != HEAD_SIZE + FAILED_SIZE {
         return Err(FrameFault::Shape);
     }
     let Some(cause) = FailCause::from_number(body[18]) else {
@@ -235,7 +235,7 @@ fn failed(body: &[u8]) -> Result<Message, FrameFault>
 fn updated(body: &[u8]) -> Result<Message, FrameFault>
     ensures { result ≡ updated_of body.now }
 {
-    if body.len() != 9 {
+    if body.len() != UPDATED_SIZE {
         return Err(FrameFault::Shape);
     }
     in_range(Body::Updated {
@@ -244,7 +244,7 @@ fn updated(body: &[u8]) -> Result<Message, FrameFault>
 }
 
 fn id_of(body: &[u8]) -> MessageId
-    requires { 17 ≤ length body.now }
+    requires { HEAD_SIZE ≤ length body.now }
     ensures { result ≡ id_at body.now }
 {
     MessageId {

@@ -3,10 +3,13 @@ ghost use Rattle.av_frame.specs.Message.{IsInRange};
 ghost use Rattle.av_frame.specs.declared.message.Body.TheVariants.{Scan};
 ghost use Rattle.av_frame.specs.Spelling.{field8, frame, id_fields, outcome_fields, outcome_size, size_of, spelling};
 
-use crate::decode::MAX_BODY;
 use crate::fields::{put1, put4, put8};
 use crate::message::{Body, Message};
 use crate::outcome::Outcome;
+use crate::sizes::{
+    CHUNK_HEADER, CLEAN_SIZE, FAILED_SIZE, HEAD_SIZE, HELLO_SIZE, INFECTED_SIZE, MAX_BODY,
+    NO_CHUNK_SIZE, READ_SIZE, SCAN_SIZE, UPDATED_SIZE,
+};
 use av_base::{Generation, MessageId, StreamId, Verdict};
 use std::alloc::AllocError;
 
@@ -31,13 +34,14 @@ fn size(body: &Body) -> usize
     ensures small { result ≤ MAX_BODY }
 {
     match body {
-        Body::Scan { .. } => 41,
-        Body::Chunk { bytes, .. } => 25 + bytes.len(),
-        Body::NoChunk { .. } => 26,
-        Body::Abort { .. } | Body::Hello { .. } => 17,
-        Body::Read { .. } => 29,
-        Body::Reply { outcome, .. } => 17 + outcome_bytes(*outcome),
-        Body::Updated { .. } => 9,
+        Body::Scan { .. } => SCAN_SIZE,
+        Body::Chunk { bytes, .. } => CHUNK_HEADER + bytes.len(),
+        Body::NoChunk { .. } => NO_CHUNK_SIZE,
+        Body::Abort { .. } => HEAD_SIZE,
+        Body::Hello { .. } => HELLO_SIZE,
+        Body::Read { .. } => READ_SIZE,
+        Body::Reply { outcome, .. } => HEAD_SIZE + outcome_bytes(*outcome),
+        Body::Updated { .. } => UPDATED_SIZE,
     }
 }
 
@@ -46,10 +50,10 @@ fn outcome_bytes(outcome: Outcome) -> usize
 {
     match outcome {
         Outcome::Judged { verdict, .. } => match verdict {
-            Verdict::Clean => 9,
-            Verdict::Infected { .. } => 21,
+            Verdict::Clean => CLEAN_SIZE,
+            Verdict::Infected { .. } => INFECTED_SIZE,
         },
-        Outcome::Failed { .. } => 2,
+        Outcome::Failed { .. } => FAILED_SIZE,
     }
 }
 
@@ -95,7 +99,7 @@ fn put_body(out: &mut Vec<u8>, body: &Body)
 }
 
 fn put_scan(out: &mut Vec<u8>, id: MessageId, stream: StreamId, generation: Generation, length: u64)
-    requires { vec_len out.old + 41 ≤ vec_capacity out.old }
+    requires { vec_len out.old + SCAN_SIZE ≤ vec_capacity out.old }
     ensures { out.new.items ≡ out.old.items ++ spelling (Scan id stream generation length) }
 {
     put_head(out, 1, id);
@@ -106,9 +110,9 @@ fn put_scan(out: &mut Vec<u8>, id: MessageId, stream: StreamId, generation: Gene
 
 // A kind, a question's id, and a place in its content.
 fn put_place(out: &mut Vec<u8>, kind: u8, id: MessageId, offset: u64)
-    requires { vec_len out.old + 25 ≤ vec_capacity out.old }
+    requires { vec_len out.old + CHUNK_HEADER ≤ vec_capacity out.old }
     ensures bytes { out.new.items ≡ out.old.items ++ kind ∷ (id_fields id ++ field8 offset) }
-    ensures len { vec_len out.new ≡ vec_len out.old + 25 }
+    ensures len { vec_len out.new ≡ vec_len out.old + CHUNK_HEADER }
     ensures capacity { vec_capacity out.old ≤ vec_capacity out.new }
 {
     put_head(out, kind, id);
@@ -117,9 +121,9 @@ fn put_place(out: &mut Vec<u8>, kind: u8, id: MessageId, offset: u64)
 
 // A kind and a question's id.
 fn put_head(out: &mut Vec<u8>, kind: u8, id: MessageId)
-    requires { vec_len out.old + 17 ≤ vec_capacity out.old }
+    requires { vec_len out.old + HEAD_SIZE ≤ vec_capacity out.old }
     ensures bytes { out.new.items ≡ out.old.items ++ kind ∷ id_fields id }
-    ensures len { vec_len out.new ≡ vec_len out.old + 17 }
+    ensures len { vec_len out.new ≡ vec_len out.old + HEAD_SIZE }
     ensures capacity { vec_capacity out.old ≤ vec_capacity out.new }
 {
     put1(out, kind);

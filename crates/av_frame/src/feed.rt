@@ -4,10 +4,11 @@ ghost use Rattle.av_frame.specs.Feed.{BeginsWithFrame, GivesNext, front_of, push
 ghost use Rattle.av_frame.specs.Message.{IsInRange};
 ghost use Rattle.av_frame.specs.Spelling.{frame};
 
-use crate::decode::{MAX_BODY, decode};
+use crate::decode::decode;
 use crate::fault::{FeedFault, FrameFault};
 use crate::fields::u32_at;
 use crate::message::Message;
+use crate::sizes::MAX_BODY;
 use av_base::Refusal;
 use bytes::BytesMut;
 use std::alloc::Global;

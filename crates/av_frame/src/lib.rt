@@ -19,6 +19,7 @@ pub mod frames;
 pub mod laws;
 pub mod message;
 pub mod outcome;
+pub mod sizes;
 #[cfg(test)]
 mod tests;
 
