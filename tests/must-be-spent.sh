@@ -1,7 +1,7 @@
 #!/bin/sh
 # A value that must be spent can't be let go: code that does so isn't compiled. For each such type a copy of the project gets a
-# function that lets a value go, and `rt try`, which compiles without proving, has to refuse it as `linear-value-let-go`, of that
-# type. The last line counts the types. Needs `rt`.
+# function that lets a value go, and `rt try`, which compiles a crate's tests without proving, has to refuse it as
+# `linear-value-let-go`, of that type. The last line counts the types. Needs `rt`.
 set -eu
 cd "$(dirname "$0")/.."
 copy=$(mktemp -d)
@@ -28,7 +28,9 @@ must_be_spent() {
         number=$((number + 1))
         printf '\npub fn let_go_%s(value: %s) {\n    let _left = value;\n}\n' $number "${type#*:}" >> "crates/$crate/src/${type%:*}.rt"
     done
-    (cd "crates/$crate" && rt try --test) > "$copy/log" 2>&1 || true
+    tests=$crate
+    if [ -d "crates/${crate}_tests" ]; then tests=${crate}_tests; fi
+    (cd "crates/$tests" && rt try --test) > "$copy/log" 2>&1 || true
     for type in "$@"; do
         name=${type#*:}
         if grep -q "linear-value-let-go.*\`$name\` is not \`Drop\`" "$copy/log"; then

@@ -19,8 +19,6 @@ mod given;
 pub mod lent;
 pub mod locked;
 pub mod shared;
-#[cfg(test)]
-mod tests;
 
 pub use audit::Audit;
 pub use desk::Desk;

@@ -15,8 +15,6 @@ mod opening;
 pub mod out;
 mod receiving;
 mod running;
-#[cfg(test)]
-mod tests;
 mod timing_out;
 
 pub use fault::FilterFault;

@@ -17,8 +17,6 @@ mod naming;
 mod same;
 pub mod seat;
 pub mod settled;
-#[cfg(test)]
-mod tests;
 
 pub use audit::Audit;
 pub use call::Call;

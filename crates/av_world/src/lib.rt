@@ -19,8 +19,6 @@ pub mod pattern;
 pub mod report;
 pub mod run_script;
 pub mod script;
-#[cfg(test)]
-mod tests;
 pub mod world;
 
 pub use event::Event;
