@@ -7,9 +7,13 @@ usage: edits.py [--until SECONDS] [CRATE ...]
 functions share a check of a copy of the crate. The prover judges a function by its own body and the contracts of what it
 calls, and doesn't look at one that calls what is not proved: an edit that is hidden so is tried again without what hid it. An
 edit whose function passes beside others, and one that changes no function, is tried alone. No check is begun once the clock
-(seconds since 1970) is past --until: a line says how many edits were not tried then. The last line counts those that were.
-Needs `rt`, and takes what `rt all check` kept.
+(seconds since 1970) is past --until: a line says how many edits were not tried then. Each day begins with another crate, so
+that it is not always the same ones that are left. The last line counts those that were tried.
+
+Needs `rt`, and takes what `rt check` kept. Of a crate that no other stands on, the program, only the functions that edits change
+are proved, and what they call.
 """
+import argparse
 import concurrent.futures
 import os
 import re
@@ -20,12 +24,16 @@ import tempfile
 import time
 
 TOP = os.path.dirname(os.path.dirname(os.path.abspath(__file__)))
+CRATES = f"{TOP}/crates"
 # How many edits share a check at most, so that none takes too long.
 MOST = 40
 HEAD = re.compile(r"((?: {4})?)(?:pub(?:\(\w+\))? )?(?:const )?fn (\w+)")
 OWNER = re.compile(r"(?:pub(?:\(\w+\))? )?(?:impl|trait)\b(?:<.*?>(?= ))?(?: .*? for)? \W*(\w+)")
 # What the prover tells of a function, but where it tried no contract: where the borrow checker covers no such form.
 TOLD = re.compile(r"^fn (\S+): (proved|not proved|no proof: it calls|no proof(?!.*the borrow checker does not cover))", re.M)
+
+# How a check ends that reached the prover: whether the crate is proved, or how many of the functions asked for are.
+END = re.compile(r"^(?:logic=(?:(proved)|not-proved)|only=(\d+) proved=(\d+)$)", re.M)
 
 
 class Edit:
@@ -54,6 +62,14 @@ class Edit:
             text = text.replace(old, new)
         return text
 
+    def module(self):
+        """The names of the modules that its file is within."""
+        return [it for it in self.file[len("src/") : -len(".rt")].split("/") if it not in ("lib", "main", "mod")]
+
+    def paths(self):
+        """What `rt check --only` names its functions by: a function by itself, a method by its type."""
+        return {"::".join([*self.module(), owner or name]) for owner, name in self.functions - {None}}
+
     def names(self):
         return " and ".join(sorted(name for _, name in self.functions))
 
@@ -68,12 +84,11 @@ class Edit:
         words = [it for it in path.split("::") if it != "fn"]
         if owner:
             return any(one.startswith(owner) and other == name for one, other in zip(words, words[1:]))
-        module = [it for it in self.file[len("src/") : -len(".rt")].split("/") if it not in ("lib", "main", "mod")]
-        return words[: 2 + len(module)] == [self.crate, *module, name]
+        return words[: 2 + len(self.module())] == [self.crate, *self.module(), name]
 
 
 def source(edit):
-    with open(f"{TOP}/crates/{edit.crate}/{edit.file}", encoding="utf-8") as file:
+    with open(f"{CRATES}/{edit.crate}/{edit.file}", encoding="utf-8") as file:
         return file.read()
 
 
@@ -120,6 +135,14 @@ def listed():
         return [(line.partition(":")[0], line) for line in file if ":" in line and not line.startswith("#")]
 
 
+def link(file, to):
+    """The same file at one more place, or a copy where that can't be: libraries are large, and nothing changes them."""
+    try:
+        os.link(file, to)
+    except OSError:
+        shutil.copy2(file, to)
+
+
 class Copy:
     """A copy of a crate and of those below it, with what earlier checks kept: its own proofs, and the others as libraries."""
 
@@ -129,24 +152,33 @@ class Copy:
         with open(f"{room}/crates.txt", "w", encoding="utf-8") as file:
             file.writelines(line for name, line in listed() if name in (crate, *below))
         for name in (crate, *below):
-            for part in ("src", "specs", "proofs", "out/incremental" if name == crate else "out/rlib"):
-                if os.path.isdir(f"{TOP}/crates/{name}/{part}"):
-                    shutil.copytree(f"{TOP}/crates/{name}/{part}", f"{room}/crates/{name}/{part}")
+            for part in ("src", "specs", "proofs"):
+                if os.path.isdir(f"{CRATES}/{name}/{part}"):
+                    shutil.copytree(f"{CRATES}/{name}/{part}", f"{room}/crates/{name}/{part}")
+            if name in below:
+                shutil.copytree(f"{CRATES}/{name}/out/rlib", f"{room}/crates/{name}/out/rlib", copy_function=link)
+        proofs = f"{CRATES}/{crate}/out/incremental"
+        if os.path.isdir(proofs):
+            shutil.copytree(proofs, f"{self.folder}/out/incremental")
+        self.is_top = not any(crate in line.split()[1:] for _, line in listed())
+        self.checks = 0
 
-    def check(self, texts):
-        """Checks the crate with these texts in place of its own: whether the prover was reached, what it told of each function,
-        and all that was said."""
+    def check(self, texts, paths):
+        """Checks the crate with these texts in place of its own: what the prover told of each function, and all that was said."""
+        self.checks += 1
         own = {}
         for file, text in texts.items():
             with open(f"{self.folder}/{file}", encoding="utf-8") as it:
                 own[file] = it.read()
             with open(f"{self.folder}/{file}", "w", encoding="utf-8") as it:
                 it.write(text)
-        ran = subprocess.run(["rt", "check", "--jobs", "1"], cwd=self.folder, stdout=subprocess.PIPE, stderr=subprocess.STDOUT, errors="replace")
+        only = [word for path in sorted(paths) for word in ("--only", path) if self.is_top]
+        how = {"stdin": subprocess.DEVNULL, "stdout": subprocess.PIPE, "stderr": subprocess.STDOUT, "encoding": "utf-8", "errors": "replace"}
+        ran = subprocess.run(["rt", "check", "--jobs", "1", *only], cwd=self.folder, **how)
         for file, text in own.items():
             with open(f"{self.folder}/{file}", "w", encoding="utf-8") as it:
                 it.write(text)
-        return "\nlogic=" in ran.stdout, TOLD.findall(ran.stdout), ran.stdout
+        return TOLD.findall(ran.stdout), ran.stdout
 
 
 class Tally:
@@ -155,6 +187,9 @@ class Tally:
     def __init__(self, copy, until):
         self.copy, self.until = copy, until
         self.refused = self.not_refused = self.untried = 0
+
+    def counts(self):
+        return self.refused, self.not_refused, self.untried
 
     def tell(self, edit, is_refused, text):
         print(f"must-fail {edit.crate}/{edit.name}: {text}", flush=True)
@@ -182,11 +217,11 @@ class Tally:
         for texts, members in groups_of(edits):
             if self.is_over(len(members)):
                 continue
-            reached, functions, _ = self.copy.check(texts)
+            functions, _ = self.copy.check(texts, set().union(*[edit.paths() for edit in members]))
             for edit in members:
-                if reached and edit.is_told(functions, "not proved", "no proof"):
+                if edit.is_told(functions, "not proved", "no proof"):
                     self.tell(edit, True, f"refused in {edit.names()}")
-                elif reached and edit.is_told(functions, "not proved", "no proof", "no proof: it calls"):
+                elif edit.is_told(functions, "not proved", "no proof", "no proof: it calls"):
                     hidden.append(edit)
                 else:
                     self.try_alone(edit)
@@ -196,11 +231,12 @@ class Tally:
         """Tries an edit in a check of its own, where any function may be the one that is refused."""
         if self.is_over(1):
             return
-        reached, functions, said = self.copy.check({edit.file: edit.apply(source(edit))})
+        functions, said = self.copy.check({edit.file: edit.apply(source(edit))}, edit.paths())
         refused = [path for path, how in functions if how in ("not proved", "no proof")]
-        if not reached:
-            self.tell(edit, False, f"doesn't compile: {said[-300:]}")
-        elif "\nlogic=not-proved" not in said:
+        ended = END.search(said)
+        if not ended:
+            self.tell(edit, False, f"doesn't compile: {said[-300:]!r}")
+        elif ended[1] or ended[2] and ended[2] == ended[3]:
             self.tell(edit, False, "NOT REFUSED: the crate is still proved with this edit")
         elif refused:
             self.tell(edit, True, f"refused, alone, in {refused[0]}")
@@ -210,36 +246,43 @@ class Tally:
 
 def tried(crate, below, until):
     """Tries the edits of a crate."""
-    begun, folder = time.time(), f"{TOP}/crates/{crate}/must-fail"
+    begun, folder = time.time(), f"{CRATES}/{crate}/must-fail"
     edits = [Edit(crate, f"{folder}/{name}") for name in sorted(os.listdir(folder)) if name.endswith(".edit")]
-    with tempfile.TemporaryDirectory(prefix="edits-") as room:
+    os.makedirs(f"{TOP}/out", exist_ok=True)
+    with tempfile.TemporaryDirectory(prefix="edits-", dir=f"{TOP}/out") as room:
         tally = Tally(Copy(crate, below, room), until)
         lost = [edit for edit in edits if edit.apply(source(edit)) is None]
         for edit in lost:
             tally.tell(edit, False, "its text doesn't stand once in its file")
         tally.try_all([edit for edit in edits if edit not in lost])
-    print(f"{crate}: {len(edits)} edits in {time.time() - begun:.0f} s", flush=True)
+    print(f"{crate}: {len(edits)} edits in {tally.copy.checks} checks and {time.time() - begun:.0f} s", flush=True)
     return tally
 
 
 def main(words):
-    until = float("inf")
-    if words[:1] == ["--until"]:
-        until, words = float(words[1]), words[2:]
+    asked = argparse.ArgumentParser(add_help=False)
+    asked.add_argument("--until", type=float, default=float("inf"))
+    asked.add_argument("crates", nargs="*")
+    asked = asked.parse_args(words)
     below = {}
     for crate, line in listed():
         own = [it for it in line.split()[1:] if it in below]
         below[crate] = {*own, *[lower for it in own for lower in below[it]]}
-    crates = [it for it in below if (not words or it in words) and os.path.isdir(f"{TOP}/crates/{it}/must-fail")]
-    longest = sorted(crates, key=lambda it: -len(os.listdir(f"{TOP}/crates/{it}/must-fail")))
+    crates = [it for it in below if (not asked.crates or it in asked.crates) and os.path.isdir(f"{CRATES}/{it}/must-fail")]
+    first = int(time.time() / 86400) % len(crates)
     with concurrent.futures.ThreadPoolExecutor(len(os.sched_getaffinity(0))) as pool:
-        tallies = [*pool.map(lambda it: tried(it, below[it], until), longest)]
-    untried = sum(tally.untried for tally in tallies)
+        begun = [(it, pool.submit(tried, it, below[it], asked.until)) for it in crates[first:] + crates[:first]]
+    refused = not_refused = untried = 0
+    for crate, run in begun:
+        if run.exception():
+            print(f"{crate}: its edits could not be tried: {run.exception()!r}")
+            not_refused += 1
+        else:
+            refused, not_refused, untried = (a + b for a, b in zip((refused, not_refused, untried), run.result().counts()))
     if untried:
         print(f"edits that were not tried, since the time was over: {untried}")
-    failed = sum(tally.not_refused for tally in tallies)
-    print(f"{sum(tally.refused for tally in tallies)} passed, {failed} failed")
-    return 1 if failed else 0
+    print(f"{refused} passed, {not_refused} failed")
+    return 1 if not_refused else 0
 
 
 sys.exit(main(sys.argv[1:]))
