@@ -1,4 +1,4 @@
-use Rattle.std.specs.Prelude.{ℕ}
+use Rattle.std.specs.Prelude.{ℕ, List, [], ◌∷◌, if◌then◌else◌, nat_lt}
 use Rattle.av_engines.specs.declared.end.End.{End}
 use Rattle.av_engines.specs.declared.end.End.TheVariants as end
 use Rattle.av_world.specs.declared.run_script.RunFault.{RunFault}
@@ -31,3 +31,12 @@ status_of_end end.AuditFull = Refused
 status_of_end end.Memory = Memory
 status_of_end end.ReadFault = Device
 status_of_end end.WriteFault = Device
+
+-- of two ends the one whose status is the greater, the first of two that have the same
+abbrev pub graver : End → End → End
+graver one other = if nat_lt (number_of (status_of_end one)) (number_of (status_of_end other)) then other else one
+
+-- the gravest of an end and of those that follow it
+abbrev pub gravest_from : End → List End → End
+gravest_from before [] = before
+gravest_from before (e ∷ es) = gravest_from (graver before e) es

@@ -3,6 +3,7 @@
 
 ghost use Rattle.std.specs.Prelude.{◌≡◌, MatchResult};
 ghost use Rattle.av_gate.specs.Seats.{IsSeatOf};
+ghost use Rattle.avscan.specs.Status.{graver};
 
 use crate::carrying::{Wire, back_to_desk, into_desk, into_gate, out_of_desk, out_of_gate};
 use crate::faults::status_of;
@@ -370,10 +371,12 @@ fn watch<R: Wait, C: Clock, E: Write>(
 }
 
 /// The end whose status is the greater, the first of two that have the same.
-pub fn gravest(one: End, other: End) -> End {
-    if status_of(one).number() >= status_of(other).number() {
-        one
-    } else {
+pub fn gravest(one: End, other: End) -> End
+    ensures { result ≡ graver one other }
+{
+    if status_of(one).number() < status_of(other).number() {
         other
+    } else {
+        one
     }
 }

@@ -1,6 +1,8 @@
-ghost use Rattle.std.specs.Prelude.{◌≡◌, IfOk};
+ghost use Rattle.std.specs.Prelude.{◌≡◌, IfOk, map};
 ghost use Rattle.av_filter.specs.Bounds.{AreInBounds};
+ghost use Rattle.av_engines.specs.declared.end.End.TheVariants.{Done};
 ghost use Rattle.av_gate.specs.Seats.{IsSeatOf};
+ghost use Rattle.avscan.specs.Status.{gravest_from};
 
 use crate::carrying::Wire;
 use crate::crew::{gravest, meet};
@@ -169,7 +171,9 @@ fn open_at<'a, R: Hosting, C: Clock, E: Write>(
 }
 
 // The gravest end that an opener came to.
-fn end_of_openers(brought: &[Brought]) -> End {
+fn end_of_openers(brought: &[Brought]) -> End
+    ensures { result ≡ gravest_from Done (map (λ b. b.end) brought.now) }
+{
     let mut end = End::Done;
     'openers: for opener in brought {
         end = gravest(end, opener.end);
