@@ -162,7 +162,11 @@ fn happen(
         Step::Disconnect => Ok(filter.disconnect(alloc, volume)?),
         _ => match message_of(step) {
             Some(message) => Ok(filter.message(alloc, volume, &message)?),
-            None => Ok(Out::says(alloc, Note::Ignored)),
+            None => Ok(Out {
+                answers: Vec::new(alloc),
+                messages: Vec::new(alloc),
+                note: Note::Ignored,
+            }),
         },
     }
 }
