@@ -1,17 +1,22 @@
+mod cases;
 mod cut;
+mod faults;
 mod floods;
 mod frames;
 mod sides;
 mod sockets;
+mod text;
+mod told;
+mod wrong_to_filter;
+mod wrong_to_service;
 
 use self::cut::CutReader;
 use self::frames::{DOWN, UP};
 use self::sides::{served, watched};
+use self::told::{LOST, Told};
 use crate::end::End;
 use crate::watching::Watched;
-use av_base::{Cause, Generation, OpenId, StreamId, Version};
 use av_fakes::{FakeReader, FakeWriter, Fault};
-use av_pend::Answer;
 use std::alloc::Global;
 use std::test::Fail;
 
@@ -21,47 +26,12 @@ fn is_watched(watched: &Watched, writer: &FakeWriter, end: End, out: usize, told
     watched.end == end && writer.taken() == &DOWN[..out.min(77)] && told.is(&watched.answers)
 }
 
-// What open 1 was told.
-#[derive(Clone, Copy)]
-enum Told {
-    Nothing,
-    Granted,
-    Lost,
-}
-
-impl Told {
-    fn is(self, answers: &[Answer]) -> bool {
-        match self {
-            Told::Nothing => answers.is_empty(),
-            Told::Granted => answers == [granted()].as_slice(),
-            Told::Lost => answers == [lost()].as_slice(),
-        }
-    }
-}
-
-fn granted() -> Answer {
-    Answer::Granted {
-        open_id: OpenId::new(1),
-        least: Version::new(0),
-        stream: StreamId::new(1),
-        generation: Generation::new(2),
-        version: Version::new(1),
-    }
-}
-
-fn lost() -> Answer {
-    Answer::Denied {
-        open_id: OpenId::new(1),
-        cause: Cause::PortDisconnected,
-    }
-}
-
 // What the worked input leaves of which so many bytes came: how many bytes are out, and what open 1 was told.
 fn left_by(came: usize) -> (usize, Told) {
     match came {
         0..=20 => (0, Told::Nothing),
-        21..=53 => (45, Told::Lost),
-        _ => (77, Told::Lost),
+        21..=53 => (45, LOST),
+        _ => (77, LOST),
     }
 }
 
@@ -81,7 +51,7 @@ fn runs_cut(alloc: Global, cuts: &[usize]) -> Result<bool, Fail> {
     let mut reader = CutReader::new(&UP, cuts);
     let mut writer = FakeWriter::new(alloc);
     let run = watched(alloc, &mut reader, &mut writer, 1_000)?;
-    let watched = is_watched(&run, &writer, End::Done, 77, Told::Granted);
+    let watched = is_watched(&run, &writer, End::Done, 77, Told::Granted(1));
     let mut back = CutReader::new(&DOWN, cuts);
     let mut answer = FakeWriter::new(alloc);
     let end = served(alloc, &mut back, &mut answer, 1_000)?;
@@ -92,7 +62,7 @@ fn runs_in_pieces(alloc: Global, piece: usize) -> Result<bool, Fail> {
     let mut reader = FakeReader::new(&UP).in_pieces_of(piece);
     let mut writer = FakeWriter::new(alloc);
     let run = watched(alloc, &mut reader, &mut writer, 1_000)?;
-    let watched = is_watched(&run, &writer, End::Done, 77, Told::Granted);
+    let watched = is_watched(&run, &writer, End::Done, 77, Told::Granted(1));
     let mut back = FakeReader::new(&DOWN).in_pieces_of(piece);
     let mut answer = FakeWriter::new(alloc);
     let end = served(alloc, &mut back, &mut answer, 1_000)?;
@@ -166,14 +136,14 @@ fn breaks_at(alloc: Global, write: u64, fault: Fault) -> Result<bool, Fail> {
     let mut writer = FakeWriter::new(alloc).in_pieces_of(1).with(fault);
     let run = watched(alloc, &mut FakeReader::new(&UP), &mut writer, 1_000)?;
     let out = write.saturating_sub(1) as usize;
-    Ok(is_watched(&run, &writer, End::WriteFault, out, Told::Lost))
+    Ok(is_watched(&run, &writer, End::WriteFault, out, LOST))
 }
 
 #[test]
 fn a_writer_that_cannot_be_flushed_is_a_write_fault(rt: HostRuntime) -> Result<(), Fail> {
     let mut writer = FakeWriter::new(rt.alloc()).with(Fault::KeepsUnflushed);
     let run = watched(rt.alloc(), &mut FakeReader::new(&UP), &mut writer, 1_000)?;
-    assert!(rt; is_watched(&run, &writer, End::WriteFault, 45, Told::Lost));
+    assert!(rt; is_watched(&run, &writer, End::WriteFault, 45, LOST));
     let end = served(rt.alloc(), &mut FakeReader::new(&DOWN), &mut writer, 1_000)?;
     assert!(rt; end == End::WriteFault);
     Ok(())
@@ -195,7 +165,7 @@ fn a_wrong_frame_ends_an_engine(rt: HostRuntime) -> Result<(), Fail> {
     greeted[..21].copy_from_slice(&UP[..21]);
     greeted[24] = 1;
     greeted[25] = 9;
-    assert!(rt; frame_fault(rt.alloc(), &greeted, 45, Told::Lost)?);
+    assert!(rt; frame_fault(rt.alloc(), &greeted, 45, LOST)?);
     Ok(())
 }
 

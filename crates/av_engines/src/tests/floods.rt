@@ -1,8 +1,8 @@
 // Scans that are more than a service keeps, and a chunk that is too long.
 use crate::end::End;
 use crate::tests::frames::DOWN;
-use crate::tests::sides::{limits_of_jobs, served, served_within};
-use av_base::{ByteList, Generation, MessageId, StreamId};
+use crate::tests::sides::{limits_with, served, served_within};
+use av_base::{ByteList, Generation, LimitField, MessageId, StreamId};
 use av_fakes::{FakeReader, FakeWriter};
 use av_frame::encode::encode_into;
 use av_frame::{FailCause, Message, Outcome};
@@ -79,7 +79,7 @@ fn a_flood_of_scans_is_answered_one_by_one(rt: HostRuntime) -> Result<(), Fail> 
     let mut writer = FakeWriter::new(alloc);
     let end = served_within(
         alloc,
-        limits_of_jobs(256)?,
+        limits_with((LimitField::Jobs, 256))?,
         &mut FakeReader::new(&input),
         &mut writer,
         1_000,

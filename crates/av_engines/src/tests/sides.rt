@@ -1,5 +1,5 @@
-// Both engines over a volume of one stream, `ABC`, and a set of version 1 with the pattern `XX`.
-ghost use Rattle.std.specs.Prelude.{IfOk};
+// Both engines over a volume of two streams, `ABC` and `AXX`, and a set of version 1 with the pattern `XX`.
+ghost use Rattle.std.specs.Prelude.{IfOk, OnOk};
 ghost use Rattle.av_filter.specs.Bounds.{AreInBounds};
 
 use crate::end::End;
@@ -19,16 +19,25 @@ use std::io::{Read, Write};
 #[derive(Clone, Copy, Debug)]
 pub struct Unmade;
 
-pub fn volume_of_one(alloc: Global) -> Result<Volume, Unmade>
+pub fn volume_of_two(alloc: Global) -> Result<Volume, Unmade>
     ensures { IfOk result (λ v. AreInBounds v) }
 {
     let mut volume = Volume::new(alloc, 1, Limits::greatest());
     let _in_range = Limits::greatest().values();
-    let Ok(first) = volume.create(alloc, b"a") else {
+    add_stream(alloc, &mut volume, b"a", b"ABC")?;
+    add_stream(alloc, &mut volume, b"b", b"AXX")?;
+    Ok(volume)
+}
+
+fn add_stream(alloc: Global, volume: &mut Volume, name: &[u8], content: &[u8]) -> Result<(), Unmade>
+    requires { AreInBounds volume.old }
+    ensures { OnOk result (AreInBounds volume.new) }
+{
+    let Ok(stream) = volume.create(alloc, name) else {
         return Err(Unmade);
     };
-    match volume.write(first, 0, b"ABC") {
-        Ok(_) => Ok(volume),
+    match volume.write(stream, 0, content) {
+        Ok(()) => Ok(()),
         Err(_) => Err(Unmade),
     }
 }
@@ -62,9 +71,20 @@ pub fn watched_opens<R: Read, W: Write>(
     writer: &mut W,
     turns: u64,
 ) -> Result<Watched, Unmade> {
-    let mut volume = volume_of_one(alloc)?;
+    watched_within(alloc, Limits::greatest(), opens, reader, writer, turns)
+}
+
+pub fn watched_within<R: Read, W: Write>(
+    alloc: Global,
+    limits: Limits,
+    opens: &[StreamId],
+    reader: &mut R,
+    writer: &mut W,
+    turns: u64,
+) -> Result<Watched, Unmade> {
+    let mut volume = volume_of_two(alloc)?;
     let mode = Mode::FailClosed;
-    let Ok(mut filter) = Filter::mount(alloc, &mut volume, mode, Limits::greatest()) else {
+    let Ok(mut filter) = Filter::mount(alloc, &mut volume, mode, limits) else {
         return Err(Unmade);
     };
     if volume.opens_left() < opens.len() as u64 {
@@ -142,9 +162,10 @@ pub fn refused_serve(alloc: Global) -> Result<bool, Unmade> {
     })
 }
 
-// The greatest limits but this many jobs.
-pub fn limits_of_jobs(jobs: u64) -> Result<Limits, Unmade> {
-    match Limits::check(LimitValues::greatest().with(LimitField::Jobs, jobs)) {
+// The greatest limits but this one.
+pub fn limits_with(limit: (LimitField, u64)) -> Result<Limits, Unmade> {
+    let (field, most) = limit;
+    match Limits::check(LimitValues::greatest().with(field, most)) {
         Ok(limits) => Ok(limits),
         Err(_) => Err(Unmade),
     }
