@@ -2,7 +2,7 @@
 # The whole gate: every proof from nothing and the tests (`rt ci`), what must not compile, each case of tests/ on the program as
 # it was built, and the must-fail edits. The last line counts them all.
 # `rt ci` runs in a copy without the edits: it would try each in a check of its own, which takes longer than all the rest. Where the
-# machine is slow, the edits that are left after 160 minutes are not tried, and a line says how many.
+# machine is slow, the edits that are left after 125 minutes are not tried, and a line says how many.
 set -u
 cd "$(dirname "$0")/.."
 begun=$(date +%s)
@@ -63,6 +63,6 @@ step python3 tests/docs.py "$program"
 echo "gate: must-fail edits, over a proof of each crate that the program stands on"
 rm -rf "$room/crates"
 (cd crates/avscan && rt check --only '') 2>&1 | grep -aE '^rt: |^so far|: error|error\[|no proof'
-step python3 tests/edits.py --until $((begun + 9600))
+step python3 tests/edits.py --until $((begun + 7500))
 echo "$passed passed, $failed failed"
 [ "$failed" = 0 ]
