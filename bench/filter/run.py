@@ -5,7 +5,7 @@ filtertime.txt is the program that is timed: it fills a volume, lets the filter 
 streams to where an event finds them, and times a batch of that event; then each question of the batch is ended. Streams are taken in
 an order that goes all over the volume, and in a second table the same 16 streams have all events. It is built in a copy of the repository, so that the gate need not prove it; the copy takes
 along what the crates' checks keep in out/. Requests for memory are counted by tests/fail_nth.c between the marks of each batch."""
-import os, shutil, subprocess, sys, tempfile
+import os, subprocess, sys, tempfile
 
 ROUNDS = 9
 PASSES = 7
@@ -28,44 +28,14 @@ EVENTS = {
 }
 MOST_CONTEXT, MOST_TIMES, MOST_DISCONNECT = 300, 2, 0.3
 HERE = os.path.dirname(os.path.abspath(__file__))
-ROOT = os.path.dirname(os.path.dirname(HERE))
+sys.path.insert(0, os.path.dirname(HERE))
+import timed
 
 
 def build(folder):
-    """The program, built from the crates as they are."""
-    subprocess.run(["rt", "check"], cwd=os.path.join(ROOT, "crates", "av_filter"), check=True, stdout=subprocess.DEVNULL)
-    shutil.copy(os.path.join(ROOT, "HANDLES"), folder)
-    with open(os.path.join(ROOT, "crates.txt")) as file:
-        lines = [line for line in file if line.split(":")[0] in CRATES]
-    with open(os.path.join(folder, "crates.txt"), "w") as file:
-        file.write("".join(lines) + "filtertime: " + " ".join(CRATES[1:]) + " anyhow\n")
-    for crate in CRATES:
-        shutil.copytree(os.path.join(ROOT, "crates", crate), os.path.join(folder, "crates", crate), symlinks=True)
-    own = os.path.join(folder, "crates", "filtertime")
-    os.makedirs(os.path.join(own, "src"))
-    os.makedirs(os.path.join(own, "specs"))
-    open(os.path.join(own, "specs", "Lib.antt"), "w").close()
-    shutil.copy(os.path.join(HERE, "filtertime.txt"), os.path.join(own, "src", "main.rt"))
-    os.makedirs(os.path.join(own, "proofs", "Disk", "create"))
-    shutil.copy(os.path.join(HERE, "create_answers.txt"), os.path.join(own, "proofs", "Disk", "create", "Answers.antt"))
-    subprocess.run(["git", "init", "-q", folder], check=True)
-    done = subprocess.run(["rt", "run", "--", "context", "64", "1", "0", "0"], cwd=own, stdout=subprocess.PIPE, stderr=subprocess.STDOUT, text=True)
-    program = os.path.join(own, "out", "filtertime")
-    if done.returncode != 0 or not os.path.exists(program):
-        sys.exit(f"filtertime was not built:\n{done.stdout[-4000:]}")
-    return program
-
-
-def counter(folder):
-    """The library that counts requests for memory, or None where there is no C compiler."""
-    library = os.path.join(folder, "fail_nth.so")
-    words = ["cc", "-shared", "-fPIC", "-O1", "-o", library, os.path.join(ROOT, "tests", "fail_nth.c")]
-    try:
-        subprocess.run(words, check=True)
-    except (OSError, subprocess.CalledProcessError):
-        print("no C compiler: requests for memory are not counted")
-        return None
-    return library
+    timed.check("av_filter")
+    words = ["context", "64", "1", "0", "0"]
+    return timed.build(os.path.join(folder, "copy"), os.path.join(HERE, "filtertime.txt"), CRATES, (*CRATES[1:], "anyhow"), words)
 
 
 def run(program, event, streams, rounds, few, marked, **more):
@@ -148,7 +118,7 @@ def goals(took, asked, few):
 
 def main():
     with tempfile.TemporaryDirectory() as folder:
-        program, library = build(folder), counter(folder)
+        program, library = build(folder), timed.counter(folder)
         print(f"load {os.getloadavg()[0]:.2f} on {os.cpu_count()} processors; the least of {PASSES} passes of {ROUNDS} rounds")
         took, asked, held = measured(folder, library, program)
         least, events = min(run(program, "look", 0, ROUNDS, False, False)[0][:2] for _ in range(PASSES))

@@ -5,7 +5,7 @@
 gatetime.txt is the program that is timed. It is built in a copy of the repository, with what proofs.txt has, so that the gate need
 not prove it; the copy takes along what the crates' checks keep in out/. Requests for memory are counted by tests/fail_nth.c between two marks, wake-ups by strace,
 where it is installed."""
-import os, shutil, subprocess, sys, tempfile
+import os, subprocess, sys, tempfile
 
 ROUNDS = 5
 PASSES = 5
@@ -18,55 +18,13 @@ CRATES = ("av_fakes", "av_base", "av_store", "av_frame", "av_cache", "av_pend", 
 USED = ("av_base", "av_store", "av_frame", "av_pend", "av_filter", "av_ends", "av_gate", "anyhow")
 MOST_OPEN, MOST_LOOK, MOST_CLOSE = 1_000, 50, 10
 HERE = os.path.dirname(os.path.abspath(__file__))
-ROOT = os.path.dirname(os.path.dirname(HERE))
+sys.path.insert(0, os.path.dirname(HERE))
+import timed
 
 
 def build(folder):
-    """The program, built from the crates as they are."""
-    subprocess.run(["rt", "check"], cwd=os.path.join(ROOT, "crates", "av_gate"), check=True, stdout=subprocess.DEVNULL)
-    shutil.copy(os.path.join(ROOT, "HANDLES"), folder)
-    with open(os.path.join(ROOT, "crates.txt")) as file:
-        lines = [line for line in file if line.split(":")[0] in CRATES]
-    with open(os.path.join(folder, "crates.txt"), "w") as file:
-        file.write("".join(lines) + "gatetime: " + " ".join(USED) + "\n")
-    for crate in CRATES:
-        shutil.copytree(os.path.join(ROOT, "crates", crate), os.path.join(folder, "crates", crate), symlinks=True)
-    own = os.path.join(folder, "crates", "gatetime")
-    os.makedirs(os.path.join(own, "src"))
-    os.makedirs(os.path.join(own, "specs"))
-    open(os.path.join(own, "specs", "Lib.antt"), "w").close()
-    shutil.copy(os.path.join(HERE, "gatetime.txt"), os.path.join(own, "src", "main.rt"))
-    place_proofs(os.path.join(own, "proofs"))
-    subprocess.run(["git", "init", "-q", folder], check=True)
-    done = subprocess.run(["rt", "run", "--", "open", "1", "10", "1", "0"], cwd=own, stdout=subprocess.PIPE, stderr=subprocess.STDOUT, text=True)
-    program = os.path.join(own, "out", "gatetime")
-    if done.returncode != 0 or not os.path.exists(program):
-        sys.exit(f"gatetime was not built:\n{done.stdout[-4000:]}")
-    return program
-
-
-def place_proofs(folder):
-    """Each part of proofs.txt goes to the file that its first line names."""
-    with open(os.path.join(HERE, "proofs.txt")) as file:
-        parts = file.read().split("== ")[1:]
-    for part in parts:
-        name, text = part.split("\n", 1)
-        path = os.path.join(folder, name.strip())
-        os.makedirs(os.path.dirname(path), exist_ok=True)
-        with open(path, "w") as file:
-            file.write(text)
-
-
-def counter(folder):
-    """The library that counts requests for memory, or None where there is no C compiler."""
-    library = os.path.join(folder, "fail_nth.so")
-    words = ["cc", "-shared", "-fPIC", "-O1", "-o", library, os.path.join(ROOT, "tests", "fail_nth.c")]
-    try:
-        subprocess.run(words, check=True)
-    except (OSError, subprocess.CalledProcessError):
-        print("no C compiler: requests for memory are not counted")
-        return None
-    return library
+    timed.check("av_gate")
+    return timed.build(os.path.join(folder, "copy"), os.path.join(HERE, "gatetime.txt"), CRATES, USED, ["open", "1", "10", "1", "0"])
 
 
 def run(*words, **more):
@@ -101,7 +59,7 @@ def goal(what, holds, value, wanted):
 
 def main():
     with tempfile.TemporaryDirectory() as folder:
-        program, library = build(folder), counter(folder)
+        program, library = build(folder), timed.counter(folder)
         print(f"load {os.getloadavg()[0]:.2f} on {os.cpu_count()} processors; the least of {PASSES} passes of {ROUNDS} rounds")
         took = {}
         for _ in range(PASSES):

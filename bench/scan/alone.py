@@ -8,7 +8,8 @@ import glob, os, shutil, subprocess, sys
 from cases import KINDS, MIB, put
 
 HERE = os.path.dirname(os.path.abspath(__file__))
-ROOT = os.path.dirname(os.path.dirname(HERE))
+sys.path.insert(0, os.path.dirname(HERE))
+import timed
 CRATES = ("av_fakes", "av_base", "av_sigset", "av_match")
 NARROW = "if shorts.len() > MOST_SHORT {"
 ROUNDS, REPEATS = 7, 4
@@ -17,31 +18,15 @@ CHUNK = 4096
 
 def built(folder, windows):
     """The timing program over the crate as it is, or without windows."""
-    os.makedirs(os.path.join(folder, "crates"))
-    shutil.copy(os.path.join(ROOT, "HANDLES"), folder)
-    with open(os.path.join(ROOT, "crates.txt")) as file:
-        lines = [line for line in file if line.split(":")[0] in CRATES]
-    put(os.path.join(folder, "crates.txt"), ("".join(lines) + "scantime: " + " ".join(CRATES[1:]) + " anyhow\n").encode())
-    for crate in CRATES:
-        shutil.copytree(os.path.join(ROOT, "crates", crate), os.path.join(folder, "crates", crate), symlinks=True)
-    if not windows:
-        path = os.path.join(folder, "crates", "av_match", "src", "shifts.rt")
-        with open(path) as file:
-            source = file.read()
-        if source.count(NARROW) != 1:
-            sys.exit("the test whether a set has windows is not where it was")
-        put(path, source.replace(NARROW, "if shorts.len() <= MOST_SHORT || shorts.len() > MOST_SHORT {").encode())
-    own = os.path.join(folder, "crates", "scantime")
-    os.makedirs(os.path.join(own, "src"))
-    os.makedirs(os.path.join(own, "specs"))
-    put(os.path.join(own, "specs", "Lib.antt"), b"")
-    shutil.copy(os.path.join(HERE, "scantime.txt"), os.path.join(own, "src", "main.rt"))
-    subprocess.run(["git", "init", "-q", folder], check=True)
-    done = subprocess.run(["rt", "run", "--", os.devnull, "1", "1"], cwd=own, stdout=subprocess.PIPE, stderr=subprocess.STDOUT, text=True)
-    program = os.path.join(own, "out", "scantime")
-    if not os.path.exists(program):
-        sys.exit(f"scantime was not built:\n{done.stdout[-4000:]}")
-    return program
+    shifts = os.path.join("crates", "av_match", "src", "shifts.rt")
+    with open(os.path.join(timed.ROOT, shifts)) as file:
+        text = file.read()
+    if text.count(NARROW) != 1:
+        sys.exit("the test whether a set has windows is not where it was")
+    without = text.replace(NARROW, "if shorts.len() <= MOST_SHORT || shorts.len() > MOST_SHORT {")
+    changed = [] if windows else [(shifts, without)]
+    words = [os.devnull, "1", "1"]
+    return timed.build(folder, os.path.join(HERE, "scantime.txt"), CRATES, (*CRATES[1:], "anyhow"), words, changed)
 
 
 class Ours:

@@ -5,36 +5,19 @@ A content of 1 byte, 4 KiB, 64 KiB and 1 MiB is judged through a Scan, Chunks of
 are judged with 1, 16 and 256 jobs at a time that get their chunks in turn. The messages are made beforehand: what is timed is the
 service's calls with the copy of each chunk into its work, and the scan. servicetime.txt is the program that is timed. It is built
 in a copy of the repository, so that the gate need not prove it; the copy takes along what the crates' checks keep in out/."""
-import os, shutil, subprocess, sys, tempfile
+import os, subprocess, sys, tempfile
 
 ROUNDS = 9
 CRATES = ("av_base", "av_sigset", "av_match", "av_frame", "av_cache", "av_service")
 MOST_TIMES, MOST_NANOSECONDS, MOST_RISE = 1.5, 2000, 1.25
 HERE = os.path.dirname(os.path.abspath(__file__))
-ROOT = os.path.dirname(os.path.dirname(HERE))
+sys.path.insert(0, os.path.dirname(HERE))
+import timed
 
 
 def build(folder):
-    """The program, built from the crates as they are."""
-    subprocess.run(["rt", "check"], cwd=os.path.join(ROOT, "crates", "av_service"), check=True, stdout=subprocess.DEVNULL)
-    shutil.copy(os.path.join(ROOT, "HANDLES"), folder)
-    with open(os.path.join(ROOT, "crates.txt")) as file:
-        lines = [line for line in file if line.split(":")[0] in CRATES]
-    with open(os.path.join(folder, "crates.txt"), "w") as file:
-        file.write("".join(lines) + "servicetime: " + " ".join(CRATES) + " anyhow\n")
-    for crate in CRATES:
-        shutil.copytree(os.path.join(ROOT, "crates", crate), os.path.join(folder, "crates", crate), symlinks=True)
-    own = os.path.join(folder, "crates", "servicetime")
-    os.makedirs(os.path.join(own, "src"))
-    os.makedirs(os.path.join(own, "specs"))
-    open(os.path.join(own, "specs", "Lib.antt"), "w").close()
-    shutil.copy(os.path.join(HERE, "servicetime.txt"), os.path.join(own, "src", "main.rt"))
-    subprocess.run(["git", "init", "-q", folder], check=True)
-    done = subprocess.run(["rt", "run", "--", "1"], cwd=own, stdout=subprocess.PIPE, stderr=subprocess.STDOUT, text=True)
-    program = os.path.join(own, "out", "servicetime")
-    if done.returncode != 0 or not os.path.exists(program):
-        sys.exit(f"servicetime was not built:\n{done.stdout[-4000:]}")
-    return program
+    timed.check("av_service")
+    return timed.build(os.path.join(folder, "copy"), os.path.join(HERE, "servicetime.txt"), CRATES, (*CRATES, "anyhow"), ["1"])
 
 
 def goal(what, value, most, unit):
