@@ -7,6 +7,8 @@ and a front of the output. Help texts, and one line for words that are not under
 The last line says how many passed and how many failed."""
 import os, pty, signal, subprocess, sys, tempfile, threading, time
 
+from cases import Cases
+
 SECONDS = 60
 HERE = os.path.dirname(os.path.abspath(__file__))
 EXAMPLES = os.path.join(os.path.dirname(HERE), "examples")
@@ -14,18 +16,6 @@ SET = os.path.join(EXAMPLES, "test.avsig")
 LETTER = os.path.join(EXAMPLES, "letter.txt")
 SCRIPT = os.path.join(EXAMPLES, "late_reply.avs")
 LONG = b"volume 1 closed\n" + b"".join(b"create s%d\n" % i for i in range(3000))
-
-
-class Cases:
-    def __init__(self):
-        self.passed = self.failed = 0
-
-    def check(self, name, holds, what=""):
-        if holds:
-            self.passed += 1
-        else:
-            self.failed += 1
-            print(f"{name}: {what}")
 
 
 def run(words, given=b"", **options):

@@ -7,25 +7,12 @@ one. `host` with 1 to 16 openers and workers tells of each file what `scan` tell
 The last line says how many passed and how many failed."""
 import os, random, re, socket, struct, subprocess, sys, tempfile, threading, time
 
+from cases import Cases
+
 SECONDS = 60
 SET = b"avsig 1\nversion 1\nx 5858\n"
 CLEAN, INFECTED = b"ABC", b"XX"
 HELLO = bytes.fromhex("00000011" "05" "0000000000000001" "0000000000000001")
-
-
-class Cases:
-    def __init__(self):
-        self.passed = self.failed = 0
-
-    def check(self, name, holds, what=""):
-        if holds:
-            self.passed += 1
-        else:
-            self.failed += 1
-            print(f"{name}: {what}")
-
-    def same(self, name, got, wanted):
-        self.check(name, got == wanted, f"wanted {wanted!r}, got {got!r}")
 
 
 class Programs:
