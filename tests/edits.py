@@ -184,12 +184,9 @@ class Copy:
 class Tally:
     """What became of the edits of a crate, with a line for each that was tried."""
 
-    def __init__(self, copy, until):
-        self.copy, self.until = copy, until
+    def __init__(self, until):
+        self.copy, self.until = None, until
         self.refused = self.not_refused = self.untried = 0
-
-    def counts(self):
-        return self.refused, self.not_refused, self.untried
 
     def tell(self, edit, is_refused, text):
         print(f"must-fail {edit.crate}/{edit.name}: {text}", flush=True)
@@ -245,17 +242,22 @@ class Tally:
 
 
 def tried(crate, below, until):
-    """Tries the edits of a crate."""
+    """Tries the edits of a crate. Where the machine has no room for it, those that are left count as not tried."""
     begun, folder = time.time(), f"{CRATES}/{crate}/must-fail"
     edits = [Edit(crate, f"{folder}/{name}") for name in sorted(os.listdir(folder)) if name.endswith(".edit")]
+    tally = Tally(until)
     os.makedirs(f"{TOP}/out", exist_ok=True)
-    with tempfile.TemporaryDirectory(prefix="edits-", dir=f"{TOP}/out") as room:
-        tally = Tally(Copy(crate, below, room), until)
-        lost = [edit for edit in edits if edit.apply(source(edit)) is None]
-        for edit in lost:
-            tally.tell(edit, False, "its text doesn't stand once in its file")
-        tally.try_all([edit for edit in edits if edit not in lost])
-    print(f"{crate}: {len(edits)} edits in {tally.copy.checks} checks and {time.time() - begun:.0f} s", flush=True)
+    with tempfile.TemporaryDirectory(prefix="edits-", dir=f"{TOP}/out", ignore_cleanup_errors=True) as room:
+        try:
+            tally.copy = Copy(crate, below, room)
+            lost = [edit for edit in edits if edit.apply(source(edit)) is None]
+            for edit in lost:
+                tally.tell(edit, False, "its text doesn't stand once in its file")
+            tally.try_all([edit for edit in edits if edit not in lost])
+            print(f"{crate}: {len(edits)} edits in {tally.copy.checks} checks and {time.time() - begun:.0f} s", flush=True)
+        except OSError as error:
+            tally.untried = len(edits) - tally.refused - tally.not_refused
+            print(f"{crate}: {tally.untried} of its {len(edits)} edits could not be tried: {str(error)[:300]}", flush=True)
     return tally
 
 
@@ -269,20 +271,15 @@ def main(words):
         own = [it for it in line.split()[1:] if it in below]
         below[crate] = {*own, *[lower for it in own for lower in below[it]]}
     crates = [it for it in below if (not asked.crates or it in asked.crates) and os.path.isdir(f"{CRATES}/{it}/must-fail")]
-    first = int(time.time() / 86400) % len(crates)
+    first = int(time.time() / 86400) % max(len(crates), 1)
     with concurrent.futures.ThreadPoolExecutor(len(os.sched_getaffinity(0))) as pool:
-        begun = [(it, pool.submit(tried, it, below[it], asked.until)) for it in crates[first:] + crates[:first]]
-    refused = not_refused = untried = 0
-    for crate, run in begun:
-        if run.exception():
-            print(f"{crate}: its edits could not be tried: {run.exception()!r}")
-            not_refused += 1
-        else:
-            refused, not_refused, untried = (a + b for a, b in zip((refused, not_refused, untried), run.result().counts()))
+        begun = [pool.submit(tried, it, below[it], asked.until) for it in crates[first:] + crates[:first]]
+    tallies = [run.result() for run in begun]
+    refused, not_refused, untried = (sum(getattr(it, name) for it in tallies) for name in ("refused", "not_refused", "untried"))
     if untried:
-        print(f"edits that were not tried, since the time was over: {untried}")
+        print(f"edits that were not tried, for want of time or of room: {untried}")
     print(f"{refused} passed, {not_refused} failed")
-    return 1 if not_refused else 0
+    return 1 if not_refused or untried and not refused else 0
 
 
 sys.exit(main(sys.argv[1:]))
