@@ -26,7 +26,12 @@ impl Model for Entry {
 
     ghost Value = { ServiceEntry };
 
-    ghost view = { λ e. record { call = call_of e.event; messages = e.messages.items; works = works_given e.given; note = e.note } };
+    ghost view = { λ e. record {
+      call = call_of e.event;
+      messages = e.messages.items;
+      works = works_given e.given;
+      note = e.note;
+    } };
 }
 
 impl Entry {

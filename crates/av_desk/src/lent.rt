@@ -64,7 +64,8 @@ impl Lent {
         ensures lease { result.lease ≡ self.work.lease }
         ensures scan { result.scan ≡ run self.automaton.patterns self.work.scan (fitting self.work.scan self.work.chunk) }
         ensures version { self.automaton.version ≡ self.work.version }
-        ensures judged { (bytes : ℕ) (c : List ℕ) → IsScan self.automaton bytes c self.work.scan → length c + length self.work.chunk ≤ bytes → AreSolid self.automaton.patterns
+        ensures judged { (bytes : ℕ) (c : List ℕ) → IsScan self.automaton bytes c self.work.scan
+            → length c + length self.work.chunk ≤ bytes → AreSolid self.automaton.patterns
             → IsScan self.automaton bytes (c ++ self.work.chunk) result.scan }
     {
         let Lent { work, automaton } = self;

@@ -44,7 +44,9 @@ impl Model for Locked {
 
     ghost view = { λ s. book s.volume_number s.limits s.catalogue.sets s.opening s.events.items s.sent };
 
-    ghost invariant = { λ s. IsKept (book s.volume_number s.limits s.catalogue.sets s.opening s.events.items s.sent) s.service × IsBuilt (map publication_of s.catalogue.sets) s.automaton };
+    ghost invariant = { λ s.
+        IsKept (book s.volume_number s.limits s.catalogue.sets s.opening s.events.items s.sent) s.service
+        × IsBuilt (map publication_of s.catalogue.sets) s.automaton };
 }
 
 impl Locked {
@@ -87,7 +89,9 @@ impl Locked {
 
     /// The audit. Takes no memory.
     pub fn into_audit(self) -> Audit
-        ensures audit { (result.volume_number ≡ self.volume_number) × (result.limits ≡ self.limits) × (map publication_of result.catalogue.sets ≡ self.sets) × (result.opening ≡ self.opening) × (result.events.items ≡ self.events) }
+        ensures audit { (result.volume_number ≡ self.volume_number) × (result.limits ≡ self.limits)
+            × (map publication_of result.catalogue.sets ≡ self.sets) × (result.opening ≡ self.opening)
+            × (result.events.items ≡ self.events) }
         ensures legal { IsServiceAudit (opened_by result) (started_by result) result.events.items }
         ensures catalogue { IsCatalogue (opened_by result) }
         ensures sets { map publication_of result.catalogue.sets ≡ sets_end (opened_by result) result.events.items }

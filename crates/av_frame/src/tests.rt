@@ -120,7 +120,8 @@ fn is_told_once(alloc: Global, text: &str, fault: &str) -> Result<bool, Fail> {
 }
 
 const STREAM: &str =
-    "00000011 05 [1] [1] 0000001d 06 [1] [1] [0] 00000003 0000001a 07 [1] [1] 00 [1] 00000029 01 [1] [1] [1] [2] [3] 0000001c 02 [1] [1] [0] 414243 00000001 09 00";
+    "00000011 05 [1] [1] 0000001d 06 [1] [1] [0] 00000003 0000001a 07 [1] [1] 00 [1] 00000029 01 \
+     [1] [1] [1] [2] [3] 0000001c 02 [1] [1] [0] 414243 00000001 09 00";
 
 #[test]
 fn a_stream_is_the_same_frames_in_any_pieces(rt: HostRuntime) -> Result<(), Fail> {
@@ -152,7 +153,8 @@ fn tells_the_story(alloc: Global, parts: &[&[u8]]) -> Result<bool, Fail> {
 }
 
 const STORY: &str =
-    "hello volume 1 version 1, read 1.1 offset 0 count 3, reply 1.1 version 1 clean, scan 1.1 stream 1 generation 2 length 3, chunk 1.1 offset 0 bytes 3, Kind";
+    "hello volume 1 version 1, read 1.1 offset 0 count 3, reply 1.1 version 1 clean, scan 1.1 \
+     stream 1 generation 2 length 3, chunk 1.1 offset 0 bytes 3, Kind";
 
 // The messages of a stream and its fault, in words.
 fn story(alloc: Global, pieces: &[ByteList]) -> Result<String, Fail> {

@@ -20,12 +20,22 @@ impl Model for Entry {
 
     ghost Value = { FilterEntry };
 
-    ghost view = { λ x. record { event = event_of x.event; answers = x.out.answers.items; messages = x.out.messages.items; note = x.out.note } };
+    ghost view = { λ x. record {
+      event = event_of x.event;
+      answers = x.out.answers.items;
+      messages = x.out.messages.items;
+      note = x.out.note;
+    } };
 }
 
 impl Entry {
     pub(crate) fn new(event: Event, out: Out) -> Entry
-        ensures { result ≡ record { event = event_of event; answers = out.answers.items; messages = out.messages.items; note = out.note } }
+        ensures { result ≡ record {
+          event = event_of event;
+          answers = out.answers.items;
+          messages = out.messages.items;
+          note = out.note;
+        } }
     {
         Entry { event, out }
     }

@@ -86,7 +86,8 @@ impl Gate {
     /// A second seat, which has made no call and has seen as much of the floor. It takes no memory and no lock.
     pub fn seat(&self, seat: &mut Seat) -> Seat
         requires { IsSeatOf self.now seat.old }
-        ensures old { IsSeatOf self.now seat.new × (calls_of seat.new ≡ calls_of seat.old) × (floor_seen seat.new ≡ floor_seen seat.old) }
+        ensures old { IsSeatOf self.now seat.new × (calls_of seat.new ≡ calls_of seat.old)
+            × (floor_seen seat.new ≡ floor_seen seat.old) }
         ensures new { IsSeatOf self.now result × (calls_of result ≡ []) × (floor_seen result ≡ floor_seen seat.old) }
     {
         Seat {
@@ -257,8 +258,10 @@ impl Gate {
         call: Result<Call, AllocError>,
     ) -> Result<Option<Call>, Refusal<GateFault>>
         requires { IsSeatOf self.now seat.old }
-        ensures same { IsSeatOf self.now seat.new × (calls_of seat.new ≡ calls_of seat.old) × (floor_seen seat.new ≡ floor_seen seat.old) }
-        ensures room { IfOk result (λ prepared. IfSome prepared (λ c. (vec_len seat.new.calls < vec_capacity seat.new.calls) × (call ≡ Ok c))) }
+        ensures same { IsSeatOf self.now seat.new × (calls_of seat.new ≡ calls_of seat.old)
+            × (floor_seen seat.new ≡ floor_seen seat.old) }
+        ensures room { IfOk result (λ prepared. IfSome prepared
+            (λ c. (vec_len seat.new.calls < vec_capacity seat.new.calls) × (call ≡ Ok c))) }
     {
         if seat.calls.len() as u64 >= self.limits.values().audit {
             return Err(Refusal::Fault(GateFault::AuditFull));
@@ -278,7 +281,8 @@ impl Gate {
         ensures later { floor_seen seat.old ≤ floor_seen seat.new }
         ensures floor { settled.floor ≤ floor_seen seat.new }
         ensures note { result ≡ settled.note }
-        ensures call { IfSome prepared (λ c. calls_of seat.new ≡ calls_of seat.old ++ seat_call settled.place c settled.note ∷ []) }
+        ensures call { IfSome prepared (λ c. calls_of seat.new
+            ≡ calls_of seat.old ++ seat_call settled.place c settled.note ∷ []) }
     {
         let Some(call) = prepared else {
             unreachable!();

@@ -55,7 +55,9 @@ impl Model for Locked {
 
     ghost view = { λ s. record { start = s.start; mode = s.mode; limits = s.limits; events = s.events.items; sent = s.sent } };
 
-    ghost invariant = { λ s. IsKept (record { start = s.start; mode = s.mode; limits = s.limits; events = s.events.items; sent = s.sent }) s.filter s.volume };
+    ghost invariant = { λ s.
+        IsKept (record { start = s.start; mode = s.mode; limits = s.limits; events = s.events.items; sent = s.sent })
+        s.filter s.volume };
 }
 
 impl Locked {
@@ -104,7 +106,8 @@ impl Locked {
         name: &[u8],
         least: Version,
     ) -> Result<(Ticket, Settled), Refusal<GateFault>>
-        ensures event { Answers self.old self.new (settled_of result) (happens self.old (Opens (stream_of self.old.start name.now) least)) }
+        ensures event { Answers self.old self.new (settled_of result)
+            (happens self.old (Opens (stream_of self.old.start name.now) least)) }
         ensures ticket { IfOk result (λ r. (r.1.note ≡ Submitted r.0.open_id) × (r.0.least ≡ least)) }
         ensures room { OnOk result (IsTrue has_room) }
     {
@@ -137,7 +140,8 @@ impl Locked {
         offset: u64,
         bytes: &[u8],
     ) -> Result<Settled, Refusal<GateFault>>
-        ensures event { Answers self.old self.new result (happens self.old (Changes (Write (stream_of self.old.start name.now) offset bytes.now))) }
+        ensures event { Answers self.old self.new result
+            (happens self.old (Changes (Write (stream_of self.old.start name.now) offset bytes.now))) }
         ensures room { OnOk result (IsTrue has_room) }
     {
         if self.is_full() {
@@ -349,7 +353,8 @@ impl Locked {
 
     /// Ends it, and gives its audit. Opens that are held are denied, and nobody hears of it.
     pub fn into_audit(self) -> Audit
-        ensures audit { (result.volume ≡ self.start) × (result.mode ≡ self.mode) × (result.limits ≡ self.limits) × (result.events.items ≡ self.events) }
+        ensures audit { (result.volume ≡ self.start) × (result.mode ≡ self.mode) × (result.limits ≡ self.limits)
+            × (result.events.items ≡ self.events) }
         ensures legal { IsLegal result }
     {
         let Locked {

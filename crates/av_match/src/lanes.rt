@@ -58,7 +58,8 @@ fn through_parts(tables: &Tables<'_>, from: u16, piece: &[u8], step: usize) -> O
     requires inside { from < length tables.now.outputs.now }
     requires silent { slice_index tables.now.outputs.now from ≡ 0 }
     requires room { 6 * step + 63 ≤ length piece.now }
-    ensures { IfSome result (λ t. reach tables.now.cells.now tables.now.outputs.now from 0 (take (6 * step + 63) piece.now) ≡ Through t) }
+    ensures { IfSome result (λ t. reach tables.now.cells.now tables.now.outputs.now from 0 (take (6 * step + 63) piece.now)
+        ≡ Through t) }
 {
     let count = step + EARLY;
     let states = six_lanes(
@@ -110,7 +111,14 @@ fn six_lanes(
     requires d { length d.now ≡ length a.now }
     requires e { length e.now ≡ length a.now }
     requires f { length f.now ≡ length a.now }
-    ensures runs { result ≡ record { a = run cells.now from a.now; b = run cells.now 0 b.now; c = run cells.now 0 c.now; d = run cells.now 0 d.now; e = run cells.now 0 e.now; f = run cells.now 0 f.now } }
+    ensures runs { result ≡ record {
+      a = run cells.now from a.now;
+      b = run cells.now 0 b.now;
+      c = run cells.now 0 c.now;
+      d = run cells.now 0 d.now;
+      e = run cells.now 0 e.now;
+      f = run cells.now 0 f.now;
+    } }
     ensures inside { AreWithin (length cells.now) result }
 {
     let mut p = from;

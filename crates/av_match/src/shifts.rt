@@ -80,7 +80,8 @@ fn depths_of(alloc: Global, words: &[ByteList]) -> Result<Vec<u8>, AllocError>
 // The length of the shortest pattern that has at least so many bytes, but no more than 64.
 fn window_of(patterns: &[ByteList], least: usize) -> usize
     requires { least ≤ 64 }
-    ensures least { (j : ℕ) → j < length patterns.now → least ≤ length (word_at patterns.now j) → result ≤ length (word_at patterns.now j) }
+    ensures least { (j : ℕ) → j < length patterns.now → least ≤ length (word_at patterns.now j)
+        → result ≤ length (word_at patterns.now j) }
     ensures wide { least ≤ result }
     ensures few { result ≤ 64 }
 {

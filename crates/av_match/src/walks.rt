@@ -13,7 +13,8 @@ use crate::windows::shift;
 // How many bytes from a place on show that no pattern begins there.
 fn walked(tables: &Tables<'_>, piece: &[u8], at: usize) -> Result<usize, Stop>
     requires at { at ≤ length piece.now }
-    ensures walked { IfOk result (λ count. IsWalked tables.now.cells.now tables.now.outputs.now tables.now.depths.now piece.now at) }
+    ensures walked { IfOk result (λ count.
+        IsWalked tables.now.cells.now tables.now.outputs.now tables.now.depths.now piece.now at) }
     ensures within { IfOk result (λ count. at + count ≤ length piece.now) }
     ensures some { IfOk result (λ count. 0 < count) }
 {
@@ -108,7 +109,8 @@ pub fn enter(tables: &Tables<'_>, from: u16, piece: &[u8]) -> Result<Position, S
     ensures within { IfOk result (λ e. e.place ≤ length piece.now) }
     ensures inside { IfOk result (λ e. e.state < length tables.now.outputs.now) }
     ensures short { IfOk result (λ e. slice_index tables.now.depths.now e.state ≤ e.place) }
-    ensures reach { IfOk result (λ e. reach tables.now.cells.now tables.now.outputs.now from 0 (take e.place piece.now) ≡ Through e.state) }
+    ensures reach { IfOk result (λ e. reach tables.now.cells.now tables.now.outputs.now from 0 (take e.place piece.now)
+        ≡ Through e.state) }
     ensures bytes { AllBytes piece.now }
 {
     let mut state = from;

@@ -1,4 +1,4 @@
-//! The tests of av_world, over its public calls, in a crate of their own: a crate with tests in it is proved once more for them.
+//! The tests of av_world, over its public calls, in a crate of their own: with tests in it a crate is proved once more.
 #![tactic(auto)]
 
 #[cfg(test)]

@@ -19,7 +19,8 @@ use std::alloc::Global;
 impl Locked {
     /// Connects, and greets the filter.
     pub fn connect(&mut self, alloc: Global) -> Result<Note, Refusal<DeskFault>>
-        ensures event { Adds self.old self.new (By Connects) (fault_of self.old (of_connect (connect_refusal (state_of self.old)))) result }
+        ensures event { Adds self.old self.new (By Connects)
+            (fault_of self.old (of_connect (connect_refusal (state_of self.old)))) result }
         ensures note { IfOk result (λ n. n ≡ (respond (state_of self.old) (By Connects)).note) }
     {
         if let Some(fault) = self.connect_fault() {

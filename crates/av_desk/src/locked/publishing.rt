@@ -29,8 +29,10 @@ impl Locked {
         built: Option<SharedAutomaton>,
     ) -> Result<Note, Refused<SignatureSet, DeskFault>>
         requires { IfSome built (λ a. a ≡ compiled (publication_of set)) }
-        ensures event { AddsOrReturns self.old self.new (Publishes set.version (patterns_of set.signatures)) (fault_of self.old (publish_fault self.old.sets set.version)) set result }
-        ensures note { IfOk result (λ n. n ≡ (respond (state_of self.old) (Publishes set.version (patterns_of set.signatures))).note) }
+        ensures event { AddsOrReturns self.old self.new (Publishes set.version (patterns_of set.signatures))
+            (fault_of self.old (publish_fault self.old.sets set.version)) set result }
+        ensures note { IfOk result (λ n. n ≡ (respond (state_of self.old)
+            (Publishes set.version (patterns_of set.signatures))).note) }
     {
         if let Some(fault) = self.publish_fault(set.version()) {
             let why = Refusal::Fault(fault);

@@ -28,7 +28,8 @@ impl Locked {
         message: Message,
     ) -> Result<Taken, Refused<Message, DeskFault>>
         ensures event { AddsOrReturns self.old self.new (By (Receives message)) (fault_of self.old None) message result }
-        ensures lent { IfOk result (λ t. AreLent self.old.sets (respond (state_of self.old) (By (Receives message))).works t.lent) }
+        ensures lent { IfOk result (λ t. AreLent self.old.sets
+            (respond (state_of self.old) (By (Receives message))).works t.lent) }
         ensures note { IfOk result (λ t. t.note ≡ (respond (state_of self.old) (By (Receives message))).note) }
     {
         if self.is_full() {
@@ -50,8 +51,10 @@ impl Locked {
 
     /// Takes back a work that was run. A refusal hands it back.
     pub fn finish(&mut self, alloc: Global, done: Done) -> Result<Note, Refused<Done, DeskFault>>
-        ensures event { AddsOrReturns self.old self.new (By (Finishes done.lease done.scan (if_found done.scan))) (fault_of self.old None) done result }
-        ensures note { IfOk result (λ n. n ≡ (respond (state_of self.old) (By (Finishes done.lease done.scan (if_found done.scan)))).note) }
+        ensures event { AddsOrReturns self.old self.new (By (Finishes done.lease done.scan (if_found done.scan)))
+            (fault_of self.old None) done result }
+        ensures note { IfOk result (λ n. n ≡ (respond (state_of self.old)
+            (By (Finishes done.lease done.scan (if_found done.scan)))).note) }
     {
         if self.is_full() {
             return Err(full(done));
@@ -76,7 +79,8 @@ impl Locked {
 
 // Takes a work back, which gives out no other.
 fn finish(service: &mut Service, alloc: Global, done: Done) -> Result<ServiceOut, AllocFailed<Done>>
-    ensures ok { IfOk result (λ out. Responds out service.new (service_step service.old (Finishes done.lease done.scan (if_found done.scan)))) }
+    ensures ok { IfOk result (λ out. Responds out service.new
+        (service_step service.old (Finishes done.lease done.scan (if_found done.scan)))) }
     ensures silent { IfOk result (λ out. out.work ≡ None) }
     ensures err { IfErr result (λ e. (e.value ≡ done) × (service.new ≡ service.old)) }
 {
