@@ -6,4 +6,4 @@ use Rattle.avscan.proofs.host.end_of_openers.Given as goal
 -- the gravest so far and of those that are left is the gravest of all
 abbrev pub invariant-openers : goal.invariant-openers
 invariant-openers l =
-    gravest_from l.end (map (λ b. b.end) (drop l.openers-index l.brought)) ≡ gravest_from Done (map (λ b. b.end) l.brought)
+    gravest_from l.end (map (λ b. b.end) (drop l.opener-index l.brought)) ≡ gravest_from Done (map (λ b. b.end) l.brought)
