@@ -1,7 +1,7 @@
 -- What stands in a world, from what its parts hold one by one.
 use Rattle.std.proofs.Common.{◌≡◌, ℕ, suc, ◌+◌, ◌<◌, ◌≤◌, List, [], ◌∷◌, ◌++◌, length, map, drop, get_or, slice_get, Option, Some, None, refl, sym, ap, ◌∙◌, add-one, drop-cons}
 use Rattle.std.specs.List.{cons_option, filter_map, flat_map}
-use Rattle.std.specs.Option.{option_map, option_to_list}
+use Rattle.std.specs.Option.{option_map, option_or, option_to_list}
 use Rattle.std.proofs.lemmas.List.{append_assoc, drop_all}
 use Rattle.av_base.specs.declared.message_id.MessageId.{MessageId}
 use Rattle.av_base.specs.declared.verdict.Verdict.{Verdict}
@@ -14,7 +14,7 @@ use Rattle.av_frame.specs.declared.message.Body.{Body}
 use Rattle.av_frame.specs.declared.message.Body.TheVariants as body
 use Rattle.av_frame.specs.declared.outcome.Outcome.TheVariants as outcome
 use Rattle.av_store.specs.Rows.{Streams}
-use Rattle.av_world.specs.Held.{Asked, asked, asked_by, entry, held, held_by, held_contexts, held_in, held_reply, or_else}
+use Rattle.av_world.specs.Held.{Asked, asked, asked_by, entry, held, held_by, held_contexts, held_in, held_reply}
 use Rattle.av_world.specs.World.{WorldState}
 
 -- ---- contexts
@@ -78,11 +78,11 @@ about o = option_map (λ a. (a.stream, a.generation)) o
 
 later : (id : MessageId) (m : Body) (ms : List Body) → about (asked_by id m) ≡ None → asked (m ∷ ms) id ≡ asked ms id
 unfolding asked
-later id m ms none = (elim (asked_by id m) as (λ o. about o ≡ None → or_else o (asked ms id) ≡ asked ms id) [ None ↦ λ h. refl | Some a ↦ λ h. absurd (cc) ]) none
+later id m ms none = (elim (asked_by id m) as (λ o. about o ≡ None → option_or o (asked ms id) ≡ asked ms id) [ None ↦ λ h. refl | Some a ↦ λ h. absurd (cc) ]) none
 
 here : (id : MessageId) (m : Body) (ms : List Body) (p : ℕ × ℕ) → about (asked_by id m) ≡ Some p → about (asked (m ∷ ms) id) ≡ Some p
 unfolding asked
-here id m ms p some = (elim (asked_by id m) as (λ o. about o ≡ Some p → about (or_else o (asked ms id)) ≡ Some p) [ None ↦ λ h. absurd (cc) | Some a ↦ λ h. h ]) some
+here id m ms p some = (elim (asked_by id m) as (λ o. about o ≡ Some p → about (option_or o (asked ms id)) ≡ Some p) [ None ↦ λ h. absurd (cc) | Some a ↦ λ h. h ]) some
 
 split_at : (ms : List Body) (i : ℕ) (m : Body) → i < length ms → m ≡ get_or ms i m → drop i ms ≡ m ∷ drop (suc i) ms
 split_at ms i m within at = drop-cons ms i m within ∙ ap (λ x. x ∷ drop (suc i) ms) (sym at)

@@ -2,6 +2,7 @@
 use Rattle.std.proofs.Common.{◌≡◌, ℕ, suc, Bool, true, false, List, [], ◌∷◌, ◌++◌, length, map, reverse, Some, None, is_some, if◌then◌else◌, refl, sym, ap, ◌∙◌, arith, length-append, append_assoc, slice_get}
 use Rattle.std.proofs.lemmas.List.{reverse-append}
 use Rattle.std.specs.List.{AllByRecursion as Each}
+use Rattle.std.specs.Option.{option_or}
 use Rattle.av_base.specs.declared.message_id.MessageId.{MessageId}
 use Rattle.av_base.specs.declared.mode.Mode.{Mode}
 use Rattle.av_base.specs.MessageId.{same_id}
@@ -19,7 +20,7 @@ use Rattle.av_world.proofs.SoundLemmas.{Sound, sound_filter, sound_service, soun
 use Rattle.av_world.proofs.StepLemmas.{Preserves, history_keeps, step_keeps}
 use Rattle.av_world.specs.declared.event.Event.{Event}
 use Rattle.av_world.specs.declared.event.Event.TheVariants.{Publish, Create, Write, Cut, Remove, Open, Cleanup, Down, Up, Run, Timeout, Connect, DisconnectFilter, DisconnectService, RestartFilter, RestartService}
-use Rattle.av_world.specs.Held.{Asked, asked, or_else}
+use Rattle.av_world.specs.Held.{Asked, asked}
 use Rattle.av_world.specs.Past.{past}
 use Rattle.av_world.specs.Progress.{IsCarrying, before_scan, onward}
 use Rattle.av_sigset.specs.Publication.{publication_of}
@@ -121,7 +122,7 @@ pub scan_there : (ms : List Body) (id : MessageId) (s g l : ℕ) → asked ms id
 unfolding asked before_scan
 scan_there [] id s g l h = absurd (cc (h))
 scan_there (Scan i s' g' l' ∷ ms) id s g l h =
-    let go : (b : Bool) → same_id i id ≡ b → or_else (if b then Some (record { stream = s'; generation = g'; length = l' }) else None) (asked ms id) ≡ Some (record { stream = s; generation = g; length = l })
+    let go : (b : Bool) → same_id i id ≡ b → option_or (if b then Some (record { stream = s'; generation = g'; length = l' }) else None) (asked ms id) ≡ Some (record { stream = s; generation = g; length = l })
     → slice_get (Scan i s' g' l' ∷ ms) (if is_some (if b then Some (the_asked s' g' l') else None) then 0 else suc (before_scan id ms)) ≡ Some (Scan id s g l) = elim [
       | true ↦ λ e k.
           let same : the_asked s' g' l' ≡ the_asked s g l = cc (k) in

@@ -1,5 +1,6 @@
 -- What stands in a world: the verdicts that are held, and the opens that were submitted, wait, or were answered.
 use Rattle.std.specs.Prelude.{ℕ, suc, ◌+◌, nat_le, List, [], ◌∷◌, ◌++◌, length, map, flat_map, Option, Some, None, if◌then◌else◌}
+use Rattle.std.specs.Option.{option_or}
 use Rattle.av_base.specs.MessageId.{same_id}
 use Rattle.av_base.specs.declared.message_id.MessageId.{MessageId}
 use Rattle.av_base.specs.declared.verdict.Verdict.{Verdict}
@@ -28,15 +29,10 @@ abbrev pub asked_by : MessageId → Body → Option Asked
 asked_by id (Scan i s g l) = if same_id i id then Some (record { stream = s; generation = g; length = l }) else None
 asked_by id _ = None
 
--- the first, if there is one, else the second
-abbrev pub or_else : Option Asked → Option Asked → Option Asked
-or_else None o = o
-or_else (Some a) o = Some a
-
 -- what a question asked about: what the first Scan of its id names
 unfoldable pub asked : List Body → MessageId → Option Asked
 asked [] id = None
-asked (m ∷ ms) id = or_else (asked_by id m) (asked ms id)
+asked (m ∷ ms) id = option_or (asked_by id m) (asked ms id)
 
 -- ---- verdicts: in the contexts, both caches, and the replies that were sent
 
