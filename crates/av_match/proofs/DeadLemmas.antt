@@ -1,24 +1,26 @@
-use Rattle.std.proofs.Common.{ℕ, zero, suc, ◌≡◌, inl, inr, ◌<◌, ◌≤◌, ◌+◌, ◌-◌, ◌*◌, ◌==◌, Bool, true, false, cond, List, [], ◌∷◌, ◌++◌, length, map, take, drop, slice_index, Option, None, Some, refl, sym, ◌∙◌, ap, ap₂, subst, arith, append_assoc, append-nil, eq-eqb, length-take, length-take-le, length-drop, length-append, drop-drop, get_or-drop, get_or-take, take-append-drop}
+use Rattle.std.proofs.Common.{ℕ, zero, suc, ◌≡◌, inl, inr, ◌<◌, ◌≤◌, ◌+◌, ◌-◌, ◌*◌, ◌==◌, Bool, true, false, cond, List, [], ◌∷◌, ◌++◌, length, map, take, drop, slice_index, Option, None, Some, IfSome, refl, sym, ◌∙◌, ap, ap₂, subst, arith, append_assoc, append-nil, eq-eqb, length-take, length-take-le, length-drop, length-append, drop-drop, get_or-drop, get_or-take, take-append-drop}
 use Rattle.std.proofs.lemmas.Bool.{cases_lt}
 use Rattle.std.proofs.lemmas.List.{take_all, take-take, take-append-le, drop-take, drop-append-le, get_or-map}
 use Rattle.memchr.specs.Find.{OccursAt}
+use Rattle.memchr.specs.Pairs.{first_index, pair_of, second_index}
 use Rattle.av_match.specs.Longest.{longest, is_end}
 use Rattle.av_match.specs.Scanning.{index_of}
 use Rattle.av_match.specs.Search.{occurs_at, index_at}
 use Rattle.av_match.specs.Words.{word_at, is_word, words_of, AllBytes}
 use Rattle.av_match.specs.Part.{IsAutomaton, output_of, number_of}
 use Rattle.av_match.specs.Reach.{reach, Leads}
-use Rattle.av_match.specs.Passed.{IsOver, IsWalked, IsPassed, ArePassed}
-use Rattle.av_match.specs.Shifts.{pair_at, shift_at, AreShifts}
+use Rattle.av_match.specs.Passed.{IsOver, IsWalked, IsMissed, IsPassed, ArePassed}
+use Rattle.av_match.specs.Shifts.{pair_at, shift_at, AreShifts, HaveRare}
 use Rattle.av_match.specs.Shorts.{AreAbsent}
 use Rattle.av_match.specs.Tables.{AreTablesOf}
 use Rattle.av_match.specs.declared.cells.Reached.TheVariants.{Through}
+use Rattle.av_match.specs.declared.rare.RareBytes.{RareBytes}
 use Rattle.av_match.specs.declared.tables.Tables.{Tables}
 use Rattle.av_match.proofs.LaneLemmas.{reach_split, part_bytes, ends_through}
 use Rattle.av_match.proofs.OccursLemmas.{end_is, is_end-from, occurs-is_end, index-longest}
 use Rattle.av_match.proofs.ReachLemmas.{gives_at, root_leads, root_silent, longest_self, leads_self, leads_on, through_leads, reach_shifted}
 use Rattle.av_match.proofs.RunLemmas.{index_found}
-use Rattle.av_match.proofs.WindowLemmas.{none_of, longest-short}
+use Rattle.av_match.proofs.WindowLemmas.{none_of, longest-short, word_begins}
 use Rattle.av_match.proofs.WordLemmas.{is_word-at, false_from, begins, longest-length}
 
 -- no pattern begins y, and y begins no pattern
@@ -165,6 +167,30 @@ module _ (ps : List (List ℕ)) (next outputs : List ℕ) (auto : IsAutomaton ps
       let front : take (length (word_at ps j)) x ≡ word_at ps j = take-take (length (word_at ps j)) count y (omega (arith, less)) ∙ same in
       through_ends x s (length (word_at ps j)) j bytes walked.through (omega (arith, size, less)) l (ap (is_end (word_at ps j)) front ∙ is_end_self (word_at ps j)))
 
+  -- rare bytes that each pattern has are missing
+  missed_dead : (rare : Option RareBytes) (w : List ℕ) (i : ℕ) → IfSome rare (HaveRare ps) → IsMissed rare w i → IsDead ps (drop i w)
+  missed_dead rare w i have missed =
+      let r = missed.bytes in
+      let f = r.finder in
+      let each : HaveRare ps r = subst (λ o. IfSome o (HaveRare ps)) missed.one have in
+      let y = drop i w in
+      let left : length y ≡ length w - i = length-drop i w in
+      let there : (j : ℕ) → j < length ps → ((k : ℕ) → k ≤ r.reach → k < length (word_at ps j) → slice_index y k ≡ slice_index (word_at ps j) k) → ⊥ = λ j l same.
+      let p = word_at ps j in
+      let has = each j l in
+      let at : (k : ℕ) → k ≤ r.reach → k < length p → slice_index w (i + k) ≡ slice_index p k = λ k low high. sym (get_or-drop i w k 0) ∙ same k low high in
+      missed.other (record {
+        first = at (first_index (pair_of f)) (omega (arith, r.reaches)) has.pair.first ∙ sym has.byte1;
+        second = at (second_index (pair_of f)) (omega (arith, r.reaches)) has.pair.second ∙ sym has.byte2;
+      }) in
+      record {
+        none = λ j l same. there j l (λ k low high. sym (ap (λ v. slice_index v k) (sym same) ∙ get_or-take (length (word_at ps j)) y k 0 high));
+        short = false_from (is_word words y) (λ is.
+            let begun = word_begins ps y is (omega (arith, left, missed.room)) in
+            let p = word_at ps begun.0 in
+            there begun.0 begun.1 (λ k low high. ap (λ v. slice_index v k) (sym begun.2) ∙ get_or-take (length y) p k 0 (omega (arith, left, missed.room, low))));
+      }
+
   -- the first places being dead, the state is that of the rest
   dead_longest : (p : ℕ) (x : List ℕ) → ((i : ℕ) → i < p → IsDead ps (drop i x)) → longest (is_word words) x ≡ longest (is_word words) (drop p x)
   dead_longest zero x dead = refl
@@ -249,7 +275,8 @@ module _ (ps : List (List ℕ)) (t : Tables) (of : AreTablesOf ps t) where
   passed_dead z i small shorter two one =
       elim one as (λ _. IsDead ps (drop i z)) [
         | inl over ↦ over_dead ps next outputs of.automaton t.shifts.now z t.window i small shorter (of.skimmer.sound two) two over
-        | inr walked ↦ walked_dead ps next outputs of.automaton depths z i small of.skimmer.deep walked
+        | inr (inl walked) ↦ walked_dead ps next outputs of.automaton depths z i small of.skimmer.deep walked
+        | inr (inr missed) ↦ missed_dead ps next outputs of.automaton t.rare z i of.skimmer.has missed
       ]
 
   -- two stretches of a piece, one after the other

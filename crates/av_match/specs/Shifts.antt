@@ -1,6 +1,8 @@
 -- What is kept of a set for its windows, and how far each pair of bytes lets a window be moved.
-use Rattle.std.specs.Prelude.{ℕ, ◌≡◌, ◌+◌, ◌-◌, ◌*◌, ◌<◌, ◌≤◌, true, List, length, slice_index, map}
+use Rattle.std.specs.Prelude.{ℕ, ◌≡◌, ◌+◌, ◌-◌, ◌*◌, ◌<◌, ◌≤◌, true, List, Option, length, slice_index, map, IfSome}
+use Rattle.memchr.specs.Pairs.{IsPairFinderOf}
 use Rattle.av_match.specs.Words.{word_at, is_word, words_of}
+use Rattle.av_match.specs.declared.rare.RareBytes.{RareBytes}
 
 -- two bytes as one number
 abbrev pub pair_at : List ℕ → ℕ → ℕ
@@ -33,9 +35,15 @@ AreShifts words m shifts = AreLowered words (length words) m shifts
 abbrev pub HasShorter : List (List ℕ) → ℕ → List (List ℕ) → Type 0
 HasShorter ps m shorts = (j : ℕ) → j < length ps → length (word_at ps j) < m → is_word shorts (word_at ps j) ≡ true
 
--- what is kept for windows of m bytes, where there are any: how long each word is, the shifts, and the shorter patterns
-pub record IsSkimmer (ps : List (List ℕ)) (depths : List ℕ) (m : ℕ) (shifts : List ℕ) (shorts : List (List ℕ)) : Type 0 where
+-- each pattern has these bytes at their places
+abbrev pub HaveRare : List (List ℕ) → RareBytes → Type 0
+HaveRare ps r = (j : ℕ) → j < length ps → IsPairFinderOf r.finder (word_at ps j)
+
+-- what is kept for windows of m bytes, where there are any: how long each word is, the shifts, the shorter patterns, and
+-- rare bytes that each has
+pub record IsSkimmer (ps : List (List ℕ)) (depths : List ℕ) (m : ℕ) (shifts : List ℕ) (shorts : List (List ℕ)) (rare : Option RareBytes) : Type 0 where
   pub deep : depths ≡ map length (words_of ps)
   pub few : m ≤ 64
   pub sound : 2 ≤ m → AreShifts (words_of ps) m shifts
   pub shorter : HasShorter ps m shorts
+  pub has : IfSome rare (HaveRare ps)

@@ -1,9 +1,12 @@
-//! What is kept of a set for its windows: how long each word is, and how far each pair of bytes lets a window be moved.
+//! What is kept of a set for its windows: how long each word is, how far each pair of bytes lets a window be moved, and
+//! which bytes to look for.
 ghost use Rattle.std.specs.Prelude.{◌≡◌, ◌+◌, ◌-◌, ◌<◌, ◌≤◌, ℕ, length, map, slice_index, IfOk};
 ghost use Rattle.av_match.specs.Part.{AtMost};
 ghost use Rattle.av_match.specs.Shifts.{AreShifts, HasShorter, IsSkimmer, ReachWord};
 ghost use Rattle.av_match.specs.Words.{word_at, words_of};
 
+use crate::rare::RareBytes;
+use crate::searches::rare_bytes;
 use av_base::ByteList;
 use std::alloc::{AllocError, Global};
 
@@ -20,6 +23,7 @@ pub struct Skimmer {
     pub window: usize,
     pub shifts: Vec<u8>,
     pub shorts: Vec<ByteList>,
+    pub rare: Option<RareBytes>,
 }
 
 /// What is kept of these patterns, whose beginnings are the words.
@@ -30,7 +34,7 @@ pub fn skimmer_of(
 ) -> Result<Skimmer, AllocError>
     requires words { words.now ≡ words_of patterns.now }
     requires most { AtMost words.now 64 }
-    ensures { IfOk result (λ s. IsSkimmer patterns.now s.depths.items s.window s.shifts.items s.shorts.items) }
+    ensures { IfOk result (λ s. IsSkimmer patterns.now s.depths.items s.window s.shifts.items s.shorts.items s.rare) }
 {
     let depths = depths_of(alloc, words)?;
     let shorts = shorter(alloc, patterns, LEAST_WINDOW)?;
@@ -40,15 +44,22 @@ pub fn skimmer_of(
             window: 0,
             shifts: Vec::new(alloc),
             shorts: Vec::new(alloc),
+            rare: None,
         });
     }
     let window = window_of(patterns, LEAST_WINDOW);
+    let rare = if shorts.is_empty() {
+        rare_bytes(patterns)
+    } else {
+        None
+    };
     let shifts = shifts_of(alloc, words, window)?;
     Ok(Skimmer {
         depths,
         window,
         shifts,
         shorts,
+        rare,
     })
 }
 

@@ -3,11 +3,12 @@ ghost use Rattle.std.specs.Prelude.{◌≡◌, ◌*◌, ◌<◌, ◌≤◌, leng
 ghost use Rattle.av_match.specs.Part.{IsClosed};
 ghost use Rattle.av_match.specs.Shifts.{AreBelow};
 
+use crate::rare::RareBytes;
 use av_base::ByteList;
 
 /// The tables of an automaton: where each state goes by each byte, what each gives out, how many bytes its word has,
-/// how far each pair of bytes lets a window be moved, and the patterns that are shorter than it. The window has no
-/// bytes where too many patterns are too short for one.
+/// how far each pair of bytes lets a window be moved, the patterns that are shorter than it, and the rarest bytes of
+/// the pattern where it is the only one. The window has no bytes where too many patterns are too short for one.
 #[derive(Clone, Copy)]
 pub struct Tables<'a> {
     pub cells: &'a [u16],
@@ -16,6 +17,7 @@ pub struct Tables<'a> {
     pub shifts: &'a [u8],
     pub window: usize,
     pub shorts: &'a [ByteList],
+    pub rare: Option<RareBytes>,
     pub ghost closed: { IsClosed cells.now },
     pub ghost rows: { length cells.now ≡ 256 * length outputs.now },
     pub ghost deep: { length depths.now ≡ length outputs.now },

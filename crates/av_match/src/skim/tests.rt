@@ -124,3 +124,41 @@ fn short_patterns_leave_windows_wide(rt: HostRuntime) -> Result<(), Fail> {
     assert_eq!(rt; stopped(&automaton, content.as_slice()), Some(Stop::Hit));
     Ok(())
 }
+
+/// One pattern; the first and the last of its bytes are the rarest in usual contents.
+const ALONE: &[u8] = b"\x01ababababababababab\x02";
+
+// Windows would stand still at these bytes, but the rarest of the pattern's is none of them.
+#[test]
+fn a_content_without_the_rarest_byte_is_let_pass(rt: HostRuntime) -> Result<(), Fail> {
+    let automaton = automaton_of(rt.alloc(), &[ALONE])?;
+    let content = told(rt.alloc(), b"ab", PIECE)?;
+    assert_eq!(rt; content.len(), PIECE);
+    let (through, leapt, _) = counts(&automaton, content.as_slice());
+    assert!(rt; through);
+    assert!(rt; leapt > PIECE - ALONE.len());
+    Ok(())
+}
+
+// The rarest byte comes often, but never with the other one before it.
+#[test]
+fn a_content_without_the_two_rarest_bytes_is_let_pass(rt: HostRuntime) -> Result<(), Fail> {
+    let automaton = automaton_of(rt.alloc(), &[ALONE])?;
+    let content = told(rt.alloc(), b"abababababababababab\x02", PIECE)?;
+    assert_eq!(rt; content.len(), PIECE);
+    let (through, leapt, _) = counts(&automaton, content.as_slice());
+    assert!(rt; through);
+    assert!(rt; leapt > PIECE - ALONE.len());
+    Ok(())
+}
+
+#[test]
+fn one_pattern_that_is_there_is_told(rt: HostRuntime) -> Result<(), Fail> {
+    let automaton = automaton_of(rt.alloc(), &[ALONE])?;
+    let mut content = told(rt.alloc(), b"ab", PIECE / 2)?;
+    content.extend_from_slice(ALONE)?;
+    content.extend_from_slice(b"abab")?;
+    assert!(rt; content.len() <= PIECE);
+    assert_eq!(rt; stopped(&automaton, content.as_slice()), Some(Stop::Hit));
+    Ok(())
+}

@@ -44,7 +44,7 @@ invariant_of-result c =
     subst (λ o. IsSettled c.finish.new.next.items o (length o) c.settle.new.next.items) c.as_slice-4.ensures.value c.settle.ensures in (
       subst (λ qs. IsAutomaton qs c.settle.new.next.items c.in_ok-outputs.outputs.items) (sym items)
           (build_is ps c.as_slice-2.result.now c.finish.new.next.items c.settle.new.next.items c.in_ok-outputs.outputs.items (set_patterns c.args.set.now c.signatures.ensures.set) words c.finish.ensures gives settled),
-      subst (λ qs. IsSkimmer qs c.in_ok-skimmer.skimmer.depths.items c.in_ok-skimmer.skimmer.window c.in_ok-skimmer.skimmer.shifts.items c.in_ok-skimmer.skimmer.shorts.items) c.as_slice-5.ensures.value c.in_ok-skimmer.ensures,
+      subst (λ qs. IsSkimmer qs c.in_ok-skimmer.skimmer.depths.items c.in_ok-skimmer.skimmer.window c.in_ok-skimmer.skimmer.shifts.items c.in_ok-skimmer.skimmer.shorts.items c.in_ok-skimmer.skimmer.rare) c.as_slice-5.ensures.value c.in_ok-skimmer.ensures,
     )
 
 pub returns : goal.returns
