@@ -1,3 +1,5 @@
+pub mod Brought
+pub mod Filter
 pub mod Opened
 pub mod Scan
 pub mod Status

@@ -1,7 +1,7 @@
 //! The threads of a host, each started in a scope. Where one can't be started its part is done in the thread that wanted to
 //! start it, after all the others were told to end.
 
-ghost use Rattle.std.specs.Prelude.{◌≡◌, MatchResult};
+ghost use Rattle.std.specs.Prelude.{◌≡◌, IfOk, MatchResult, vec_len};
 ghost use Rattle.av_gate.specs.Seats.{IsSeatOf};
 ghost use Rattle.avscan.specs.Status.{graver};
 
@@ -65,6 +65,7 @@ pub fn meet<R: Threads + Wait + Sync, C: Clock, E: Write>(
     requires { IsSeatOf gate.now seat }
     ensures giver { result.0.channel ≡ giver.channel }
     ensures taker { result.1.channel ≡ taker.channel }
+    ensures brought { IfOk result.2 (λ all. vec_len all ≡ openings.now.openers) }
 {
     thread::scope(
         thread::scope_env(),
@@ -73,6 +74,7 @@ pub fn meet<R: Threads + Wait + Sync, C: Clock, E: Write>(
             requires { IsSeatOf gate.now seat }
             ensures giver { result.0.channel ≡ giver.channel }
             ensures taker { result.1.channel ≡ taker.channel }
+            ensures brought { IfOk result.2 (λ all. vec_len all ≡ openings.entry.now.openers) }
         {
             let service = start_service(scope, rt, alloc, desk_wire, desk, giver, taker);
             let (brought, filter_end) = open_all(rt, alloc, gate_wire, gate, seat, openings, err);
@@ -216,6 +218,7 @@ fn open_all<R: Threads + Wait + Sync, C: Clock, E: Write>(
     err: &mut Progress<'_, C, E>,
 ) -> (Result<Vec<Brought>, AllocError>, End)
     requires { IsSeatOf gate.now seat }
+    ensures { IfOk result.0 (λ all. vec_len all ≡ openings.now.openers) }
 {
     let reader = gate.seat(&mut seat);
     let writer = gate.seat(&mut seat);
@@ -226,6 +229,7 @@ fn open_all<R: Threads + Wait + Sync, C: Clock, E: Write>(
             requires reader { IsSeatOf gate.now reader }
             requires writer { IsSeatOf gate.now writer }
             requires seat { IsSeatOf gate.now seat }
+            ensures { IfOk result.0 (λ all. vec_len all ≡ openings.entry.now.openers) }
         {
             let into = start_into_gate(scope, rt, alloc, wire, gate, reader);
             let out = start_out_of_gate(scope, rt, alloc, wire, gate, writer);
@@ -317,7 +321,7 @@ fn start_opener<'s, S, R: Threads + Wait + Sync>(
     }
 }
 
-// What the openers bring back, each from a thread of its own.
+// What the openers bring back, each from a thread of its own, the first opener's first.
 fn open_in_threads<'s, S, R: Threads + Wait + Sync, C: Clock, E: Write>(
     scope: &'s Scope<'s, S>,
     rt: &'s R,
@@ -329,6 +333,7 @@ fn open_in_threads<'s, S, R: Threads + Wait + Sync, C: Clock, E: Write>(
     err: &mut Progress<'_, C, E>,
 ) -> Result<Vec<Brought>, AllocError>
     requires { IsSeatOf gate.now seat }
+    ensures { IfOk result (λ all. vec_len all ≡ openings.now.openers) }
 {
     let mut openers = Vec::with_capacity(alloc, openings.openers)?;
     let mut all = Vec::with_capacity(alloc, openings.openers)?;

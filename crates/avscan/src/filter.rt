@@ -1,5 +1,11 @@
+ghost use Rattle.std.specs.Prelude.{◌≡◌, IfOk, map};
+ghost use Rattle.std.specs.List.{zip};
+ghost use Rattle.std.specs.List.Sorted.{IsNonDecreasingBy, IsPermutation};
 ghost use Rattle.av_filter.specs.Bounds.{AreInBounds};
 ghost use Rattle.av_filter.specs.Fit.{Fits};
+ghost use Rattle.av_pend.specs.Pend.{open_of};
+ghost use Rattle.avscan.specs.Filter.{PrintsInOrder, opened_as};
+ghost use Rattle.avscan.specs.declared.status.Status.TheVariants.{Done};
 
 use crate::faults::{end_told, out_of_memory, socket_failed};
 use crate::opened::{Opened, print_opened};
@@ -145,24 +151,50 @@ fn open_rest(
 fn print_answers<W: Write, E: Write>(
     alloc: Global,
     names: &[&str],
-    mut answers: Vec<Answer>,
+    answers: Vec<Answer>,
     out: &mut W,
     err: &mut E,
-) -> Status {
-    answers.sort_unstable_by_key(|answer| number_of(answer));
-    let Ok(mut opened) = Vec::with_capacity(alloc, names.len()) else {
-        return out_of_memory(err);
-    };
-    for (name, answer) in names.iter().zip(answers) {
-        if opened.push(Opened { name, answer }).is_err() {
-            return out_of_memory(err);
-        }
+) -> Status
+    ensures { result ≡ Done → PrintsInOrder names.now answers.items (W.contents out.old) (W.contents out.new) }
+{
+    let answers = in_order(answers);
+    match named(alloc, names, answers.as_slice()) {
+        Ok(opened) => print_opened(opened.as_slice(), out, err),
+        Err(_) => out_of_memory(err),
     }
-    print_opened(opened.as_slice(), out, err)
+}
+
+// The answers in the order of their opens.
+fn in_order(mut answers: Vec<Answer>) -> Vec<Answer>
+    ensures same { IsPermutation answers.items result.items }
+    ensures ascending { IsNonDecreasingBy open_of result.items }
+{
+    answers.sort_unstable_by_key(|answer| number_of(answer));
+    answers
+}
+
+// Each name with the answer at its place.
+fn named<'a>(
+    alloc: Global,
+    names: &[&'a str],
+    answers: &[Answer],
+) -> Result<Vec<Opened<'a>>, AllocError>
+    ensures { IfOk result (λ opened. opened.items ≡ map opened_as (zip names.now answers.now)) }
+{
+    names
+        .iter()
+        .zip(answers)
+        .map(|(name, answer)| Opened {
+            name,
+            answer: *answer,
+        })
+        .collect(alloc)
 }
 
 // The number of the open that is answered.
-fn number_of(answer: &Answer) -> u64 {
+fn number_of(answer: &Answer) -> u64
+    ensures { result ≡ open_of answer.now }
+{
     match answer {
         Answer::Granted { open_id, .. }
         | Answer::Unscanned { open_id, .. }

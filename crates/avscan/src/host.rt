@@ -2,6 +2,7 @@ ghost use Rattle.std.specs.Prelude.{◌≡◌, IfOk, map};
 ghost use Rattle.av_filter.specs.Bounds.{AreInBounds};
 ghost use Rattle.av_engines.specs.declared.end.End.TheVariants.{Done};
 ghost use Rattle.av_gate.specs.Seats.{IsSeatOf};
+ghost use Rattle.avscan.specs.Brought.{AreBrought, answer_at, opened_files};
 ghost use Rattle.avscan.specs.Status.{gravest_from};
 
 use crate::carrying::Wire;
@@ -139,6 +140,7 @@ fn open_at<'a, R: Hosting, C: Clock, E: Write>(
     err: &mut Progress<'_, C, E>,
 ) -> Result<(Vec<Opened<'a>>, End), End>
     requires { IsSeatOf gate.now seat }
+    ensures { IfOk result (λ r. AreBrought crew.openers names.now r.0.items) }
 {
     let Ok((gate_stream, desk_stream)) = UnixStream::pair(rt) else {
         return Err(End::ReadFault);
@@ -186,22 +188,23 @@ fn opened_files<'a>(
     alloc: Global,
     names: &[&'a str],
     brought: &[Brought],
-) -> Result<Vec<Opened<'a>>, AllocError> {
-    let mut opened = Vec::with_capacity(alloc, names.len())?;
-    for (place, name) in names.iter().enumerate() {
-        let Some(answer) = answer_at(brought, place) else {
-            continue;
-        };
-        let one = Opened { name, answer };
-        if opened.push(one).is_err() {
-            return Err(AllocError);
-        }
-    }
-    Ok(opened)
+) -> Result<Vec<Opened<'a>>, AllocError>
+    ensures { IfOk result (λ opened. opened.items ≡ opened_files brought.now names.now) }
+{
+    names
+        .iter()
+        .enumerate()
+        .filter_map(|(place, name)| {
+            let answer = answer_at(brought, place)?;
+            Some(Opened { name, answer })
+        })
+        .collect(alloc)
 }
 
 // The answer of the file at a place.
-fn answer_at(brought: &[Brought], place: usize) -> Option<Answer> {
+fn answer_at(brought: &[Brought], place: usize) -> Option<Answer>
+    ensures { result ≡ answer_at brought.now place }
+{
     let opener = brought.get(place.checked_rem(brought.len())?)?;
     let receipt = opener.receipts.get(place.checked_div(brought.len())?)?;
     Some(receipt.answer)

@@ -1,3 +1,4 @@
+ghost use Rattle.std.specs.Prelude.{◌≡◌};
 ghost use Rattle.av_ends.specs.Tickets.{IsNoteOf};
 ghost use Rattle.av_gate.specs.Seats.{IsSeatOf};
 
@@ -24,7 +25,10 @@ pub struct Openings<'a> {
 
 impl<'a> Openings<'a> {
     /// Openings of these files, of which none has begun.
-    pub fn new(names: &'a [&'a str], openers: usize) -> Openings<'a> {
+    pub fn new(names: &'a [&'a str], openers: usize) -> Openings<'a>
+        ensures names { result.names.now ≡ names.now }
+        ensures openers { result.openers ≡ openers }
+    {
         Openings {
             names,
             openers,

@@ -1,6 +1,8 @@
-ghost use Rattle.std.specs.Prelude.{◌≢◌, IfErr, IfOk, OnOk};
+ghost use Rattle.std.specs.Prelude.{◌≡◌, ◌≢◌, IfErr, IfOk, OnOk};
 ghost use Rattle.std.specs.Option.{option_copied};
+ghost use Rattle.av_base.specs.Limits.{greatest_values};
 ghost use Rattle.av_filter.specs.Bounds.{AreInBounds};
+ghost use Rattle.av_store.specs.Store.{empty_store};
 ghost use Rattle.avscan.specs.Streams.{HasFile};
 ghost use Rattle.avscan.specs.declared.status.Status.TheVariants.{Done};
 
@@ -17,7 +19,8 @@ pub const VOLUME: u64 = 1;
 
 /// The volume of a program's files: number 1, never mounted, with no stream yet.
 pub fn empty_volume(alloc: Global) -> Volume
-    ensures { AreInBounds result }
+    ensures empty { result ≡ empty_store VOLUME greatest_values }
+    ensures bounds { AreInBounds result }
 {
     let limits = Limits::greatest();
     let _in_range = limits.values();
