@@ -41,7 +41,8 @@ HaveRare ps r = (j : ℕ) → j < length ps → IsPairFinderOf r.finder (word_at
 
 -- what is kept for windows of m bytes, where there are any: how long each word is, the shifts, the shorter patterns, and
 -- rare bytes that each has
-pub record IsSkimmer (ps : List (List ℕ)) (depths : List ℕ) (m : ℕ) (shifts : List ℕ) (shorts : List (List ℕ)) (rare : Option RareBytes) : Type 0 where
+pub record IsSkimmer (ps : List (List ℕ)) (depths : List ℕ) (m : ℕ) (shifts : List ℕ) (shorts : List (List ℕ))
+    (rare : Option RareBytes) : Type 0 where
   pub deep : depths ≡ map length (words_of ps)
   pub few : m ≤ 64
   pub sound : 2 ≤ m → AreShifts (words_of ps) m shifts
