@@ -128,27 +128,28 @@ fn short_patterns_leave_windows_wide(rt: HostRuntime) -> Result<(), Fail> {
 /// One pattern; the first and the last of its bytes are the rarest in usual contents.
 const ALONE: &[u8] = b"\x01ababababababababab\x02";
 
+// Whether leaps of the one pattern let all but the last bytes pass of these, told again and again.
+fn are_let_pass(alloc: Global, sentence: &[u8]) -> Result<bool, Fail> {
+    let automaton = automaton_of(alloc, &[ALONE])?;
+    let content = told(alloc, sentence, PIECE)?;
+    if content.len() != PIECE {
+        return Ok(false);
+    }
+    let (through, leapt, _) = counts(&automaton, content.as_slice());
+    Ok(through && leapt > PIECE - ALONE.len())
+}
+
 // Windows would stand still at these bytes, but the rarest of the pattern's is none of them.
 #[test]
 fn a_content_without_the_rarest_byte_is_let_pass(rt: HostRuntime) -> Result<(), Fail> {
-    let automaton = automaton_of(rt.alloc(), &[ALONE])?;
-    let content = told(rt.alloc(), b"ab", PIECE)?;
-    assert_eq!(rt; content.len(), PIECE);
-    let (through, leapt, _) = counts(&automaton, content.as_slice());
-    assert!(rt; through);
-    assert!(rt; leapt > PIECE - ALONE.len());
+    assert!(rt; are_let_pass(rt.alloc(), b"ab")?);
     Ok(())
 }
 
 // The rarest byte comes often, but never with the other one before it.
 #[test]
 fn a_content_without_the_two_rarest_bytes_is_let_pass(rt: HostRuntime) -> Result<(), Fail> {
-    let automaton = automaton_of(rt.alloc(), &[ALONE])?;
-    let content = told(rt.alloc(), b"abababababababababab\x02", PIECE)?;
-    assert_eq!(rt; content.len(), PIECE);
-    let (through, leapt, _) = counts(&automaton, content.as_slice());
-    assert!(rt; through);
-    assert!(rt; leapt > PIECE - ALONE.len());
+    assert!(rt; are_let_pass(rt.alloc(), b"abababababababababab\x02")?);
     Ok(())
 }
 
