@@ -5,15 +5,11 @@ FILES := examples/test.avsig examples/letter.txt examples/eicar.com.txt
 PREFIX ?= /usr/local
 SHARE = $(DESTDIR)$(PREFIX)/share
 
-.PHONY: build run try test bench install install-built clean kit
+.PHONY: build run try test gate-times bench install install-built clean kit
 
 build: kit
 	@echo "building: proving each crate and compiling avscan (some minutes on the first run)"
-	@status=$$(mktemp); \
-	  (cd crates/avscan && rt run -- run "$(CURDIR)/$(EXAMPLE)" > /dev/null; echo $$? > $$status) 2>&1 \
-	    | grep --line-buffered -aE '^rt: |^so far|: error|error\[|no proof' ; \
-	  built=$$(cat $$status); rm -f $$status; \
-	  [ "$$built" = 0 ] || { echo "make: avscan was not built: the lines above say why" >&2; exit 1; }
+	@python3 tests/prove.py avscan || { echo "make: avscan was not built: the lines above say why" >&2; exit 1; }
 	@echo "built: $(PROGRAM)"
 
 run: build
@@ -29,10 +25,14 @@ try: kit
 test: kit
 	@if [ -n "$(CRATE)" ]; then tests/crate.sh "$(CRATE)"; else tests/gate.sh; fi
 
+gate-times:
+	@python3 tests/times.py
+
 bench: build
 	@bench/run.sh
 
-install: build install-built
+install: build
+	@$(MAKE) --no-print-directory install-built
 
 install-built:
 	@install -D -m 755 $(PROGRAM) "$(DESTDIR)$(PREFIX)/bin/avscan"

@@ -5,7 +5,7 @@ manual page and in the completions, and the pages render without a warning. The 
 import glob, os, re, shutil, subprocess, sys
 
 ROOT = os.path.dirname(os.path.dirname(os.path.abspath(__file__)))
-PAGES = ["README.md", "bench/README.md"] + [f"docs/{name}.md" for name in ("ARCHITECTURE", "CONDUCT", "DECISIONS", "FORMATS", "GATE", "OPERATING", "PROMISES", "SCANNER", "THREADS")]
+PAGES = ["README.md", "bench/README.md"] + [f"docs/{name}.md" for name in ("ARCHITECTURE", "CONDUCT", "DECISIONS", "FORMATS", "GATE", "READING", "OPERATING", "PROMISES", "SCANNER", "THREADS")]
 # words of the language, of std and of formats that stand in backticks too
 OUTSIDE = set("make test run install scan rt clang slab lru bytes hex clap thiserror itoa std memchr Drop Display Error From Ok Err Some None "
               "true false requires ensures main malloc grep yara clamscan clamonacc clamd cargo valgrind".split())

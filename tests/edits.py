@@ -1,7 +1,7 @@
 #!/usr/bin/env python3
 """Tries every must-fail edit (crates/NAME/must-fail/*.edit): the prover has to refuse the very function that the edit changes.
 
-usage: edits.py [--until SECONDS] [CRATE ...]
+usage: edits.py [--until SECONDS] [--times FILE] [CRATE ...]
 
 `rt must-fail NAME` tries each edit in a check of its own, most of which goes to reading libraries. Here edits of different
 functions share a check of a copy of the crate. The prover judges a function by its own body and the contracts of what it
@@ -18,13 +18,15 @@ import concurrent.futures
 import os
 import re
 import shutil
-import subprocess
 import sys
 import tempfile
 import time
 
-TOP = os.path.dirname(os.path.dirname(os.path.abspath(__file__)))
-CRATES = f"{TOP}/crates"
+import rooms
+from rooms import CRATES, TOP
+
+# How many edits one lane takes of a crate at a time, about: each part begins with a copy of what was proved.
+PART = 24
 # How many edits share a check at most, so that none takes too long.
 MOST = 40
 HEAD = re.compile(r"((?: {4})?)(?:pub(?:\(\w+\))? )?(?:const )?fn (\w+)")
@@ -129,39 +131,16 @@ def groups_of(edits):
     return [(texts, members) for texts, _, members in groups]
 
 
-def listed():
-    """Each crate that crates.txt lists, with its line."""
-    with open(f"{TOP}/crates.txt", encoding="utf-8") as file:
-        return [(line.partition(":")[0], line) for line in file if ":" in line and not line.startswith("#")]
-
-
-def link(file, to):
-    """The same file at one more place, or a copy where that can't be: libraries are large, and nothing changes them."""
-    try:
-        os.link(file, to)
-    except OSError:
-        shutil.copy2(file, to)
-
-
 class Copy:
-    """A copy of a crate and of those below it, with what earlier checks kept: its own proofs, and the others as libraries."""
+    """A room for a crate, with what earlier checks kept of it."""
 
-    def __init__(self, crate, below, room):
-        self.folder = f"{room}/crates/{crate}"
-        shutil.copy(f"{TOP}/HANDLES", room)
-        with open(f"{room}/crates.txt", "w", encoding="utf-8") as file:
-            file.writelines(line for name, line in listed() if name in (crate, *below))
-        for name in (crate, *below):
-            for part in ("src", "specs", "proofs"):
-                if os.path.isdir(f"{CRATES}/{name}/{part}"):
-                    shutil.copytree(f"{CRATES}/{name}/{part}", f"{room}/crates/{name}/{part}")
-            if name in below:
-                shutil.copytree(f"{CRATES}/{name}/out/rlib", f"{room}/crates/{name}/out/rlib", copy_function=link)
+    def __init__(self, crate, crates, room):
+        self.folder = rooms.put_up(room, crate, crates)
         proofs = f"{CRATES}/{crate}/out/incremental"
         if os.path.isdir(proofs):
             shutil.copytree(proofs, f"{self.folder}/out/incremental")
-        self.is_top = not any(crate in line.split()[1:] for _, line in listed())
-        self.checks = 0
+        self.is_top = not any(crate in lower for lower in crates.values())
+        self.checks = self.used = self.mebibytes = 0
 
     def check(self, texts, paths):
         """Checks the crate with these texts in place of its own: what the prover told of each function, and all that was said."""
@@ -173,12 +152,14 @@ class Copy:
             with open(f"{self.folder}/{file}", "w", encoding="utf-8") as it:
                 it.write(text)
         only = [word for path in sorted(paths) for word in ("--only", path) if self.is_top]
-        how = {"stdin": subprocess.DEVNULL, "stdout": subprocess.PIPE, "stderr": subprocess.STDOUT, "encoding": "utf-8", "errors": "replace"}
-        ran = subprocess.run(["rt", "check", "--jobs", "1", *only], cwd=self.folder, **how)
+        job = rooms.Job(["rt", "check", "--jobs", "1", *only], self.folder, f"{self.folder}/out/edits.log")
+        job.wait()
+        self.used, self.mebibytes = self.used + job.used, max(self.mebibytes, job.mebibytes)
         for file, text in own.items():
             with open(f"{self.folder}/{file}", "w", encoding="utf-8") as it:
                 it.write(text)
-        return TOLD.findall(ran.stdout), ran.stdout
+        said = job.said()
+        return TOLD.findall(said), said
 
 
 class Tally:
@@ -241,43 +222,51 @@ class Tally:
             self.tell(edit, True, "refused, alone, but by no function's contract, so that it says little")
 
 
-def tried(crate, below, until):
-    """Tries the edits of a crate. Where the machine has no room for it, those that are left count as not tried."""
-    begun, folder = time.time(), f"{CRATES}/{crate}/must-fail"
-    edits = [Edit(crate, f"{folder}/{name}") for name in sorted(os.listdir(folder)) if name.endswith(".edit")]
-    tally = Tally(until)
-    os.makedirs(f"{TOP}/out", exist_ok=True)
+def tried(crate, edits, crates, until, times):
+    """Tries edits of a crate in a room of their own. Where the machine has no room for it, those that are left count as not tried."""
+    begun, tally = time.time(), Tally(until)
     with tempfile.TemporaryDirectory(prefix="edits-", dir=f"{TOP}/out", ignore_cleanup_errors=True) as room:
         try:
-            tally.copy = Copy(crate, below, room)
+            tally.copy = Copy(crate, crates, room)
             lost = [edit for edit in edits if edit.apply(source(edit)) is None]
             for edit in lost:
                 tally.tell(edit, False, "its text doesn't stand once in its file")
             tally.try_all([edit for edit in edits if edit not in lost])
-            print(f"{crate}: {len(edits)} edits in {tally.copy.checks} checks and {time.time() - begun:.0f} s", flush=True)
+            copy, seconds = tally.copy, time.time() - begun
+            print(f"{crate}: {len(edits)} edits in {copy.checks} checks, {seconds:.0f} s, {copy.used:.0f} processor seconds", flush=True)
+            rooms.note(times, "edits", crate, len(edits) - tally.untried, seconds, copy.used, copy.mebibytes)
         except OSError as error:
             tally.untried = len(edits) - tally.refused - tally.not_refused
             print(f"{crate}: {tally.untried} of its {len(edits)} edits could not be tried: {str(error)[:300]}", flush=True)
     return tally
 
 
+def parts_of(crate, lanes):
+    """A crate's edits, in parts of about the same number that are tried side by side; edits of one file stay together where they can."""
+    folder = f"{CRATES}/{crate}/must-fail"
+    edits = [Edit(crate, f"{folder}/{name}") for name in sorted(os.listdir(folder)) if name.endswith(".edit")]
+    edits.sort(key=lambda it: it.file)
+    count = max(1, min(lanes, round(len(edits) / PART)))
+    size = -(-len(edits) // count)
+    return [edits[at : at + size] for at in range(0, len(edits), size)]
+
+
 def main(words):
     asked = argparse.ArgumentParser(add_help=False)
     asked.add_argument("--until", type=float, default=float("inf"))
+    asked.add_argument("--times")
     asked.add_argument("crates", nargs="*")
     asked = asked.parse_args(words)
-    below = {}
-    for crate, line in listed():
-        own = [it for it in line.split()[1:] if it in below]
-        below[crate] = {*own, *[lower for it in own for lower in below[it]]}
-    crates = [it for it in below if (not asked.crates or it in asked.crates) and os.path.isdir(f"{CRATES}/{it}/must-fail")]
-    first = int(time.time() / 86400) % max(len(crates), 1)
-    with concurrent.futures.ThreadPoolExecutor(len(os.sched_getaffinity(0))) as pool:
-        begun = [pool.submit(tried, it, below[it], asked.until) for it in crates[first:] + crates[:first]]
+    crates, lanes = rooms.listed(), rooms.processors()
+    with_edits = [it for it in crates if (not asked.crates or it in asked.crates) and os.path.isdir(f"{CRATES}/{it}/must-fail")]
+    first = int(time.time() / 86400) % max(len(with_edits), 1)
+    parts = [(it, part) for it in with_edits[first:] + with_edits[:first] for part in parts_of(it, lanes)]
+    os.makedirs(f"{TOP}/out", exist_ok=True)
+    with concurrent.futures.ThreadPoolExecutor(lanes) as pool:
+        begun = [pool.submit(tried, crate, part, crates, asked.until, asked.times) for crate, part in parts]
     tallies = [run.result() for run in begun]
     refused, not_refused, untried = (sum(getattr(it, name) for it in tallies) for name in ("refused", "not_refused", "untried"))
-    if untried:
-        print(f"edits that were not tried, for want of time or of room: {untried}")
+    print(f"edits: {sum(len(part) for _, part in parts)}, of which {untried} were not tried, for want of time or of room")
     print(f"{refused} passed, {not_refused} failed")
     return 1 if not_refused or untried and not refused else 0
 

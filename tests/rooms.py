@@ -1,0 +1,166 @@
+"""The crates of this repository, as crates.txt lists them, and rooms in which one of them is checked.
+
+`rt` lets one run at a time work on a crate and on all below it. A room is a copy of a crate and of those below it, with what earlier
+runs made of these, so that several crates are checked side by side over the same libraries.
+"""
+import os
+import re
+import shutil
+import subprocess
+import threading
+import time
+
+TOP = os.path.dirname(os.path.dirname(os.path.abspath(__file__)))
+CRATES = f"{TOP}/crates"
+# A process of the prover takes up to so many mebibytes, as seen: what is not free is not handed out.
+MEBIBYTES = 3_000
+
+
+def lines():
+    """The line of crates.txt for each crate, lowest first."""
+    with open(f"{TOP}/crates.txt", encoding="utf-8") as file:
+        return {line.partition(":")[0].split()[0]: line for line in file if ":" in line and not line.startswith("#")}
+
+
+def listed():
+    """The crates of this repository that each one names."""
+    all_lines = lines()
+    return {name: [it for it in line.partition(":")[2].split() if it in all_lines] for name, line in all_lines.items()}
+
+
+def below(crates, names):
+    """All that these crates stand on, and they themselves, lowest first."""
+    found, waiting = set(), list(names)
+    while waiting:
+        name = waiting.pop()
+        if name not in found:
+            found.add(name)
+            waiting += crates[name]
+    return [it for it in crates if it in found]
+
+
+def above(crates, name):
+    """A crate and all that stand on it, lowest first."""
+    return [it for it in crates if name in below(crates, [it])]
+
+
+def is_program(crate):
+    return os.path.isfile(f"{CRATES}/{crate}/src/main.rt")
+
+
+def size(crate):
+    """The lines of a crate's code and proofs, to which the time of its proof is about proportional."""
+    count = 0
+    for part in ("src", "specs", "proofs"):
+        for at, _, files in os.walk(f"{CRATES}/{crate}/{part}"):
+            for name in files:
+                with open(f"{at}/{name}", "rb") as file:
+                    count += file.read().count(b"\n")
+    return count
+
+
+def behind(tasks):
+    """For each task its size and that of the longest chain of tasks that wait for it."""
+    longest = {}
+    for key in reversed(tasks):
+        waiting = [longest[it] for it, (_, waits) in tasks.items() if key in waits]
+        longest[key] = tasks[key][0] + max(waiting, default=0)
+    return longest
+
+
+def free():
+    """Mebibytes of memory that are free now."""
+    with open("/proc/meminfo", encoding="utf-8") as file:
+        return int(re.search(r"MemAvailable:\s+(\d+)", file.read())[1]) // 1024
+
+
+def processors():
+    return len(os.sched_getaffinity(0))
+
+
+def link(file, to):
+    """The same file at one more place, or a copy where that can't be: libraries are large, and nothing changes them."""
+    try:
+        os.link(file, to)
+    except OSError:
+        shutil.copy2(file, to)
+
+
+def put_up(room, crate, crates, sources=CRATES):
+    """Makes the folder a room for a crate: its sources, those of the crates below it, and the libraries of these. The sources may be
+    those of a copy of this repository."""
+    lower = [it for it in below(crates, [crate]) if it != crate]
+    all_lines = lines()
+    os.makedirs(room, exist_ok=True)
+    shutil.copy(f"{TOP}/HANDLES", room)
+    with open(f"{room}/crates.txt", "w", encoding="utf-8") as file:
+        file.writelines(all_lines[name] for name in (*lower, crate))
+    for name in (*lower, crate):
+        for part in ("src", "specs", "proofs"):
+            of = sources if name == crate else CRATES
+            if os.path.isdir(f"{of}/{name}/{part}"):
+                shutil.copytree(f"{of}/{name}/{part}", f"{room}/crates/{name}/{part}")
+        if name in lower and os.path.isdir(f"{CRATES}/{name}/out/rlib"):
+            shutil.copytree(f"{CRATES}/{name}/out/rlib", f"{room}/crates/{name}/out/rlib", copy_function=link)
+    return f"{room}/crates/{crate}"
+
+
+def note(file, kind, crate, count, seconds, used, mebibytes):
+    """Adds a line to a file of times, if one is named: what was done, the crate, of how many things, seconds, processor seconds and the
+    mebibytes of the largest process."""
+    if file:
+        with open(file, "a", encoding="utf-8") as times:
+            times.write(f"{kind} {crate} {count} {seconds:.0f} {used:.0f} {mebibytes}\n")
+
+
+class Job:
+    """A command in the background, with what it wrote, its time and its memory once it is over."""
+
+    def __init__(self, words, folder, log, ended=None, jobs=1):
+        self.begun, self.log, self.jobs, self.is_over = time.time(), log, jobs, False
+        with open(log, "w", encoding="utf-8") as file:
+            self.process = subprocess.Popen(words, cwd=folder, stdin=subprocess.DEVNULL, stdout=file, stderr=subprocess.STDOUT)
+        if ended:
+            threading.Thread(target=self.wait, args=(ended,), daemon=True).start()
+
+    def wait(self, ended=None):
+        """Waits for its end, and tells it to who is named."""
+        _, status, used = os.wait4(self.process.pid, 0)
+        self.process.returncode = self.status = os.waitstatus_to_exitcode(status)
+        self.seconds, self.used = time.time() - self.begun, used.ru_utime + used.ru_stime
+        self.mebibytes = used.ru_maxrss // 1024
+        self.is_over = True
+        if ended:
+            with ended:
+                ended.notify()
+
+    def said(self):
+        with open(self.log, encoding="utf-8", errors="replace") as file:
+            return file.read()
+
+
+def in_lanes(tasks, begin, ended_with, count):
+    """Begins tasks side by side, each once those it waits for have ended well, first those with the most behind them.
+
+    `tasks` has for each key its size and what it waits for, later ones behind; `begin(key, jobs, ended)` begins one and gives its
+    Job; `ended_with(key, job)` says whether it ended well. `count` is how many processors there are. Gives the keys that were not begun.
+    """
+    first, left, running, done, ended = behind(tasks), list(tasks), {}, set(), threading.Condition()
+    while left or running:
+        ready = sorted((it for it in left if done.issuperset(tasks[it][1])), key=lambda it: -first[it])
+        if not ready and not running:
+            break
+        for at, key in enumerate(ready):
+            idle = count - sum(job.jobs for job in running.values())
+            young = sum(job.jobs for job in running.values() if time.time() - job.begun < 30)
+            room = free() // MEBIBYTES - young
+            if running and (idle <= 0 or room <= 0):
+                break
+            left.remove(key)
+            running[key] = begin(key, max(1, min(idle // (len(ready) - at), room, 4)), ended)
+        with ended:
+            ended.wait_for(lambda: any(job.is_over for job in running.values()), timeout=20)
+        for key in [it for it, job in running.items() if job.is_over]:
+            if ended_with(key, running.pop(key)):
+                done.add(key)
+    return left
