@@ -28,9 +28,7 @@ must_be_spent() {
         number=$((number + 1))
         printf '\npub fn let_go_%s(value: %s) {\n    let _left = value;\n}\n' $number "${type#*:}" >> "crates/$crate/src/${type%:*}.rt"
     done
-    tests=$crate
-    if [ -d "crates/${crate}_tests" ]; then tests=${crate}_tests; fi
-    (cd "crates/$tests" && rt try --test) > "$copy/log" 2>&1 || true
+    (cd "crates/$crate" && rt try --test) > "$copy/log" 2>&1 || true
     for type in "$@"; do
         name=${type#*:}
         if grep -q "linear-value-let-go.*\`$name\` is not \`Drop\`" "$copy/log"; then

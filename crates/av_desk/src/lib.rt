@@ -19,6 +19,8 @@ mod given;
 pub mod lent;
 pub mod locked;
 pub mod shared;
+#[cfg(test)]
+mod tests;
 
 pub use audit::Audit;
 pub use desk::Desk;

@@ -15,6 +15,8 @@ mod opening;
 pub mod out;
 mod receiving;
 mod running;
+#[cfg(test)]
+mod tests;
 mod timing_out;
 
 pub use fault::FilterFault;

@@ -19,6 +19,8 @@ pub mod present;
 pub mod question;
 pub mod rewriting;
 mod stream_contexts;
+#[cfg(test)]
+mod tests;
 mod waits;
 
 pub use filter_table::FilterTable;

@@ -17,6 +17,8 @@ mod naming;
 mod same;
 pub mod seat;
 pub mod settled;
+#[cfg(test)]
+mod tests;
 
 pub use audit::Audit;
 pub use call::Call;

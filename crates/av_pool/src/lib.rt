@@ -20,6 +20,8 @@ mod rest;
 mod stopped;
 mod taker;
 mod tally;
+#[cfg(test)]
+mod tests;
 mod worker;
 
 pub use fault::StartFault;

@@ -19,6 +19,8 @@ pub mod pattern;
 pub mod report;
 pub mod run_script;
 pub mod script;
+#[cfg(test)]
+mod tests;
 pub mod world;
 
 pub use event::Event;

@@ -1,0 +1,128 @@
+// Steps of a gate, and what they say, as plain numbers.
+use av_base::{Cause, MessageId, Refusal, Verdict, Version};
+use av_filter::{FilterFault, Note};
+use av_frame::{Body, Message, Outcome};
+use crate::GateFault;
+use av_pend::Answer;
+use av_store::StoreFault;
+
+#[derive(Clone, Copy)]
+pub enum Step<'a> {
+    Open(&'a [u8]),
+    // name, offset, bytes
+    Write(&'a [u8], u64, &'a [u8]),
+    Cleanup(&'a [u8]),
+    // version
+    Hello(u64),
+    Updated(u64),
+    // question, version
+    Clean(u64, u64),
+    TimeOut(u64),
+    Disconnect,
+}
+
+#[derive(Clone, Copy, PartialEq, Eq, Debug)]
+pub enum Said {
+    Quiet,
+    Submitted(u64),
+    Welcome,
+    NoWaiter,
+    NoStream,
+    Other,
+    AuditFull,
+    Refused(StoreFault),
+    NoMemory,
+}
+
+impl Said {
+    pub fn is_accepted(self) -> bool {
+        match self {
+            Said::AuditFull | Said::Refused(_) | Said::NoMemory => false,
+            _ => true,
+        }
+    }
+}
+
+#[derive(Clone, Copy, PartialEq, Eq, Debug)]
+pub enum Told {
+    Waits,
+    // generation, version
+    Granted(u64, u64),
+    // generation, cause
+    Unscanned(u64, Cause),
+    Denied(Cause),
+}
+
+pub fn what_is_said(outcome: &Result<Note, Refusal<GateFault>>) -> Said {
+    match outcome {
+        Ok(note) => noted(note),
+        Err(Refusal::NoMemory) => Said::NoMemory,
+        Err(Refusal::Fault(fault)) => refused(fault),
+    }
+}
+
+fn noted(note: &Note) -> Said {
+    match note {
+        Note::Quiet => Said::Quiet,
+        Note::Submitted { open_id } => Said::Submitted(open_id.get()),
+        Note::Welcome => Said::Welcome,
+        Note::NoWaiter => Said::NoWaiter,
+        Note::NoStream => Said::NoStream,
+        _ => Said::Other,
+    }
+}
+
+fn refused(fault: &GateFault) -> Said {
+    match fault {
+        GateFault::AuditFull => Said::AuditFull,
+        GateFault::Filter(FilterFault::Store(fault)) => Said::Refused(*fault),
+        GateFault::Filter(_) => Said::Other,
+    }
+}
+
+pub fn what_is_told(answer: Option<&Answer>) -> Told {
+    match answer {
+        None => Told::Waits,
+        Some(
+            Answer::Granted {
+                generation,
+                version,
+                ..
+            },
+        ) => Told::Granted(generation.get(), version.get()),
+        Some(
+            Answer::Unscanned {
+                generation,
+                cause,
+                ..
+            },
+        ) => Told::Unscanned(generation.get(), *cause),
+        Some(Answer::Denied { cause, .. }) => Told::Denied(*cause),
+    }
+}
+
+// The message of a step that is one, where its numbers are in range.
+pub fn message_of(step: Step<'_>) -> Option<Message> {
+    let body = match step {
+        Step::Hello(version) => Body::Hello {
+            volume: 1,
+            version: Version::new(version),
+        },
+        Step::Updated(version) => Body::Updated {
+            version: Version::new(version),
+        },
+        Step::Clean(seq, version) => Body::Reply {
+            id: MessageId { boot: 1, seq },
+            outcome: Outcome::Judged {
+                version: Version::new(version),
+                verdict: Verdict::Clean,
+            },
+        },
+        _ => return None,
+    };
+    if body.is_in_range() {
+        Some(Message::new(body))
+    } else {
+        None
+    }
+}

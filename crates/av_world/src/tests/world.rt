@@ -1,0 +1,98 @@
+use av_base::{Generation, Limits, Mode, OpenId, StreamId, Verdict, Version};
+use av_cache::Entry;
+use av_fakes::{may_refuse, refuse_no_more};
+use av_pend::Answer;
+use crate::given::Given;
+use crate::script::command::Command;
+use crate::script::parse_script;
+use crate::world::World;
+use std::alloc::Global;
+use std::process::Abort;
+use std::test::Fail;
+
+// An open that is scanned and granted, with a name that is unknown and a frame that is not there on the way.
+const GRANTED: &[u8] = b"\
+    volume 1 closed\n\
+    publish 1 58\n\
+    create a\n\
+    write a 0 4142\n\
+    write b 0 41\n\
+    connect\n\
+    up 1\n\
+    open a\n\
+    down 1\n\
+    down 9\n\
+    up 2\n\
+    down 2\n\
+    work 1\n\
+    up 3\n";
+
+#[test]
+fn refused_or_not_a_granted_content_is_held_clean_in_each_place(
+    rt: HostRuntime,
+) -> Result<(), Fail> {
+    let alloc = rt.alloc();
+    let world = granted(&rt, alloc)?;
+    may_refuse(alloc);
+    let first = world.held(alloc);
+    refuse_no_more(alloc);
+    let held = match first {
+        Ok(held) => Ok(held),
+        Err(_) => world.held(alloc),
+    };
+    world.close();
+    assert_eq!(rt; held?.as_slice(), [clean(); 4].as_slice());
+    Ok(())
+}
+
+fn clean() -> Entry {
+    Entry {
+        stream: StreamId::new(1),
+        generation: Generation::new(2),
+        version: Version::new(1),
+        verdict: Verdict::Clean,
+    }
+}
+
+#[test]
+fn a_world_tells_what_was_sent_and_answered(rt: HostRuntime) -> Result<(), Fail> {
+    let world = granted(&rt, rt.alloc())?;
+    let sent = [world.history().len(), world.down().len(), world.up().len()];
+    let answered = world.answers() == [granted_answer()].as_slice();
+    let mount = (world.mode(), world.limits());
+    world.close();
+    assert_eq!(rt; sent, [11, 2, 3]);
+    assert!(rt; answered);
+    assert_eq!(rt; mount, (Mode::FailClosed, Limits::greatest()));
+    Ok(())
+}
+
+fn granted_answer() -> Given {
+    Given {
+        event: 11,
+        answer: Answer::Granted {
+            open_id: OpenId::new(1),
+            least: Version::new(0),
+            stream: StreamId::new(1),
+            generation: Generation::new(2),
+            version: Version::new(1),
+        },
+    }
+}
+
+// The world after a script that grants an open.
+fn granted<R: Abort>(rt: &R, alloc: Global) -> Result<World, Fail> {
+    let Ok(script) = parse_script(alloc, GRANTED) else {
+        panic!(rt; "it is no script");
+    };
+    let (number, mode, limits) = (script.number(), script.mode(), script.limits());
+    let mut commands = script.into_commands();
+    let mut events = Vec::new(alloc);
+    'commands: while let Some(command) = commands.pop_front() {
+        if let Command::Step(event) = command {
+            events.push(event)?;
+        }
+    }
+    let world = World::run(alloc, number, mode, limits, events.as_slice())?;
+    Ok(world)
+}
