@@ -60,7 +60,7 @@ step tests python3 tests/run_tests.py --times "$times"
 echo "gate: refused memory"
 step refused-memory sh tests/refused-memory.sh $(grep -l refused_or_not_ -r crates/*/src | cut -d / -f 2 | sort -u)
 echo "gate: values that must be spent"
-step must-be-spent sh tests/must-be-spent.sh
+step must-be-spent python3 tests/must_be_spent.py
 echo "gate: the cases of tests/ on the built program"
 step cases python3 tests/run.py "$program" tests/scripts tests/words tests/scan
 echo "gate: the tables of cases"
