@@ -7,3 +7,4 @@ pub mod LineLemmas
 pub mod MadeLemmas
 pub mod PieceLemmas
 pub mod ReadLemmas
+pub mod RowLemmas

@@ -1,27 +1,29 @@
 use Rattle.std.proofs.Common.{ℕ, ◌≡◌, ◌<◌, ◌+◌, true, false, cond, List, [], ◌∷◌, ◌++◌, length, Ok, Err, refl, ap, nat_eq, arith, ◌∙◌, eqb-true, codes}
 use Rattle.std.specs.Str.{bytes_eq}
 use Rattle.av_base.specs.Line.{pieces_of, onto_first}
-use Rattle.av_sigset.specs.Judge.{set_of_lines, set_below, signatures_from, signatures_below, signatures_with, signature_of, version_of, with_version, bad_line, then_line}
+use Rattle.av_sigset.specs.declared.format.Format.{Format}
+use Rattle.av_sigset.specs.Judge.{set_of_lines, set_in, format_of, set_below, signatures_from, signatures_below, signatures_with, signature_of, version_of, with_version, bad_line, then_line}
 use Rattle.av_sigset.specs.declared.fault.SetFaultKind.TheVariants.{Header, Unended}
 use Rattle.av_sigset.specs.declared.fault.SetFaultKind.{SetFaultKind}
 use Rattle.av_sigset.specs.Line.{JoinsAs}
 use Rattle.av_sigset.specs.declared.signature.Signature.{Signature}
+use Rattle.av_sigset.specs.declared.signature.Span.{Span}
 use Rattle.av_base.proofs.LineLemmas.{pieces_some}
 
 -- line 1 is ended where a line stands below it
-pub header_judged : (line bs : List ℕ) → set_of_lines (line ∷ pieces_of 10 bs) ≡ cond (bytes_eq line (codes "avsig 1")) (set_below (pieces_of 10 bs)) (bad_line 1 Header)
+pub header_judged : (line bs : List ℕ) → set_of_lines (line ∷ pieces_of 10 bs) ≡ set_in (format_of line) (pieces_of 10 bs)
 header_judged line bs = let some = pieces_some 10 bs in rw some.2 refl
 
 -- line 2 is ended where a line stands below it
-pub more_lines : (line bs : List ℕ) → set_below (line ∷ pieces_of 10 bs) ≡ with_version (version_of (pieces_of 32 line)) (pieces_of 10 bs)
-more_lines line bs = let some = pieces_some 10 bs in rw some.2 refl
+pub more_lines : (format : Format) (line bs : List ℕ) → set_below format (line ∷ pieces_of 10 bs) ≡ with_version format (version_of (pieces_of 32 line)) (pieces_of 10 bs)
+more_lines format line bs = let some = pieces_some 10 bs in rw some.2 refl
 
 -- a line that is ended is judged, and then those below it
-pub line_judged : (before : List Signature) (line bs : List ℕ)
-    → signatures_from before (line ∷ pieces_of 10 bs)
-    ≡ then_line (length before + 3) (signatures_with before (signature_of (pieces_of 32 line))) (λ signatures. signatures_from signatures (pieces_of 10 bs))
+pub line_judged : (format : Format) (before : List Signature) (line bs : List ℕ)
+    → signatures_from format before (line ∷ pieces_of 10 bs)
+    ≡ then_line (length before + 3) (signatures_with before (signature_of format (pieces_of 32 line))) (λ signatures. signatures_from format signatures (pieces_of 10 bs))
 unfolding signatures_below
-line_judged before line bs = let some = pieces_some 10 bs in rw some.2 refl
+line_judged format before line bs = let some = pieces_some 10 bs in rw some.2 refl
 
 -- onto any list there are two pieces, or it was one
 onto_one : (b : ℕ) (ps : List (List ℕ)) (p bs : List ℕ) → onto_first b ps ≡ p ∷ [] → ((q : List ℕ) → ps ≡ q ∷ [] → q ≡ bs) → 0 < length ps → p ≡ b ∷ bs
@@ -39,25 +41,25 @@ pieces_one s (b ∷ bs) p e =
     ]) e
 
 -- a last line that is not ended is refused
-pub line_unended : (before : List Signature) (bs p : List ℕ) → 0 < length bs → pieces_of 10 bs ≡ p ∷ [] → signatures_from before (pieces_of 10 bs) ≡ bad_line (length before + 3) Unended
+pub line_unended : (format : Format) (before : List Signature) (bs p : List ℕ) → 0 < length bs → pieces_of 10 bs ≡ p ∷ [] → signatures_from format before (pieces_of 10 bs) ≡ bad_line (length before + 3) Unended
 unfolding signatures_below
-line_unended before [] p lt e = absurd (omega arith)
-line_unended before (b ∷ bs) p lt e = let same = pieces_one 10 (b ∷ bs) p e in rw (e, same) refl
+line_unended format before [] p lt e = absurd (omega arith)
+line_unended format before (b ∷ bs) p lt e = let same = pieces_one 10 (b ∷ bs) p e in rw (e, same) refl
 
 -- a line that can't stand behind these is refused
-pub line_refused : (before : List Signature) (line bs : List ℕ) (kind : SetFaultKind) → signatures_with before (signature_of (pieces_of 32 line)) ≡ Err kind
-    → signatures_from before (line ∷ pieces_of 10 bs) ≡ bad_line (length before + 3) kind
-line_refused before line bs kind e = line_judged before line bs ∙ ap (λ r. then_line (length before + 3) r (λ signatures. signatures_from signatures (pieces_of 10 bs))) e
+pub line_refused : (format : Format) (before : List Signature) (line bs : List ℕ) (kind : SetFaultKind) → signatures_with before (signature_of format (pieces_of 32 line)) ≡ Err kind
+    → signatures_from format before (line ∷ pieces_of 10 bs) ≡ bad_line (length before + 3) kind
+line_refused format before line bs kind e = line_judged format before line bs ∙ ap (λ r. then_line (length before + 3) r (λ signatures. signatures_from format signatures (pieces_of 10 bs))) e
 
 -- a line that can stand behind these joins them
-pub line_joined : (before : List Signature) (name digits line bs : List ℕ) → (j : JoinsAs before name digits (signature_of (pieces_of 32 line)))
-    → signatures_from before (line ∷ pieces_of 10 bs) ≡ signatures_from (before ++ record { name = name; pattern = record { bytes = j.spells.bytes } } ∷ []) (pieces_of 10 bs)
-line_joined before name digits line bs j = line_judged before line bs ∙ ap (λ r. then_line (length before + 3) r (λ signatures. signatures_from signatures (pieces_of 10 bs))) j.joined
+pub line_joined : (format : Format) (before : List Signature) (name digits : List ℕ) (span : Span) (line bs : List ℕ) → (j : JoinsAs before name digits span (signature_of format (pieces_of 32 line)))
+    → signatures_from format before (line ∷ pieces_of 10 bs) ≡ signatures_from format (before ++ record { name = name; pattern = record { bytes = j.spells.bytes; span = span } } ∷ []) (pieces_of 10 bs)
+line_joined format before name digits span line bs j = line_judged format before line bs ∙ ap (λ r. then_line (length before + 3) r (λ signatures. signatures_from format signatures (pieces_of 10 bs))) j.joined
 
 -- where no line is left, these are all
-pub line_none : (before : List Signature) → signatures_from before (pieces_of 10 []) ≡ Ok before
+pub line_none : (format : Format) (before : List Signature) → signatures_from format before (pieces_of 10 []) ≡ Ok before
 unfolding signatures_below
-line_none before = refl
+line_none format before = refl
 
 -- what has no byte is empty, and other texts are longer
 pub empty_of : (bs : List ℕ) → nat_eq (length bs) 0 ≡ true → bs ≡ []

@@ -1,6 +1,6 @@
 use Rattle.std.specs.Prelude.{ℕ}
 use Rattle.av_sigset.specs.declared.fault.SetFaultKind.{SetFaultKind}
-use Rattle.av_sigset.specs.declared.fault.SetFaultKind.TheVariants.{Header, Version, Name, Hex, Length, Duplicate, TooMany, Unended}
+use Rattle.av_sigset.specs.declared.fault.SetFaultKind.TheVariants.{Header, Version, Name, Hex, Length, Duplicate, TooMany, Unended, Range}
 
 -- the number of a kind of fault
 abbrev pub number_of : SetFaultKind → ℕ
@@ -12,3 +12,4 @@ number_of Length = 5
 number_of Duplicate = 6
 number_of TooMany = 7
 number_of Unended = 8
+number_of Range = 9

@@ -6,14 +6,17 @@ use Rattle.av_base.specs.Decimal.{decimal_of}
 use Rattle.av_base.specs.Line.{pieces_of}
 use Rattle.hex.specs.Hex.{decode_of}
 use Rattle.hex.specs.declared.error.FromHexError.{FromHexError}
-use Rattle.av_sigset.specs.Set.{NumberedSet, patterns_of, byte_count}
+use Rattle.av_sigset.specs.Set.{NumberedSet, patterns_of, byte_count, widest}
 use Rattle.av_sigset.specs.declared.line.TheConstants.{MAX_NAME}
 use Rattle.av_sigset.specs.declared.set.TheConstants.{MAX_BYTES, MAX_SIGNATURES}
-use Rattle.av_sigset.specs.declared.signature.TheConstants.{MAX_PATTERN}
+use Rattle.av_sigset.specs.declared.signature.TheConstants.{MAX_PATTERN, MAX_PLACE}
+use Rattle.av_sigset.specs.declared.format.Format.{Format}
+use Rattle.av_sigset.specs.declared.format.Format.TheVariants.{One, Two}
 use Rattle.av_sigset.specs.declared.fault.SetFault.{SetFault}
 use Rattle.av_sigset.specs.declared.fault.SetFaultKind.{SetFaultKind}
-use Rattle.av_sigset.specs.declared.fault.SetFaultKind.TheVariants.{Header, Version, Name, Hex, Length, Duplicate, TooMany, Unended}
+use Rattle.av_sigset.specs.declared.fault.SetFaultKind.TheVariants.{Header, Version, Name, Hex, Length, Duplicate, TooMany, Unended, Range}
 use Rattle.av_sigset.specs.declared.signature.Signature.{Signature}
+use Rattle.av_sigset.specs.declared.signature.Span.{Span}
 use Rattle.av_base.specs.Refused.{map_ok}
 
 -- a line is bad in this way
@@ -30,12 +33,36 @@ is_name_byte b =
 abbrev pub is_name : List ℕ → Bool
 is_name word = nat_le 1 (length word) && nat_le (length word) MAX_NAME && list_all is_name_byte word
 
--- the signature of a name and of bytes, where they may be a pattern
-abbrev pub signature_under : List ℕ → Result (List ℕ) FromHexError → Result Signature SetFaultKind
-signature_under name (Err e) = Err Hex
-signature_under name (Ok bytes) =
-    if nat_le 1 (length bytes) && nat_le (length bytes) MAX_PATTERN
-    then Ok (record { name = name; pattern = record { bytes = bytes } }) else Err Length
+-- from the first of two numbers to the second, where they are in order and a content has these places
+abbrev pub span_between : Option ℕ → Option ℕ → Option Span
+span_between None high = None
+span_between (Some low) None = None
+span_between (Some low) (Some high) =
+    if nat_le low high && nat_le high MAX_PLACE then Some (record { low = low; high = high }) else None
+
+-- the span that the words behind the digits name; without any it is the widest
+abbrev pub span_in : List (List ℕ) → Option Span
+span_in [] = Some widest
+span_in (low ∷ []) = None
+span_in (low ∷ high ∷ []) = span_between (decimal_of low) (decimal_of high)
+span_in (low ∷ high ∷ other ∷ rest) = None
+
+-- the signature of a name and of bytes that are bound to a span
+abbrev pub signature_bound : List ℕ → List ℕ → Option Span → Result Signature SetFaultKind
+signature_bound name bytes None = Err Range
+signature_bound name bytes (Some span) = Ok (record { name = name; pattern = record { bytes = bytes; span = span } })
+
+-- the same, where the bytes may be a pattern
+abbrev pub signature_under : List ℕ → Result (List ℕ) FromHexError → Option Span → Result Signature SetFaultKind
+signature_under name (Err e) span = Err Hex
+signature_under name (Ok bytes) span =
+    if nat_le 1 (length bytes) && nat_le (length bytes) MAX_PATTERN then signature_bound name bytes span else Err Length
+
+-- the signature of a name, of digits and of the words behind them: format 1 has none there
+abbrev pub signature_in : Format → List ℕ → List ℕ → List (List ℕ) → Result Signature SetFaultKind
+signature_in One name digits [] = signature_under name (decode_of digits) (Some widest)
+signature_in One name digits (word ∷ words) = Err Hex
+signature_in Two name digits words = signature_under name (decode_of digits) (span_in words)
 
 -- the first of the words of a line
 abbrev pub first_of : List (List ℕ) → List ℕ
@@ -46,12 +73,11 @@ first_of (word ∷ words) = word
 abbrev pub first_word : List ℕ → List ℕ
 first_word line = first_of (pieces_of 32 line)
 
--- the signature of the words of a line: a name and hexadecimal digits
-abbrev pub signature_of : List (List ℕ) → Result Signature SetFaultKind
-signature_of [] = Err Name
-signature_of (name ∷ []) = Err Name
-signature_of (name ∷ digits ∷ []) = if is_name name then signature_under name (decode_of digits) else Err Name
-signature_of (name ∷ digits ∷ other ∷ rest) = if is_name name then Err Hex else Err Name
+-- the signature of the words of a line: a name, hexadecimal digits and, in format 2, a span or none
+abbrev pub signature_of : Format → List (List ℕ) → Result Signature SetFaultKind
+signature_of format [] = Err Name
+signature_of format (name ∷ []) = Err Name
+signature_of format (name ∷ digits ∷ words) = if is_name name then signature_in format name digits words else Err Name
 
 -- a signature behind those that stood before, where there is room for it
 abbrev pub signatures_within : List Signature → Result Signature SetFaultKind → Result (List Signature) SetFaultKind
@@ -79,16 +105,16 @@ whole_at before [] = Ok before
 whole_at before (b ∷ bs) = bad_line (length before + 3) Unended
 
 -- the signatures of a line and of those below it, behind those that stood before
-unfoldable pub signatures_below : List Signature → List ℕ → List (List ℕ) → Result (List Signature) SetFault
-signatures_below before line [] = whole_at before line
-signatures_below before line (below ∷ rest) =
-    then_line (length before + 3) (signatures_with before (signature_of (pieces_of 32 line)))
-    (λ signatures. signatures_below signatures below rest)
+unfoldable pub signatures_below : Format → List Signature → List ℕ → List (List ℕ) → Result (List Signature) SetFault
+signatures_below format before line [] = whole_at before line
+signatures_below format before line (below ∷ rest) =
+    then_line (length before + 3) (signatures_with before (signature_of format (pieces_of 32 line)))
+    (λ signatures. signatures_below format signatures below rest)
 
 -- the signatures of these lines
-abbrev pub signatures_from : List Signature → List (List ℕ) → Result (List Signature) SetFault
-signatures_from before [] = whole_at before []
-signatures_from before (line ∷ rest) = signatures_below before line rest
+abbrev pub signatures_from : Format → List Signature → List (List ℕ) → Result (List Signature) SetFault
+signatures_from format before [] = whole_at before []
+signatures_from format before (line ∷ rest) = signatures_below format before line rest
 
 -- a version is not 0
 abbrev pub above_zero : Option ℕ → Option ℕ
@@ -107,21 +133,35 @@ abbrev pub set_under : ℕ → Result (List Signature) SetFault → Result Numbe
 set_under version signatures = map_ok (λ s. record { version = version; signatures = s }) signatures
 
 -- what line 2 names, and the signatures of the lines below it
-abbrev pub with_version : Option ℕ → List (List ℕ) → Result NumberedSet SetFault
-with_version None rest = bad_line 2 Version
-with_version (Some version) rest = set_under version (signatures_from [] rest)
+abbrev pub with_version : Format → Option ℕ → List (List ℕ) → Result NumberedSet SetFault
+with_version format None rest = bad_line 2 Version
+with_version format (Some version) rest = set_under version (signatures_from format [] rest)
 
 -- from line 2 on
-abbrev pub set_below : List (List ℕ) → Result NumberedSet SetFault
-set_below [] = bad_line 2 Unended
-set_below (line ∷ []) = bad_line 2 Unended
-set_below (line ∷ below ∷ rest) = with_version (version_of (pieces_of 32 line)) (below ∷ rest)
+abbrev pub set_below : Format → List (List ℕ) → Result NumberedSet SetFault
+set_below format [] = bad_line 2 Unended
+set_below format (line ∷ []) = bad_line 2 Unended
+set_below format (line ∷ below ∷ rest) = with_version format (version_of (pieces_of 32 line)) (below ∷ rest)
+
+-- the line that heads a file of this format
+abbrev pub header_of : Format → List ℕ
+header_of One = codes "avsig 1"
+header_of Two = codes "avsig 2"
+
+-- the format whose header this line is
+abbrev pub format_of : List ℕ → Option Format
+format_of line = if bytes_eq line (header_of One) then Some One else if bytes_eq line (header_of Two) then Some Two else None
+
+-- from line 2 on, where line 1 is a header
+abbrev pub set_in : Option Format → List (List ℕ) → Result NumberedSet SetFault
+set_in None rest = bad_line 1 Header
+set_in (Some format) rest = set_below format rest
 
 -- from line 1 on
 abbrev pub set_of_lines : List (List ℕ) → Result NumberedSet SetFault
 set_of_lines [] = bad_line 1 Unended
 set_of_lines (line ∷ []) = bad_line 1 Unended
-set_of_lines (line ∷ below ∷ rest) = if bytes_eq line (codes "avsig 1") then set_below (below ∷ rest) else bad_line 1 Header
+set_of_lines (line ∷ below ∷ rest) = set_in (format_of line) (below ∷ rest)
 
 -- the set of a signature file, or its first bad line
 abbrev pub set_of : List ℕ → Result NumberedSet SetFault

@@ -6,7 +6,7 @@ use thiserror::Error;
 /// What is wrong with a signature file, each kind under its number. docs/FORMATS.md has the order in which a line is judged.
 #[derive(Clone, Copy, Debug, PartialEq, Eq)]
 pub enum SetFaultKind {
-    /// Line 1 isn't `avsig 1`.
+    /// Line 1 is neither `avsig 1` nor `avsig 2`.
     Header = 1,
     /// Line 2 isn't `version` and a decimal number from 1 to 2^64 - 1.
     Version = 2,
@@ -22,10 +22,13 @@ pub enum SetFaultKind {
     TooMany = 7,
     /// No LF ends the line, or line 1 or 2 is missing.
     Unended = 8,
+    /// The first and the last place at which a match may begin aren't two decimal numbers, the second at least the first
+    /// and at most 1,048,575.
+    Range = 9,
 }
 
 impl SetFaultKind {
-    /// The number by which fault lines name the kind, from 1 to 8.
+    /// The number by which fault lines name the kind, from 1 to 9.
     pub fn number(self) -> u8
         ensures { result ≡ number_of self }
     {
@@ -33,8 +36,8 @@ impl SetFaultKind {
     }
 }
 
-/// The first bad line of a signature file, counted from 1, and what is wrong with it. Of a set that is made from bare
-/// patterns it is the line that the pattern would have in a file: signature i stands on line i + 3.
+/// The first bad line of a signature file, counted from 1, and what is wrong with it. Of a set that is made of
+/// patterns without names it is the line that the pattern would have in a file: signature i stands on line i + 3.
 #[derive(Clone, Copy, Debug, PartialEq, Eq, Error)]
 #[error("set line {line}: kind {}", .kind.number())]
 pub struct SetFault {

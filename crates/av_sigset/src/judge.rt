@@ -6,14 +6,15 @@ ghost use Rattle.av_base.specs.Line.{pieces_of};
 ghost use Rattle.av_sigset.specs.Judge.{signatures_from, first_word};
 
 use crate::fault::{SetFault, SetFaultKind, bad_line};
+use crate::format::Format;
 use crate::line::{SPACE, words_of};
 use crate::set::{MAX_BYTES, MAX_SIGNATURES};
 use av_base::line::{LF, first_piece};
 
 /// The first bad one of these lines. Looks for a name in each line above it, so it serves where memory is refused.
-pub fn fault_in(lines: &[u8]) -> Option<SetFault>
-    ensures { MatchOption result (IsOk (signatures_from [] (pieces_of 10 lines.now)))
-        (λ f. signatures_from [] (pieces_of 10 lines.now) ≡ Err f) }
+pub fn fault_in(format: Format, lines: &[u8]) -> Option<SetFault>
+    ensures { MatchOption result (IsOk (signatures_from format [] (pieces_of 10 lines.now)))
+        (λ f. signatures_from format [] (pieces_of 10 lines.now) ≡ Err f) }
 {
     let mut rest = lines;
     let mut count = 0usize;
@@ -24,7 +25,7 @@ pub fn fault_in(lines: &[u8]) -> Option<SetFault>
         let Some(below) = below else {
             return Some(bad_line(number, SetFaultKind::Unended));
         };
-        let words = match words_of(line) {
+        let words = match words_of(format, line) {
             Ok(words) => words,
             Err(kind) => return Some(bad_line(number, kind)),
         };

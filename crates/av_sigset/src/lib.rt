@@ -1,4 +1,4 @@
-//! Signature sets: what a scan looks for, read from a signature file or made from bare patterns, and the catalogue of
+//! Signature sets: what a scan looks for, read from a signature file or made of patterns without names, and the catalogue of
 //! the sets that were published.
 //!
 //! ```text
@@ -10,6 +10,7 @@
 
 pub mod catalogue;
 pub mod fault;
+mod format;
 pub mod hexadecimal;
 mod judge;
 pub mod law;
@@ -24,4 +25,4 @@ mod tests;
 pub use catalogue::Catalogue;
 pub use fault::{CatalogueFault, SetFault, SetFaultKind};
 pub use set::SignatureSet;
-pub use signature::{Pattern, Signature};
+pub use signature::{AsPattern, Pattern, Signature, Span};

@@ -1,26 +1,29 @@
-//! Sets that are made from bare patterns.
+//! Sets that are made of patterns without names.
 ghost use Rattle.std.specs.Prelude.{◌≡◌, ◌++◌, ◌∷◌, length, map, IfOk, codes, decimal};
 ghost use Rattle.av_sigset.specs.Made.{fault_in, serial_signatures, serial_signature};
 
 use crate::fault::{SetFault, SetFaultKind, bad_line};
 use crate::set::{MAX_BYTES, MAX_SIGNATURES};
-use crate::signature::{MAX_PATTERN, Pattern, Signature};
+use crate::signature::{AsPattern, MAX_PATTERN, MAX_PLACE, Pattern, Signature};
 use av_base::ByteList;
 use itoa::Buffer;
 use std::alloc::{AllocError, Global};
-use std::convert::AsSlice;
 
 /// The first of these patterns that can't stand in a file.
 #[tactic(auto, unfolding(crate::specs::Made::fault_in))]
-pub fn fault_in<P: AsSlice<u8>>(patterns: &[P]) -> Option<SetFault>
-    ensures { result ≡ fault_in 0 0 (map P.items patterns.now) }
+pub fn fault_in<P: AsPattern>(patterns: &[P]) -> Option<SetFault>
+    ensures { result ≡ fault_in 0 0 (map P.pattern patterns.now) }
 {
     let mut bytes = 0usize;
     for index in 0..patterns.len() {
-        let length = patterns[index].as_slice().len();
+        let length = patterns[index].bytes().len();
+        let span = patterns[index].span();
         let line = index as u64 + 3;
         if length == 0 || length > MAX_PATTERN {
             return Some(bad_line(line, SetFaultKind::Length));
+        }
+        if span.high < span.low || span.high > MAX_PLACE {
+            return Some(bad_line(line, SetFaultKind::Range));
         }
         if index >= MAX_SIGNATURES || bytes + length > MAX_BYTES {
             return Some(bad_line(line, SetFaultKind::TooMany));
@@ -32,22 +35,26 @@ pub fn fault_in<P: AsSlice<u8>>(patterns: &[P]) -> Option<SetFault>
 
 /// These patterns, named by their places.
 #[tactic(auto, unfolding(crate::specs::Made::serial_signatures))]
-pub fn serial_signatures<P: AsSlice<u8>>(
+pub fn serial_signatures<P: AsPattern>(
     alloc: Global,
     patterns: &[P],
 ) -> Result<Vec<Signature>, AllocError>
-    ensures { IfOk result (λ v. v.items ≡ serial_signatures 0 (map P.items patterns.now)) }
+    ensures { IfOk result (λ v. v.items ≡ serial_signatures 0 (map P.pattern patterns.now)) }
 {
     let mut signatures = Vec::with_capacity(alloc, patterns.len())?;
     for index in 0..patterns.len() {
-        signatures.push(serial_signature(alloc, index, patterns[index].as_slice())?)?;
+        signatures.push(serial_signature(alloc, index, &patterns[index])?)?;
     }
     Ok(signatures)
 }
 
 // A pattern, named by its place.
-fn serial_signature(alloc: Global, index: usize, bytes: &[u8]) -> Result<Signature, AllocError>
-    ensures { IfOk result (λ s. s ≡ serial_signature index bytes.now) }
+fn serial_signature<P: AsPattern>(
+    alloc: Global,
+    index: usize,
+    pattern: &P,
+) -> Result<Signature, AllocError>
+    ensures { IfOk result (λ s. s ≡ serial_signature index (P.pattern pattern.now)) }
 {
     let mut buffer = Buffer::new();
     let mut name = Vec::from_slice(alloc, b"s")?;
@@ -55,7 +62,8 @@ fn serial_signature(alloc: Global, index: usize, bytes: &[u8]) -> Result<Signatu
     Ok(Signature {
         name: ByteList::from_vec(name),
         pattern: Pattern {
-            bytes: ByteList::copied(alloc, bytes)?,
+            bytes: ByteList::copied(alloc, pattern.bytes())?,
+            span: pattern.span(),
         },
     })
 }

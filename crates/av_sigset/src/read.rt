@@ -10,6 +10,7 @@ ghost use Rattle.hex.specs.Hex.{decode_of};
 ghost use Rattle.av_sigset.specs.Set.{AreInRange, patterns_of, byte_count};
 
 use crate::fault::{SetFault, SetFaultKind, bad_line};
+use crate::format::{Format, format_of};
 use crate::judge::fault_in;
 use crate::line::{Words, version_of, words_of};
 use crate::set::{MAX_BYTES, MAX_SIGNATURES};
@@ -19,39 +20,56 @@ use av_base::{ByteList, Refusal};
 use hex::FromHexError;
 use std::alloc::{AllocError, Global};
 
-/// The version of a signature file, and the lines of its signatures.
+/// What stands in a signature file: its format, its version, and the lines of its signatures.
+#[derive(Clone, Copy)]
+pub struct Body<'a> {
+    pub format: Format,
+    pub version: u64,
+    pub lines: &'a [u8],
+}
+
+/// The parts of a signature file, where its first two lines are good.
 #[tactic(auto, using(crate::proofs::ReadLemmas::header_judged, crate::proofs::ReadLemmas::more_lines))]
-pub fn body_of(bytes: &[u8]) -> Result<(u64, &[u8]), SetFault>
-    ensures body { IfOk result (λ b. (set_of bytes.now ≡ set_under b.0 (signatures_from [] (pieces_of 10 b.1.now))) × (1 ≤ b.0)) }
+pub fn body_of(bytes: &[u8]) -> Result<Body<'_>, SetFault>
+    ensures body { IfOk result (λ b. set_of bytes.now ≡ set_under b.version (signatures_from b.format [] (pieces_of 10 b.lines.now))) }
+    ensures version { IfOk result (λ b. 1 ≤ b.version) }
     ensures fault { IfErr result (λ f. set_of bytes.now ≡ Err f) }
 {
     let (header, rest) = first_piece(bytes, LF);
     let Some(rest) = rest else {
         return Err(bad_line(1, SetFaultKind::Unended));
     };
-    if header != b"avsig 1".as_slice() {
+    let Some(format) = format_of(header) else {
         return Err(bad_line(1, SetFaultKind::Header));
-    }
+    };
     let (second, rest) = first_piece(rest, LF);
     let Some(rest) = rest else {
         return Err(bad_line(2, SetFaultKind::Unended));
     };
     match version_of(second) {
-        Some(version) => Ok((version, rest)),
+        Some(version) => Ok(Body {
+            format,
+            version,
+            lines: rest,
+        }),
         None => Err(bad_line(2, SetFaultKind::Version)),
     }
 }
 
 /// The signatures of these lines. Where memory is refused the lines are judged without any, so that a fault comes first.
-pub fn read_signatures(alloc: Global, lines: &[u8]) -> Result<Vec<Signature>, Refusal<SetFault>>
-    ensures ok { IfOk result (λ v. signatures_from [] (pieces_of 10 lines.now) ≡ Ok v.items) }
+pub fn read_signatures(
+    alloc: Global,
+    format: Format,
+    lines: &[u8],
+) -> Result<Vec<Signature>, Refusal<SetFault>>
+    ensures ok { IfOk result (λ v. signatures_from format [] (pieces_of 10 lines.now) ≡ Ok v.items) }
     ensures ranges { IfOk result (λ v. AreInRange (patterns_of v.items)) }
-    ensures refusal { IfErr result (λ e. IsRefusal e (signatures_from [] (pieces_of 10 lines.now))) }
+    ensures refusal { IfErr result (λ e. IsRefusal e (signatures_from format [] (pieces_of 10 lines.now))) }
 {
-    match gathered(alloc, lines) {
+    match gathered(alloc, format, lines) {
         Ok(signatures) => Ok(signatures),
         Err(Refusal::Fault(fault)) => Err(Refusal::Fault(fault)),
-        Err(Refusal::NoMemory) => match fault_in(lines) {
+        Err(Refusal::NoMemory) => match fault_in(format, lines) {
             Some(fault) => Err(Refusal::Fault(fault)),
             None => Err(Refusal::NoMemory),
         },
@@ -59,10 +77,14 @@ pub fn read_signatures(alloc: Global, lines: &[u8]) -> Result<Vec<Signature>, Re
 }
 
 // The same, where a want of memory ends the reading at once.
-fn gathered(alloc: Global, lines: &[u8]) -> Result<Vec<Signature>, Refusal<SetFault>>
-    ensures ok { IfOk result (λ v. signatures_from [] (pieces_of 10 lines.now) ≡ Ok v.items) }
+fn gathered(
+    alloc: Global,
+    format: Format,
+    lines: &[u8],
+) -> Result<Vec<Signature>, Refusal<SetFault>>
+    ensures ok { IfOk result (λ v. signatures_from format [] (pieces_of 10 lines.now) ≡ Ok v.items) }
     ensures ranges { IfOk result (λ v. AreInRange (patterns_of v.items)) }
-    ensures fault { IfErr result (λ e. IsFault e (signatures_from [] (pieces_of 10 lines.now))) }
+    ensures fault { IfErr result (λ e. IsFault e (signatures_from format [] (pieces_of 10 lines.now))) }
 {
     let mut signatures = Vec::new(alloc);
     let mut rest = lines;
@@ -73,11 +95,11 @@ fn gathered(alloc: Global, lines: &[u8]) -> Result<Vec<Signature>, Refusal<SetFa
         let Some(below) = below else {
             return Err(Refusal::Fault(bad_line(number, SetFaultKind::Unended)));
         };
-        let words = match words_behind(signatures.as_slice(), total, line) {
+        let words = match words_behind(format, signatures.as_slice(), total, line) {
             Ok(words) => words,
             Err(kind) => return Err(Refusal::Fault(bad_line(number, kind))),
         };
-        add(alloc, &mut signatures, words.name, words.digits)?;
+        add(alloc, &mut signatures, words)?;
         total += words.digits.len() / 2;
         rest = below;
     }
@@ -86,16 +108,17 @@ fn gathered(alloc: Global, lines: &[u8]) -> Result<Vec<Signature>, Refusal<SetFa
 
 // The words of a line, whose signature may stand behind these.
 fn words_behind<'a>(
+    format: Format,
     signatures: &[Signature],
     total: usize,
     line: &'a [u8],
 ) -> Result<Words<'a>, SetFaultKind>
     requires total { total ≡ byte_count (patterns_of signatures.now) }
     requires within { total ≤ MAX_BYTES }
-    ensures words { IfOk result (λ w. JoinsAs signatures.now w.name.now w.digits.now (signature_of (pieces_of 32 line.now))) }
-    ensures fault { IfErr result (λ kind. signatures_with signatures.now (signature_of (pieces_of 32 line.now)) ≡ Err kind) }
+    ensures words { IfOk result (λ w. JoinsAs signatures.now w.name.now w.digits.now w.span (signature_of format (pieces_of 32 line.now))) }
+    ensures fault { IfErr result (λ kind. signatures_with signatures.now (signature_of format (pieces_of 32 line.now)) ≡ Err kind) }
 {
-    let words = match words_of(line) {
+    let words = match words_of(format, line) {
         Ok(words) => words,
         Err(kind) => return Err(kind),
     };
@@ -121,23 +144,21 @@ fn stands_in(signatures: &[Signature], name: &[u8]) -> bool
 }
 
 // One signature more, of which the digits are known to spell bytes.
-fn add(
-    alloc: Global,
-    signatures: &mut Vec<Signature>,
-    name: &[u8],
-    digits: &[u8],
-) -> Result<(), AllocError>
-    ensures { IfOk result (λ _. (bytes : List ℕ) → decode_of digits.now ≡ Ok bytes
-        → signatures.new.items ≡ signatures.old.items ++ record { name = name.now; pattern = record { bytes = bytes } } ∷ []) }
+fn add(alloc: Global, signatures: &mut Vec<Signature>, words: Words<'_>) -> Result<(), AllocError>
+    ensures { IfOk result (λ _. (bytes : List ℕ) → decode_of words.entry.digits.now ≡ Ok bytes → signatures.new.items
+        ≡ signatures.old.items ++ record { name = words.entry.name.now; pattern = record { bytes = bytes; span = words.entry.span } } ∷ []) }
 {
-    let bytes = match hex::decode(alloc, digits) {
+    let bytes = match hex::decode(alloc, words.digits) {
         Ok(bytes) => ByteList::from_vec(bytes),
         Err(_) => return Err(AllocError),
     };
-    let name = ByteList::copied(alloc, name)?;
+    let name = ByteList::copied(alloc, words.name)?;
     signatures.push(Signature {
         name,
-        pattern: Pattern { bytes },
+        pattern: Pattern {
+            bytes,
+            span: words.span,
+        },
     })?;
     Ok(())
 }

@@ -2,17 +2,16 @@ ghost use Rattle.std.specs.Prelude.{◌≡◌, ◌≤◌, length, slice_get, map
 ghost use Rattle.std.specs.Option.{option_copied, option_map};
 ghost use Rattle.av_base.specs.Answers.{Reads};
 ghost use Rattle.av_sigset.specs.Judge.{set_of};
-ghost use Rattle.av_sigset.specs.Made.{set_made};
+ghost use Rattle.av_sigset.specs.Made.{ranged, set_made};
 ghost use Rattle.std.specs.Result.{result_err};
-ghost use Rattle.av_sigset.specs.Set.{IsSet, patterns_of};
+ghost use Rattle.av_sigset.specs.Set.{IsSet, patterns_of, range_at};
 
 use crate::fault::{SetFault, SetFaultKind, bad_line};
 use crate::made::{fault_in, serial_signatures};
 use crate::read::{body_of, read_signatures};
-use crate::signature::{Pattern, Signature};
+use crate::signature::{AsPattern, Pattern, Signature, Span};
 use av_base::{Refusal, Version};
 use std::alloc::Global;
-use std::convert::AsSlice;
 use std::marker::Model;
 
 /// The most signatures of a set.
@@ -43,24 +42,24 @@ impl SignatureSet {
     pub fn read(alloc: Global, bytes: &[u8]) -> Result<SignatureSet, Refusal<SetFault>>
         ensures { Reads result (set_of bytes.now) }
     {
-        let (version, lines) = match body_of(bytes) {
+        let body = match body_of(bytes) {
             Ok(body) => body,
             Err(fault) => return Err(Refusal::Fault(fault)),
         };
-        let signatures = read_signatures(alloc, lines)?;
+        let signatures = read_signatures(alloc, body.format, body.lines)?;
         Ok(SignatureSet {
-            version: Version::new(version),
+            version: Version::new(body.version),
             signatures,
         })
     }
 
     /// The set of these patterns, under the names `s0`, `s1` and on, or the fault that `patterns_fault` tells.
-    pub fn from_patterns<P: AsSlice<u8>>(
+    pub fn from_patterns<P: AsPattern>(
         alloc: Global,
         version: Version,
         patterns: &[P],
     ) -> Result<SignatureSet, Refusal<SetFault>>
-        ensures { Reads result (set_made version (map P.items patterns.now)) }
+        ensures { Reads result (set_made version (map P.pattern patterns.now)) }
     {
         if let Some(fault) = SignatureSet::patterns_fault(version, patterns) {
             return Err(Refusal::Fault(fault));
@@ -72,11 +71,23 @@ impl SignatureSet {
         })
     }
 
-    /// Why these patterns are no set, where they are none: a version of 0, or the first pattern that is empty, too long
-    /// or too much. A fault names the line that the pattern would have in a file: line 2 is the version's, and pattern i
-    /// stands on line i + 3. It takes no memory.
-    pub fn patterns_fault<P: AsSlice<u8>>(version: Version, patterns: &[P]) -> Option<SetFault>
-        ensures { result ≡ result_err (set_made version (map P.items patterns.now)) }
+    /// The set of these bytes, each with the first and the last place at which a match may begin, under the names `s0`,
+    /// `s1` and on, or the fault that `patterns_fault` tells.
+    pub fn from_ranged(
+        alloc: Global,
+        version: Version,
+        patterns: &[(&[u8], u64, u64)],
+    ) -> Result<SignatureSet, Refusal<SetFault>>
+        ensures { Reads result (set_made version (map (λ p. ranged p.0.now p.1 p.2) patterns.now)) }
+    {
+        SignatureSet::from_patterns(alloc, version, patterns)
+    }
+
+    /// Why these patterns are no set, where they are none: a version of 0, or the first pattern that is empty or too
+    /// long, whose places are out of order or range, or that is too much. A fault names the line that the pattern would
+    /// have in a file: line 2 is the version's, and pattern i stands on line i + 3. It takes no memory.
+    pub fn patterns_fault<P: AsPattern>(version: Version, patterns: &[P]) -> Option<SetFault>
+        ensures { result ≡ result_err (set_made version (map P.pattern patterns.now)) }
     {
         if version.get() == 0 {
             return Some(bad_line(2, SetFaultKind::Version));
@@ -116,6 +127,17 @@ impl SignatureSet {
             Some(signature) => Some(&signature.pattern),
             None => None,
         }
+    }
+
+    /// The first and the last place at which a match of signature `index` may begin; of one that isn't there the widest.
+    pub fn range(&self, index: usize) -> (u64, u64)
+        ensures { result ≡ range_at self.now.signatures index }
+    {
+        let span = match self.signatures.as_slice().get(index) {
+            Some(signature) => signature.pattern.span,
+            None => Span::WIDEST,
+        };
+        (span.low, span.high)
     }
 
     /// The name of signature `index`.

@@ -43,6 +43,7 @@ fn number_of(kind: SetFaultKind) -> u32 {
         SetFaultKind::Duplicate => 6,
         SetFaultKind::TooMany => 7,
         SetFaultKind::Unended => 8,
+        SetFaultKind::Range => 9,
     }
 }
 
@@ -67,6 +68,91 @@ fn a_bad_file_names_its_first_bad_line(rt: HostRuntime) {
 }
 
 #[test]
+fn a_file_of_format_2_names_ranges(rt: HostRuntime) -> Result<(), Fail> {
+    let set = SignatureSet::read(rt.alloc(), b"avsig 2\nversion 1\na 4142 0 3\nb 43\n")?;
+    assert_eq!(rt; set.len(), 2);
+    assert!(rt; has_signature(&set, 0, b"a", b"AB"));
+    assert_eq!(rt; set.range(0), (0, 3));
+    assert_eq!(rt; set.range(1), (0, 1_048_575));
+    let plain = SignatureSet::read(rt.alloc(), b"avsig 1\nversion 1\nb 43\n")?;
+    assert_eq!(rt; plain.range(0), (0, 1_048_575));
+    Ok(())
+}
+
+#[test]
+fn a_bad_range_is_told_after_the_length_and_before_the_name(rt: HostRuntime) {
+    let alloc = rt.alloc();
+    let rows: [(&[u8], u64, u32); 24] = [
+        (b"avsig 2\nversion 1\na 41 2 1\n", 3, 9),
+        (b"avsig 2\nversion 1\na 41 2 2\n", 0, 0),
+        (b"avsig 2\nversion 1\na 41 5\n", 3, 9),
+        (b"avsig 2\nversion 1\na 41 0 1048576\n", 3, 9),
+        (b"avsig 2\nversion 1\na 41 1048576 1048576\n", 3, 9),
+        (b"avsig 2\nversion 1\na 41 1048575 1048575\n", 0, 0),
+        (b"avsig 2\nversion 1\na/ 41 2 1\n", 3, 3),
+        (b"avsig 2\nversion 1\na 4 2 1\n", 3, 4),
+        (b"avsig 2\nversion 1\na  0 3\n", 3, 5),
+        (b"avsig 2\nversion 1\na 41 \n", 3, 9),
+        (b"avsig 2\nversion 1\na 41 1 \n", 3, 9),
+        (b"avsig 2\nversion 1\na 41  1\n", 3, 9),
+        (b"avsig 2\nversion 1\na 41 1 2 \n", 3, 9),
+        (b"avsig 2\nversion 1\na 41 1 2 3\n", 3, 9),
+        (b"avsig 2\nversion 1\na 41 01 2\n", 3, 9),
+        (b"avsig 2\nversion 1\na 41 +1 2\n", 3, 9),
+        (b"avsig 2\nversion 1\na 41 1 2\r\n", 3, 9),
+        (b"avsig 2\nversion 1\na 41 1 18446744073709551617\n", 3, 9),
+        (b"avsig 2\nversion 1\na 41\na 42 2 1\n", 4, 9),
+        (b"avsig 2\nversion 1\na 41\na 42 1 2\n", 4, 6),
+        (b"avsig 2\nversion 0\n", 2, 2),
+        (b"avsig 1\nversion 1\na 41 0 3\n", 3, 4),
+        (b"avsig 1\nversion 1\na  0 3\n", 3, 4),
+        (b"avsig 2\nversion 1\nb 41 2 1", 3, 8),
+    ];
+    for (file, line, kind) in rows {
+        assert_eq!(rt; judged(alloc, file), (line, kind));
+    }
+}
+
+// The line and kind of what is no set, or (0, 0).
+fn made(alloc: Global, version: u64, patterns: &[(&[u8], u64, u64)]) -> (u64, u32) {
+    match SignatureSet::from_ranged(alloc, Version::new(version), patterns) {
+        Err(Refusal::Fault(SetFault { line, kind })) => (line, number_of(kind)),
+        _ => (0, 0),
+    }
+}
+
+#[test]
+fn patterns_are_made_with_their_ranges(rt: HostRuntime) -> Result<(), Fail> {
+    let alloc = rt.alloc();
+    let set = SignatureSet::from_ranged(
+        alloc,
+        Version::new(1),
+        &[(b"AB".as_slice(), 1, 1), (b"C".as_slice(), 0, 1_048_575)],
+    )?;
+    assert_eq!(rt; set.range(0), (1, 1));
+    assert_eq!(rt; set.range(1), (0, 1_048_575));
+    assert!(rt; has_signature(&set, 1, b"s1", b"C"));
+    let bare = SignatureSet::from_patterns(alloc, Version::new(1), &[b"AB".as_slice()])?;
+    assert_eq!(rt; bare.range(0), (0, 1_048_575));
+    assert_eq!(rt; made(alloc, 0, &[(b"".as_slice(), 2, 1)]), (2, 2));
+    assert_eq!(rt; made(alloc, 1, &[(b"".as_slice(), 2, 1)]), (3, 5));
+    assert_eq!(rt;
+        made(
+            alloc,
+            1,
+            &[(b"A".as_slice(), 0, 0), (b"A".as_slice(), 2, 1)]
+        ),
+        (4, 9)
+    );
+    assert_eq!(rt; made(alloc, 1, &[(b"A".as_slice(), 0, 1_048_576)]), (3, 9));
+    assert_eq!(rt;
+        made(alloc, 1, &[(b"A".as_slice(), 1_048_575, 1_048_575)]),
+        (0, 0)
+    );
+    Ok(())
+}
+
+#[test]
 fn bare_patterns_are_named_by_their_places(rt: HostRuntime) -> Result<(), Fail> {
     let set = SignatureSet::from_patterns(
         rt.alloc(),
@@ -88,6 +174,25 @@ fn bare_patterns_are_named_by_their_places(rt: HostRuntime) -> Result<(), Fail> 
         ),
         _ => panic!(rt; "no fault"),
     }
+    Ok(())
+}
+
+#[test]
+fn a_bad_range_is_told_before_one_pattern_too_many(rt: HostRuntime) -> Result<(), Fail> {
+    let alloc = rt.alloc();
+    let mut patterns: Vec<(&[u8], u64, u64)> = Vec::with_capacity(alloc, 1025)?;
+    for place in 0..1024u64 {
+        patterns.push((b"A".as_slice(), place, place))?;
+    }
+    assert_eq!(rt; made(alloc, 1, patterns.as_slice()), (0, 0));
+    patterns.push((b"A".as_slice(), 1, 1))?;
+    assert_eq!(rt; made(alloc, 1, patterns.as_slice()), (1027, 7));
+    let _ = patterns.pop();
+    patterns.push((b"A".as_slice(), 2, 1))?;
+    assert_eq!(rt; made(alloc, 1, patterns.as_slice()), (1027, 9));
+    let _ = patterns.pop();
+    patterns.push((b"".as_slice(), 2, 1))?;
+    assert_eq!(rt; made(alloc, 1, patterns.as_slice()), (1027, 5));
     Ok(())
 }
 

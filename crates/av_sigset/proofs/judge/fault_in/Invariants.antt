@@ -4,7 +4,7 @@ use Rattle.av_sigset.proofs.judge.fault_in.Given as goal
 
 -- the lines above are judged
 abbrev pub invariant-lines : goal.invariant-lines
-invariant-lines l = IsJudged l.lines l.rest l.count l.total
+invariant-lines l = IsJudged l.format l.lines l.rest l.count l.total
 
 abbrev pub decreases-lines : goal.decreases-lines
 decreases-lines l = length l.rest
