@@ -40,7 +40,7 @@ no_number None h = refl
 no_number (Some i) h = absurd (omega (arith, h))
 
 -- no pattern that ends there, no index
-index_none : (i : ℕ) (ps : List (List ℕ)) (c : List ℕ) (e : ℕ) → ((j : ℕ) → j < length ps → occurs_at (word_at ps j) c e ≡ false) → index_at i ps c e ≡ None
+pub index_none : (i : ℕ) (ps : List (List ℕ)) (c : List ℕ) (e : ℕ) → ((j : ℕ) → j < length ps → occurs_at (word_at ps j) c e ≡ false) → index_at i ps c e ≡ None
 index_none i [] c e none = refl
 index_none i (p ∷ ps) c e none =
     let here : occurs_at p c e ≡ false = none 0 (omega arith) in

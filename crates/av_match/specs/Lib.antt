@@ -1,3 +1,4 @@
+pub mod Endings
 pub mod Lanes
 pub mod Leaps
 pub mod Longest
@@ -5,6 +6,7 @@ pub mod Match
 pub mod Part
 pub mod Passed
 pub mod Places
+pub mod Ranged
 pub mod Reach
 pub mod Scanning
 pub mod Search

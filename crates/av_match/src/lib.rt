@@ -11,12 +11,14 @@
 pub mod automaton;
 mod cells;
 mod credit;
+mod endings;
 mod lanes;
 pub mod law;
 mod leaps;
 mod parts;
 mod pieces;
 pub mod plain;
+mod ranged;
 mod rare;
 mod reach;
 mod rows;

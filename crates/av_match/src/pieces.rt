@@ -13,7 +13,7 @@ use crate::skim::skim;
 use crate::tables::Tables;
 
 /// The most bytes of one piece.
-const PIECE: usize = 12288;
+pub(crate) const PIECE: usize = 12288;
 
 /// The most bytes of one piece, where the next larger one has a hit; so many are read again byte by byte.
 const SMALL_PIECE: usize = 1024;
@@ -75,8 +75,13 @@ fn through_pieces(
     }
 }
 
-// The state to which a piece leads, where nothing is given out on the way.
-fn piece_state(tables: &Tables<'_>, patience: &mut Patience, from: u16, piece: &[u8]) -> Option<u16>
+/// The state to which a piece leads, where nothing is given out on the way.
+pub(crate) fn piece_state(
+    tables: &Tables<'_>,
+    patience: &mut Patience,
+    from: u16,
+    piece: &[u8],
+) -> Option<u16>
     requires set { AreTables tables.now }
     requires inside { from < length tables.now.outputs.now }
     requires silent { slice_index tables.now.outputs.now from ≡ 0 }

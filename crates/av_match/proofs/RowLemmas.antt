@@ -1,0 +1,30 @@
+-- Worked verdicts of patterns that are bound to spans, computed.
+use Rattle.std.proofs.Common.{ℕ, ◌≡◌, List, [], ◌∷◌, refl}
+use Rattle.av_base.specs.declared.verdict.Verdict.{Verdict}
+use Rattle.av_base.specs.declared.verdict.Verdict.TheVariants.{Clean, Infected}
+use Rattle.av_sigset.specs.declared.signature.Pattern.{Pattern}
+use Rattle.av_match.specs.Match.{occurs, or_else, verdict, verdict_at, verdict_to}
+
+-- bytes that begin from one place to another
+abbrev bound : List ℕ → ℕ → ℕ → Pattern
+bound bytes low high = record { bytes = bytes; span = record { low = low; high = high } }
+
+-- "AB" twice
+abbrev abab : List ℕ
+abab = 0x41 ∷ 0x42 ∷ 0x41 ∷ 0x42 ∷ []
+
+one_place : verdict (bound (0x41 ∷ 0x42 ∷ []) 1 1 ∷ []) abab ≡ Clean
+unfolding verdict verdict_to verdict_at
+one_place = refl
+
+from_two : verdict (bound (0x41 ∷ 0x42 ∷ []) 2 9 ∷ []) abab ≡ Infected 0 4
+unfolding verdict verdict_to verdict_at
+from_two = refl
+
+shorter_first : verdict (bound (0x41 ∷ 0x42 ∷ []) 2 2 ∷ bound (0x42 ∷ []) 0 3 ∷ []) abab ≡ Infected 1 2
+unfolding verdict verdict_to verdict_at
+shorter_first = refl
+
+same_bytes : verdict (bound (0x41 ∷ []) 1 1 ∷ bound (0x41 ∷ []) 0 0 ∷ []) abab ≡ Infected 1 1
+unfolding verdict verdict_to verdict_at
+same_bytes = refl

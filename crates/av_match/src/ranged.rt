@@ -1,0 +1,247 @@
+//! Scans of patterns that are bound to spans: a state at which a pattern ends is passed where no pattern that ends there
+//! begins in its span.
+ghost use Rattle.std.specs.Prelude.{◌≡◌, ◌+◌, ◌*◌, ◌^◌, ◌<◌, ◌≤◌, ◌&&◌, ℕ, length, nat_lt, slice_index, IfOk, IfSome, Option};
+ghost use Rattle.av_match.specs.Part.{AllPatterns, IsPart, ArePatterns};
+ghost use Rattle.av_match.specs.Ranged.{AreStops, IsHorizon, IsRanged, IsRangedOf, IsStop, reach_find};
+ghost use Rattle.av_match.specs.Reach.{place_of, reach};
+ghost use Rattle.av_match.specs.Scanning.{are_bound, is_bound, state_words};
+ghost use Rattle.av_match.specs.Search.{bytes_of, find_at, occurs_at};
+ghost use Rattle.av_match.specs.Tables.{AreTables, AreTablesOf};
+ghost use Rattle.av_match.specs.Words.{word_at, AllBytes};
+ghost use Rattle.av_match.specs.declared.cells.Reached.TheVariants.{Through};
+
+use crate::cells::Reached;
+use crate::credit::Patience;
+use crate::endings::{Endings, endings_of};
+use crate::pieces::{PIECE, piece_state};
+use crate::plain::occurs;
+use crate::reach::Position;
+use crate::tables::Tables;
+use av_base::ByteList;
+use av_sigset::signature::MAX_PLACE;
+use av_sigset::{Pattern, Span};
+use std::alloc::{AllocError, Global};
+
+/// How many bytes are walked where a pattern ends in a piece, and the least of the pieces that follow.
+const WALKED: usize = 1024;
+
+/// What is kept of a set with a bound pattern beside its tables: where each state goes by each byte, also those that
+/// give something out; for each state the longest pattern that ends its word, counted from 1, and 0 where none does;
+/// and for each such pattern those that end it.
+#[derive(Drop)]
+pub struct Ranged {
+    pub cells: Vec<u16>,
+    pub stops: Vec<u16>,
+    pub endings: Vec<Endings>,
+}
+
+// Whether a span lacks some place.
+fn is_bound(span: Span) -> bool
+    ensures { result ≡ is_bound span }
+{
+    0 < span.low || span.high < MAX_PLACE
+}
+
+// Whether some pattern is bound.
+fn are_bound(patterns: &[Pattern]) -> bool
+    ensures { result ≡ are_bound patterns.now }
+{
+    for pattern in patterns {
+        if is_bound(pattern.span) {
+            return true;
+        }
+    }
+    false
+}
+
+/// The last place at which a match of these patterns can end, or none where one can end at any.
+pub fn horizon_of(patterns: &[Pattern]) -> Option<u64>
+    requires { AllPatterns (bytes_of patterns.now) }
+    ensures { IsHorizon patterns.now result }
+{
+    let mut horizon = 0u64;
+    for pattern in patterns {
+        if MAX_PLACE <= pattern.span.high {
+            return None;
+        }
+        let last = pattern.span.high + pattern.bytes.len() as u64;
+        if horizon < last {
+            horizon = last;
+        }
+    }
+    Some(horizon)
+}
+
+/// What is kept of these patterns, of which these are the rows before those of states that give something out led to
+/// themselves. Nothing where none is bound.
+pub fn ranged_of(
+    alloc: Global,
+    patterns: &[Pattern],
+    words: &[ByteList],
+    cells: &[u16],
+) -> Result<Option<Ranged>, AllocError>
+    requires patterns { ArePatterns (bytes_of patterns.now) }
+    requires words { words.now ≡ state_words patterns.now }
+    requires part { IsPart words.now cells.now (length words.now) }
+    ensures { IfOk result (λ r. IsRangedOf patterns.now r) }
+{
+    if !are_bound(patterns) {
+        return Ok(None);
+    }
+    let stops = stops_of(alloc, patterns, words)?;
+    let endings = endings_of(alloc, patterns, stops.as_slice())?;
+    Ok(Some(Ranged {
+        cells: cells.to_vec(alloc)?,
+        stops,
+        endings,
+    }))
+}
+
+// The longest pattern that ends each word.
+fn stops_of(alloc: Global, patterns: &[Pattern], words: &[ByteList]) -> Result<Vec<u16>, AllocError>
+    requires patterns { ArePatterns (bytes_of patterns.now) }
+    requires words { words.now ≡ state_words patterns.now }
+    ensures { IfOk result (λ s. AreStops patterns.now s.items) }
+{
+    let mut stops = Vec::with_capacity(alloc, words.len())?;
+    for word in words {
+        stops.push(stop_of(patterns, word.as_slice()))?;
+    }
+    Ok(stops)
+}
+
+// The number of the longest pattern that ends a word, counted from 1, and 0 where none does.
+fn stop_of(patterns: &[Pattern], word: &[u8]) -> u16
+    requires patterns { ArePatterns (bytes_of patterns.now) }
+    ensures { IsStop patterns.now word.now result }
+{
+    let mut best = 0usize;
+    let mut longest = 0usize;
+    for index in 0..patterns.len() {
+        let bytes = patterns[index].bytes.as_slice();
+        if is_longer(longest, bytes, word) {
+            best = index + 1;
+            longest = bytes.len();
+        }
+    }
+    best as u16
+}
+
+// Whether bytes are more than so many and end a word.
+fn is_longer(longest: usize, bytes: &[u8], word: &[u8]) -> bool
+    ensures { result ≡ (nat_lt longest (length bytes.now) && occurs_at bytes.now word.now (length word.now)) }
+{
+    longest < bytes.len() && occurs(bytes, word, word.len())
+}
+
+/// What a walk goes by: the patterns, and what is kept of them.
+#[derive(Clone, Copy)]
+pub struct Walk<'a> {
+    pub patterns: &'a [Pattern],
+    pub cells: &'a [u16],
+    pub stops: &'a [u16],
+    pub endings: &'a [Endings],
+    pub ghost ranged: { IsRanged patterns.now cells.now stops.now endings.now },
+    pub ghost few: { length patterns.now ≤ 1024 },
+    pub ghost narrow: { length stops.now ≤ 16385 },
+}
+
+// The first pattern that ends a state's word and begins in its span, where the word ends at this place of a content.
+fn find(walk: &Walk<'_>, state: usize, end_at: u64) -> Option<u32>
+    requires { state < length walk.now.stops.now }
+    ensures { let v = word_at (state_words walk.now.patterns.now) state in result ≡ find_at 0 walk.now.patterns.now v (length v) end_at }
+{
+    let stop = walk.stops[state] as usize;
+    if stop == 0 {
+        return None;
+    }
+    walk.endings[stop - 1].first(end_at)
+}
+
+// Where some bytes of a chunk lead from a position by single steps, where so many bytes have come before the chunk.
+fn walk_on(walk: &Walk<'_>, from: Position, fed: u64, part: &[u8]) -> Reached
+    requires inside { from.state < length walk.now.stops.now }
+    requires room { fed + from.place + length part.now < 2 ^ 64 }
+    ensures reach { result ≡ reach_find walk.now.patterns.now walk.now.cells.now fed from.state from.place part.now }
+    ensures place { place_of result ≤ from.place + length part.now }
+    ensures inside { (t : ℕ) → result ≡ Through t → t < length walk.now.stops.now }
+    ensures bytes { AllBytes part.now }
+{
+    let mut state = from.state as usize;
+    for index in 0..part.len() {
+        let place = from.place + index + 1;
+        state = walk.cells[256 * state + part[index] as usize] as usize;
+        if let Some(index) = find(walk, state, fed + place as u64) {
+            return Reached::Hit { place, index };
+        }
+    }
+    Reached::Through {
+        state: state as u16,
+    }
+}
+
+/// Where the bytes of a chunk lead from a state, where so many bytes have come before it: piece by piece as long as
+/// nothing is given out. Where something is in a piece its first bytes are walked, and small pieces follow.
+pub fn reach_ranged(
+    tables: &Tables<'_>,
+    walk: &Walk<'_>,
+    from: u16,
+    fed: u64,
+    chunk: &[u8],
+) -> Reached
+    requires set { AreTablesOf (bytes_of walk.now.patterns.now) tables.now }
+    requires inside { from < length walk.now.stops.now }
+    requires room { fed + length chunk.now < 2 ^ 64 }
+    ensures reach { result ≡ reach_find walk.now.patterns.now walk.now.cells.now fed from 0 chunk.now }
+    ensures place { place_of result ≤ length chunk.now }
+    ensures bytes { AllBytes chunk.now }
+{
+    let mut patience = Patience::new();
+    let mut size = PIECE;
+    let mut state = from;
+    let mut start = 0usize;
+    'pieces: while start < chunk.len() {
+        let end = start + size.min(chunk.len() - start);
+        match quick_state(tables, &mut patience, state, &chunk[start..end]) {
+            Some(next) => {
+                state = next;
+                start = end;
+                size = PIECE.min(2 * size);
+            }
+            None => {
+                let near = start + WALKED.min(end - start);
+                let from = Position {
+                    state,
+                    place: start,
+                };
+                match walk_on(walk, from, fed, &chunk[start..near]) {
+                    Reached::Through { state: next } => state = next,
+                    Reached::Hit { place, index } => return Reached::Hit { place, index },
+                }
+                start = near;
+                size = WALKED;
+            }
+        }
+    }
+    Reached::Through { state }
+}
+
+// The state to which a piece leads from one that gives nothing out, where nothing is given out on the way.
+fn quick_state(
+    tables: &Tables<'_>,
+    patience: &mut Patience,
+    state: u16,
+    piece: &[u8],
+) -> Option<u16>
+    requires set { AreTables tables.now }
+    requires inside { state < length tables.now.outputs.now }
+    requires small { length piece.now ≤ 2 ^ 32 }
+    ensures { IfSome result (λ t. (slice_index tables.now.outputs.now state ≡ 0)
+        × (reach tables.now.cells.now tables.now.outputs.now state 0 piece.now ≡ Through t)) }
+{
+    if tables.outputs[state as usize] == 0 {
+        piece_state(tables, patience, state, piece)
+    } else {
+        None
+    }
+}
