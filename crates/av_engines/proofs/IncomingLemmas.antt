@@ -8,6 +8,7 @@ use Rattle.av_frame.specs.declared.message.Body.{Body}
 use Rattle.av_frame.specs.Message.{IsInRange}
 use Rattle.av_frame.specs.Spelling.{frame, field4}
 use Rattle.av_engines.specs.Incoming.{Received, Takes, Reads, GivesFront, unread, budget}
+use Rattle.av_engines.specs.Spelled.{CameIn}
 
 -- nothing was taken of a stream that stays as it is
 pub takes_none : (r : Received) (a : Option (List ℕ)) → Takes r r a a []
@@ -56,6 +57,14 @@ takes_read r s a b none reads = record {
   in_range = tt;
   few = reads.few;
 }
+
+-- the frames that were taken off came in as many reads as are made
+pub takes_few : (r s : Received) (a b : Option (List ℕ)) (ms : List Body) → unread r ≡ [] → Takes r s a b ms → CameIn r.turns ms
+takes_few r s a b ms none takes =
+    let size = ap length takes.whole in
+    let left = length-append (unread r) takes.bytes in
+    let right = length-append (flat_map frame ms) (unread s) in
+    omega (arith, size, left, right, ap length none, takes.few)
 
 length-frame : (m : Body) → 4 ≤ length (frame m)
 unfolding field4

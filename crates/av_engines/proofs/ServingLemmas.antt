@@ -1,10 +1,12 @@
 -- The engine of a scanning service, message by message.
-use Rattle.std.proofs.Common.{ℕ, ◌≡◌, List, [], ◌∷◌, ◌++◌, true, refl, sym, ap, subst, ◌∙◌, append_assoc, append-nil}
-use Rattle.std.specs.Prelude.{Option}
+use Rattle.std.proofs.Common.{ℕ, ◌≡◌, List, [], ◌∷◌, ◌++◌, true, arith, inl, inr, refl, sym, ap, subst, ◌∙◌, append_assoc, append-nil}
+use Rattle.std.specs.Prelude.{Option, Some, None, IfSome, ◌⊎◌}
 use Rattle.std.specs.Io.KnownBytes.{Appends}
 use Rattle.std.specs.List.{flat_map, AllByRecursion}
 use Rattle.std.proofs.KnownBytes.{Appends-nil, Appends-trans}
 use Rattle.std.proofs.lemmas.Grind.{flat_map-append}
+use Rattle.av_base.proofs.DeviceLemmas.{prefix_whole as front_written}
+use Rattle.av_base.specs.Device.{AppendsPrefix}
 use Rattle.av_frame.specs.Laws.{FaultStays}
 use Rattle.av_frame.specs.declared.message.Body.{Body}
 use Rattle.av_frame.specs.Spelling.{frame}
@@ -21,9 +23,9 @@ use Rattle.av_engines.specs.declared.exchange.Exchange.{Exchange}
 use Rattle.av_engines.specs.Exchange.{Passes, StopsAs}
 use Rattle.av_engines.specs.Incoming.{Received, Takes, unread}
 use Rattle.av_engines.specs.Serving.{Served, gone_on, finish_of, worked, heard, heard_all, patterns_at, service_run, service_text, unserved}
-use Rattle.av_engines.specs.ServiceEnd.{HearsTo, IsLed, Puts, RunsTo, always}
-use Rattle.av_engines.specs.Spelled.{IsSent}
-use Rattle.av_engines.proofs.IncomingLemmas.{takes_none, takes_then}
+use Rattle.av_engines.specs.ServiceEnd.{HearsTo, IsAmid, IsLed, IsRefused, IsWithin, Puts, RunsTo, always}
+use Rattle.av_engines.specs.Spelled.{CameIn, IsSent, SpellsFirst}
+use Rattle.av_engines.proofs.IncomingLemmas.{takes_few, takes_none, takes_then}
 use Rattle.av_engines.proofs.ExchangeLemmas.{first_spelled, prefix_whole, stopped_sent, stopped_spelled}
 
 -- what was sent before works come back stays in front
@@ -77,33 +79,65 @@ hearing_goes_on p old from waited x y a b c w v u d e m waits h passes puts =
           ∙ ap (λ l. (h.written ++ x.outgoing) ++ l) (sym put);
     }
 
-led : (e : End) (x y : Exchange) (b c v u : Option (List ℕ)) (d k : Desk) → StopsAs e x y b c v u → d ≡ k → IsLed e k d
-led Done x y b c v u d k stops same = absurd stops.1
-led ReadFault x y b c v u d k stops same = same
-led WriteFault x y b c v u d k stops same = same
-led Frame x y b c v u d k stops same = same
-led Closed x y b c v u d k stops same = same
-led Memory x y b c v u d k stops same = tt
-led AuditFull x y b c v u d k stops same = absurd stops.1
+led : (e : End) (x y : Exchange) (b c v u : Option (List ℕ)) (d k : Desk) → StopsAs e x y b c v u → d ≡ k → (within : Type 0) → (d ≡ k → within) → IsLed e within k d
+led Done x y b c v u d k stops same within here = absurd stops.1
+led ReadFault x y b c v u d k stops same within here = same
+led WriteFault x y b c v u d k stops same within here = same
+led Frame x y b c v u d k stops same within here = same
+led Closed x y b c v u d k stops same within here = same
+led Memory x y b c v u d k stops same within here = here same
+led AuditFull x y b c v u d k stops same within here = absurd stops.1
 
 pub hearing_stops : FaultStays → (e : End) (p : ℕ → List Pattern) (old : Desk) (from : Received) (waited : List ℕ) (x y : Exchange) (a b c w v u : Option (List ℕ)) (d : Desk) → unread from ≡ []
-    → IsHearing p old from waited x.incoming x.outgoing a b w v d → StopsAs e x y b c v u → HearsTo p old d waited a w u e
+    → IsHearing p old from waited x.incoming x.outgoing a b w v d → StopsAs e x y b c v u → HearsTo p old d waited a w u from.turns e
 hearing_stops stays e p old from waited x y a b c w v u d none h stops = record {
   messages = h.messages;
   spelled = stopped_spelled stays e from x y a b c v u h.messages none h.taken stops;
+  few = takes_few from x.incoming a b h.messages none h.taken;
   sent = subst (IsSent e w u) (sym h.text) (stopped_sent e x y b c w v u h.written h.went stops);
-  desk = led e x y b c v u d _ stops h.desk;
+  desk = led e x y b c v u d _ stops h.desk _ IsWithin.between;
 }
 
--- memory was refused to the message that came last
+-- memory was refused to the message that came last: it is one of those that were handled where all that it lent came back
 pub hearing_fails : (p : ℕ → List Pattern) (old : Desk) (from : Received) (waited : List ℕ) (x y : Exchange) (a b c w v u : Option (List ℕ)) (d e : Desk) (m : Body) → unread from ≡ []
-    → IsHearing p old from waited x.incoming x.outgoing a b w v d → Passes x y b c v u (m ∷ []) → HearsTo p old e waited a w u Memory
-hearing_fails p old from waited x y a b c w v u d e m none h passes = record {
-  messages = h.messages;
-  spelled = first_spelled from x.incoming a b h.messages none h.taken;
-  sent = prefix_whole w u _ (subst (Appends w u) (sym h.text) (Appends-trans w v u h.written x.outgoing h.went passes.sent));
-  desk = tt;
-}
+    → IsHearing p old from waited x.incoming x.outgoing a b w v d → Passes x y b c v u (m ∷ []) → IsAmid p d m e → HearsTo p old e waited a w u from.turns Memory
+hearing_fails p old from waited x y a b c w v u d e m none h passes amid = go amid
+  where
+    before : Served
+    before = heard_all p (unserved old) h.messages
+
+    next : Takes from y.incoming a c (h.messages ++ m ∷ [])
+    next = takes_then from x.incoming y.incoming a b c h.messages (m ∷ []) h.taken passes.taken
+
+    went : Appends w u (waited ++ flat_map frame before.sent)
+    went = subst (Appends w u) (sym h.text) (Appends-trans w v u h.written x.outgoing h.went passes.sent)
+
+    at : IsWithin a h.messages before.desk e → HearsTo p old e waited a w u from.turns Memory
+    at within = record {
+      messages = h.messages;
+      spelled = first_spelled from x.incoming a b h.messages none h.taken;
+      few = takes_few from x.incoming a b h.messages none h.taken;
+      sent = prefix_whole w u _ went;
+      desk = within;
+    }
+
+    go : IsAmid p d m e → HearsTo p old e waited a w u from.turns Memory
+    go (inl same) = at (IsWithin.between (same ∙ h.desk))
+    go (inr (inl step)) = at (IsWithin.amid m (first_spelled from y.incoming a c (h.messages ++ m ∷ []) none next) (step ∙ ap (λ k. (service_step k (Receives m)).desk) h.desk))
+    go (inr (inr full)) =
+        let after = heard p (unserved before.desk) m in
+        let more : heard_all p (unserved old) (h.messages ++ m ∷ []) ≡ record { desk = after.desk; sent = before.sent ++ after.sent } = heard_more p (unserved old) h.messages m ∙ heard_behind p before m in
+        let text : (waited ++ flat_map frame before.sent) ++ flat_map frame after.sent ≡ waited ++ flat_map frame (heard_all p (unserved old) (h.messages ++ m ∷ [])).sent =
+        append_assoc waited (flat_map frame before.sent) (flat_map frame after.sent)
+        ∙ ap (λ l. waited ++ l) (sym (flat_map-append frame before.sent after.sent))
+        ∙ ap (λ (k : Served). waited ++ flat_map frame k.sent) (sym more) in
+        record {
+          messages = h.messages ++ m ∷ [];
+          spelled = first_spelled from y.incoming a c (h.messages ++ m ∷ []) none next;
+          few = takes_few from y.incoming a c (h.messages ++ m ∷ []) none next;
+          sent = subst (AppendsPrefix w u) text (front_written w u (waited ++ flat_map frame before.sent) (flat_map frame after.sent) went);
+          desk = IsWithin.between (full ∙ ap (λ k. (heard p (unserved k) m).desk) h.desk ∙ ap (λ (k : Served). k.desk) (sym more));
+        }
 
 -- messages that come behind what was sent
 heard_all_behind : (p : ℕ → List Pattern) (d : Desk) (front : List Body) (ms : List Body)
@@ -141,11 +175,20 @@ heard_all_alike law p q v same s (m ∷ ms) here =
     let one = worked_alike law p q v same (gone_on s r) r.works (law.version s.desk (Receives m) ∙ here) (under s.desk v here r.works (law.works s.desk (Receives m))) in
     ap (λ t. heard_all p t ms) one.0 ∙ heard_all_alike law p q v same (heard q s m) ms one.1
 
+led_later : (e : End) (within more : Type 0) (d new : Desk) → (within → more) → IsLed e within d new → IsLed e more d new
+led_later Done within more d new f h = h
+led_later ReadFault within more d new f h = h
+led_later WriteFault within more d new f h = h
+led_later Frame within more d new f h = h
+led_later Closed within more d new f h = h
+led_later Memory within more d new f h = f h
+led_later AuditFull within more d new f h = h
+
 -- a service that connected and then heard messages ran
-pub served : LendsUnderItsVersion → (sets : List NumberedSet) (old mid new : Desk) (none waited : List ℕ) (patterns : List Pattern) (a w u : Option (List ℕ)) (e : End)
-    → none ≡ [] → patterns ≡ patterns_at sets old.version → Puts (gone_on (unserved old) (service_step old Connects)) mid none waited
-    → HearsTo (always patterns) mid new waited a w u e → RunsTo sets old new a w u e
-served law sets old mid new none waited patterns a w u e empty same puts hears =
+pub served : LendsUnderItsVersion → (sets : List NumberedSet) (old mid new : Desk) (none waited : List ℕ) (patterns : List Pattern) (a w u : Option (List ℕ)) (left turns : ℕ) (e : End)
+    → left ≡ turns → none ≡ [] → patterns ≡ patterns_at sets old.version → Puts (gone_on (unserved old) (service_step old Connects)) mid none waited
+    → HearsTo (always patterns) mid new waited a w u left e → RunsTo sets old new a w u turns e
+served law sets old mid new none waited patterns a w u left turns e reads empty same puts hears =
     let r = service_step old Connects in
     let ms = hears.messages in
     let rest = heard_all (always patterns) (unserved mid) ms in
@@ -161,6 +204,21 @@ served law sets old mid new none waited patterns a w u e empty same puts hears =
     record {
       messages = ms;
       spelled = hears.spelled;
+      few = subst (λ n. CameIn n ms) reads hears.few;
       sent = subst (IsSent e w u) text hears.sent;
-      desk = subst (λ d. IsLed e d new) (ap (λ (s : Served). s.desk) (sym is)) hears.desk;
+      desk = led_later e _ _ _ new inl (subst (λ d. IsLed e (IsWithin a ms d new) d new) (ap (λ (s : Served). s.desk) (sym is)) hears.desk);
     }
+
+nothing_heard : (a : Option (List ℕ)) → IfSome a (SpellsFirst [])
+nothing_heard None = tt
+nothing_heard (Some xs) = record { more = xs; whole = refl; in_range = tt }
+
+-- memory was refused before the service connected, or to its greeting
+pub unserved_yet : (sets : List NumberedSet) (old new : Desk) (a w : Option (List ℕ)) (turns : ℕ) → (new ≡ old) ⊎ (new ≡ (service_step old Connects).desk) → RunsTo sets old new a w w turns Memory
+unserved_yet sets old new a w turns refused = record {
+  messages = [];
+  spelled = nothing_heard a;
+  few = omega arith;
+  sent = front_written w w [] _ (Appends-nil w);
+  desk = (elim refused as (λ r. IsRefused a [] old (service_step old Connects).desk new) [ inl same ↦ inr (refl, same) | inr greeted ↦ inl (IsWithin.between greeted) ]);
+}

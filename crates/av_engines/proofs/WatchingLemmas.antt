@@ -1,6 +1,6 @@
 -- The engine of a filter, event by event.
-use Rattle.std.proofs.Common.{ℕ, ◌≡◌, ◌&&◌, not, Bool, true, false, cond, nat_eq, List, [], ◌∷◌, ◌++◌, length, refl, sym, ap, subst, ◌∙◌, append_assoc, append-nil, inl, inr}
-use Rattle.std.specs.Prelude.{Option, Some, None, IfSome, ◌⊎◌}
+use Rattle.std.proofs.Common.{ℕ, ◌≡◌, ◌+◌, ◌&&◌, not, Bool, true, false, cond, if◌then◌else◌, nat_eq, List, [], ◌∷◌, ◌++◌, length, take, drop, refl, sym, ap, subst, ◌∙◌, append_assoc, append-nil, take-append-drop, arith, inl, inr}
+use Rattle.std.specs.Prelude.{Option, Some, None, IfSome, ◌⊎◌, Result, Ok, Err, OnErr}
 use Rattle.std.specs.Io.KnownBytes.{Appends}
 use Rattle.std.specs.List.{flat_map}
 use Rattle.std.proofs.KnownBytes.{Appends-nil, Appends-trans}
@@ -21,11 +21,11 @@ use Rattle.av_engines.specs.declared.end.End.{End}
 use Rattle.av_engines.specs.declared.end.End.TheVariants.{Done, ReadFault, WriteFault, Frame, Closed, Memory, AuditFull}
 use Rattle.av_engines.specs.declared.exchange.Exchange.{Exchange}
 use Rattle.av_engines.specs.Exchange.{Passes, StopsAs}
-use Rattle.av_engines.specs.FilterEnd.{Hears, IsAt, IsBehind, IsLeft, IsStill, Leaves, Puts, RunsTo, WatchesTo}
+use Rattle.av_engines.specs.FilterEnd.{Hears, IsAmid, IsAt, IsLeft, IsStill, IsWithin, Leaves, Puts, RunsTo, WatchesTo}
 use Rattle.av_engines.specs.Incoming.{Received, Takes, unread}
 use Rattle.av_engines.specs.Spelled.{AreSpelled, IsSent, SpellsAll, SpellsFirst, SpellsUpToFault}
-use Rattle.av_engines.specs.Watching.{Led, Standing, all_happened, filter_run, filter_text, happened, heard, heard_all, is_done, joined, later, opens_of, standing, unled}
-use Rattle.av_engines.proofs.IncomingLemmas.{takes_none, takes_then}
+use Rattle.av_engines.specs.Watching.{Led, Standing, all_happened, events_of, filter_run, filter_text, happened, heard, heard_all, is_done, joined, later, opens_of, standing, unled}
+use Rattle.av_engines.proofs.IncomingLemmas.{takes_few, takes_none, takes_then}
 use Rattle.av_engines.proofs.ExchangeLemmas.{first_spelled, prefix_whole, stopped_sent, stopped_spelled}
 
 -- events after others
@@ -75,11 +75,22 @@ at_then w t t' v v' answers answers' fs first second =
       answered = second.answered ∙ ap (λ (x : Led). x.answers) (sym same);
     }
 
-pub behind_then : (w : Led) (es : List FilterEvent) (t t' : Table) (v v' : Store) (answers answers' : List Answer)
-    → IsAt (all_happened w es) t v answers → IsBehind (unled t v answers) t' v' answers' → IsBehind w t' v' answers'
-behind_then w es t t' v v' answers answers' first second = record {
+pub amid_then : (w : Led) (es fs : List FilterEvent) (t t' : Table) (v v' : Store) (answers answers' : List Answer)
+    → IsAt (all_happened w es) t v answers → IsAmid (unled t v answers) fs t' v' answers' → IsAmid w (es ++ fs) t' v' answers'
+amid_then w es fs t t' v v' answers answers' first second = record {
   events = es ++ second.events;
+  rest = second.rest;
+  first = append_assoc es second.events second.rest ∙ ap (λ l. es ++ l) second.first;
   at = subst (λ x. IsAt x t' v' answers') (sym (happened_then w es second.events)) (at_then (all_happened w es) t t' v v' answers answers' second.events first second.at);
+}
+
+-- the first of some events are the first of more
+pub amid_more : (w : Led) (es fs all : List FilterEvent) (t : Table) (v : Store) (answers : List Answer) → es ++ fs ≡ all → IsAmid w es t v answers → IsAmid w all t v answers
+amid_more w es fs all t v answers more amid = record {
+  events = amid.events;
+  rest = amid.rest ++ fs;
+  first = sym (append_assoc amid.events amid.rest fs) ∙ ap (λ l. l ++ fs) amid.first ∙ more;
+  at = amid.at;
 }
 
 pub puts_then : (w : Led) (t t' : Table) (v v' : Store) (answers answers' : List Answer) (waited waits more : List ℕ) (fs : List FilterEvent)
@@ -102,8 +113,8 @@ puts_then w t t' v v' answers answers' waited waits more fs first second =
 pub puts_none : (t : Table) (v : Store) (answers : List Answer) (waited : List ℕ) → Puts (unled t v answers) t v answers waited waited
 puts_none t v answers waited = record { at = record { table = refl; volume = refl; answered = refl }; sent = sym (append-nil waited) }
 
-pub behind_none : (t : Table) (v : Store) (answers : List Answer) → IsBehind (unled t v answers) t v answers
-behind_none t v answers = record { events = []; at = record { table = refl; volume = refl; answered = refl } }
+pub amid_none : (t : Table) (v : Store) (answers : List Answer) (all : List FilterEvent) → IsAmid (unled t v answers) all t v answers
+amid_none t v answers all = record { events = []; rest = all; first = refl; at = record { table = refl; volume = refl; answered = refl } }
 
 -- one open more was submitted
 pub submitted_more : (w : Led) (t t' : Table) (v v' : Store) (answers answers' : List Answer) (waited waits more : List ℕ) (ss ts : List ℕ) (s : ℕ)
@@ -114,11 +125,27 @@ submitted_more w t t' v v' answers answers' waited waits more ss ts s is first s
     let same : all_happened w (opens_of ts) ≡ all_happened (all_happened w (opens_of ss)) (Opens s 0 ∷ []) = ap (all_happened w) events ∙ happened_then w (opens_of ss) (Opens s 0 ∷ []) in
     subst (λ x. Puts x t' v' answers' waited more) (sym same) (puts_then _ t t' v v' answers answers' waited waits more (Opens s 0 ∷ []) first second)
 
+-- memory was refused to an open, or to its frames
+pub amid_opens : (w : Led) (t t' : Table) (v v' : Store) (answers answers' : List Answer) (all : List ℕ) (i s : ℕ) → take (i + 1) all ≡ take i all ++ s ∷ []
+    → IsAt (all_happened w (opens_of (take i all))) t v answers → IsAmid (unled t v answers) (Opens s 0 ∷ []) t' v' answers' → IsAmid w (opens_of all) t' v' answers'
+amid_opens w t t' v v' answers answers' all i s is first second =
+    let front : opens_of (take i all) ++ Opens s 0 ∷ [] ≡ opens_of (take (i + 1) all) = sym (ap opens_of is ∙ map-append (λ n. Opens n 0) (take i all) (s ∷ [])) in
+    let whole : opens_of (take (i + 1) all) ++ opens_of (drop (i + 1) all) ≡ opens_of all =
+    sym (map-append (λ n. Opens n 0) (take (i + 1) all) (drop (i + 1) all)) ∙ ap opens_of (take-append-drop (i + 1) all) in
+    amid_more w _ (opens_of (drop (i + 1) all)) (opens_of all) t' v' answers' (ap (λ l. l ++ opens_of (drop (i + 1) all)) front ∙ whole) (amid_then w (opens_of (take i all)) (Opens s 0 ∷ []) t t' v v' answers answers' first second)
+
+-- what holds may be asked of an error
+pub on_err : {A E : Type 0} (P : Type 0) (r : Result A E) → P → OnErr r P
+on_err P (Ok a) p = tt
+on_err P (Err e) p = p
+
 -- one event happened, and its answers were kept
-pub behind_event : (e : FilterEvent) (out : Out) (t t' : Table) (v v' : Store) (answers mid given : List Answer)
-    → Reacts out t' v' (filter_step t v e) → mid ≡ answers → given ≡ mid ++ out.answers.items → IsBehind (unled t v answers) t' v' given
-behind_event e out t t' v v' answers mid given reacts same kept = record {
+pub amid_event : (e : FilterEvent) (out : Out) (t t' : Table) (v v' : Store) (answers mid given : List Answer)
+    → Reacts out t' v' (filter_step t v e) → mid ≡ answers → given ≡ mid ++ out.answers.items → IsAmid (unled t v answers) (e ∷ []) t' v' given
+amid_event e out t t' v v' answers mid given reacts same kept = record {
   events = e ∷ [];
+  rest = [];
+  first = refl;
   at = record {
     table = reacts.table;
     volume = reacts.volume;
@@ -138,6 +165,20 @@ hears_submitted opens s m t t' v v' answers answers' waited waits more submitted
     let same = submits opens s.submitted w (ap (λ (k : Table). k.connected) (sym first.at.table) ∙ connected) before in
     subst (λ x. Hears x t' v' answers' submitted waited more) (sym same)
     (record { puts = puts_then w t t' v v' answers answers' waited waits more (opens_of opens) first second; submitted_is = now })
+
+-- memory was refused to one of these opens
+pub amid_submitted : (opens : List ℕ) (s : Standing) (m : Body) (t t' : Table) (v v' : Store) (answers answers' : List Answer)
+    → IsAt (happened s.led (Receives m)) t v answers → t.connected ≡ true → s.submitted ≡ false
+    → IsAmid (unled t v answers) (opens_of opens) t' v' answers' → IsAmid s.led (events_of opens s m) t' v' answers'
+amid_submitted opens s m t t' v v' answers answers' first connected before second =
+    let now : (happened s.led (Receives m)).table.connected ≡ true = ap (λ (k : Table). k.connected) (sym first.table) ∙ connected in
+    let all : Receives m ∷ opens_of opens ≡ events_of opens s m = rw (now, before) refl in
+    subst (λ es. IsAmid s.led es t' v' answers') all (amid_then s.led (Receives m ∷ []) (opens_of opens) t t' v v' answers answers' first second)
+
+-- or to the message
+pub amid_received : (opens : List ℕ) (s : Standing) (m : Body) (t' : Table) (v' : Store) (answers' : List Answer) → IsAmid s.led (Receives m ∷ []) t' v' answers' → IsAmid s.led (events_of opens s m) t' v' answers'
+amid_received opens s m t' v' answers' amid =
+    amid_more s.led (Receives m ∷ []) (if (happened s.led (Receives m)).table.connected && not s.submitted then opens_of opens else []) (events_of opens s m) t' v' answers' refl amid
 
 -- ---- messages one by one
 
@@ -233,55 +274,67 @@ watching_goes_on opens old store from x y a b c w v u t t' k k' answers answers'
     }
 
 still : (e : End) (x y : Exchange) (b c v u : Option (List ℕ)) (done : Bool) (w : Led) (t : Table) (k : Store) (answers : List Answer) → StopsAs e x y b c v u → done ≡ false → IsAt w t k answers
-    → IsStill e done w t k answers
-still Done x y b c v u done w t k answers stops left at = absurd stops.1
-still ReadFault x y b c v u done w t k answers stops left at = (left, at)
-still WriteFault x y b c v u done w t k answers stops left at = at
-still Frame x y b c v u done w t k answers stops left at = (left, at)
-still Closed x y b c v u done w t k answers stops left at = (left, at)
-still Memory x y b c v u done w t k answers stops left at = record { events = []; at = at }
-still AuditFull x y b c v u done w t k answers stops left at = absurd stops.1
+    → (within : Type 0) → (IsAt w t k answers → within) → IsStill e within done w t k answers
+still Done x y b c v u done w t k answers stops left at within here = absurd stops.1
+still ReadFault x y b c v u done w t k answers stops left at within here = (left, at)
+still WriteFault x y b c v u done w t k answers stops left at within here = at
+still Frame x y b c v u done w t k answers stops left at within here = (left, at)
+still Closed x y b c v u done w t k answers stops left at within here = (left, at)
+still Memory x y b c v u done w t k answers stops left at within here = here at
+still AuditFull x y b c v u done w t k answers stops left at within here = absurd stops.1
 
 pub watching_stops : FaultStays → (e : End) (opens : List ℕ) (old : Table) (store : Store) (from : Received) (x y : Exchange) (a b c w v u : Option (List ℕ))
     (t : Table) (k : Store) (answers : List Answer) (submitted : Bool) → unread from ≡ []
     → (h : IsWatching opens old store from x.incoming x.outgoing a b w v t k answers submitted)
     → is_done store.opens (length opens) (filter_run old store opens h.messages) ≡ false
-    → StopsAs e x y b c v u → RunsTo opens old store t k answers a w u e
+    → StopsAs e x y b c v u → RunsTo opens old store t k answers a w u from.turns e
 watching_stops stays e opens old store from x y a b c w v u t k answers submitted none h ongoing stops = record {
   messages = h.messages;
   spelled = stopped_spelled stays e from x y a b c v u h.messages none h.taken stops;
   sent = subst (IsSent e w u) (sym h.text) (stopped_sent e x y b c w v u h.written h.went stops);
-  left = still e x y b c v u _ _ t k answers stops ongoing h.at;
+  few = takes_few from x.incoming a b h.messages none h.taken;
+  left = still e x y b c v u _ _ t k answers stops ongoing h.at _ IsWithin.between;
 }
 
 -- memory was refused to the message that came last
 pub watching_fails : (opens : List ℕ) (old : Table) (store : Store) (from : Received) (x y : Exchange) (a b c w v u : Option (List ℕ))
     (t t' : Table) (k k' : Store) (answers answers' : List Answer) (submitted : Bool) (m : Body) → unread from ≡ []
-    → IsWatching opens old store from x.incoming x.outgoing a b w v t k answers submitted
-    → Passes x y b c v u (m ∷ []) → IsBehind (unled t k answers) t' k' answers' → RunsTo opens old store t' k' answers' a w u Memory
-watching_fails opens old store from x y a b c w v u t t' k k' answers answers' submitted m none h passes behind = record {
-  messages = h.messages;
-  spelled = first_spelled from x.incoming a b h.messages none h.taken;
-  sent = prefix_whole w u _ (subst (Appends w u) (sym h.text) (Appends-trans w v u h.written x.outgoing h.went passes.sent));
-  left = behind_then (filter_run old store opens h.messages).led [] t t' k k' answers answers' h.at behind;
-}
+    → (h : IsWatching opens old store from x.incoming x.outgoing a b w v t k answers submitted)
+    → is_done store.opens (length opens) (filter_run old store opens h.messages) ≡ false
+    → Passes x y b c v u (m ∷ []) → IsAmid (unled t k answers) (events_of opens (standing t k answers submitted) m) t' k' answers' → RunsTo opens old store t' k' answers' a w u from.turns Memory
+watching_fails opens old store from x y a b c w v u t t' k k' answers answers' submitted m none h ongoing passes amid =
+    let before : Standing = filter_run old store opens h.messages in
+    let here : standing t k answers submitted ≡ record { led = restarted before.led; submitted = before.submitted } =
+    ap (λ l. record { led = l; submitted = submitted }) (found before.led t k answers h.at) ∙ ap (λ s. record { led = restarted before.led; submitted = s }) h.submitted_is in
+    let events : events_of opens (standing t k answers submitted) m ≡ events_of opens before m = ap (λ s. events_of opens s m) here in
+    record {
+      messages = h.messages;
+      spelled = first_spelled from x.incoming a b h.messages none h.taken;
+      few = takes_few from x.incoming a b h.messages none h.taken;
+      sent = prefix_whole w u _ (subst (Appends w u) (sym h.text) (Appends-trans w v u h.written x.outgoing h.went passes.sent));
+      left =
+          IsWithin.amid m (first_spelled from y.incoming a c (h.messages ++ m ∷ []) none (takes_then from x.incoming y.incoming a b c h.messages (m ∷ []) h.taken passes.taken)) ongoing
+          (subst (λ es. IsAmid before.led es t' k' answers') events (amid_then before.led [] _ t t' k k' answers answers' h.at amid));
+    }
 
 -- all opens are answered, and what waited to go out went out, or a front of it
 pub watching_ends : (opens : List ℕ) (old : Table) (store : Store) (from now : Received) (waits : List ℕ) (a b w v u : Option (List ℕ)) (t : Table) (k : Store) (answers : List Answer) (submitted : Bool)
     → unread from ≡ [] → (h : IsWatching opens old store from now waits a b w v t k answers submitted)
-    → is_done store.opens (length opens) (filter_run old store opens h.messages) ≡ true → Appends v u waits → RunsTo opens old store t k answers a w u Done
+    → is_done store.opens (length opens) (filter_run old store opens h.messages) ≡ true → Appends v u waits → RunsTo opens old store t k answers a w u from.turns Done
 watching_ends opens old store from now waits a b w v u t k answers submitted none h done sent = record {
   messages = h.messages;
   spelled = first_spelled from now a b h.messages none h.taken;
+  few = takes_few from now a b h.messages none h.taken;
   sent = subst (Appends w u) (sym h.text) (Appends-trans w v u h.written waits h.went sent);
   left = (done, h.at);
 }
 
 pub watching_breaks : (opens : List ℕ) (old : Table) (store : Store) (from now : Received) (waits : List ℕ) (a b w v u : Option (List ℕ)) (t : Table) (k : Store) (answers : List Answer) (submitted : Bool)
-    → unread from ≡ [] → IsWatching opens old store from now waits a b w v t k answers submitted → AppendsPrefix v u waits → RunsTo opens old store t k answers a w u WriteFault
+    → unread from ≡ [] → IsWatching opens old store from now waits a b w v t k answers submitted → AppendsPrefix v u waits → RunsTo opens old store t k answers a w u from.turns WriteFault
 watching_breaks opens old store from now waits a b w v u t k answers submitted none h sent = record {
   messages = h.messages;
   spelled = first_spelled from now a b h.messages none h.taken;
+  few = takes_few from now a b h.messages none h.taken;
   sent = subst (AppendsPrefix w u) (sym h.text) (prefix_after w v u h.written waits h.went sent);
   left = h.at;
 }
@@ -322,47 +375,53 @@ left_at w t t' v answers answers' first second = at_then w t t' v v answers answ
 kept_at : (w : Led) (t t' : Table) (v : Store) (answers answers' : List Answer) → IsAt w t v answers → t' ≡ t → answers' ≡ answers → IsAt w t' v answers'
 kept_at w t t' v answers answers' at table same = record { table = table ∙ at.table; volume = at.volume; answered = same ∙ at.answered }
 
+kept_within : (opens : List ℕ) (first : ℕ) (a : Option (List ℕ)) (messages : List Body) (s : Standing) (t t' : Table) (v : Store) (answers answers' : List Answer) → t' ≡ t → answers' ≡ answers
+    → IsWithin opens first a messages s t v answers → IsWithin opens first a messages s t' v answers'
+kept_within opens first a messages s t t' v answers answers' table same within = subst (λ k. IsWithin opens first a messages s k v answers') (sym table) (subst (IsWithin opens first a messages s t v) (sym same) within)
+
 -- an engine that would end otherwise than by Memory, with this left of its run, ends so or with Memory
-ends_as : (opens : List ℕ) (old : Table) (store : Store) (a w u : Option (List ℕ)) (e end : End) (t t' : Table) (v : Store) (answers answers' : List Answer)
-    → (runs : RunsTo opens old store t v answers a w u e) → IsAt (filter_run old store opens runs.messages).led t v answers
-    → (IsAt (happened (filter_run old store opens runs.messages).led Disconnects) t' v answers' → IsLeft e (is_done store.opens (length opens) (filter_run old store opens runs.messages)) (filter_run old store opens runs.messages).led t' v answers')
+ends_as : (opens : List ℕ) (old : Table) (store : Store) (a w u : Option (List ℕ)) (turns : ℕ) (e end : End) (t t' : Table) (v : Store) (answers answers' : List Answer)
+    → (runs : RunsTo opens old store t v answers a w u turns e) → IsAt (filter_run old store opens runs.messages).led t v answers
+    → (IsAt (happened (filter_run old store opens runs.messages).led Disconnects) t' v answers' → IsLeft e (IsWithin opens store.opens a runs.messages (filter_run old store opens runs.messages) t' v answers') (is_done store.opens (length opens) (filter_run old store opens runs.messages)) (filter_run old store opens runs.messages).led t' v answers')
     → ((end ≡ e) × IsAt (happened (unled t v answers) Disconnects) t' v answers') ⊎ ((end ≡ Memory) × (t' ≡ t) × (answers' ≡ answers))
-    → WatchesTo opens old store t' v answers' a w u end
-ends_as opens old store a w u e end t t' v answers answers' runs at left (inl k) =
-    subst (λ x. WatchesTo opens old store t' v answers' a w u x) (sym k.0)
-    (record { messages = runs.messages; spelled = runs.spelled; sent = runs.sent; left = left (left_at _ t t' v answers answers' at k.1) })
-ends_as opens old store a w u e end t t' v answers answers' runs at left (inr k) =
-    subst (λ x. WatchesTo opens old store t' v answers' a w u x) (sym k.0)
+    → WatchesTo opens old store t' v answers' a w u turns end
+ends_as opens old store a w u turns e end t t' v answers answers' runs at left (inl k) =
+    subst (λ x. WatchesTo opens old store t' v answers' a w u turns x) (sym k.0)
+    (record { messages = runs.messages; spelled = runs.spelled; few = runs.few; sent = runs.sent; left = left (left_at _ t t' v answers answers' at k.1) })
+ends_as opens old store a w u turns e end t t' v answers answers' runs at left (inr k) =
+    subst (λ x. WatchesTo opens old store t' v answers' a w u turns x) (sym k.0)
     (record {
       messages = runs.messages;
       spelled = refused_spelled e runs.messages a runs.spelled;
+      few = runs.few;
       sent = refused_sent e w u _ runs.sent;
-      left = record { events = []; at = kept_at _ t t' v answers answers' at k.1 k.2 };
+      left = IsWithin.between (kept_at _ t t' v answers answers' at k.1 k.2);
     })
 
-pub watched : (opens : List ℕ) (old : Table) (store : Store) (a w u : Option (List ℕ)) (e end : End) (t t' : Table) (v : Store) (answers answers' : List Answer)
-    → RunsTo opens old store t v answers a w u e → Leaves e end t v answers t' answers' → WatchesTo opens old store t' v answers' a w u end
-watched opens old store a w u Done end t t' v answers answers' runs leaves =
-    subst (λ x. WatchesTo opens old store t' v answers' a w u x) (sym leaves.0)
-    (record { messages = runs.messages; spelled = runs.spelled; sent = runs.sent; left = (runs.left.0, kept_at _ t t' v answers answers' runs.left.1 leaves.1 leaves.2) })
-watched opens old store a w u ReadFault end t t' v answers answers' runs leaves = ends_as opens old store a w u ReadFault end t t' v answers answers' runs runs.left.1 (λ at. (runs.left.0, at)) leaves
-watched opens old store a w u WriteFault end t t' v answers answers' runs leaves = ends_as opens old store a w u WriteFault end t t' v answers answers' runs runs.left (λ at. at) leaves
-watched opens old store a w u Frame end t t' v answers answers' runs leaves = ends_as opens old store a w u Frame end t t' v answers answers' runs runs.left.1 (λ at. (runs.left.0, at)) leaves
-watched opens old store a w u Closed end t t' v answers answers' runs leaves = ends_as opens old store a w u Closed end t t' v answers answers' runs runs.left.1 (λ at. (runs.left.0, at)) leaves
-watched opens old store a w u Memory end t t' v answers answers' runs leaves =
-    subst (λ x. WatchesTo opens old store t' v answers' a w u x) (sym leaves.0)
-    (record { messages = runs.messages; spelled = runs.spelled; sent = runs.sent; left = record { events = runs.left.events; at = kept_at _ t t' v answers answers' runs.left.at leaves.1 leaves.2 } })
-watched opens old store a w u AuditFull end t t' v answers answers' runs leaves = absurd runs.spelled
+pub watched : (opens : List ℕ) (old : Table) (store : Store) (a w u : Option (List ℕ)) (turns : ℕ) (e end : End) (t t' : Table) (v : Store) (answers answers' : List Answer)
+    → RunsTo opens old store t v answers a w u turns e → Leaves e end t v answers t' answers' → WatchesTo opens old store t' v answers' a w u turns end
+watched opens old store a w u turns Done end t t' v answers answers' runs leaves =
+    subst (λ x. WatchesTo opens old store t' v answers' a w u turns x) (sym leaves.0)
+    (record { messages = runs.messages; spelled = runs.spelled; few = runs.few; sent = runs.sent; left = (runs.left.0, kept_at _ t t' v answers answers' runs.left.1 leaves.1 leaves.2) })
+watched opens old store a w u turns ReadFault end t t' v answers answers' runs leaves = ends_as opens old store a w u turns ReadFault end t t' v answers answers' runs runs.left.1 (λ at. (runs.left.0, at)) leaves
+watched opens old store a w u turns WriteFault end t t' v answers answers' runs leaves = ends_as opens old store a w u turns WriteFault end t t' v answers answers' runs runs.left (λ at. at) leaves
+watched opens old store a w u turns Frame end t t' v answers answers' runs leaves = ends_as opens old store a w u turns Frame end t t' v answers answers' runs runs.left.1 (λ at. (runs.left.0, at)) leaves
+watched opens old store a w u turns Closed end t t' v answers answers' runs leaves = ends_as opens old store a w u turns Closed end t t' v answers answers' runs runs.left.1 (λ at. (runs.left.0, at)) leaves
+watched opens old store a w u turns Memory end t t' v answers answers' runs leaves =
+    subst (λ x. WatchesTo opens old store t' v answers' a w u turns x) (sym leaves.0)
+    (record { messages = runs.messages; spelled = runs.spelled; few = runs.few; sent = runs.sent; left = kept_within opens store.opens a runs.messages _ t t' v answers answers' leaves.1 leaves.2 runs.left })
+watched opens old store a w u turns AuditFull end t t' v answers answers' runs leaves = absurd runs.spelled
 
 nothing_spelled : (a : Option (List ℕ)) → IfSome a (SpellsFirst [])
 nothing_spelled None = tt
 nothing_spelled (Some xs) = record { more = xs; whole = refl; in_range = tt }
 
 -- memory was refused before the first read
-pub nothing_watched : (opens : List ℕ) (t : Table) (v : Store) (a w : Option (List ℕ)) (answers : List Answer) → answers ≡ [] → RunsTo opens t v t v answers a w w Memory
-nothing_watched opens t v a w answers none = record {
+pub nothing_watched : (opens : List ℕ) (t : Table) (v : Store) (a w : Option (List ℕ)) (turns : ℕ) (answers : List Answer) → answers ≡ [] → RunsTo opens t v t v answers a w w turns Memory
+nothing_watched opens t v a w turns answers none = record {
   messages = [];
   spelled = nothing_spelled a;
+  few = omega arith;
   sent = prefix_whole w w [] (Appends-nil w);
-  left = record { events = []; at = record { table = refl; volume = refl; answered = none } };
+  left = IsWithin.between (record { table = refl; volume = refl; answered = none });
 }

@@ -1,10 +1,10 @@
 -- How the engine of a filter ends.
-use Rattle.std.specs.Prelude.{ℕ, ◌≡◌, Bool, true, false, List, ◌++◌, ◌⊎◌, length, Option}
+use Rattle.std.specs.Prelude.{ℕ, ◌≡◌, Bool, true, false, List, [], ◌∷◌, ◌++◌, ◌⊎◌, length, Option, IfSome}
 use Rattle.std.specs.List.{flat_map}
 use Rattle.av_engines.specs.declared.end.End.{End}
 use Rattle.av_engines.specs.declared.end.End.TheVariants.{Done, WriteFault, Memory, AuditFull}
-use Rattle.av_engines.specs.Spelled.{AreSpelled, IsSent}
-use Rattle.av_engines.specs.Watching.{Led, Standing, all_happened, filter_run, filter_text, happened, is_done, unled}
+use Rattle.av_engines.specs.Spelled.{AreSpelled, CameIn, IsSent, SpellsFirst}
+use Rattle.av_engines.specs.Watching.{Led, Standing, all_happened, events_of, filter_run, filter_text, happened, is_done, unled}
 use Rattle.av_filter.specs.Conduct.{FilterEvent, Disconnects}
 use Rattle.av_filter_table.specs.Table.{Table}
 use Rattle.av_frame.specs.declared.message.Body.{Body}
@@ -18,43 +18,56 @@ pub record IsAt (w : Led) (t : Table) (v : Store) (answers : List Answer) : Type
   pub volume : v ≡ w.volume
   pub answered : answers ≡ w.answers
 
--- they are where some further events led
-pub record IsBehind (w : Led) (t : Table) (v : Store) (answers : List Answer) : Type 0 where
+-- they are where the first of these events led
+pub record IsAmid (w : Led) (all : List FilterEvent) (t : Table) (v : Store) (answers : List Answer) : Type 0 where
   pub events : List FilterEvent
+  pub rest : List FilterEvent
+  pub first : events ++ rest ≡ all
   pub at : IsAt (all_happened w events) t v answers
 
--- Where the run of the messages is left: as it is, where all opens are answered; disconnected, where the input ended or
--- failed and they are not, or where a write failed; and where memory was refused, behind some further events.
-abbrev pub IsLeft : End → Bool → Led → Table → Store → List Answer → Type 0
-IsLeft Done done w t v answers = (done ≡ true) × IsAt w t v answers
-IsLeft Memory done w t v answers = IsBehind w t v answers
-IsLeft WriteFault done w t v answers = IsAt (happened w Disconnects) t v answers
-IsLeft _ done w t v answers = (done ≡ false) × IsAt (happened w Disconnects) t v answers
+-- What a want of memory leaves behind messages of the input: what they led to; or, where opens are left to be answered, what
+-- the first of the events led to that the input's next message brings.
+pub data IsWithin (opens : List ℕ) (first : ℕ) (input : Option (List ℕ)) (messages : List Body) (s : Standing)
+    (t : Table) (v : Store) (answers : List Answer) : Type 0 where
+  between : IsAt s.led t v answers → IsWithin opens first input messages s t v answers
+  amid : (next : Body) → IfSome input (SpellsFirst (messages ++ next ∷ [])) → is_done first (length opens) s ≡ false
+      → IsAmid s.led (events_of opens s next) t v answers → IsWithin opens first input messages s t v answers
 
--- some messages of the input were handled, and the filter sent its text of them and answered as its conduct does
+-- Where the run of the messages is left: as it is, where all opens are answered; disconnected, where the input ended or
+-- failed and they are not, or where a write failed; and where memory was refused, as `within` says.
+abbrev pub IsLeft : End → Type 0 → Bool → Led → Table → Store → List Answer → Type 0
+IsLeft Done within done w t v answers = (done ≡ true) × IsAt w t v answers
+IsLeft Memory within done w t v answers = within
+IsLeft WriteFault within done w t v answers = IsAt (happened w Disconnects) t v answers
+IsLeft _ within done w t v answers = (done ≡ false) × IsAt (happened w Disconnects) t v answers
+
+-- some messages of the input, which came in so many reads at most, were handled, and the filter sent its text of them and
+-- answered as its conduct does
 pub record WatchesTo (opens : List ℕ) (t : Table) (v : Store) (t' : Table) (v' : Store) (answers : List Answer)
-    (input held holds : Option (List ℕ)) (end : End) : Type 0 where
+    (input held holds : Option (List ℕ)) (turns : ℕ) (end : End) : Type 0 where
   pub messages : List Body
   pub spelled : AreSpelled end input messages
+  pub few : CameIn turns messages
   pub sent : IsSent end held holds (filter_text t v opens messages)
-  pub left : IsLeft end (is_done v.opens (length opens) (filter_run t v opens messages))
-      (filter_run t v opens messages).led t' v' answers
+  pub left : IsLeft end (IsWithin opens v.opens input messages (filter_run t v opens messages) t' v' answers)
+      (is_done v.opens (length opens) (filter_run t v opens messages)) (filter_run t v opens messages).led t' v' answers
 
 -- the same before the filter is disconnected
-abbrev pub IsStill : End → Bool → Led → Table → Store → List Answer → Type 0
-IsStill Done done w t v answers = (done ≡ true) × IsAt w t v answers
-IsStill Memory done w t v answers = IsBehind w t v answers
-IsStill WriteFault done w t v answers = IsAt w t v answers
-IsStill _ done w t v answers = (done ≡ false) × IsAt w t v answers
+abbrev pub IsStill : End → Type 0 → Bool → Led → Table → Store → List Answer → Type 0
+IsStill Done within done w t v answers = (done ≡ true) × IsAt w t v answers
+IsStill Memory within done w t v answers = within
+IsStill WriteFault within done w t v answers = IsAt w t v answers
+IsStill _ within done w t v answers = (done ≡ false) × IsAt w t v answers
 
 -- the same before the filter is disconnected
 pub record RunsTo (opens : List ℕ) (t : Table) (v : Store) (t' : Table) (v' : Store) (answers : List Answer)
-    (input held holds : Option (List ℕ)) (end : End) : Type 0 where
+    (input held holds : Option (List ℕ)) (turns : ℕ) (end : End) : Type 0 where
   pub messages : List Body
   pub spelled : AreSpelled end input messages
+  pub few : CameIn turns messages
   pub sent : IsSent end held holds (filter_text t v opens messages)
-  pub left : IsStill end (is_done v.opens (length opens) (filter_run t v opens messages))
-      (filter_run t v opens messages).led t' v' answers
+  pub left : IsStill end (IsWithin opens v.opens input messages (filter_run t v opens messages) t' v' answers)
+      (is_done v.opens (length opens) (filter_run t v opens messages)) (filter_run t v opens messages).led t' v' answers
 
 -- events led from a table, a volume and answers to others, and their frames wait to go out behind those that did
 pub record Puts (w : Led) (t : Table) (v : Store) (answers : List Answer) (waited waits : List ℕ) : Type 0 where

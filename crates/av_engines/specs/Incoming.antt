@@ -1,5 +1,5 @@
 -- Messages that come over a stream of frames.
-use Rattle.std.specs.Prelude.{ℕ, ◌≡◌, ◌+◌, ◌*◌, ◌≤◌, true, false, List, [], ◌++◌, length, Option, None, Some}
+use Rattle.std.specs.Prelude.{ℕ, ◌≡◌, ◌+◌, ◌*◌, ◌<◌, ◌≤◌, ◌⊎◌, true, false, List, [], ◌++◌, length, Option, None, Some}
 use Rattle.std.specs.Io.KnownBytes.{Consumes, IsAtEnd}
 use Rattle.std.specs.List.{flat_map, AllByRecursion}
 use Rattle.av_engines.specs.declared.end.End.{End}
@@ -44,6 +44,12 @@ EndsAs Closed r after = Ends (unread r) None × IsAtEnd after
 EndsAs ReadFault r after = Ends (unread r) None
 EndsAs Memory r after = Unit {0}
 EndsAs _ r after = ⊥
+
+-- the end of the input is told by a read alone, and so is a fault of reading, but where no read is left
+abbrev pub IsDue : End → ℕ → ℕ → Type 0
+IsDue Closed before after = after < before
+IsDue ReadFault before after = (before ≡ 0) ⊎ (after < before)
+IsDue _ before after = Unit {0}
 
 -- a buffer holds what waits, and nothing waits behind a fault, which stays
 pub record IsKept (fed : Fed) (buffer : List ℕ) (waiting : ℕ) : Type 0 where

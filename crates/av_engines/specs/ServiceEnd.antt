@@ -1,50 +1,73 @@
 -- How the engine of a scanning service ends.
-use Rattle.std.specs.Prelude.{ℕ, ◌≡◌, List, ◌++◌, Option}
+use Rattle.std.specs.Prelude.{ℕ, ◌≡◌, List, [], ◌∷◌, ◌++◌, ◌⊎◌, Option, IfSome}
 use Rattle.std.specs.List.{flat_map}
 use Rattle.av_engines.specs.declared.end.End.{End}
 use Rattle.av_engines.specs.declared.end.End.TheVariants.{Done, Memory}
-use Rattle.av_engines.specs.Serving.{Served, heard_all, patterns_at, service_run, service_text, unserved}
-use Rattle.av_engines.specs.Spelled.{AreSpelled, IsSent}
+use Rattle.av_engines.specs.Serving.{Served, heard, heard_all, patterns_at, service_run, service_text, unserved}
+use Rattle.av_engines.specs.Spelled.{AreSpelled, CameIn, IsSent, SpellsFirst}
 use Rattle.av_frame.specs.declared.message.Body.{Body}
 use Rattle.av_frame.specs.Spelling.{frame}
-use Rattle.av_service.specs.Conduct.{Disconnects, service_step}
+use Rattle.av_service.specs.Conduct.{Disconnects, Receives, service_step}
 use Rattle.av_service.specs.Desk.{Desk}
 use Rattle.av_sigset.specs.Set.{NumberedSet}
 use Rattle.av_sigset.specs.declared.signature.Pattern.{Pattern}
 
--- the service was disconnected where the messages led it; nothing is said where memory was refused, and it never is done
-abbrev pub IsLeft : End → Desk → Desk → Type 0
-IsLeft Done led left = ⊥
-IsLeft Memory led left = Unit {0}
-IsLeft _ led left = left ≡ (service_step led Disconnects).desk
+-- What a want of memory leaves behind messages of the input: what they led to, or that with the input's next message come. A
+-- work that the message lent had come back where the message is one of those that were handled.
+pub data IsWithin (input : Option (List ℕ)) (messages : List Body) (led new : Desk) : Type 0 where
+  between : new ≡ led → IsWithin input messages led new
+  amid : (next : Body) → IfSome input (SpellsFirst (messages ++ next ∷ [])) → new ≡ (service_step led (Receives next)).desk
+      → IsWithin input messages led new
 
--- some messages of the input were handled, and the service sent its text of them
-pub record ServesTo (sets : List NumberedSet) (old new : Desk) (input held holds : Option (List ℕ)) (end : End) : Type 0 where
+-- or the service had not connected yet
+abbrev pub IsRefused : Option (List ℕ) → List Body → Desk → Desk → Desk → Type 0
+IsRefused input messages old led new = IsWithin input messages led new ⊎ ((messages ≡ []) × (new ≡ old))
+
+-- the service was disconnected where the messages led it; or it is where `within` says, where memory was refused; it never is
+-- done
+abbrev pub IsLeft : End → Type 0 → Desk → Desk → Type 0
+IsLeft Done within led left = ⊥
+IsLeft Memory within led left = within
+IsLeft _ within led left = left ≡ (service_step led Disconnects).desk
+
+-- some messages of the input, which came in so many reads at most, were handled, and the service sent its text of them
+pub record ServesTo (sets : List NumberedSet) (old new : Desk) (input held holds : Option (List ℕ)) (turns : ℕ) (end : End) : Type 0 where
   pub messages : List Body
   pub spelled : AreSpelled end input messages
+  pub few : CameIn turns messages
   pub sent : IsSent end held holds (service_text (patterns_at sets) old messages)
-  pub desk : IsLeft end (service_run (patterns_at sets) old messages).desk new
+  pub desk : IsLeft end (IsRefused input messages old (service_run (patterns_at sets) old messages).desk new)
+      (service_run (patterns_at sets) old messages).desk new
 
 -- where messages led a service
-abbrev pub IsLed : End → Desk → Desk → Type 0
-IsLed Done led new = ⊥
-IsLed Memory led new = Unit {0}
-IsLed _ led new = new ≡ led
+abbrev pub IsLed : End → Type 0 → Desk → Desk → Type 0
+IsLed Done within led new = ⊥
+IsLed Memory within led new = within
+IsLed _ within led new = new ≡ led
 
 -- the same before the service is disconnected
-pub record RunsTo (sets : List NumberedSet) (old new : Desk) (input held holds : Option (List ℕ)) (end : End) : Type 0 where
+pub record RunsTo (sets : List NumberedSet) (old new : Desk) (input held holds : Option (List ℕ)) (turns : ℕ) (end : End) : Type 0 where
   pub messages : List Body
   pub spelled : AreSpelled end input messages
+  pub few : CameIn turns messages
   pub sent : IsSent end held holds (service_text (patterns_at sets) old messages)
-  pub desk : IsLed end (service_run (patterns_at sets) old messages).desk new
+  pub desk : IsLed end (IsRefused input messages old (service_run (patterns_at sets) old messages).desk new)
+      (service_run (patterns_at sets) old messages).desk new
 
 -- the same of a service that has connected: it was handed on with frames that waited to go out
 pub record HearsTo (patterns : ℕ → List Pattern) (old new : Desk) (waited : List ℕ) (input held holds : Option (List ℕ))
-    (end : End) : Type 0 where
+    (turns : ℕ) (end : End) : Type 0 where
   pub messages : List Body
   pub spelled : AreSpelled end input messages
+  pub few : CameIn turns messages
   pub sent : IsSent end held holds (waited ++ flat_map frame (heard_all patterns (unserved old) messages).sent)
-  pub desk : IsLed end (heard_all patterns (unserved old) messages).desk new
+  pub desk : IsLed end (IsWithin input messages (heard_all patterns (unserved old) messages).desk new)
+      (heard_all patterns (unserved old) messages).desk new
+
+-- what a want of memory leaves of a message: nothing happened, it came, or it came and what it lent came back
+abbrev pub IsAmid : (ℕ → List Pattern) → Desk → Body → Desk → Type 0
+IsAmid patterns old m new =
+    (new ≡ old) ⊎ ((new ≡ (service_step old (Receives m)).desk) ⊎ (new ≡ (heard patterns (unserved old) m).desk))
 
 -- what an event gave out waits to go out behind what waited
 pub record Puts (after : Served) (new : Desk) (waited waits : List ℕ) : Type 0 where

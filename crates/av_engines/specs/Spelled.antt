@@ -1,10 +1,11 @@
 -- What an engine had of its input and what of its text went out, by its end.
-use Rattle.std.specs.Prelude.{ℕ, ◌≡◌, List, ◌++◌, Option, None, Some, IfSome}
+use Rattle.std.specs.Prelude.{ℕ, ◌≡◌, ◌*◌, ◌≤◌, List, ◌++◌, length, Option, None, Some, IfSome}
 use Rattle.std.specs.Io.KnownBytes.{Appends}
 use Rattle.std.specs.List.{flat_map, AllByRecursion}
 use Rattle.av_base.specs.Device.{AppendsPrefix}
 use Rattle.av_engines.specs.declared.end.End.{End}
 use Rattle.av_engines.specs.declared.end.End.TheVariants.{WriteFault, Frame, Closed, Memory, AuditFull}
+use Rattle.av_engines.specs.declared.incoming.TheConstants.{PIECE}
 use Rattle.av_frame.specs.declared.fault.FrameFault.{FrameFault}
 use Rattle.av_frame.specs.declared.message.Body.{Body}
 use Rattle.av_frame.specs.Frames.{AreFrames}
@@ -33,6 +34,10 @@ AreSpelled Closed input messages = IfSome input (SpellsAll messages)
 AreSpelled Frame input messages = IfSome input (SpellsUpToFault messages)
 AreSpelled AuditFull input messages = ⊥
 AreSpelled _ input messages = IfSome input (SpellsFirst messages)
+
+-- the frames of these messages came in at most so many reads
+abbrev pub CameIn : ℕ → List Body → Type 0
+CameIn turns messages = length (flat_map frame messages) ≤ PIECE * turns
 
 -- the text went out; a front of it where a write failed or memory was refused
 abbrev pub IsSent : End → Option (List ℕ) → Option (List ℕ) → List ℕ → Type 0

@@ -50,6 +50,11 @@ joined opens submitted w =
 abbrev pub heard : List ℕ → Standing → Body → Standing
 heard opens s m = joined opens s.submitted (happened s.led (Receives m))
 
+-- what a message brings: it comes, and where it is the first that leaves the filter connected the opens are submitted
+abbrev pub events_of : List ℕ → Standing → Body → List FilterEvent
+events_of opens s m =
+    Receives m ∷ (if (happened s.led (Receives m)).table.connected && not s.submitted then opens_of opens else [])
+
 -- how many answers are to opens of a later number than this one
 abbrev pub later : ℕ → List Answer → ℕ
 later first answers = count_by (λ a. nat_lt first (open_of a)) answers

@@ -1,5 +1,5 @@
 ghost use Rattle.std.specs.Prelude.{◌≡◌, ◌∷◌, ◌<◌, [], false, IfErr, IfOk, OnErr, OnOk};
-ghost use Rattle.av_engines.specs.Incoming.{EndsAs, GivesFront, HasNoFront, Reads, ReadsNothing, Takes, nothing_yet, unread};
+ghost use Rattle.av_engines.specs.Incoming.{EndsAs, GivesFront, HasNoFront, IsDue, Reads, ReadsNothing, Takes, nothing_yet, unread};
 ghost use Rattle.av_engines.specs.declared.end.End.TheVariants.{Memory};
 
 use crate::end::End;
@@ -57,6 +57,8 @@ impl Incoming {
         ensures message { IfOk result (λ m. Takes self.old self.new (R.remaining reader.old) (R.remaining reader.new) (m ∷ [])) }
         ensures nothing { OnErr result (Takes self.old self.new (R.remaining reader.old) (R.remaining reader.new) []) }
         ensures end { IfErr result (λ e. EndsAs e self.new (R.remaining reader.new)) }
+        ensures spent { self.old.turns ≡ 0 → R.remaining reader.new ≡ R.remaining reader.old }
+        ensures fault { IfErr result (λ e. IsDue e self.old.turns self.new.turns) }
     {
         'reads: loop {
             self.settle()?;
@@ -105,6 +107,8 @@ impl Incoming {
         requires sound { self.old.fed.broken ≡ false }
         ensures ok { OnOk result (Reads self.old self.new (R.remaining reader.old) (R.remaining reader.new)) }
         ensures turns { OnOk result (self.new.turns < self.old.turns) }
+        ensures spent { self.old.turns ≡ 0 → R.remaining reader.new ≡ R.remaining reader.old }
+        ensures fault { IfErr result (λ e. IsDue e self.old.turns self.new.turns) }
         ensures err { IfErr result (λ e. ReadsNothing e self.old self.new (R.remaining reader.old) (R.remaining reader.new)) }
     {
         if self.turns == 0 {

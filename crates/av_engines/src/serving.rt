@@ -1,7 +1,7 @@
-ghost use Rattle.std.specs.Prelude.{◌≡◌, ◌≤◌, ◌∷◌, ◌++◌, [], false, None, IfOk, IsSome, OnOk};
+ghost use Rattle.std.specs.Prelude.{◌≡◌, ◌≤◌, ◌⊎◌, ◌∷◌, ◌++◌, [], false, None, IfOk, IsSome, OnErr, OnOk};
 ghost use Rattle.std.specs.List.{flat_map};
 ghost use Rattle.av_engines.specs.Incoming.{unread};
-ghost use Rattle.av_engines.specs.ServiceEnd.{HearsTo, Puts, RunsTo, ServesTo, always};
+ghost use Rattle.av_engines.specs.ServiceEnd.{HearsTo, IsAmid, Puts, RunsTo, ServesTo, always};
 ghost use Rattle.av_engines.specs.Serving.{gone_on, heard, patterns_at, unserved, worked};
 ghost use Rattle.av_frame.specs.Spelling.{frame};
 ghost use Rattle.av_service.specs.Conduct.{Connects, Disconnects, connect_refusal, service_step};
@@ -36,7 +36,7 @@ pub fn serve_service<R: Read, W: Write>(
     requires version { 1 ≤ service.old.version }
     requires set { IsSome (set_at catalogue.now.sets service.old.version) }
     ensures { ServesTo catalogue.now.sets service.old service.new (R.remaining reader.old) (W.contents writer.old)
-        (W.contents writer.new) result }
+        (W.contents writer.new) turns result }
 {
     let end = serve(alloc, service, catalogue, reader, writer, turns);
     if end != End::Memory {
@@ -58,7 +58,7 @@ fn serve<R: Read, W: Write>(
     requires version { 1 ≤ service.old.version }
     requires set { IsSome (set_at catalogue.now.sets service.old.version) }
     ensures { RunsTo catalogue.now.sets service.old service.new (R.remaining reader.old) (W.contents writer.old)
-        (W.contents writer.new) result }
+        (W.contents writer.new) turns result }
 {
     works_are_lent_under_the_present_version();
     let Ok(automaton) = automaton_of(alloc, service, catalogue) else {
@@ -95,8 +95,10 @@ fn automaton_of(
 // Connects, and puts the greeting.
 fn greet(alloc: Global, service: &mut Service, outgoing: &mut Outgoing) -> Result<(), AllocError>
     requires { connect_refusal service.old ≡ None }
-    ensures { OnOk result
+    ensures ok { OnOk result
         (Puts (gone_on (unserved service.old) (service_step service.old Connects)) service.new outgoing.old outgoing.new) }
+    ensures err { OnErr result
+        ((service.new ≡ service.old) ⊎ (service.new ≡ (service_step service.old Connects).desk)) }
 {
     match service.connect(alloc) {
         Ok(out) => put_plain(outgoing, out),
@@ -116,7 +118,7 @@ fn hear_all<R: Read, W: Write>(
 ) -> End
     requires { unread exchange.old.incoming ≡ [] }
     ensures { HearsTo (always automaton.now.patterns) service.old service.new exchange.old.outgoing (R.remaining reader.old)
-        (W.contents writer.old) (W.contents writer.new) result }
+        (W.contents writer.old) (W.contents writer.new) exchange.old.incoming.turns result }
 {
     bytes_spell_one_list();
     'messages: loop {
@@ -139,8 +141,9 @@ fn hear(
     outgoing: &mut Outgoing,
     message: &Message,
 ) -> Result<(), AllocError>
-    ensures { OnOk result
+    ensures ok { OnOk result
         (Puts (heard (always automaton.now.patterns) (unserved service.old) message.now) service.new outgoing.old outgoing.new) }
+    ensures err { OnErr result (IsAmid (always automaton.now.patterns) service.old message.now service.new) }
 {
     let out = service.message(alloc, message)?;
     let ServiceOut {
@@ -168,8 +171,11 @@ fn bring_back(
     outgoing: &mut Outgoing,
     work: Work,
 ) -> Result<(), AllocError>
-    ensures { OnOk result
+    ensures ok { OnOk result
         (Puts (worked (always automaton.now.patterns) (unserved service.old) (work ∷ [])) service.new outgoing.old outgoing.new) }
+    ensures err { OnErr result
+        ((service.new ≡ service.old)
+        ⊎ (service.new ≡ (worked (always automaton.now.patterns) (unserved service.old) (work ∷ [])).desk)) }
 {
     match service.finish(alloc, work.run(automaton)) {
         Ok(out) => put_plain(outgoing, out),

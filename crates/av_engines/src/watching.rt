@@ -1,9 +1,9 @@
 ghost use Rattle.std.specs.Prelude.{◌≡◌, ◌≤◌, ◌<◌, ◌+◌, ◌++◌, ◌∷◌, [], length, false, IfOk, OnErr, OnOk, vec_len};
 ghost use Rattle.std.specs.List.{flat_map};
 ghost use Rattle.std.specs.Vec.{vec_capacity};
-ghost use Rattle.av_engines.specs.FilterEnd.{Hears, IsAt, IsBehind, Leaves, Puts, RunsTo, WatchesTo};
+ghost use Rattle.av_engines.specs.FilterEnd.{Hears, IsAmid, IsAt, Leaves, Puts, RunsTo, WatchesTo};
 ghost use Rattle.av_engines.specs.Incoming.{unread};
-ghost use Rattle.av_engines.specs.Watching.{all_happened, happened, heard, opens_of, standing, unled};
+ghost use Rattle.av_engines.specs.Watching.{all_happened, events_of, happened, heard, opens_of, standing, unled};
 ghost use Rattle.av_filter.specs.Bounds.{AreInBounds};
 ghost use Rattle.av_filter.specs.Call.{MeetsAlways, Reacts};
 ghost use Rattle.av_filter.specs.Conduct.{Disconnects, Opens, Receives, filter_step};
@@ -48,7 +48,7 @@ impl Watched {
 /// in order, for any version, right after the first message that leaves it connected. It ends with Done once all of them are
 /// answered, at once where there are none, and what was sent went out. Else with ReadFault, also once `turns` reads were
 /// made; WriteFault; Frame; Closed; each of these disconnects the filter, so that each open that was submitted is answered;
-/// or with Memory, also where it is refused to that. It holds the answers, a buffer, and the frames of one message.
+/// or with Memory, also where it is refused to that: the filter is where the messages led, or within the next of them. It holds the answers, a buffer, and the frames of one message.
 pub fn serve_filter<R: Read, W: Write>(
     alloc: Global,
     volume: &mut Volume,
@@ -62,7 +62,7 @@ pub fn serve_filter<R: Read, W: Write>(
     requires bounds { AreInBounds volume.old }
     requires left { volume.old.opens + length opens.now ≤ greatest }
     ensures watches { WatchesTo opens.now filter.old volume.old filter.new volume.new result.answers.items
-        (R.remaining reader.old) (W.contents writer.old) (W.contents writer.new) result.end }
+        (R.remaining reader.old) (W.contents writer.old) (W.contents writer.new) turns result.end }
     ensures fits { Fits filter.new volume.new }
     ensures bounds { AreInBounds volume.new }
 {
@@ -91,7 +91,7 @@ fn begin<R: Read, W: Write>(
     requires left { volume.old.opens + length opens.now ≤ greatest }
     requires none { (tally.old.answers.items ≡ []) × (tally.old.first ≡ volume.old.opens) × (tally.old.submitted ≡ false) }
     ensures runs { RunsTo opens.now filter.old volume.old filter.new volume.new tally.new.answers.items (R.remaining reader.old)
-        (W.contents writer.old) (W.contents writer.new) result }
+        (W.contents writer.old) (W.contents writer.new) turns result }
     ensures fits { Fits filter.new volume.new }
     ensures bounds { AreInBounds volume.new }
 {
@@ -121,7 +121,7 @@ fn watch<R: Read, W: Write>(
     requires nothing { (unread exchange.old.incoming ≡ []) × (exchange.old.outgoing ≡ []) }
     requires none { (tally.old.answers.items ≡ []) × (tally.old.first ≡ volume.old.opens) × (tally.old.submitted ≡ false) }
     ensures runs { RunsTo opens.now filter.old volume.old filter.new volume.new tally.new.answers.items (R.remaining reader.old)
-        (W.contents writer.old) (W.contents writer.new) result }
+        (W.contents writer.old) (W.contents writer.new) exchange.old.incoming.turns result }
     ensures fits { Fits filter.new volume.new }
     ensures bounds { AreInBounds volume.new }
 {
@@ -159,8 +159,10 @@ fn hear(
     ensures ok { OnOk result
         (Hears (heard opens.now (standing filter.old volume.old tally.old.answers.items tally.old.submitted) message.now)
         filter.new volume.new tally.new.answers.items tally.new.submitted outgoing.old outgoing.new) }
-    ensures behind { IsBehind
-        (unled filter.old volume.old tally.old.answers.items) filter.new volume.new tally.new.answers.items }
+    ensures amid { OnErr result
+        (IsAmid (unled filter.old volume.old tally.old.answers.items)
+        (events_of opens.now (standing filter.old volume.old tally.old.answers.items tally.old.submitted) message.now)
+        filter.new volume.new tally.new.answers.items) }
     ensures left { OnOk result (tally.new.submitted ≡ false
         → (tally.old.submitted ≡ false) × (volume.new.opens ≡ volume.old.opens)) }
     ensures fits { Fits filter.new volume.new }
@@ -190,8 +192,9 @@ fn submit_all(
     ensures ok { OnOk result
         (Puts (all_happened (unled filter.old volume.old tally.old.answers.items) (opens_of opens.now)) filter.new volume.new
         tally.new.answers.items outgoing.old outgoing.new) }
-    ensures behind { IsBehind
-        (unled filter.old volume.old tally.old.answers.items) filter.new volume.new tally.new.answers.items }
+    ensures amid { OnErr result
+        (IsAmid (unled filter.old volume.old tally.old.answers.items) (opens_of opens.now) filter.new volume.new
+        tally.new.answers.items) }
     ensures fits { Fits filter.new volume.new }
     ensures bounds { AreInBounds volume.new }
     ensures rest { (tally.new.first ≡ tally.old.first) × (tally.new.submitted ≡ tally.old.submitted) }
@@ -254,8 +257,8 @@ fn receive(
     ensures ok { OnOk result
         (Puts (all_happened (unled filter.old volume.now tally.old.answers.items) (Receives message.now ∷ [])) filter.new
         volume.now tally.new.answers.items outgoing.old outgoing.new) }
-    ensures behind { IsBehind
-        (unled filter.old volume.now tally.old.answers.items) filter.new volume.now tally.new.answers.items }
+    ensures amid { IsAmid (unled filter.old volume.now tally.old.answers.items) (Receives message.now ∷ []) filter.new
+        volume.now tally.new.answers.items }
     ensures fits { Fits filter.new volume.now }
     ensures rest { (tally.new.first ≡ tally.old.first) × (tally.new.submitted ≡ tally.old.submitted) }
 {
@@ -297,8 +300,8 @@ fn submit(
     ensures ok { OnOk result
         (Puts (all_happened (unled filter.old volume.old tally.old.answers.items) (Opens stream 0 ∷ [])) filter.new volume.new
         tally.new.answers.items outgoing.old outgoing.new) }
-    ensures behind { IsBehind
-        (unled filter.old volume.old tally.old.answers.items) filter.new volume.new tally.new.answers.items }
+    ensures amid { IsAmid (unled filter.old volume.old tally.old.answers.items) (Opens stream 0 ∷ []) filter.new volume.new
+        tally.new.answers.items }
     ensures taken { OnOk result (volume.new.opens ≡ volume.old.opens + 1) }
     ensures fits { Fits filter.new volume.new }
     ensures bounds { AreInBounds volume.new }

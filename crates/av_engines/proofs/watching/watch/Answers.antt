@@ -22,7 +22,9 @@ returns-in-Err-clause-runs g c =
 
 pub returns-in-Err-hear-clause-runs : goal.returns-in-Err-hear-clause-runs
 returns-in-Err-hear-clause-runs g c =
-    watching_fails _ _ _ _ c.messages.exchange c.next.new.self _ _ _ _ _ _ _ _ _ _ _ _ _ _ c.requires.nothing.0 c.messages.invariant.watching c.in-Ok.ensures.message c.hear.ensures.behind
+    let h = c.messages.invariant.watching in
+    let open_still = done_is _ _ _ _ _ _ _ _ _ _ _ _ _ _ _ _ h c.messages.invariant.first c.messages.tally.counted ∙ ne_eqb _ _ c.messages-test.true in
+    watching_fails _ _ _ _ c.messages.exchange c.next.new.self _ _ _ _ _ _ _ _ _ _ _ _ _ _ c.requires.nothing.0 h open_still c.in-Ok.ensures.message c.in-Err-hear.ensures.amid
 
 pub messages-smaller-in-Ok-hear : goal.messages-smaller-in-Ok-hear
 messages-smaller-in-Ok-hear g c = takes_less _ _ _ _ _ c.in-Ok.ensures.message.taken
