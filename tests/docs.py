@@ -1,5 +1,6 @@
 #!/usr/bin/env python3
-"""What the documents name is there: each path and link, each function, type and clause of the crates' pages and of docs/, a case
+"""What the documents name is there: each path and link, each function, type and clause of the crates' pages and of docs/, each at the
+file or the call that the page gives for it and in the crate or one below it, a case
 for each fault line of docs/FORMATS.md, and the examples print what the documents say. Each word of the command line stands in the
 manual page and in the completions, and the pages render without a warning. The last line says how many passed and failed."""
 import glob, os, re, shutil, subprocess, sys
@@ -59,6 +60,86 @@ def names(checks, page, text, words):
         checks.check(known, f"{page}: nothing is named {word}")
 
 
+def crates_below():
+    """Each crate of this repository with those that it stands on, as crates.txt has them."""
+    lines = [line.split("#")[0].strip() for line in text_of("crates.txt").splitlines()]
+    return {name.strip(): [dep for dep in deps.split() if dep.startswith("av_")] for name, deps in (line.split(":") for line in lines if line)}
+
+
+def words_of(crate):
+    """All words of a crate's code, definitions and proofs."""
+    words = set()
+    for path in glob.glob(os.path.join(ROOT, "crates", crate, "**", "*"), recursive=True):
+        if path.endswith((".rt", ".antt", ".edit")) and "/out/" not in path:
+            words.update(re.findall(r"\w+", text_of(path)))
+    return words
+
+
+def places(checks, page, text):
+    """A name with a file behind it stands in that file: `NAME` (PATH), or `NAME`, PATH within brackets."""
+    crate = os.path.dirname(page)
+    for word, path in re.findall(r"`([A-Za-z_][\w:]+)` ?\(`?([\w/.]+\.(?:rt|antt))`?[),]", text) + re.findall(r"`([A-Za-z_][\w:]+)`, `?([\w/.]+\.(?:rt|antt))`?", text):
+        files = [file for file in (os.path.join(ROOT, path), os.path.join(ROOT, crate, path)) if os.path.exists(file)] or glob.glob(os.path.join(ROOT, "crates", "*", path))
+        holds = any(all(re.search(rf"\b{part}\b", text_of(file)) for part in word.split("::")) for file in files)
+        checks.check(holds, f"{page}: {word} does not stand in {path}")
+
+
+def contracts(crate):
+    """The contract of each function of a crate: by its name, the labels of its clauses."""
+    found = {}
+    for path in glob.glob(os.path.join(ROOT, "crates", crate, "src", "**", "*.rt"), recursive=True):
+        for name, contract in re.findall(r"\bfn (\w+)\b(.*?)(?:^ *| )\{(?=\n|\}\n)", text_of(path), flags=re.S | re.M):
+            found.setdefault(name, set()).update(re.findall(r"\bensures (\w+) \{", contract))
+    return found
+
+
+def clauses(checks, page, text, clauses_of):
+    """`CLAUSE` of `Type::call`: such a call has a clause of that name."""
+    for labels, call in re.findall(r"((?:`\w+`, |`\w+` and )*`\w+`) of `(\w+::\w+)`", text):
+        name = call.split("::")[-1]
+        for label in re.findall(r"\w+", labels.replace(" and ", " ")):
+            checks.check(label in clauses_of.get(name, ()), f"{page}: {call} has no clause {label}")
+
+
+def crate_pages(checks):
+    """A crate's page names what stands in the crate or below it, and each crate on which it stands."""
+    below = crates_below()
+
+    def all_below(crate):
+        return {crate}.union(*(all_below(dep) for dep in below[crate]))
+
+    words = {crate: words_of(crate) for crate in below}
+    calls = {crate: contracts(crate) for crate in below}
+    for crate, deps in below.items():
+        page = f"crates/{crate}/README.md"
+        if not os.path.exists(os.path.join(ROOT, page)):
+            continue
+        text = text_of(page)
+        known = set(below).union(OUTSIDE, *(words[dep] for dep in all_below(crate)))
+        for word in re.findall(r"`([A-Za-z_][\w:]+)`", without_blocks(text)):
+            checks.check(all(part in known for part in word.split("::") if part), f"{page}: neither the crate nor one below it has {word}")
+        stands_on = text.partition("## What it stands on")[2].partition("\n## ")[0]
+        named = set(re.findall(r"`(av_\w+)`", stands_on))
+        checks.check(named == set(deps), f"{page}: it stands on {sorted(deps)}, and its page names {sorted(named)}")
+        labels = {}
+        for dep in all_below(crate):
+            for name, found in calls[dep].items():
+                labels.setdefault(name, set()).update(found)
+        clauses(checks, page, text, labels)
+
+
+def lemmas(checks):
+    """docs/ARCHITECTURE.md names the lemma files that proofs of other crates cite, and no others."""
+    cited = set()
+    for path in glob.glob(os.path.join(ROOT, "crates", "*", "**", "*.*t*"), recursive=True):
+        own = path.split("/crates/")[-1].split("/")[0]
+        if path.endswith((".rt", ".antt")) and "/out/" not in path:
+            cited.update(name for crate, name in re.findall(r"\b(av\w*)(?:\.|::)proofs(?:\.|::)([A-Z]\w+)", text_of(path)) if crate != own)
+    listed = re.search(r"Proofs above name these\s+lemmas(.*?)`crates.txt`", text_of("docs/ARCHITECTURE.md"), flags=re.S)[1]
+    named = set(re.findall(r"`(\w+)`", listed))
+    checks.check(named == cited, f"docs/ARCHITECTURE.md: proofs above cite {sorted(cited - named)} too, and not {sorted(named - cited)}")
+
+
 def fault_lines(checks):
     given = "".join(text_of(path) for path in glob.glob(os.path.join(ROOT, "tests", "*", "*.case"))) + "".join(text_of(path) for path in ("tests/program.py", "tests/tables.py", "tests/sockets.py", "crates/avscan/src/tests/holding.rt"))
     for line in re.findall(r"\| `(avscan: [^`]*)` \|", text_of("docs/FORMATS.md")):
@@ -73,6 +154,8 @@ def example(checks, program):
     block = re.search(r"```text\n\$ make run\n(.*?)```", text_of("README.md"), flags=re.S)[1]
     runs = re.findall(r"^running: \S+ ([^\n]*)\n(.*?)(?=^running: |\Z)", block, flags=re.M | re.S)
     checks.check(len(runs) == 2, "README.md: make run shows other runs")
+    for line in block.partition("running: ")[0].splitlines():
+        checks.check(line.split(":")[0] in ("building", "built") and line.split("(")[0].split("crates/")[0] in text_of("Makefile"), f"README.md: make run does not print {line}")
     for words, told in runs:
         printed = subprocess.run([program] + words.split(), stdout=subprocess.PIPE, text=True, cwd=ROOT, timeout=60).stdout
         told = told.replace("..\n", "")
@@ -121,7 +204,15 @@ def main():
         text = text_of(page)
         paths(checks, page, text)
         names(checks, page, text, words)
+        places(checks, page, text)
         printed(checks, page, text, os.path.abspath(sys.argv[1]))
+    every = {}
+    for crate in crates_below():
+        for name, labels in contracts(crate).items():
+            every.setdefault(name, set()).update(labels)
+    clauses(checks, "docs/PROMISES.md", text_of("docs/PROMISES.md"), every)
+    crate_pages(checks)
+    lemmas(checks)
     fault_lines(checks)
     example(checks, os.path.abspath(sys.argv[1]))
     manual(checks, os.path.abspath(sys.argv[1]))
