@@ -6,7 +6,7 @@ use crate::end::End;
 use av_base::Refusal;
 use av_frame::{Feed, FeedFault, Message};
 use std::alloc::{AllocError, Global};
-use std::io::Read;
+use std::io::{ErrorKind, Read};
 use std::marker::Model;
 
 // How many bytes are read at once: two frames of the greatest length, or some hundred small ones.
@@ -52,7 +52,7 @@ impl Incoming {
     /// The next whole message of the stream, for which as many reads are made as are needed: none where it came with an
     /// earlier one. Else Frame, where what came next is no frame of a message, also at every later call; Closed, where the
     /// input ended, also within a frame; ReadFault, where a read failed or none is left; Memory. All but Frame may be called
-    /// again: nothing that came is lost.
+    /// again: nothing that came is lost. A read that was interrupted is made again.
     pub fn next<R: Read>(&mut self, reader: &mut R) -> Result<Message, End>
         ensures message { IfOk result (λ m. Takes self.old self.new (R.remaining reader.old) (R.remaining reader.new) (m ∷ [])) }
         ensures nothing { OnErr result (Takes self.old self.new (R.remaining reader.old) (R.remaining reader.new) []) }
@@ -101,7 +101,7 @@ impl Incoming {
         }
     }
 
-    // One read.
+    // One read, which gives nothing where it was interrupted.
     fn read<R: Read>(&mut self, reader: &mut R) -> Result<(), End>
         requires waiting { self.old.waiting ≡ [] }
         requires sound { self.old.fed.broken ≡ false }
@@ -121,6 +121,7 @@ impl Incoming {
                 self.waiting = count;
                 Ok(())
             }
+            Err(error) if error.kind() == ErrorKind::Interrupted => Ok(()),
             Err(_) => Err(End::ReadFault),
         }
     }
