@@ -6,6 +6,7 @@ pub mod Match
 pub mod Part
 pub mod Passed
 pub mod Places
+pub mod Quiet
 pub mod Ranged
 pub mod Reach
 pub mod Scanning

@@ -146,7 +146,7 @@ fn six_lanes(
 }
 
 // So many bytes of a piece, from a place on.
-fn part(piece: &[u8], start: usize, count: usize) -> &[u8]
+pub(crate) fn part(piece: &[u8], start: usize, count: usize) -> &[u8]
     requires { start + count ≤ length piece.now }
     ensures part { result.now ≡ take count (drop start piece.now) }
     ensures length { length result.now ≡ count }

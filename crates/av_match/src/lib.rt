@@ -18,6 +18,7 @@ mod leaps;
 mod parts;
 mod pieces;
 pub mod plain;
+mod quiet;
 mod ranged;
 mod rare;
 mod reach;

@@ -15,15 +15,13 @@ use crate::credit::Patience;
 use crate::endings::{Endings, endings_of};
 use crate::pieces::{PIECE, piece_state};
 use crate::plain::occurs;
+use crate::quiet::quiet_piece;
 use crate::reach::Position;
 use crate::tables::Tables;
 use av_base::ByteList;
 use av_sigset::signature::MAX_PLACE;
 use av_sigset::{Pattern, Span};
 use std::alloc::{AllocError, Global};
-
-/// How many bytes are walked where a pattern ends in a piece, and the least of the pieces that follow.
-const WALKED: usize = 1024;
 
 /// What is kept of a set with a bound pattern beside its tables: where each state goes by each byte, also those that
 /// give something out; for each state the longest pattern that ends its word, counted from 1, and 0 where none does;
@@ -147,7 +145,7 @@ pub struct Walk<'a> {
 }
 
 // The first pattern that ends a state's word and begins in its span, where the word ends at this place of a content.
-fn find(walk: &Walk<'_>, state: usize, end_at: u64) -> Option<u32>
+pub(crate) fn find(walk: &Walk<'_>, state: usize, end_at: u64) -> Option<u32>
     requires { state < length walk.now.stops.now }
     ensures { let v = word_at (state_words walk.now.patterns.now) state in result ≡ find_at 0 walk.now.patterns.now v (length v) end_at }
 {
@@ -159,7 +157,7 @@ fn find(walk: &Walk<'_>, state: usize, end_at: u64) -> Option<u32>
 }
 
 // Where some bytes of a chunk lead from a position by single steps, where so many bytes have come before the chunk.
-fn walk_on(walk: &Walk<'_>, from: Position, fed: u64, part: &[u8]) -> Reached
+pub(crate) fn walk_on(walk: &Walk<'_>, from: Position, fed: u64, part: &[u8]) -> Reached
     requires inside { from.state < length walk.now.stops.now }
     requires room { fed + from.place + length part.now < 2 ^ 64 }
     ensures reach { result ≡ reach_find walk.now.patterns.now walk.now.cells.now fed from.state from.place part.now }
@@ -181,7 +179,7 @@ fn walk_on(walk: &Walk<'_>, from: Position, fed: u64, part: &[u8]) -> Reached
 }
 
 /// Where the bytes of a chunk lead from a state, where so many bytes have come before it: piece by piece as long as
-/// nothing is given out. Where something is in a piece its first bytes are walked, and small pieces follow.
+/// nothing is found, and by single steps through a piece in which something is.
 pub fn reach_ranged(
     tables: &Tables<'_>,
     walk: &Walk<'_>,
@@ -197,33 +195,48 @@ pub fn reach_ranged(
     ensures bytes { AllBytes chunk.now }
 {
     let mut patience = Patience::new();
-    let mut size = PIECE;
     let mut state = from;
     let mut start = 0usize;
     'pieces: while start < chunk.len() {
-        let end = start + size.min(chunk.len() - start);
-        match quick_state(tables, &mut patience, state, &chunk[start..end]) {
-            Some(next) => {
-                state = next;
-                start = end;
-                size = PIECE.min(2 * size);
-            }
-            None => {
-                let near = start + WALKED.min(end - start);
-                let from = Position {
-                    state,
-                    place: start,
-                };
-                match walk_on(walk, from, fed, &chunk[start..near]) {
-                    Reached::Through { state: next } => state = next,
-                    Reached::Hit { place, index } => return Reached::Hit { place, index },
-                }
-                start = near;
-                size = WALKED;
-            }
+        let end = start + PIECE.min(chunk.len() - start);
+        let piece = &chunk[start..end];
+        let from = Position {
+            state,
+            place: start,
+        };
+        match passed_state(tables, walk, &mut patience, from, fed, piece) {
+            Some(next) => state = next,
+            None => match walk_on(walk, from, fed, piece) {
+                Reached::Through { state: next } => state = next,
+                Reached::Hit { place, index } => return Reached::Hit { place, index },
+            },
         }
+        start = end;
     }
     Reached::Through { state }
+}
+
+// The state to which a piece leads, where nothing is found in it: by windows or six parts where no pattern ends there, and
+// else by six parts that ask each state at which one does.
+fn passed_state(
+    tables: &Tables<'_>,
+    walk: &Walk<'_>,
+    patience: &mut Patience,
+    from: Position,
+    fed: u64,
+    piece: &[u8],
+) -> Option<u16>
+    requires set { AreTablesOf (bytes_of walk.now.patterns.now) tables.now }
+    requires inside { from.state < length walk.now.stops.now }
+    requires room { fed + from.place + length piece.now < 2 ^ 64 }
+    requires small { length piece.now ≤ 2 ^ 32 }
+    ensures passed { IfSome result (λ t. reach_find walk.now.patterns.now walk.now.cells.now fed from.state from.place piece.now ≡ Through t) }
+    ensures inside { IfSome result (λ t. t < length walk.now.stops.now) }
+{
+    match quick_state(tables, patience, from.state, piece) {
+        Some(next) => Some(next),
+        None => quiet_piece(walk, from, fed, piece),
+    }
 }
 
 // The state to which a piece leads from one that gives nothing out, where nothing is given out on the way.

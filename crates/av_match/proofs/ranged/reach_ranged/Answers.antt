@@ -13,42 +13,27 @@ use Rattle.av_match.proofs.ranged.reach_ranged.Goals as goal
 pub returns-in-Hit-clause-reach : goal.returns-in-Hit-clause-reach
 returns-in-Hit-clause-reach c =
     let ps = c.args.walk.now.patterns.now in
-    let count : c.pieces.start + c.min-in-None.result - c.pieces.start ≡ c.min-in-None.result = omega arith in
-    sym (ranged_hit ps c.args.walk.now.cells.now c.args.fed c.args.chunk.now (reach_find ps c.args.walk.now.cells.now c.args.fed c.args.from 0 c.args.chunk.now) c.pieces.state c.pieces.start c.min-in-None.result c.in-Hit.place c.in-Hit.index c.pieces.invariant.whole (ap (λ n. reach_find ps c.args.walk.now.cells.now c.args.fed c.pieces.state c.pieces.start (take n (drop c.pieces.start c.args.chunk.now))) (sym count) ∙ sym c.in-Hit.ensures.reach))
+    let count : c.pieces.start + c.min.result - c.pieces.start ≡ c.min.result = omega arith in
+    sym (ranged_hit ps c.args.walk.now.cells.now c.args.fed c.args.chunk.now (reach_find ps c.args.walk.now.cells.now c.args.fed c.args.from 0 c.args.chunk.now) c.pieces.state c.pieces.start c.min.result c.in-Hit.place c.in-Hit.index c.pieces.invariant.whole (ap (λ n. reach_find ps c.args.walk.now.cells.now c.args.fed c.pieces.state c.pieces.start (take n (drop c.pieces.start c.args.chunk.now))) (sym count) ∙ sym c.in-Hit.ensures.reach))
 
 pub pieces-preserved-in-Some : goal.pieces-preserved-in-Some
 pieces-preserved-in-Some c =
     let ps = c.args.walk.now.patterns.now in
     let count : c.pieces.start + c.min.result - c.pieces.start ≡ c.min.result = omega arith in
-    let ranged = c.args.walk.now.ranged in
-    let auto = c.requires.set.automaton in
     let room : c.pieces.start + c.min.result ≤ length c.args.chunk.now = omega (arith, c.min.ensures, c.pieces.invariant.within) in
-    let piece = take c.min.result (drop c.pieces.start c.args.chunk.now) in
-    let small : AllBytes piece = part_bytes c.args.chunk.now c.pieces.start c.min.result (λ k l. (c.type_inv.chunk k).fits) room in
-    let inside : c.pieces.state < length (state_words ps) = omega (arith, c.pieces.invariant.inside, ranged.ends.size) in
-    let size = outputs_length (bytes_of ps) c.args.tables.now.cells.now c.args.tables.now.outputs.now auto in
-    let quick : reach c.args.tables.now.cells.now c.args.tables.now.outputs.now c.pieces.state 0 piece ≡ Through c.in-Some.next =
-    ap (λ n. reach c.args.tables.now.cells.now c.args.tables.now.outputs.now c.pieces.state 0 (take n (drop c.pieces.start c.args.chunk.now))) (sym count) ∙ c.in-Some.ensures.1 in
-    let after = after_through (bytes_of ps) c.args.tables.now.cells.now c.args.tables.now.outputs.now auto piece small c.pieces.state inside c.in-Some.ensures.0 c.in-Some.next quick in
-    let goes : reach_find ps c.args.walk.now.cells.now c.args.fed c.pieces.state c.pieces.start piece ≡ Through c.in-Some.next =
-    finds_through ps c.args.walk.now.cells.now ranged.part c.args.tables.now.cells.now c.args.tables.now.outputs.now auto piece c.args.fed c.pieces.state 0 c.pieces.start c.in-Some.next small inside c.in-Some.ensures.0 quick in
     record {
-      some = omega (arith, c.min-size.ensures, c.pieces.invariant.some);
-      small = omega (arith, c.min-size.ensures);
       within = room;
-      inside = omega (arith, after.0, size, ranged.ends.size);
-      whole = ranged_on ps c.args.walk.now.cells.now c.args.fed c.args.chunk.now (reach_find ps c.args.walk.now.cells.now c.args.fed c.args.from 0 c.args.chunk.now) c.pieces.state c.pieces.start c.min.result c.in-Some.next room c.pieces.invariant.whole goes;
+      inside = c.in-Some.ensures.inside;
+      whole = ranged_on ps c.args.walk.now.cells.now c.args.fed c.args.chunk.now (reach_find ps c.args.walk.now.cells.now c.args.fed c.args.from 0 c.args.chunk.now) c.pieces.state c.pieces.start c.min.result c.in-Some.next room c.pieces.invariant.whole (ap (λ n. reach_find ps c.args.walk.now.cells.now c.args.fed c.pieces.state c.pieces.start (take n (drop c.pieces.start c.args.chunk.now))) (sym count) ∙ c.in-Some.ensures.passed);
     }
 
 pub pieces-preserved : goal.pieces-preserved
 pieces-preserved c =
     let ps = c.args.walk.now.patterns.now in
-    let count : c.pieces.start + c.min-in-None.result - c.pieces.start ≡ c.min-in-None.result = omega arith in
-    let room : c.pieces.start + c.min-in-None.result ≤ length c.args.chunk.now = omega (arith, c.min-in-None.ensures, c.min.ensures, c.pieces.invariant.within) in
+    let count : c.pieces.start + c.min.result - c.pieces.start ≡ c.min.result = omega arith in
+    let room : c.pieces.start + c.min.result ≤ length c.args.chunk.now = omega (arith, c.min.ensures, c.pieces.invariant.within) in
     record {
-      some = omega arith;
-      small = omega arith;
       within = room;
       inside = c.walk_on.ensures.inside c.in-Through.next c.in-Through.is;
-      whole = ranged_on ps c.args.walk.now.cells.now c.args.fed c.args.chunk.now (reach_find ps c.args.walk.now.cells.now c.args.fed c.args.from 0 c.args.chunk.now) c.pieces.state c.pieces.start c.min-in-None.result c.in-Through.next room c.pieces.invariant.whole (ap (λ n. reach_find ps c.args.walk.now.cells.now c.args.fed c.pieces.state c.pieces.start (take n (drop c.pieces.start c.args.chunk.now))) (sym count) ∙ sym c.in-Through.ensures.reach);
+      whole = ranged_on ps c.args.walk.now.cells.now c.args.fed c.args.chunk.now (reach_find ps c.args.walk.now.cells.now c.args.fed c.args.from 0 c.args.chunk.now) c.pieces.state c.pieces.start c.min.result c.in-Through.next room c.pieces.invariant.whole (ap (λ n. reach_find ps c.args.walk.now.cells.now c.args.fed c.pieces.state c.pieces.start (take n (drop c.pieces.start c.args.chunk.now))) (sym count) ∙ sym c.in-Through.ensures.reach);
     }
