@@ -4,43 +4,26 @@
 ghost use Rattle.std.specs.Prelude.{IfOk};
 ghost use Rattle.av_filter.specs.Bounds.{AreInBounds};
 
-mod carrying;
-mod commands;
-mod crew;
-mod faults;
-mod filter;
-mod host;
-mod opened;
-mod opener;
-mod progress;
 mod run;
-mod scan;
-mod scanner;
-mod service;
-mod sockets;
-mod status;
-mod streams;
 #[cfg(test)]
 mod tests;
-mod words;
 
 use av_base::device::read_into;
+use av_files::{
+    Input, MAX_FILE, Scanned, Scanner, TURNS, add_file, empty_volume, print_scanned, read_set,
+};
+use av_host::{Crew, Hosting, host_volume};
+use av_sockets::{Meeting, filter_volume, serve_at};
+use av_status::faults::{bad_word, out_of_memory, say, text, unreadable};
+use av_status::{Progress, Status};
 use av_store::Volume;
-use faults::{bad_word, out_of_memory, unreadable};
-use filter::filter_volume;
-use host::{Crew, Hosting, host_volume};
-use progress::Progress;
-use run::{TURNS, run_text};
-use scan::{Scanned, print_scanned};
-use scanner::{Input, MAX_FILE, Scanner, read_set};
-use service::serve_at;
-use status::Status;
+use av_words::{Request, first_bad_word, read_words};
+use run::run_text;
 use std::alloc::Global;
 use std::io::{BufWriter, IsTerminal, Read, Write};
 use std::process::ExitCode;
+use std::time::Duration;
 use std::{env, fs};
-use streams::{add_file, empty_volume};
-use words::{Request, first_bad_word, read_words};
 
 fn main(rt: HostRuntime) -> ExitCode {
     ExitCode::from(started(&rt, &rt, rt.alloc()).number())
@@ -68,7 +51,16 @@ fn asked<R: Hosting>(rt: &HostRuntime, system: &R, alloc: Global, words: &Vec<St
         return out_of_memory(&mut err);
     };
     match read_words(alloc, words.as_slice(), &mut out, &mut err) {
-        Ok(Request::Run { script: "-" }) => { run_text(alloc, &mut rt.stdin(), &mut out, &mut err) }
+        Ok(Request::Run { script: "-" }) => {
+            let mut input = rt.stdin();
+            if words.len() <= 1 && input.is_terminal() {
+                say(
+                    &mut err,
+                    &[text("reading a script from the terminal (avscan --help tells more)")],
+                );
+            }
+            run_text(alloc, &mut input, &mut out, &mut err)
+        }
         Ok(Request::Run { script }) => match fs::open(rt, script) {
             Ok(mut file) => run_text(alloc, &mut file, &mut out, &mut err),
             Err(_) => unreadable(&mut err, script),
@@ -100,22 +92,31 @@ fn asked<R: Hosting>(rt: &HostRuntime, system: &R, alloc: Global, words: &Vec<St
             &mut Progress::new(rt, err, !quiet && rt.stderr().is_terminal()),
         ),
         Ok(Request::Service { socket, set, wait }) => {
-            serve_named(rt, system, alloc, socket, set, wait, &mut out, &mut err)
+            serve_named(
+                rt,
+                system,
+                alloc,
+                meeting(socket, wait),
+                set,
+                &mut out,
+                &mut err,
+            )
         }
         Ok(
             Request::Filter {
                 socket,
                 files,
                 wait,
+                mode,
                 quiet,
             },
         ) => filter_named(
             rt,
             system,
             alloc,
-            socket,
+            meeting(socket, wait),
+            mode,
             files.as_slice(),
-            wait,
             &mut out,
             &mut Progress::new(rt, err, !quiet && rt.stderr().is_terminal()),
         ),
@@ -186,9 +187,9 @@ fn filter_named<R: Hosting, W: Write, E: Write>(
     rt: &HostRuntime,
     system: &R,
     alloc: Global,
-    socket: &str,
+    meeting: Meeting<'_>,
+    mode: u32,
     names: &[&str],
-    seconds: u64,
     out: &mut W,
     err: &mut Progress<'_, HostRuntime, E>,
 ) -> Status {
@@ -196,8 +197,16 @@ fn filter_named<R: Hosting, W: Write, E: Write>(
         return out_of_memory(err);
     };
     match volume_of(rt, alloc, names, &mut buffer, err) {
-        Ok(volume) => filter_volume(system, alloc, socket, volume, names, seconds, out, err),
+        Ok(volume) => filter_volume(system, alloc, meeting, mode, volume, names, out, err),
         Err(status) => status,
+    }
+}
+
+// Where two programs meet, and how many seconds each waits for the other.
+fn meeting(path: &str, seconds: u64) -> Meeting<'_> {
+    Meeting {
+        path,
+        wait: Duration::from_secs(seconds),
     }
 }
 
@@ -206,9 +215,8 @@ fn serve_named<R: Hosting, W: Write, E: Write>(
     rt: &HostRuntime,
     system: &R,
     alloc: Global,
-    socket: &str,
+    meeting: Meeting<'_>,
     set: &str,
-    seconds: u64,
     out: &mut W,
     err: &mut E,
 ) -> Status {
@@ -216,7 +224,7 @@ fn serve_named<R: Hosting, W: Write, E: Write>(
         return out_of_memory(err);
     };
     match read_set(alloc, read_file(rt, set, &mut buffer), err) {
-        Ok(set) => serve_at(system, alloc, socket, set, seconds, out, err),
+        Ok(set) => serve_at(system, alloc, meeting, set, out, err),
         Err(status) => status,
     }
 }
@@ -236,25 +244,29 @@ fn volume_of<E: Write>(
         err.step("read", done, names.len());
         add_file(alloc, &mut volume, read_file(rt, name, buffer), err)?;
     }
+    err.wipe();
     Ok(volume)
 }
 
-// A file with its content as far as one byte past the limit, where it can be read.
+// A file with its content as far as one byte past the limit, where it can be read. What is no regular file is not read: a
+// FIFO or a terminal may never end.
 fn read_file<'a>(rt: &HostRuntime, name: &'a str, buffer: &'a mut [u8]) -> Input<'a> {
+    let unread = Input {
+        name,
+        content: None,
+    };
+    match fs::metadata(rt, name) {
+        Ok(metadata) if metadata.is_file() => {}
+        _ => return unread,
+    }
     let Ok(file) = fs::open(rt, name) else {
-        return Input {
-            name,
-            content: None,
-        };
+        return unread;
     };
     match read_into(&mut file.take(MAX_FILE as u64 + 1), buffer, TURNS) {
         Ok(count) => Input {
             name,
             content: Some(&buffer[..count]),
         },
-        Err(_) => Input {
-            name,
-            content: None,
-        },
+        Err(_) => unread,
     }
 }

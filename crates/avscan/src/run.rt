@@ -1,17 +1,15 @@
 ghost use Rattle.std.specs.Prelude.{◌≡◌, ◌≢◌, IfSome};
 ghost use Rattle.av_world.specs.Output.{Prints, PrintsFront};
-ghost use Rattle.avscan.specs.declared.status.Status.TheVariants.{Done, Usage};
-ghost use Rattle.avscan.specs.Status.{status_of};
+ghost use Rattle.av_status.specs.declared.status.Status.TheVariants.{Done, Usage};
+ghost use Rattle.avscan.specs.Run.{status_of};
 
-use crate::faults::{bad_script, device_failed, out_of_memory, script_too_long};
-use crate::status::Status;
+use av_files::TURNS;
+use av_status::faults::{bad_script, device_failed, out_of_memory, script_too_long};
+use av_status::status::Status;
 use av_world::RunFault;
 use av_world::run_script::run_script;
 use std::alloc::Global;
 use std::io::{Read, Write};
-
-/// How many reads are made of a script or a file at most.
-pub const TURNS: u64 = 16_777_216;
 
 /// Runs the script that a reader gives. The lines that it prints go to `out`; where it does not end well one line to `err`
 /// says why, as far as that can be written.

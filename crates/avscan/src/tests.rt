@@ -1,17 +1,38 @@
-mod holding;
-
 use crate::run::run_text;
-use crate::scan::scan_files;
-use crate::scanner::Input;
-use crate::status::Status;
-use crate::words::{Request, first_bad_word, read_words};
 use av_fakes::{FakeReader, FakeWriter, Fault};
-use std::env::{Env, FillError};
+use av_files::Input;
+use av_host::{Crew, host_files};
+use av_status::Status;
 use std::test::Fail;
 
 const SCRIPT: &[u8] = b"volume 1 closed\ncreate a\n";
 
 const LINES: &[u8] = b"boot 1\nstream 1 generation 1\n";
+
+const SET: &[u8] = b"avsig 1\nversion 1\nx 5858\n";
+
+const CREW: Crew = Crew {
+    openers: 2,
+    workers: 2,
+};
+
+// What a host with the files `a` and the other tells, with its status.
+type Told<'a> = (&'a str, Option<&'a [u8]>, Status, &'a [u8], &'a [u8]);
+
+fn files<'a>(name: &'a str, content: Option<&'a [u8]>) -> [Input<'a>; 2] {
+    let first = Input {
+        name: "a",
+        content: Some(b"ABC".as_slice()),
+    };
+    [first, Input { name, content }]
+}
+
+fn set_file<'a>() -> Input<'a> {
+    Input {
+        name: "set",
+        content: Some(SET),
+    }
+}
 
 #[test]
 fn a_script_ends_with_its_status_and_one_line(rt: HostRuntime) -> Result<(), Fail> {
@@ -65,161 +86,62 @@ fn a_script_over_a_failing_device_is_told(rt: HostRuntime) -> Result<(), Fail> {
     Ok(())
 }
 
-const SET: &[u8] = b"avsig 1\nversion 1\nx 5858\n";
-
-fn input<'a>(name: &'a str, content: Option<&'a [u8]>) -> Input<'a> {
-    Input { name, content }
-}
-
 #[test]
-fn files_are_scanned_until_the_first_fault(rt: HostRuntime) -> Result<(), Fail> {
-    let set = Some(SET);
-    let bad = Some(b"avsig 3\n".as_slice());
-    let clean = Some(b"ABC".as_slice());
-    let infected = Some(b"AXXB".as_slice());
-    let cases: [(Option<&[u8]>, Option<&[u8]>, Status, &[u8], &[u8]); 4] = [
+fn a_host_tells_of_each_file_or_of_the_first_that_can_be_no_stream(
+    rt: HostRuntime,
+) -> Result<(), Fail> {
+    let infected = Some(b"AXX".as_slice());
+    let rows: [Told<'_>; 4] = [
         (
-            set,
+            "b",
             infected,
             Status::Done,
-            b"a clean\nb infected 0 x end 3\n",
+            b"a granted generation 2 version 1\nb denied cause 2\n",
             b"",
         ),
+        ("b", None, Status::Device, b"", b"avscan: b: cannot read\n"),
+        ("a", infected, Status::Refused, b"", b"avscan: a: Exists\n"),
         (
-            None,
-            None,
-            Status::Device,
-            b"",
-            b"avscan: set: cannot read\n",
-        ),
-        (
-            bad,
-            None,
+            "b b",
+            infected,
             Status::Refused,
             b"",
-            b"avscan: set line 1: kind 1\n",
+            b"avscan: b b: BadName\n",
         ),
-        (set, None, Status::Device, b"", b"avscan: b: cannot read\n"),
     ];
-    for (set, second, status, lines, line) in cases {
-        let files = [input("a", clean), input("b", second)];
+    for (name, content, status, lines, line) in rows {
         let mut out = FakeWriter::new(rt.alloc()).in_pieces_of(1);
         let mut err = FakeWriter::new(rt.alloc());
-        let ended = scan_files(
+        let files = files(name, content);
+        let ended = host_files(
+            &rt,
             rt.alloc(),
-            input("set", set),
-            files.as_slice(),
+            set_file(),
+            &files,
+            CREW,
             &mut out,
             &mut err,
         );
-        assert_eq!(rt; ended, status);
-        assert_eq!(rt; out.taken(), lines);
-        assert_eq!(rt; err.taken(), line);
-        assert!(rt; ended != Status::Done || out.flushed() == lines.len());
+        assert!(&rt; ended == status && out.taken() == lines && err.taken() == line);
     }
     Ok(())
 }
 
 #[test]
-fn lines_that_can_not_be_written_are_told(rt: HostRuntime) -> Result<(), Fail> {
-    let files = [input("a", Some(b"ABC".as_slice()))];
-    for write in 1..9 {
-        for fault in [
-            Fault::Fails { write },
-            Fault::TakesNothing { write },
-            Fault::KeepsUnflushed,
-        ] {
-            let mut out = FakeWriter::new(rt.alloc()).in_pieces_of(1).with(fault);
-            let mut err = FakeWriter::new(rt.alloc());
-            let set = input("set", Some(SET));
-            let ended = scan_files(rt.alloc(), set, files.as_slice(), &mut out, &mut err);
-            assert_eq!(rt; ended, Status::Device, "{fault:?}");
-            assert_eq!(rt; err.taken(), b"avscan: device\n".as_slice());
-        }
-    }
-    Ok(())
-}
-
-#[test]
-fn words_ask_for_a_request_or_end_with_a_status(rt: HostRuntime) -> Result<(), Fail> {
-    let alloc = rt.alloc();
-    let mut out = FakeWriter::new(alloc);
-    let mut err = FakeWriter::new(alloc);
-    match read_words(
-        alloc,
-        ["avscan", "scan", "s", "f", "g"].as_slice(),
-        &mut out,
-        &mut err,
-    ) {
-        Ok(Request::Scan { set, files, quiet }) => {
-            assert_eq!(rt; set, "s");
-            assert_eq!(rt; files.len(), 2);
-            assert!(rt; !quiet);
-        }
-        _ => panic!(rt; "no scan"),
-    }
-    assert!(rt;
-        matches!(
-            read_words(alloc, ["avscan"].as_slice(), &mut out, &mut err),
-            Ok(Request::Run { script: "-" })
-        )
-    );
-    assert!(rt; out.taken().is_empty() && err.taken().is_empty());
-    let usage = read_words(
-        alloc,
-        ["avscan", "scan", "s"].as_slice(),
+fn lines_of_a_host_that_can_not_be_written_are_told(rt: HostRuntime) -> Result<(), Fail> {
+    let mut out = FakeWriter::new(rt.alloc()).with(Fault::KeepsUnflushed);
+    let mut err = FakeWriter::new(rt.alloc());
+    let files = files("b", Some(b"".as_slice()));
+    let ended = host_files(
+        &rt,
+        rt.alloc(),
+        set_file(),
+        &files,
+        CREW,
         &mut out,
         &mut err,
     );
-    assert!(rt; matches!(usage, Err(Status::Usage)));
-    assert!(rt;
-        err.taken().starts_with(b"avscan: ".as_slice()) && err.taken().ends_with(b"\n".as_slice())
-    );
-    let mut full = FakeWriter::new(alloc)
-        .in_pieces_of(1)
-        .with(Fault::Fails { write: 9 });
-    let mut err = FakeWriter::new(alloc);
-    let help = read_words(alloc, ["avscan", "--help"].as_slice(), &mut full, &mut err);
-    assert!(rt; matches!(help, Err(Status::Device)));
-    assert_eq!(rt; err.taken(), b"avscan: device\n".as_slice());
-    Ok(())
-}
-
-// A command line of these words.
-#[derive(Drop)]
-struct Words<'a> {
-    words: &'a [&'a [u8]],
-}
-
-impl<'a> Env for Words<'a> {
-    fn arg(&self, i: usize, buf: &mut [u8]) -> Result<usize, FillError> {
-        let Some(word) = self.words.get(i) else {
-            return Err(FillError::NotPresent);
-        };
-        if word.len() > buf.len() {
-            return Err(FillError::TooLong);
-        }
-        buf[..word.len()].copy_from_slice(word);
-        Ok(word.len())
-    }
-
-    fn var(&self, _name: &str, _buf: &mut [u8]) -> Result<usize, FillError> {
-        Err(FillError::NotPresent)
-    }
-
-    fn var_at(&self, _i: usize, _buf: &mut [u8]) -> Result<usize, FillError> {
-        Err(FillError::NotPresent)
-    }
-}
-
-#[test]
-fn the_first_word_that_is_no_text_is_named(rt: HostRuntime) -> Result<(), Fail> {
-    let words: [&[u8]; 4] = [b"avscan", b"scan", b"caf\xe9", b"\xff"];
-    let command_line = Words {
-        words: words.as_slice(),
-    };
-    assert_eq!(rt; first_bad_word(&command_line, rt.alloc())?, Some(2));
-    let texts = Words { words: &words[..2] };
-    assert_eq!(rt; first_bad_word(&texts, rt.alloc())?, None);
+    assert!(&rt; ended == Status::Device);
+    assert!(&rt; err.taken() == b"avscan: device\n".as_slice());
     Ok(())
 }

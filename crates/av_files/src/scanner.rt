@@ -1,0 +1,125 @@
+ghost use Rattle.std.specs.Prelude.{◌≡◌, ◌≢◌, IfErr, IfOk, Some};
+ghost use Rattle.std.specs.Option.{option_copied};
+ghost use Rattle.av_match.specs.Match.{verdict};
+ghost use Rattle.av_sigset.specs.Set.{patterns_of};
+ghost use Rattle.av_files.specs.Scan.{HasVerdict, SpellsSet};
+ghost use Rattle.av_status.specs.declared.status.Status.TheVariants.{Done};
+
+use av_base::{Refusal, Verdict};
+use av_match::{Automaton, Scan};
+use av_sigset::SignatureSet;
+use av_status::faults::{bad_set, out_of_memory, too_large, unreadable};
+use av_status::status::Status;
+use std::alloc::Global;
+use std::io::Write;
+use std::marker::Model;
+
+/// The most bytes of a signature file, and of a file that is scanned.
+pub const MAX_FILE: usize = 1_048_576;
+
+/// A file: the name under which it was asked for, and its content, where it could be read.
+#[derive(Clone, Copy)]
+pub struct Input<'a> {
+    pub name: &'a str,
+    pub content: Option<&'a [u8]>,
+}
+
+impl<'a> Input<'a> {
+    /// The content, where it was read. Where it was not, a line to `err` says so.
+    pub fn readable<E: Write>(self, err: &mut E) -> Result<&'a [u8], Status>
+        ensures content { IfOk result (λ content. option_copied self.entry.content ≡ Some content.now) }
+        ensures status { IfErr result (λ status. status ≢ Done) }
+    {
+        match self.content {
+            Some(content) => Ok(content),
+            None => Err(unreadable(err, self.name)),
+        }
+    }
+}
+
+/// The set that a signature file spells. Where there is none, one line to `err` says why.
+pub fn read_set<E: Write>(
+    alloc: Global,
+    file: Input<'_>,
+    err: &mut E,
+) -> Result<SignatureSet, Status>
+    ensures set { IfOk result (SpellsSet (option_copied file.entry.content)) }
+    ensures status { IfErr result (λ status. status ≢ Done) }
+{
+    let content = fitting(file, err)?;
+    match SignatureSet::read(alloc, content) {
+        Ok(set) => Ok(set),
+        Err(Refusal::Fault(fault)) => Err(bad_set(err, fault)),
+        Err(Refusal::NoMemory) => Err(out_of_memory(err)),
+    }
+}
+
+/// A signature set with its automaton: what files are scanned by. Contracts see the set.
+#[derive(Drop)]
+pub struct Scanner {
+    set: SignatureSet,
+    automaton: Automaton,
+}
+
+impl Model for Scanner {
+    ghost use Rattle.std.specs.Prelude.{◌≡◌};
+    ghost use Rattle.av_sigset.specs.Set.{NumberedSet, patterns_of};
+
+    ghost Value = { NumberedSet };
+
+    ghost view = { λ s. s.set };
+
+    ghost invariant = { λ s. s.automaton ≡ record { version = s.set.version; patterns = patterns_of s.set.signatures } };
+}
+
+impl Scanner {
+    /// The scanner of a signature file's set. Where there is none, one line to `err` says why.
+    pub fn read<E: Write>(alloc: Global, file: Input<'_>, err: &mut E) -> Result<Scanner, Status>
+        ensures set { IfOk result (SpellsSet (option_copied file.entry.content)) }
+        ensures status { IfErr result (λ status. status ≢ Done) }
+    {
+        let set = read_set(alloc, file, err)?;
+        let Ok(automaton) = Automaton::build(alloc, &set) else {
+            return Err(out_of_memory(err));
+        };
+        Ok(Scanner { set, automaton })
+    }
+
+    /// The verdict of a file's content, in one pass. Where there is none, one line to `err` says why.
+    pub fn scan<E: Write>(&self, file: Input<'_>, err: &mut E) -> Result<Verdict, Status>
+        ensures verdict { IfOk result (HasVerdict self.now (option_copied file.entry.content)) }
+        ensures status { IfErr result (λ status. status ≢ Done) }
+    {
+        let content = fitting(file, err)?;
+        Ok(judge(&self.set, &self.automaton, content))
+    }
+
+    /// The set.
+    pub fn set(&self) -> &SignatureSet
+        ensures { result.now ≡ self.now }
+    {
+        &self.set
+    }
+}
+
+// The content of a file, where it was read and is not too large.
+fn fitting<'a, E: Write>(file: Input<'a>, err: &mut E) -> Result<&'a [u8], Status>
+    ensures content { IfOk result (λ content. option_copied file.entry.content ≡ Some content.now) }
+    ensures status { IfErr result (λ status. status ≢ Done) }
+{
+    let content = file.readable(err)?;
+    if content.len() > MAX_FILE {
+        return Err(too_large(err, file.name));
+    }
+    Ok(content)
+}
+
+// The verdict of a content, in one pass.
+fn judge(set: &SignatureSet, automaton: &Automaton, content: &[u8]) -> Verdict
+    requires { automaton.now ≡ record { version = set.now.version; patterns = patterns_of set.now.signatures } }
+    ensures { result ≡ verdict (patterns_of set.now.signatures) content.now }
+{
+    let mut scan = Scan::start(set.version(), content.len() as u64);
+    let _ = scan.feed(automaton, content);
+    scan.end()
+}

@@ -1,0 +1,9 @@
+use denote.Param.Send.{sendable}
+use Rattle.std.proofs.Crossing.{crosses}
+use Rattle.av_gate.proofs.gate.Gate.TheSendSync as gate
+use Rattle.av_gate.proofs.seat.Seat.TheSendSync as seat
+use Rattle.av_host.proofs.opener.Part.TheSendSync as part
+use Rattle.av_host.proofs.crew.start_opener.Goals as goal
+
+pub spawn-started-requires-send-F : goal.spawn-started-requires-send-F
+spawn-started-requires-send-F g c κs within = search (sendable, crosses, gate.the_sync, seat.the_send, part.the_send) depth 60

@@ -1,0 +1,272 @@
+ghost use Rattle.std.specs.Prelude.{◌≡◌, IfOk, map};
+ghost use Rattle.av_filter.specs.Bounds.{AreInBounds};
+ghost use Rattle.av_engines.specs.declared.end.End.TheVariants.{Done};
+ghost use Rattle.av_gate.specs.Seats.{IsSeatOf};
+ghost use Rattle.av_host.specs.Brought.{AreBrought, answer_at, opened_files};
+ghost use Rattle.av_status.specs.Status.{gravest_from};
+
+use crate::carrying::Wire;
+use crate::crew::meet;
+use crate::opener::{Brought, Openings};
+use av_base::{Limits, Mode, Refusal};
+use av_desk::Desk;
+use av_engines::End;
+use av_files::opened::{Opened, print_opened};
+use av_files::scanner::{Input, read_set};
+use av_files::streams::{VOLUME, add_file, empty_volume};
+use av_gate::{Gate, Seat};
+use av_pend::Answer;
+use av_pool::Pool;
+use av_sigset::{Catalogue, SignatureSet};
+use av_status::faults::out_of_memory;
+use av_status::progress::Progress;
+use av_status::status::Status;
+use av_status::{end_told, gravest};
+use av_store::Volume;
+use std::alloc::{AllocError, Global};
+use std::fs::Files;
+use std::io::Write;
+use std::net::Net;
+use std::os::unix::net::UnixStream;
+use std::sync::Wait;
+use std::sync::atomic::Ordering::SeqCst;
+use std::thread::Threads;
+use std::time::Clock;
+
+/// What a host asks of the system.
+pub trait Hosting: Files + Threads + Wait + Net + Clock + Sync + Copy + Send + 'static {}
+
+impl<R: Files + Threads + Wait + Net + Clock + Sync + Copy + Send + 'static> Hosting for R {}
+
+/// How many threads open files, and how many scan: each 1 to 16.
+#[derive(Clone, Copy, Debug, PartialEq, Eq)]
+pub struct Crew {
+    pub openers: usize,
+    pub workers: usize,
+}
+
+/// Opens files through a filter and its scanning service, in threads of this process, and writes a line for each, in the
+/// order given. The set and then each file is judged before any is opened; the first fault ends it, with one line to `err`.
+pub fn host_files<R: Hosting, W: Write, E: Write>(
+    rt: &R,
+    alloc: Global,
+    set: Input<'_>,
+    files: &[Input<'_>],
+    crew: Crew,
+    out: &mut W,
+    err: &mut E,
+) -> Status {
+    let set = match read_set(alloc, set, err) {
+        Ok(set) => set,
+        Err(status) => return status,
+    };
+    let mut volume = empty_volume(alloc);
+    let mut names = Vec::new(alloc);
+    'files: for file in files {
+        if let Err(status) = add_file(alloc, &mut volume, *file, err) {
+            return status;
+        }
+        if names.push(file.name).is_err() {
+            return out_of_memory(err);
+        }
+    }
+    let mut quiet = Progress::new(rt, err, false);
+    host_volume(
+        rt,
+        alloc,
+        set,
+        volume,
+        names.as_slice(),
+        crew,
+        out,
+        &mut quiet,
+    )
+}
+
+/// Opens the streams of a volume by their names, as `host_files` does.
+pub fn host_volume<R: Hosting, C: Clock, W: Write, E: Write>(
+    rt: &R,
+    alloc: Global,
+    set: SignatureSet,
+    volume: Volume,
+    names: &[&str],
+    crew: Crew,
+    out: &mut W,
+    err: &mut Progress<'_, C, E>,
+) -> Status
+    requires { AreInBounds volume }
+{
+    match connected_desk(rt, alloc, set) {
+        Ok(desk) => host_beside(rt, alloc, &desk, volume, names, crew, out, err),
+        Err(_) => out_of_memory(err),
+    }
+}
+
+// The same, beside a desk that has greeted the filter.
+fn host_beside<R: Hosting, C: Clock, W: Write, E: Write>(
+    rt: &R,
+    alloc: Global,
+    desk: &Desk,
+    volume: Volume,
+    names: &[&str],
+    crew: Crew,
+    out: &mut W,
+    err: &mut Progress<'_, C, E>,
+) -> Status
+    requires { AreInBounds volume }
+{
+    let Ok((gate, seat)) = Gate::new(alloc, volume, Mode::FailClosed, Limits::greatest()) else {
+        return out_of_memory(err);
+    };
+    let opened = open_at(rt, alloc, &gate, seat, desk, names, crew, err);
+    gate.abandon();
+    err.wipe();
+    match opened {
+        Ok((opened, end)) => print_told(opened.as_slice(), end, out, err),
+        Err(end) => end_told(err, end),
+    }
+}
+
+// Writes the lines of files that were opened, and then how that ended, where it is a fault.
+fn print_told<W: Write, E: Write>(
+    opened: &[Opened<'_>],
+    end: End,
+    out: &mut W,
+    err: &mut E,
+) -> Status {
+    match print_opened(opened, out, err) {
+        Status::Done => end_told(err, end),
+        failed => failed,
+    }
+}
+
+// A desk with this one set, which has greeted the filter.
+fn connected_desk<R: Wait>(rt: &R, alloc: Global, set: SignatureSet) -> Result<Desk, AllocError> {
+    let mut catalogue = Catalogue::new(alloc);
+    if catalogue.publish(set).is_err() {
+        return Err(AllocError);
+    }
+    let Ok(desk) = Desk::new(alloc, VOLUME, catalogue, Limits::greatest()) else {
+        return Err(AllocError);
+    };
+    match desk.connect(rt, alloc) {
+        Ok(_) => Ok(desk),
+        Err(_) => Err(AllocError),
+    }
+}
+
+// Opens the files between this gate and desk: what each was told, and the gravest end of a loop. Else why none was opened.
+fn open_at<'a, R: Hosting, C: Clock, E: Write>(
+    rt: &R,
+    alloc: Global,
+    gate: &Gate,
+    seat: Seat,
+    desk: &Desk,
+    names: &'a [&'a str],
+    crew: Crew,
+    err: &mut Progress<'_, C, E>,
+) -> Result<(Vec<Opened<'a>>, End), End>
+    requires { IsSeatOf gate.now seat }
+    ensures { IfOk result (λ r. AreBrought crew.openers names.now r.0.items) }
+{
+    let Ok((gate_stream, desk_stream)) = UnixStream::pair(rt) else {
+        return Err(End::ReadFault);
+    };
+    let gate_wire = Wire::new(gate_stream);
+    let desk_wire = Wire::new(desk_stream);
+    open_over(
+        rt, alloc, &gate_wire, gate, seat, &desk_wire, desk, names, crew, err,
+    )
+}
+
+// The same, over the two ends of a connection.
+fn open_over<'a, R: Hosting, C: Clock, E: Write>(
+    rt: &R,
+    alloc: Global,
+    gate_wire: &Wire,
+    gate: &Gate,
+    seat: Seat,
+    desk_wire: &Wire,
+    desk: &Desk,
+    names: &'a [&'a str],
+    crew: Crew,
+    err: &mut Progress<'_, C, E>,
+) -> Result<(Vec<Opened<'a>>, End), End>
+    requires { IsSeatOf gate.now seat }
+    ensures { IfOk result (λ r. AreBrought crew.openers names.now r.0.items) }
+{
+    let (pool, giver, taker) = match Pool::start(*rt, alloc, crew.workers, ()) {
+        Ok(started) => started,
+        Err(Refusal::NoMemory) => return Err(End::Memory),
+        Err(Refusal::Fault(_)) => return Err(End::ReadFault),
+    };
+    let openings = Openings::new(names, crew.openers);
+    let (giver, taker, brought, end) = meet(
+        rt, alloc, gate_wire, gate, seat, desk_wire, desk, giver, taker, &openings, err,
+    );
+    pool.stop(rt, giver, taker).discard();
+    let lacks_thread = gate_wire.lacks_thread.load(SeqCst) || desk_wire.lacks_thread.load(SeqCst);
+    let lack = if lacks_thread {
+        End::ReadFault
+    } else {
+        End::Done
+    };
+    match brought {
+        Ok(brought) => told_of(alloc, names, &brought, gravest(end, lack)),
+        Err(_) => Err(gravest(gravest(end, lack), End::Memory)),
+    }
+}
+
+// What each file was told, of what the openers brought, and the gravest of this end and theirs.
+fn told_of<'a>(
+    alloc: Global,
+    names: &'a [&'a str],
+    brought: &[Brought],
+    end: End,
+) -> Result<(Vec<Opened<'a>>, End), End>
+    ensures { IfOk result (λ r. r.0.items ≡ opened_files brought.now names.now) }
+{
+    let end = gravest(end, end_of_openers(brought));
+    match opened_files(alloc, names, brought) {
+        Ok(opened) => Ok((opened, end)),
+        Err(_) => Err(gravest(end, End::Memory)),
+    }
+}
+
+// The gravest end that an opener came to.
+fn end_of_openers(brought: &[Brought]) -> End
+    ensures { result ≡ gravest_from Done (map (λ b. b.end) brought.now) }
+{
+    let mut end = End::Done;
+    'openers: for opener in brought {
+        end = gravest(end, opener.end);
+    }
+    end
+}
+
+// What each file was told, in the order given, as far as there is an answer. The openers took the files in turn.
+fn opened_files<'a>(
+    alloc: Global,
+    names: &[&'a str],
+    brought: &[Brought],
+) -> Result<Vec<Opened<'a>>, AllocError>
+    ensures { IfOk result (λ opened. opened.items ≡ opened_files brought.now names.now) }
+{
+    names
+        .iter()
+        .enumerate()
+        .filter_map(|(place, name)| {
+            let answer = answer_at(brought, place)?;
+            Some(Opened { name, answer })
+        })
+        .collect(alloc)
+}
+
+// The answer of the file at a place.
+fn answer_at(brought: &[Brought], place: usize) -> Option<Answer>
+    ensures { result ≡ answer_at brought.now place }
+{
+    let opener = brought.get(place.checked_rem(brought.len())?)?;
+    let receipt = opener.receipts.get(place.checked_div(brought.len())?)?;
+    Some(receipt.answer)
+}

@@ -1,0 +1,14 @@
+//! A host: files are opened through a filter and its scanning service, both in this process, in threads that speak over two
+//! connected sockets.
+//!
+//! ```text
+//! let status = host_files(&rt, alloc, set, &files, Crew { openers: 2, workers: 2 }, &mut out, &mut err);
+//! ```
+#![tactic(auto)]
+
+mod carrying;
+mod crew;
+pub mod host;
+pub mod opener;
+
+pub use host::{Crew, Hosting, host_files, host_volume};

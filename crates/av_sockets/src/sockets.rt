@@ -1,0 +1,265 @@
+//! The socket at which a filter and its service meet: a file that the filter makes and the service finds.
+
+use crate::duplex::Duplex;
+use crate::fault::SocketFault;
+use std::alloc::{AllocError, Global};
+use std::fs::{Files, Permissions};
+use std::io::ErrorKind;
+use std::net::Net;
+use std::os::unix::fs::{FileTypeExt, MetadataExt, PermissionsExt};
+use std::os::unix::net::{UnixListener, UnixStream};
+use std::time::{Clock, Duration};
+use std::{fs, thread};
+
+// Milliseconds between two looks.
+const PAUSE: u64 = 10;
+
+// The most bytes of a socket's path.
+const MAX_SOCKET: usize = 107;
+
+/// How two programs meet at a socket.
+#[derive(Clone, Copy, Debug)]
+pub struct Meeting<'a> {
+    pub path: &'a str,
+    /// How long each side waits for the other.
+    pub wait: Duration,
+}
+
+// A socket's file, told from any other that later has its path.
+#[derive(Clone, Copy, PartialEq, Eq)]
+struct Node {
+    device: u64,
+    number: u64,
+}
+
+/// Makes a socket with these rights and takes the first service that comes to it and speaks. The socket's file is gone then.
+pub fn meet_service<'a, R: Files + Net + Clock>(
+    rt: &'a R,
+    alloc: Global,
+    meeting: Meeting<'_>,
+    mode: u32,
+) -> Result<Duplex<'a, R>, SocketFault> {
+    let (listener, node) = listen(rt, alloc, meeting.path, mode)?;
+    let met = await_service(rt, alloc, &listener, meeting.wait);
+    remove_own(rt, meeting.path, node);
+    met
+}
+
+// Makes the socket's file beside its place, listens there, and only then puts it in its place, so that nobody finds a socket
+// that is not ready. A file that is there is not replaced, unless an earlier filter left it and nobody listens at it.
+fn listen<R: Files + Net + Clock>(
+    rt: &R,
+    alloc: Global,
+    path: &str,
+    mode: u32,
+) -> Result<(UnixListener, Node), SocketFault> {
+    let Ok(beside) = name_beside(rt, alloc, path) else {
+        return Err(SocketFault::CannotListen);
+    };
+    let beside = beside.as_str();
+    let beside = beside.get(..MAX_SOCKET).unwrap_or(beside);
+    let Ok(listener) = UnixListener::bind(rt, beside) else {
+        return Err(SocketFault::CannotListen);
+    };
+    let made = guarded(rt, &listener, beside, mode);
+    let placed = match made {
+        Some(node) => place(rt, alloc, beside, path).map(|_| node),
+        None => Err(SocketFault::CannotListen),
+    };
+    let _ = fs::remove_file(rt, beside);
+    Ok((listener, placed?))
+}
+
+// A free name in the folder of a path.
+fn name_beside<R: Clock>(rt: &R, alloc: Global, path: &str) -> Result<String, AllocError> {
+    let folder = match path.rfind('/') {
+        Some(place) => path.get(..place.saturating_add(1)).unwrap_or(""),
+        None => "",
+    };
+    let now = match rt.since_1970() {
+        Ok(now) => now.subsec_nanos(),
+        Err(_) => 0,
+    };
+    format!(in alloc; "{folder}.{now:x}")
+}
+
+// Gives a socket its rights, and turns away who came before it had them.
+fn guarded<R: Files>(rt: &R, listener: &UnixListener, path: &str, mode: u32) -> Option<Node> {
+    fs::set_permissions(rt, path, Permissions::from_mode(mode)).ok()?;
+    listener.set_nonblocking(true).ok()?;
+    'early: for _ in 0..u64::MAX {
+        if listener.accept().is_err() {
+            break;
+        }
+    }
+    node_of(rt, path)
+}
+
+fn node_of<R: Files>(rt: &R, path: &str) -> Option<Node> {
+    let metadata = fs::symlink_metadata(rt, path).ok()?;
+    Some(Node {
+        device: metadata.dev(),
+        number: metadata.ino(),
+    })
+}
+
+// Gives a socket its path, where nothing is there but a socket that somebody left.
+fn place<R: Files + Net>(
+    rt: &R,
+    alloc: Global,
+    beside: &str,
+    path: &str,
+) -> Result<(), SocketFault> {
+    match fs::hard_link(rt, beside, path) {
+        Ok(()) => return Ok(()),
+        Err(error) if error.kind() == ErrorKind::AlreadyExists => {}
+        Err(_) => return Err(SocketFault::CannotListen),
+    }
+    remove_leftover(rt, alloc, beside, path)?;
+    match fs::hard_link(rt, beside, path) {
+        Ok(()) => Ok(()),
+        Err(_) => Err(SocketFault::InUse),
+    }
+}
+
+// Removes a socket's file at which nobody listens. A filter that listens there takes no notice: it takes a connection for a
+// service from its first byte on. The file is taken out of its place first, and put back where it is another one by then.
+fn remove_leftover<R: Files + Net>(
+    rt: &R,
+    alloc: Global,
+    beside: &str,
+    path: &str,
+) -> Result<(), SocketFault> {
+    match fs::symlink_metadata(rt, path) {
+        Ok(metadata) if metadata.file_type().is_socket() => {}
+        Ok(_) => return Err(SocketFault::NotASocket),
+        Err(_) => return Ok(()),
+    }
+    let node = node_of(rt, path);
+    match UnixStream::connect(rt, path) {
+        Ok(_) => return Err(SocketFault::InUse),
+        Err(error) => match error.kind() {
+            ErrorKind::ConnectionRefused => {}
+            ErrorKind::NotFound => return Ok(()),
+            ErrorKind::PermissionDenied => return Err(SocketFault::NotAllowed),
+            _ => return Err(SocketFault::InUse),
+        },
+    }
+    take_away(rt, alloc, beside, path, node)
+}
+
+// Takes the file of a leftover socket out of its place.
+fn take_away<R: Files>(
+    rt: &R,
+    alloc: Global,
+    beside: &str,
+    path: &str,
+    node: Option<Node>,
+) -> Result<(), SocketFault> {
+    let Ok(aside) = format!(in alloc; "{beside}.old") else {
+        return Err(SocketFault::CannotListen);
+    };
+    let aside = aside.as_str();
+    match fs::rename(rt, path, aside) {
+        Ok(()) => {}
+        Err(error) if error.kind() == ErrorKind::NotFound => return Ok(()),
+        Err(_) => return Err(SocketFault::Leftover),
+    }
+    let is_other = node_of(rt, aside) != node;
+    if is_other {
+        let _ = fs::hard_link(rt, aside, path);
+    }
+    let _ = fs::remove_file(rt, aside);
+    if is_other {
+        Err(SocketFault::InUse)
+    } else {
+        Ok(())
+    }
+}
+
+// Removes the socket's file, where it is still the one that was made.
+fn remove_own<R: Files>(rt: &R, path: &str, node: Node) {
+    if node_of(rt, path) == Some(node) {
+        let _ = fs::remove_file(rt, path);
+    }
+}
+
+// Waits for a service to come to a socket and say its first byte; a connection that is closed without a byte is none.
+fn await_service<'a, R: Clock>(
+    rt: &'a R,
+    alloc: Global,
+    listener: &UnixListener,
+    wait: Duration,
+) -> Result<Duplex<'a, R>, SocketFault> {
+    let begun = rt.monotonic().unwrap_or(Duration::ZERO);
+    'looks: for _ in 0..u64::MAX {
+        if let Ok((stream, _)) = listener.accept() {
+            if let Some(duplex) = greeted(rt, alloc, stream, wait) {
+                return Ok(duplex);
+            }
+        }
+        if is_over(rt, begun, wait) {
+            break;
+        }
+        thread::sleep(rt, Duration::from_millis(PAUSE));
+    }
+    Err(SocketFault::NoService)
+}
+
+// A connection whose first byte has come, where one comes in time.
+fn greeted<'a, R: Clock>(
+    rt: &'a R,
+    alloc: Global,
+    stream: UnixStream,
+    wait: Duration,
+) -> Option<Duplex<'a, R>> {
+    let duplex = Duplex::new(rt, alloc, stream, wait).ok()?;
+    if duplex.await_first().ok()? {
+        Some(duplex)
+    } else {
+        None
+    }
+}
+
+// Whether a wait that began then is over.
+fn is_over<R: Clock>(rt: &R, begun: Duration, wait: Duration) -> bool {
+    match rt.monotonic() {
+        Ok(now) => now.saturating_sub(begun) >= wait,
+        Err(_) => true,
+    }
+}
+
+/// Connects to a filter that may take so long to listen.
+pub fn connect<'a, R: Net + Clock>(
+    rt: &'a R,
+    alloc: Global,
+    meeting: Meeting<'_>,
+) -> Result<Duplex<'a, R>, SocketFault> {
+    let begun = rt.monotonic().unwrap_or(Duration::ZERO);
+    'looks: for _ in 0..u64::MAX {
+        match UnixStream::connect(rt, meeting.path) {
+            Ok(stream) => return over(rt, alloc, stream, meeting.wait),
+            Err(error) if error.kind() == ErrorKind::PermissionDenied => {
+                return Err(SocketFault::NotAllowed);
+            }
+            Err(_) => {}
+        }
+        if is_over(rt, begun, meeting.wait) {
+            break;
+        }
+        thread::sleep(rt, Duration::from_millis(PAUSE));
+    }
+    Err(SocketFault::NoFilter)
+}
+
+fn over<'a, R: Clock>(
+    rt: &'a R,
+    alloc: Global,
+    stream: UnixStream,
+    wait: Duration,
+) -> Result<Duplex<'a, R>, SocketFault> {
+    match Duplex::new(rt, alloc, stream, wait) {
+        Ok(duplex) => Ok(duplex),
+        Err(_) => Err(SocketFault::FilterLost),
+    }
+}

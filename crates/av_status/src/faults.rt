@@ -1,0 +1,176 @@
+//! How the program says that something failed: one line to standard error, as far as that can be written, and a status.
+
+ghost use Rattle.std.specs.Prelude.{◌≡◌};
+ghost use Rattle.av_status.specs.declared.status.Status.TheVariants.{Device, Memory, Refused, Usage};
+
+use crate::status::Status;
+use av_base::Part;
+use av_base::parts::write_parts;
+use av_sigset::SetFault;
+use std::io::Write;
+
+/// A file can't be opened, or a read of it failed.
+pub fn unreadable<E: Write>(err: &mut E, file: &str) -> Status
+    ensures { result ≡ Device }
+{
+    say_of(err, file, &[text(": cannot read")]);
+    Status::Device
+}
+
+/// A file is longer than it may be.
+pub fn too_large<E: Write>(err: &mut E, file: &str) -> Status
+    ensures { result ≡ Refused }
+{
+    say_of(err, file, &[text(": TooLarge")]);
+    Status::Refused
+}
+
+/// A file can't be a stream of the volume, for the fault of this word.
+pub fn file_refused<E: Write>(err: &mut E, file: &str, word: &str) -> Status
+    ensures { result ≡ Refused }
+{
+    let why = Part::Text(word.as_bytes());
+    say_of(err, file, &[text(": "), why]);
+    Status::Refused
+}
+
+/// A signature file is bad.
+pub fn bad_set<E: Write>(err: &mut E, fault: SetFault) -> Status
+    ensures { result ≡ Refused }
+{
+    let kind = Part::Number(u64::from(fault.kind.number()));
+    say(
+        err,
+        &[
+            text("set line "),
+            Part::Number(fault.line),
+            text(": kind "),
+            kind,
+        ],
+    );
+    Status::Refused
+}
+
+/// A script is bad from this line on.
+pub fn bad_script<E: Write>(err: &mut E, line: u64) -> Status
+    ensures { result ≡ Refused }
+{
+    say(
+        err,
+        &[text("line "), Part::Number(line), text(": bad script")],
+    );
+    Status::Refused
+}
+
+/// A script is longer than it may be.
+pub fn script_too_long<E: Write>(err: &mut E) -> Status
+    ensures { result ≡ Refused }
+{
+    say(err, &[text("script too long")]);
+    Status::Refused
+}
+
+/// A word of the command line, counted from 1, can't be taken as text.
+pub fn bad_word<E: Write>(err: &mut E, number: u64) -> Status
+    ensures { result ≡ Usage }
+{
+    say(
+        err,
+        &[text("word "), Part::Number(number), text(" is not UTF-8")],
+    );
+    Status::Usage
+}
+
+/// A path is too short or too long for a socket.
+pub fn bad_socket<E: Write>(err: &mut E, socket: &str) -> Status
+    ensures { result ≡ Usage }
+{
+    let why = text(": the path of a socket has 1 to 107 bytes");
+    say_of(err, socket, &[why]);
+    Status::Usage
+}
+
+/// The other side sent bytes that are no frame.
+pub fn bad_frame<E: Write>(err: &mut E) -> Status
+    ensures { result ≡ Refused }
+{
+    say(err, &[text("frame")]);
+    Status::Refused
+}
+
+/// More events came than an audit keeps.
+pub fn audit_full<E: Write>(err: &mut E) -> Status
+    ensures { result ≡ Refused }
+{
+    say(err, &[text("audit full")]);
+    Status::Refused
+}
+
+/// Memory was refused.
+pub fn out_of_memory<E: Write>(err: &mut E) -> Status
+    ensures { result ≡ Memory }
+{
+    say(err, &[text("no memory")]);
+    Status::Memory
+}
+
+/// A file or a stream failed.
+pub fn device_failed<E: Write>(err: &mut E) -> Status
+    ensures { result ≡ Device }
+{
+    say(err, &[text("device")]);
+    Status::Device
+}
+
+/// A part of a line that is always the same.
+pub fn text(text: &'static str) -> Part<'static> {
+    Part::Text(text.as_bytes())
+}
+
+/// Writes a line that names the program. Where that fails there is nobody left to tell.
+pub fn say<E: Write>(err: &mut E, parts: &[Part<'_>]) {
+    say_of(err, "", parts);
+}
+
+/// The same with a name in front, in which each byte of a control character is written as `\x` and two digits: what a file is
+/// called is not to command a terminal.
+pub fn say_of<E: Write>(err: &mut E, name: &str, parts: &[Part<'_>]) {
+    let _ = write_parts(err, &[text("avscan: ")]);
+    say_name(err, name.as_bytes());
+    let _ = write_parts(err, parts);
+    let _ = write_parts(err, &[text("\n")]);
+}
+
+fn say_name<E: Write>(err: &mut E, name: &[u8]) {
+    let mut begun = 0;
+    for place in 0..name.len() {
+        let Some(byte) = control_at(name, place) else {
+            continue;
+        };
+        let plain = name.get(begun..place).unwrap_or(b"".as_slice());
+        let digits = [digit(byte >> 4), digit(byte & 15)];
+        let _ = write_parts(err, &[Part::Text(plain), text("\\x"), Part::Text(&digits)]);
+        begun = place + 1;
+    }
+    let rest = name.get(begun..).unwrap_or(b"".as_slice());
+    let _ = write_parts(err, &[Part::Text(rest)]);
+}
+
+// The byte at a place, where it is of a control character: below 32, 127, or one of the two that spell 128 to 159 in UTF-8.
+fn control_at(name: &[u8], place: usize) -> Option<u8> {
+    let byte = *name.get(place)?;
+    let is_late = |byte: Option<&u8>| matches!(byte, Some(128..=159));
+    let is_control = match byte {
+        0..=31 | 127 => true,
+        0xc2 => is_late(name.get(place.saturating_add(1))),
+        128..=159 => name.get(place.wrapping_sub(1)) == Some(&0xc2),
+        _ => false,
+    };
+    if is_control { Some(byte) } else { None }
+}
+
+// The hexadecimal digit of a number below 16.
+fn digit(number: u8) -> u8 {
+    let digits = b"0123456789abcdef".as_slice();
+    *digits.get(usize::from(number)).unwrap_or(&b'0')
+}

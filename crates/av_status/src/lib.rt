@@ -1,0 +1,20 @@
+//! How the program ends: its exit statuses, the line on standard error that says why it did not do all, and how far a run got
+//! that takes long.
+//!
+//! ```text
+//! let mut err = Progress::new(&rt, rt.stderr(), true);
+//! err.step("scanned", 3, 10);                            // on a terminal, once the run takes long: `3 of 10 files`
+//! return unreadable(&mut err, "a.bin");                  // `avscan: a.bin: cannot read`, and Status::Device
+//! ```
+#![tactic(auto)]
+
+pub mod ends;
+pub mod faults;
+pub mod progress;
+pub mod status;
+#[cfg(test)]
+mod tests;
+
+pub use ends::{end_told, gravest, status_of};
+pub use progress::Progress;
+pub use status::Status;

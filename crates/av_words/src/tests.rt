@@ -1,0 +1,179 @@
+use crate::words::{Request, first_bad_word, read_words};
+use av_fakes::{FakeWriter, Fault};
+use av_status::Status;
+use std::alloc::Global;
+use std::env::{Env, FillError};
+use std::test::Fail;
+
+#[test]
+fn words_ask_for_a_request_or_end_with_a_status(rt: HostRuntime) -> Result<(), Fail> {
+    let alloc = rt.alloc();
+    let mut out = FakeWriter::new(alloc);
+    let mut err = FakeWriter::new(alloc);
+    match read_words(
+        alloc,
+        ["avscan", "scan", "s", "f", "g"].as_slice(),
+        &mut out,
+        &mut err,
+    ) {
+        Ok(Request::Scan { set, files, quiet }) => {
+            assert_eq!(rt; set, "s");
+            assert_eq!(rt; files.len(), 2);
+            assert!(rt; !quiet);
+        }
+        _ => panic!(rt; "no scan"),
+    }
+    assert!(rt;
+        matches!(
+            read_words(alloc, ["avscan"].as_slice(), &mut out, &mut err),
+            Ok(Request::Run { script: "-" })
+        )
+    );
+    assert!(rt; out.taken().is_empty() && err.taken().is_empty());
+    let usage = read_words(
+        alloc,
+        ["avscan", "scan", "s"].as_slice(),
+        &mut out,
+        &mut err,
+    );
+    assert!(rt; matches!(usage, Err(Status::Usage)));
+    assert!(rt;
+        err.taken().starts_with(b"avscan: ".as_slice()) && err.taken().ends_with(b"\n".as_slice())
+    );
+    let mut full = FakeWriter::new(alloc)
+        .in_pieces_of(1)
+        .with(Fault::Fails { write: 9 });
+    let mut err = FakeWriter::new(alloc);
+    let help = read_words(alloc, ["avscan", "--help"].as_slice(), &mut full, &mut err);
+    assert!(rt; matches!(help, Err(Status::Device)));
+    assert_eq!(rt; err.taken(), b"avscan: device\n".as_slice());
+    Ok(())
+}
+
+// A command line of these words.
+#[derive(Drop)]
+struct Words<'a> {
+    words: &'a [&'a [u8]],
+}
+
+impl<'a> Env for Words<'a> {
+    fn arg(&self, i: usize, buf: &mut [u8]) -> Result<usize, FillError> {
+        let Some(word) = self.words.get(i) else {
+            return Err(FillError::NotPresent);
+        };
+        if word.len() > buf.len() {
+            return Err(FillError::TooLong);
+        }
+        buf[..word.len()].copy_from_slice(word);
+        Ok(word.len())
+    }
+
+    fn var(&self, _name: &str, _buf: &mut [u8]) -> Result<usize, FillError> {
+        Err(FillError::NotPresent)
+    }
+
+    fn var_at(&self, _i: usize, _buf: &mut [u8]) -> Result<usize, FillError> {
+        Err(FillError::NotPresent)
+    }
+}
+
+#[test]
+fn the_first_word_that_is_no_text_is_named(rt: HostRuntime) -> Result<(), Fail> {
+    let words: [&[u8]; 4] = [b"avscan", b"scan", b"caf\xe9", b"\xff"];
+    let command_line = Words {
+        words: words.as_slice(),
+    };
+    assert_eq!(rt; first_bad_word(&command_line, rt.alloc())?, Some(2));
+    let texts = Words { words: &words[..2] };
+    assert_eq!(rt; first_bad_word(&texts, rt.alloc())?, None);
+    Ok(())
+}
+
+// What the words ask for, where that is to open files in this process: the openers and the workers.
+fn crew_of(alloc: Global, words: &[&str]) -> Option<(usize, usize)> {
+    let mut out = FakeWriter::new(alloc);
+    let mut err = FakeWriter::new(alloc);
+    match read_words(alloc, words, &mut out, &mut err) {
+        Ok(
+            Request::Host {
+                openers,
+                workers,
+                ..
+            },
+        ) => Some((openers, workers)),
+        _ => None,
+    }
+}
+
+#[test]
+fn a_host_has_one_to_sixteen_openers_and_workers(rt: HostRuntime) -> Result<(), Fail> {
+    let alloc = rt.alloc();
+    let none = ["avscan", "host", "s", "f"];
+    assert!(&rt; crew_of(alloc, none.as_slice()) == Some((2, 2)));
+    let most = [
+        "avscan",
+        "host",
+        "s",
+        "f",
+        "--openers",
+        "16",
+        "--workers",
+        "1",
+    ];
+    assert!(&rt; crew_of(alloc, most.as_slice()) == Some((16, 1)));
+    let more = ["avscan", "host", "s", "f", "--openers", "17"];
+    assert!(&rt; crew_of(alloc, more.as_slice()).is_none());
+    let fewer = ["avscan", "host", "s", "f", "--workers", "0"];
+    assert!(&rt; crew_of(alloc, fewer.as_slice()).is_none());
+    Ok(())
+}
+
+// The socket and the seconds that the words ask for.
+fn socket_of<'a>(alloc: Global, words: &'a [&'a str]) -> Option<(&'a str, u64)> {
+    let mut out = FakeWriter::new(alloc);
+    let mut err = FakeWriter::new(alloc);
+    match read_words(alloc, words, &mut out, &mut err) {
+        Ok(Request::Filter { socket, wait, .. } | Request::Service { socket, wait, .. }) => {
+            Some((socket, wait))
+        }
+        _ => None,
+    }
+}
+
+#[test]
+fn a_socket_has_a_path_and_a_time_to_wait(rt: HostRuntime) -> Result<(), Fail> {
+    let alloc = rt.alloc();
+    let filter = ["avscan", "filter", "s", "f"];
+    assert!(&rt; socket_of(alloc, filter.as_slice()) == Some(("s", 30)));
+    let service = ["avscan", "service", "t", "s", "--wait", "1"];
+    assert!(&rt; socket_of(alloc, service.as_slice()) == Some(("t", 1)));
+    let empty = ["avscan", "filter", "", "f"];
+    assert!(&rt; socket_of(alloc, empty.as_slice()).is_none());
+    let never = ["avscan", "filter", "s", "f", "--wait", "0"];
+    assert!(&rt; socket_of(alloc, never.as_slice()).is_none());
+    Ok(())
+}
+
+// The rights of a socket that the words ask for.
+fn mode_of(alloc: Global, words: &[&str]) -> Option<u32> {
+    let mut out = FakeWriter::new(alloc);
+    let mut err = FakeWriter::new(alloc);
+    match read_words(alloc, words, &mut out, &mut err) {
+        Ok(Request::Filter { mode, .. }) => Some(mode),
+        _ => None,
+    }
+}
+
+#[test]
+fn a_socket_has_one_of_three_modes(rt: HostRuntime) -> Result<(), Fail> {
+    let alloc = rt.alloc();
+    let none = ["avscan", "filter", "s", "f"];
+    assert!(&rt; mode_of(alloc, none.as_slice()) == Some(0o600));
+    for (word, mode) in [("600", 0o600), ("660", 0o660), ("666", 0o666)] {
+        let words = ["avscan", "filter", "s", "f", "--mode", word];
+        assert!(&rt; mode_of(alloc, words.as_slice()) == Some(mode));
+    }
+    let other = ["avscan", "filter", "s", "f", "--mode", "777"];
+    assert!(&rt; mode_of(alloc, other.as_slice()).is_none());
+    Ok(())
+}

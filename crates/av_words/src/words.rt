@@ -1,0 +1,194 @@
+use crate::commands::avscan_command;
+use av_base::device::write_text;
+use av_status::faults::{bad_socket, device_failed, out_of_memory};
+use av_status::status::Status;
+use clap::error::ErrorKind;
+use clap::{ArgMatches, Error};
+use std::alloc::{AllocError, Global};
+use std::convert::AsStr;
+use std::env::{Env, FillError};
+use std::io::Write;
+
+/// What the words of the command line ask for.
+#[derive(Debug, Drop)]
+pub enum Request<'a> {
+    /// Run the script in this file, or on standard input for `-`.
+    Run {
+        script: &'a str,
+    },
+    /// Scan these files under the signature file `set`.
+    Scan {
+        set: &'a str,
+        files: Vec<&'a str>,
+        quiet: bool,
+    },
+    /// Open these files through a filter and a service in this process, each with 1 to 16 threads.
+    Host {
+        set: &'a str,
+        files: Vec<&'a str>,
+        openers: usize,
+        workers: usize,
+        quiet: bool,
+    },
+    /// Open these files through a filter that one service may join at this socket, which has these rights, within `wait`
+    /// seconds.
+    Filter {
+        socket: &'a str,
+        files: Vec<&'a str>,
+        wait: u64,
+        mode: u32,
+        quiet: bool,
+    },
+    /// Scan under the signature file `set` for the filter at this socket, which may take `wait` seconds to be there.
+    Service {
+        socket: &'a str,
+        set: &'a str,
+        wait: u64,
+    },
+}
+
+/// Reads the words of the command line, the program's name first. No other word asks for a script on standard input. A
+/// help text goes to `out` and a usage fault to `err`; the status is then that of the program.
+pub fn read_words<'a, S: AsStr, W: Write, E: Write>(
+    alloc: Global,
+    words: &'a [S],
+    out: &mut W,
+    err: &mut E,
+) -> Result<Request<'a>, Status> {
+    if words.len() <= 1 {
+        return Ok(Request::Run { script: "-" });
+    }
+    match requested(alloc, words) {
+        Ok(request) => with_socket(request, err),
+        Err(error) => Err(told(alloc, &error, out, err)),
+    }
+}
+
+// The most bytes of a word: what Linux hands to a program, the byte behind its end included.
+const MAX_WORD: usize = 131_072;
+
+/// The first word of the command line that is not UTF-8, counted from 1 behind the program's name.
+pub fn first_bad_word<R: Env>(rt: &R, alloc: Global) -> Result<Option<u64>, AllocError> {
+    let mut word = vec![in alloc; 0u8; MAX_WORD]?;
+    for i in 1..usize::MAX {
+        match rt.arg(i, &mut word) {
+            Ok(length) => {
+                if str::from_utf8(&word[..length]).is_err() {
+                    return Ok(Some(i as u64));
+                }
+            }
+            Err(FillError::TooLong) => {}
+            Err(FillError::NotPresent) => break,
+        }
+    }
+    Ok(None)
+}
+
+// What the words ask for.
+fn requested<'a, S: AsStr>(alloc: Global, words: &'a [S]) -> Result<Request<'a>, Error> {
+    let matches = avscan_command(alloc)?.try_get_matches_from(words)?;
+    match matches.subcommand() {
+        Some(("scan", scan)) => Ok(Request::Scan {
+            set: text_of(scan, "set"),
+            files: files_of(alloc, scan)?,
+            quiet: scan.get_flag("quiet"),
+        }),
+        Some(("host", host)) => Ok(Request::Host {
+            set: text_of(host, "set"),
+            files: files_of(alloc, host)?,
+            openers: count_of(host, "openers"),
+            workers: count_of(host, "workers"),
+            quiet: host.get_flag("quiet"),
+        }),
+        Some(("filter", filter)) => Ok(Request::Filter {
+            socket: text_of(filter, "socket"),
+            files: files_of(alloc, filter)?,
+            wait: count_of(filter, "wait") as u64,
+            mode: mode_of(filter),
+            quiet: filter.get_flag("quiet"),
+        }),
+        Some(("service", service)) => Ok(Request::Service {
+            socket: text_of(service, "socket"),
+            set: text_of(service, "set"),
+            wait: count_of(service, "wait") as u64,
+        }),
+        Some((_, run)) => Ok(Request::Run {
+            script: text_of(run, "script"),
+        }),
+        None => Ok(Request::Run { script: "-" }),
+    }
+}
+
+// A word that the command requires.
+fn text_of<'a>(matches: &ArgMatches<'a>, name: &str) -> &'a str {
+    matches.get_str(name).unwrap_or("-")
+}
+
+// A number that has a default.
+fn count_of(matches: &ArgMatches<'_>, name: &str) -> usize {
+    matches.get_one::<usize>(name).unwrap_or(1)
+}
+
+// The rights of a socket, by the three digits that chmod has for them.
+fn mode_of(matches: &ArgMatches<'_>) -> u32 {
+    match matches.get_str("mode") {
+        Some("660") => 0o660,
+        Some("666") => 0o666,
+        _ => 0o600,
+    }
+}
+
+fn files_of<'a>(alloc: Global, matches: &ArgMatches<'a>) -> Result<Vec<&'a str>, AllocError> {
+    let mut files = Vec::new(alloc);
+    if let Some(names) = matches.get_strs("file") {
+        files.extend_from_slice(names)?;
+    }
+    Ok(files)
+}
+
+// The most bytes of a socket's path: what Linux has room for, less the byte behind its end.
+const MAX_SOCKET: usize = 107;
+
+// The request, where the path of its socket can be one.
+fn with_socket<'a, E: Write>(request: Request<'a>, err: &mut E) -> Result<Request<'a>, Status> {
+    let socket = match &request {
+        Request::Filter { socket, .. } | Request::Service { socket, .. } => *socket,
+        _ => return Ok(request),
+    };
+    if socket.is_empty() || socket.len() > MAX_SOCKET {
+        return Err(bad_socket(err, socket));
+    }
+    Ok(request)
+}
+
+// Writes the help or the fault, and gives the status.
+fn told<W: Write, E: Write>(alloc: Global, error: &Error, out: &mut W, err: &mut E) -> Status {
+    if error.kind() == ErrorKind::OutOfMemory {
+        return out_of_memory(err);
+    }
+    let Ok(text) = format!(in alloc; "{error}") else {
+        return out_of_memory(err);
+    };
+    if error.use_stderr() {
+        say_usage(err, text.as_str());
+        return Status::Usage;
+    }
+    if write_text(out, text.as_bytes()).is_err() || out.flush().is_err() {
+        return device_failed(err);
+    }
+    Status::Done
+}
+
+// Says a usage fault on one line: the first paragraph of the text, without the word in front that says that it is a fault.
+fn say_usage<E: Write>(err: &mut E, text: &str) {
+    let _ = write_text(err, b"avscan:".as_slice());
+    let fault = text.strip_prefix("error:").unwrap_or(text);
+    for line in fault.lines() {
+        if line.is_empty() {
+            break;
+        }
+        let _ = write_text(err, b" ".as_slice());
+        let _ = write_text(err, line.trim().as_bytes());
+    }
+    let _ = write_text(err, b" (avscan --help tells more)\n".as_slice());
+}

@@ -1,9 +1,0 @@
-use denote.Param.Send.{sendable}
-use Rattle.std.proofs.Crossing.{crosses}
-use Rattle.av_gate.proofs.gate.Gate.TheSendSync as gate
-use Rattle.av_gate.proofs.seat.Seat.TheSendSync as seat
-use Rattle.avscan.proofs.opener.Part.TheSendSync as part
-use Rattle.avscan.proofs.crew.start_opener.Goals as goal
-
-pub spawn-started-requires-send-F : goal.spawn-started-requires-send-F
-spawn-started-requires-send-F g c κs within = search (sendable, crosses, gate.the_sync, seat.the_send, part.the_send) depth 60

@@ -1,6 +1,0 @@
-use Rattle.av_gate.specs.Seats.{IsSeatOf}
-use Rattle.avscan.proofs.opener.await_service.Given as goal
-
--- the seat is the gate's
-abbrev pub invariant-looks : goal.invariant-looks
-invariant-looks g l = IsSeatOf l.gate l.seat

@@ -1,7 +1,0 @@
-use Rattle.std.proofs.Common.{◌≡◌, map, take}
-use Rattle.avscan.specs.Scan.{file_text, line_of}
-use Rattle.avscan.proofs.scan.verdicts_of.Given as goal
-
--- each file so far was scanned
-abbrev pub invariant-loop-file : goal.invariant-loop-file
-invariant-loop-file g l = map (line_of l.scanner) l.scanned.items ≡ map (file_text l.scanner) (take l.file-index l.files)
