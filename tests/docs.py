@@ -3,7 +3,7 @@
 file or the call that the page gives for it and in the crate or one below it, a case
 for each fault line of docs/FORMATS.md, and the examples print what the documents say. Each word of the command line stands in the
 manual page and in the completions, and the pages render without a warning. The last line says how many passed and failed."""
-import glob, os, re, shutil, subprocess, sys
+import glob, os, re, shutil, subprocess, sys, tempfile
 
 ROOT = os.path.dirname(os.path.dirname(os.path.abspath(__file__)))
 PAGES = ["README.md", "bench/README.md"] + [f"docs/{name}.md" for name in ("ARCHITECTURE", "CONDUCT", "DECISIONS", "FORMATS", "GATE", "READING", "OPERATING", "PROMISES", "SCANNER", "THREADS")]
@@ -141,7 +141,7 @@ def lemmas(checks):
 
 
 def fault_lines(checks):
-    given = "".join(text_of(path) for path in glob.glob(os.path.join(ROOT, "tests", "*", "*.case"))) + "".join(text_of(path) for path in ("tests/program.py", "tests/tables.py", "tests/sockets.py", "crates/avscan/src/tests/holding.rt"))
+    given = "".join(text_of(path) for path in glob.glob(os.path.join(ROOT, "tests", "*", "*.case"))) + "".join(text_of(path) for path in ("tests/program.py", "tests/tables.py", "tests/sockets.py", "crates/av_status/src/tests.rt", "crates/avscan/src/tests.rt"))
     for line in re.findall(r"\| `(avscan: [^`]*)` \|", text_of("docs/FORMATS.md")):
         pattern = re.escape(line).replace(r"\.\.", ".*")
         for word, form in (("N", r"(\d+|%d)"), ("K", r"(\d+|%d)"), ("FILE", r".*"), ("SOCKET", r".*")):
@@ -193,7 +193,21 @@ def manual(checks, program):
         if shutil.which("man"):
             shown = subprocess.run(["man", "--warnings", "-l", "-"], input=made.stdout, stdout=subprocess.PIPE, stderr=subprocess.PIPE, env={**os.environ, "MANPAGER": "cat", "MANWIDTH": "100"})
             checks.check(shown.returncode == 0 and shown.stderr == b"" and len(shown.stdout) > 1000, f"{name} does not render: {shown.stderr[:300]!r}")
+            if name == "avscan.1":
+                synopsis = shown.stdout.decode().split("SYNOPSIS")[1].split("DESCRIPTION")[0]
+                synopsis = [re.sub(r".\x08", "", line).split() for line in synopsis.split("\n") if line.strip()]
+                checks.check([line[:2] for line in synopsis] == [["avscan", word] for word in commands if word != "help"] and all(len(line) > 2 for line in synopsis), f"the synopsis reads {synopsis}")
+    completed(checks)
     checks.check(subprocess.run(["bash", "-n", os.path.join(ROOT, "completions/avscan.bash")]).returncode == 0, "completions/avscan.bash is no script")
+
+
+def completed(checks):
+    """A name with a blank is completed as one."""
+    with tempfile.TemporaryDirectory() as folder:
+        open(os.path.join(folder, "two words"), "w").close()
+        script = f'. {ROOT}/completions/avscan.bash; cd {folder}; COMP_WORDS=(avscan scan t); COMP_CWORD=2; _avscan; printf "%s|" "${{COMPREPLY[@]}}"'
+        done = subprocess.run(["bash", "-c", script], stdout=subprocess.PIPE, stderr=subprocess.PIPE, text=True)
+        checks.check(done.stdout == "two words|", f"completions/avscan.bash completes {done.stdout!r} {done.stderr!r}")
 
 
 def main():

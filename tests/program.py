@@ -3,9 +3,9 @@
 
 Standard output on a full device, closed, and a pipe that nobody reads, with one line and with thousands: the status is 4, or
 the process is ended by the signal, and never 0 with lines lost. Each request for memory refused in turn: one line, status 3,
-and a front of the output. Help texts, and one line for words that are not understood. Progress on a terminal, and nowhere else. A word that is not UTF-8 is named. The order of faults of `scan`: words, set, files.
+and a front of the output. Help texts, and one line for words that are not understood. Progress on a terminal, and nowhere else. What is no regular file is named. A word that is not UTF-8 is named. The order of faults of `scan`: words, set, files.
 The last line says how many passed and how many failed."""
-import os, pty, signal, subprocess, sys, tempfile, threading, time
+import os, pty, re, signal, subprocess, sys, tempfile, threading, time
 
 from cases import Cases
 
@@ -45,8 +45,7 @@ def devices(cases, program):
 
 def memory(cases, program):
     with tempfile.TemporaryDirectory() as work:
-        library = os.path.join(work, "fail_nth.so")
-        subprocess.run(["cc", "-shared", "-fPIC", "-O1", "-o", library, os.path.join(HERE, "fail_nth.c")], check=True)
+        library = built(work, "fail_nth")
         for words in (["run", SCRIPT], ["scan", SET, LETTER], ["--help"]):
             whole = run([program] + words, stdout=subprocess.PIPE).stdout
             refused, in_a_row, number = 0, 0, 0
@@ -72,8 +71,7 @@ def memory_of_host(cases, program):
     whole = run(words, stdout=subprocess.PIPE).stdout
     told = [{line, *(f"{name} denied cause {cause}".encode() for cause in (3, 6))} for name, line in zip(names, whole.splitlines())]
     with tempfile.TemporaryDirectory() as work:
-        library = os.path.join(work, "fail_nth.so")
-        subprocess.run(["cc", "-shared", "-fPIC", "-O1", "-o", library, os.path.join(HERE, "fail_nth.c")], check=True)
+        library = built(work, "fail_nth")
         refused, in_a_row, number = 0, 0, 0
         while in_a_row < 50:
             number += 1
@@ -139,58 +137,127 @@ def helps(cases, program):
         cases.check(f"avscan {' '.join(words)}", (done.returncode, done.stdout) == (2, b"") and one_line, f"{done}")
 
 
-def slow_run(words, slow, err):
-    """Runs a program that reads, among others, a file whose content comes after half a second. Its status, and what it wrote to
-    standard output."""
-    def feed():
-        time.sleep(0.5)
-        with open(slow, "wb") as file:
-            file.write(b"a letter")
-
-    feeder = threading.Thread(target=feed)
-    feeder.start()
-    done = subprocess.run(words, stdin=subprocess.DEVNULL, stdout=subprocess.PIPE, stderr=err, timeout=SECONDS)
-    feeder.join()
-    return done.returncode, done.stdout
+def built(work, name):
+    """The library that tests/NAME.c makes."""
+    library = os.path.join(work, f"{name}.so")
+    subprocess.run(["cc", "-shared", "-fPIC", "-O1", "-o", library, os.path.join(HERE, f"{name}.c"), "-ldl"], check=True)
+    return library
 
 
-def on_terminal(words, slow):
-    """The same with a terminal for standard error, and what was written there."""
+def on_terminal(words, environment):
+    """Runs a program with a terminal for standard error: its status, what it wrote to standard output, and what was written to the
+    terminal."""
     ours, theirs = pty.openpty()
-    status, out = slow_run(words, slow, theirs)
+    process = subprocess.Popen(words, stdin=subprocess.DEVNULL, stdout=subprocess.PIPE, stderr=theirs, env=environment)
     os.close(theirs)
-    shown = b""
-    try:
-        while more := os.read(ours, 4096):
-            shown += more
-    except OSError:
-        pass
+    shown = []
+
+    def read():
+        try:
+            while more := os.read(ours, 4096):
+                shown.append(more)
+        except OSError:
+            pass
+
+    reader = threading.Thread(target=read)
+    reader.start()
+    out, _ = process.communicate(timeout=SECONDS)
+    reader.join()
     os.close(ours)
-    return status, out, shown
+    return process.returncode, out, b"".join(shown)
+
+
+def lines_of(verb, counts):
+    return rb"(\r%s [%s] of 4 files\x1b\[K)+\r\x1b\[K" % (verb, counts)
 
 
 def progress(cases, program):
+    """The second of four files takes half a second to open: then the line stands which says how many were read, wiped out once."""
     with tempfile.TemporaryDirectory() as work:
-        slow = os.path.join(work, "slow")
-        os.mkfifo(slow)
-        for command in ("scan", "host"):
-            words = [program, command, SET, LETTER, slow, SCRIPT]
-            status, out, shown = on_terminal(words, slow)
-            is_shown = b" of 3 files\x1b[K" in shown and shown.startswith(b"\r") and shown.endswith(b"\r\x1b[K")
-            cases.check(f"{command} on a terminal", status == 0 and out.count(b"\n") == 3 and is_shown, f"{status} {out!r} {shown!r}")
-            got = on_terminal([*words, "--quiet"], slow)
+        environment = dict(os.environ, LD_PRELOAD=built(work, "slow_open"), SLOW_NAME="/slow", SLOW_MS="500")
+        slow, third, gone = (os.path.join(work, name) for name in ("slow", "third", "gone"))
+        for name in (slow, third):
+            with open(name, "wb") as file:
+                file.write(b"a letter")
+        files = [LETTER, slow, third, SCRIPT]
+        late = rb"(%s)?" % lines_of(b"opened", b"0-4")
+        for words, shape in (([program, "scan", SET], lines_of(b"scanned", b"123")), ([program, "host", SET], lines_of(b"read", b"123") + late)):
+            command = words[1]
+            status, out, shown = on_terminal([*words, *files], environment)
+            fine = status == 0 and out.count(b"\n") == 4 and re.fullmatch(shape, shown) and b" 2 of 4 files" in shown
+            cases.check(f"{command} on a terminal", fine, f"{status} {out!r} {shown!r}")
+            got = on_terminal([*words, "--quiet", *files], environment)
             cases.check(f"{command} --quiet on a terminal", got == (0, out, b""), f"{got}")
-            with tempfile.TemporaryFile() as err:
-                got = slow_run(words, slow, err)
-                err.seek(0)
-                cases.check(f"{command} without a terminal", got == (0, out) and err.read() == b"", f"{got}")
+            done = run([*words, *files], stdout=subprocess.PIPE, env=environment)
+            cases.check(f"{command} without a terminal", (done.returncode, done.stdout, done.stderr) == (0, out, b""), f"{done}")
+            status, out, shown = on_terminal([*words, *files[:3], gone], environment)
+            told = b"avscan: %s: cannot read\r\n" % os.fsencode(gone)
+            fine = (status, out) == (4, b"") and shown.endswith(told) and re.fullmatch(lines_of(words[1] == "scan" and b"scanned" or b"read", b"123"), shown[: -len(told)])
+            cases.check(f"{command} on a terminal, with a file that is not there", fine, f"{status} {out!r} {shown!r}")
+        progress_of_filter(cases, program, work, files, environment)
+        ends_at_once(cases, program)
+
+
+def progress_of_filter(cases, program, work, files, environment):
+    path = os.path.join(work, "socket")
+    words = [program, "filter", path, *files]
+    for more, shape in (([], lines_of(b"read", b"123")), (["--quiet"], b"")):
+        service = subprocess.Popen([program, "service", path, SET], stdout=subprocess.PIPE)
+        status, out, shown = on_terminal([*words, *more], environment)
+        service.communicate(timeout=SECONDS)
+        cases.check(f"filter {more} on a terminal", status == 0 and out.count(b"\n") == 4 and re.fullmatch(shape, shown), f"{status} {out!r} {shown!r}")
+    service = subprocess.Popen([program, "service", path, SET], stdout=subprocess.PIPE)
+    done = run(words, stdout=subprocess.PIPE, env=environment)
+    service.communicate(timeout=SECONDS)
+    cases.check("filter without a terminal", (done.returncode, done.stderr) == (0, b""), f"{done}")
+
+
+def ends_at_once(cases, program):
+    """A host on a terminal waits for nothing once it has its last answer: the least time of ten runs, beside ten that show nothing."""
+    times = {}
+    for words in ([], ["--quiet"]) * 10:
+        begun = time.time()
+        status, out, shown = on_terminal([program, "host", SET, LETTER, *words], os.environ)
+        times.setdefault(len(words), []).append(time.time() - begun)
+        cases.check("a short host on a terminal", status == 0 and out.count(b"\n") == 1, f"{status} {out!r} {shown!r}")
+    cases.check("a host on a terminal ends with its last answer", min(times[0]) < min(times[1]) + 0.2, f"{times}")
+
+
+def alone(cases, program):
+    """Without a word it says on a terminal that it reads a script, and elsewhere nothing."""
+    ours, theirs = pty.openpty()
+    process = subprocess.Popen([program], stdin=theirs, stdout=subprocess.PIPE, stderr=subprocess.PIPE)
+    os.close(theirs)
+    os.write(ours, b"volume 1 closed\n\x04")
+    out, err = process.communicate(timeout=SECONDS)
+    os.close(ours)
+    cases.check("avscan on a terminal", (process.returncode, out, err) == (0, b"boot 1\n", b"avscan: reading a script from the terminal (avscan --help tells more)\n"), f"{out!r} {err!r}")
+    done = run([program], b"volume 1 closed\n", stdout=subprocess.PIPE)
+    cases.check("avscan elsewhere", (done.returncode, done.stdout, done.stderr) == (0, b"boot 1\n", b""), f"{done}")
+
+
+def kinds(cases, program):
+    """What is no regular file is named and not waited for, and a name commands no terminal."""
+    with tempfile.TemporaryDirectory() as work:
+        pipe = os.path.join(work, "pipe")
+        os.mkfifo(pipe)
+        for name in (pipe, work, "/dev/zero", "/dev/tty"):
+            told = b"avscan: %s: cannot read\n" % os.fsencode(name)
+            for words in (["scan", SET, LETTER, name], ["scan", name, LETTER], ["host", SET, LETTER, name], ["host", name, LETTER], ["filter", pipe + ".s", name], ["service", pipe + ".s", name]):
+                done = run([program, *words], stdout=subprocess.PIPE)
+                cases.check(f"avscan {' '.join(words)}", (done.returncode, done.stdout, done.stderr) == (4, b"", told), f"{done}")
+        name = os.path.join(work, "a\x1b[31m\n\x7f\u009bz\u00e9")
+        told = os.fsencode(work) + rb"/a\x1b[31m\x0a\x7f\xc2\x9bz" + "\u00e9".encode()
+        for words in (["scan", SET, name], ["host", SET, name], ["run", name], ["filter", pipe + ".s", name], ["service", pipe + ".s", name]):
+            done = run([program, *words], stdout=subprocess.PIPE)
+            cases.check(f"avscan {words[0]} of a name with control characters", (done.returncode, done.stderr) == (4, b"avscan: " + told + b": cannot read\n"), f"{done}")
 
 
 def main():
     if len(sys.argv) != 2:
         sys.exit("usage: tests/program.py PROGRAM")
     cases = Cases()
-    for part in (devices, memory, memory_of_host, words, order, helps, progress):
+    for part in (devices, memory, memory_of_host, words, order, helps, progress, alone, kinds):
         try:
             part(cases, os.path.abspath(sys.argv[1]))
         except Exception as fault:

@@ -1,11 +1,13 @@
 #!/usr/bin/env python3
 """The three programs that hold opens, as processes: host, and filter and service over a socket.
 
-Filter and service started in either order; each killed after each of its first 200 bytes; bytes that are no frames; a socket
-that is left over, in use, no socket, too long a path, in no folder; a service that never comes, that says nothing, a second
-one. `host` with 1 to 16 openers and workers tells of each file what `scan` tells. Nothing is left behind.
+Filter and service started in either order, over 1 to 4,000 files; each stopped and continued a hundred times in its run; each
+killed after each of its first 200 bytes; bytes that are no frames; peers that are silent, never read, or send a byte a second, with
+the time measured from below and above; a socket that is left over, in use, no socket, too long a path, in no folder, of a mode,
+not to be entered; the users, groups and modes of docs/OPERATING.md; a service that never comes, that says nothing, a second one. `host` with 1 to 16 openers and workers tells of
+each file what `scan` tells. Nothing is left behind.
 The last line says how many passed and how many failed."""
-import os, random, re, socket, struct, subprocess, sys, tempfile, threading, time
+import os, random, re, signal, socket, struct, subprocess, sys, tempfile, threading, time
 
 from cases import Cases
 
@@ -31,8 +33,8 @@ class Programs:
     def start(self, *words):
         return subprocess.Popen([self.program, *words], cwd=self.folder, stdin=subprocess.DEVNULL, stdout=subprocess.PIPE, stderr=subprocess.PIPE)
 
-    def filter(self, *files, wait="20", path=None):
-        return self.start("filter", "--wait", wait, path or self.socket, *(files or ("a.bin", "b.bin")))
+    def filter(self, *files, wait="20", path=None, mode=()):
+        return self.start("filter", "--wait", wait, *mode, path or self.socket, *(files or ("a.bin", "b.bin")))
 
     def service(self, path=None, wait="20"):
         return self.start("service", "--wait", wait, path or self.socket, "set.txt")
@@ -92,6 +94,225 @@ def meetings(cases, programs):
     wanted = b"".join(b"%s %s\n" % (name.encode(), b"denied cause 2" if i % 3 == 0 and i else b"granted generation 2 version 1") for i, name in enumerate(large))
     cases.same("forty files of up to a MiB: filter", ended(filter), (0, wanted, b""))
     cases.same("forty files of up to a MiB: service", ended(service), (0, b"closed\n", b""))
+
+
+# How many files of how many bytes go through filter and service.
+MANY = [*((count, size) for size in (1, 2000) for count in (1, 256, 257, 1024, 4000)), (1, 65536), (257, 65536)]
+
+
+def many_files(cases, programs):
+    """Each ends with each file's verdict, whoever begins: neither stands in a write that the other does not take, and nobody is
+    denied because many files were named."""
+    for turn, (count, size) in enumerate(MANY):
+        names = [f"m{turn}.{i}" for i in range(count)]
+        for i, name in enumerate(names):
+            programs.write(name, b"A" * (size - 2) + INFECTED if i % 5 == 4 and size > 1 else b"A" * size)
+        wanted = b"".join(b"%s %s\n" % (name.encode(), b"denied cause 2" if i % 5 == 4 and size > 1 else b"granted generation 2 version 1") for i, name in enumerate(names))
+        filter, service = (programs.filter(*names), None) if turn % 2 else (None, programs.service())
+        time.sleep(0.1)
+        filter, service = filter or programs.filter(*names), service or programs.service()
+        collected = {}
+        thread = threading.Thread(target=lambda: collected.update(filter=ended(filter)))
+        thread.start()
+        told = ended(service)
+        thread.join()
+        cases.same(f"{count} files of {size} bytes: filter", collected.get("filter"), (0, wanted, b""))
+        cases.same(f"{count} files of {size} bytes: service", told, (0, b"closed\n", b""))
+        for name in names:
+            os.unlink(os.path.join(programs.folder, name))
+
+
+def stopped_and_continued(cases, programs):
+    """What is stopped and continued in its run ends as ever."""
+    names = [f"p{i}" for i in range(2000)]
+    for i, name in enumerate(names):
+        programs.write(name, b"A" * 3000 + (INFECTED if i % 3 == 0 else b""))
+    wanted = b"".join(b"%s %s\n" % (name.encode(), b"denied cause 2" if i % 3 == 0 else b"granted generation 2 version 1") for i, name in enumerate(names))
+    chance, stops, turns = random.Random(5), 0, 0
+    while stops < 100 and turns < 40:
+        turns += 1
+        filter, service = programs.filter(*names), programs.service()
+        collected = {}
+        threads = [threading.Thread(target=lambda who=who, process=process: collected.update({who: ended(process)})) for who, process in (("filter", filter), ("service", service))]
+        for thread in threads:
+            thread.start()
+        while filter.poll() is None and service.poll() is None:
+            who = chance.choice((filter, service))
+            try:
+                os.kill(who.pid, signal.SIGSTOP)
+                time.sleep(chance.random() / 500)
+                os.kill(who.pid, signal.SIGCONT)
+            except ProcessLookupError:
+                break
+            stops += 1
+            time.sleep(chance.random() / 500)
+        for thread in threads:
+            thread.join()
+        cases.same(f"stopped and continued, turn {turns}", (collected["filter"], collected["service"]), ((0, wanted, b""), (0, b"closed\n", b"")))
+    cases.check("a hundred stops", stops >= 100, f"{stops}")
+
+
+def dripped(end, said):
+    """Says a byte each half second, until the other side is gone."""
+    try:
+        for byte in said:
+            end.sendall(bytes([byte]))
+            time.sleep(0.5)
+    except OSError:
+        pass
+
+
+def poured(end, said):
+    """Says all, as fast as it is taken, and reads nothing."""
+    try:
+        end.sendall(said)
+    except OSError:
+        pass
+
+
+def waits(cases, programs):
+    """A peer that keeps one waiting is lost after --wait and not before it, on both sides."""
+    wait, slack = 2, 2.5
+    programs.write("long", b"A" * 65536)
+    ask = lambda offset: frame(6, number(1), number(1), number(offset), struct.pack(">I", 4096))
+    lost = b"avscan: %s: the service was lost\n" % programs.socket.encode()
+    none = b"avscan: %s: no service came\n" % programs.socket.encode()
+    rows = [("says nothing at all", lambda end: time.sleep(wait + slack), none, 3),
+            ("says its greeting a byte each half second", lambda end: dripped(end, HELLO), lost, 3),
+            ("is silent behind its greeting", lambda end: poured(end, HELLO), lost, 6),
+            ("says a message a byte each half second", lambda end: (poured(end, HELLO), dripped(end, ask(0))), lost, 6),
+            ("never reads", lambda end: poured(end, HELLO + ask(0) * 4000), lost, 6)]
+    for name, does, line, cause in rows:
+        filter = programs.filter("long", wait=str(wait))
+        await_socket(programs.socket)
+        begun = time.time()
+        end = connected(programs.socket)
+        thread = threading.Thread(target=does, args=(end,), daemon=True)
+        thread.start()
+        got = ended(filter)
+        took = time.time() - begun
+        cases.same(f"a service that {name}", got, (4, b"long denied cause %d\n" % cause, line))
+        cases.check(f"a service that {name}: the time", wait * 0.9 < took < wait + slack, f"{took}")
+        end.close()
+        thread.join()
+    lost = b"avscan: %s: the filter was lost\n" % programs.socket.encode()
+    flood = b"".join(scan(i, i, 0) for i in range(1, 200001))
+    rows = [("says nothing", lambda end: None), ("says a message a byte each half second", lambda end: dripped(end, scan(1, 1, 3))),
+            ("never reads", lambda end: poured(end, flood))]
+    for name, does in rows:
+        listener = socket.socket(socket.AF_UNIX)
+        listener.bind(programs.socket)
+        listener.listen(1)
+        service = programs.service(wait=str(wait))
+        end, _ = listener.accept()
+        begun = time.time()
+        thread = threading.Thread(target=does, args=(end,), daemon=True)
+        thread.start()
+        got = ended(service)
+        took = time.time() - begun
+        cases.same(f"a filter that {name}", got, (4, b"", lost))
+        cases.check(f"a filter that {name}: the time", wait * 0.9 < took < wait + slack, f"{took}")
+        end.close()
+        listener.close()
+        os.unlink(programs.socket)
+        thread.join()
+    for name, start, line in (("no service", lambda: programs.filter(wait=str(wait)), none), ("no filter", lambda: programs.service(wait=str(wait)), b"avscan: %s: no filter listens\n" % programs.socket.encode())):
+        begun = time.time()
+        status, _, err = ended(start())
+        took = time.time() - begun
+        cases.check(f"{name} comes: the time", (status, err) == (4, line) and wait * 0.9 < took < wait + slack, f"{status} {err!r} {took}")
+    for words in (("0",), ("86401",), ("x",), ("",)):
+        for command in (("filter", programs.socket, "a.bin"), ("service", programs.socket, "set.txt")):
+            status, out, err = ended(programs.start(*command, "--wait", *words))
+            cases.check(f"{command[0]} --wait {words}", (status, out) == (2, b"") and err.startswith(b"avscan: "), f"{status} {err!r}")
+    for words in ("1", "86400"):
+        for command in (("filter", programs.socket, "gone"), ("service", programs.socket, "gone")):
+            cases.same(f"{command[0]} --wait {words}", ended(programs.start(*command, "--wait", words)), (4, b"", b"avscan: gone: cannot read\n"))
+
+
+def modes(cases, programs):
+    """The socket has the rights that were asked for, is there as a whole or not at all, and stays where it is another one by now."""
+    for mode, wanted in (((), 0o600), (("--mode", "600"), 0o600), (("--mode", "660"), 0o660), (("--mode", "666"), 0o666)):
+        filter = programs.filter(mode=mode)
+        await_socket(programs.socket)
+        cases.same(f"a socket of mode {mode}", os.stat(programs.socket).st_mode & 0o777, wanted)
+        cases.same(f"a socket of mode {mode}: its folder", sorted(os.listdir(programs.folder)), sorted(["set.txt", "a.bin", "b.bin", "s"]))
+        cases.same(f"a socket of mode {mode}: a service", ended(programs.service()), (0, b"closed\n", b""))
+        cases.same(f"a socket of mode {mode}: the filter", ended(filter), (0, ANSWERED, b""))
+    for mode in ("60", "0600", "777", "-1", ""):
+        status, out, err = ended(programs.filter(mode=("--mode", mode)))
+        cases.check(f"a socket of mode {mode}", (status, out) == (2, b"") and err.count(b"\n") == 1, f"{status} {err!r}")
+    filter = programs.filter(wait="2")
+    await_socket(programs.socket)
+    os.unlink(programs.socket)
+    programs.write("s", b"somebody else's")
+    status, _, err = ended(filter)
+    cases.check("a filter whose socket was taken away", (status, err) == (4, b"avscan: %s: no service came\n" % programs.socket.encode()), f"{status} {err!r}")
+    with open(programs.socket, "rb") as file:
+        cases.same("what stands in its place stays", file.read(), b"somebody else's")
+    os.unlink(programs.socket)
+    listener = socket.socket(socket.AF_UNIX)
+    listener.bind(programs.socket)
+    listener.close()
+    both = [programs.filter(wait="3") for _ in range(8)]
+    service = ended(programs.service())
+    told = sorted(ended(one) for one in both)
+    one = [it for it in told if it == (0, ANSWERED, b"")]
+    refused = [it for it in told if it[0] == 4 and it[1] == ALONE]
+    cases.check("eight filters at a socket that was left over", len(one) == 1 and len(refused) == 7 and service[0] == 0, f"{told} {service}")
+    if os.geteuid() == 0:
+        entered(cases, programs)
+
+
+def as_nobody(programs, *words):
+    """Runs the program as another user."""
+    nobody = ["setpriv", "--reuid=65534", "--regid=65534", "--clear-groups", programs.program, *words]
+    return subprocess.run(nobody, cwd=programs.folder, stdout=subprocess.PIPE, stderr=subprocess.PIPE, timeout=SECONDS)
+
+
+def entered(cases, programs):
+    """A socket that may not be entered is said at once."""
+    filter = programs.filter()
+    await_socket(programs.socket)
+    os.chmod(programs.folder, 0o755)
+    begun = time.time()
+    service = as_nobody(programs, "service", programs.socket, "set.txt")
+    took = time.time() - begun
+    cases.check("a socket that may not be entered", (service.returncode, service.stderr) == (4, b"avscan: %s: may not be entered\n" % programs.socket.encode()) and took < 5, f"{service} {took}")
+    cases.same("a service that may", ended(programs.service()), (0, b"closed\n", b""))
+    cases.same("the filter at it", ended(filter), (0, ANSWERED, b""))
+    listener = socket.socket(socket.AF_UNIX)
+    listener.bind(programs.socket)
+    listener.close()
+    os.chmod(programs.folder, 0o1777)
+    for mode, why in ((0o666, b"avscan: %s: a socket that nobody listens at is in its place, and cannot be removed\n"), (0o600, b"avscan: %s: may not be entered\n")):
+        os.chmod(programs.socket, mode)
+        filter = as_nobody(programs, "filter", programs.socket, "a.bin", "b.bin")
+        cases.same(f"a socket of mode {mode:o} that somebody else left", (filter.returncode, filter.stdout, filter.stderr), (4, ALONE, why % programs.socket.encode()))
+    cases.same("nothing is left beside it", sorted(os.listdir(programs.folder)), sorted(["set.txt", "a.bin", "b.bin", "s"]))
+    os.unlink(programs.socket)
+
+
+def recipe(cases, programs):
+    """The folder of docs/OPERATING.md: filter and service of two users who have its group meet there, and a third user does not."""
+    if os.geteuid() != 0:
+        return
+    group, folder = 4242, os.path.join(programs.folder, "run")
+    os.mkdir(folder)
+    os.chown(folder, 0, group)
+    os.chmod(folder, 0o2770)
+    os.chmod(programs.folder, 0o755)
+    path = os.path.join(folder, "filter.socket")
+
+    def start(user, *words, groups=("--groups", str(group))):
+        return subprocess.Popen(["setpriv", f"--reuid={user}", f"--regid={user}", *groups, programs.program, *words], cwd=programs.folder, stdin=subprocess.DEVNULL, stdout=subprocess.PIPE, stderr=subprocess.PIPE)
+
+    filter = start(4001, "filter", "--mode", "660", path, "a.bin", "b.bin")
+    await_socket(path, filter)
+    cases.same("a user without the group", ended(start(4003, "service", path, "set.txt", groups=("--clear-groups",))), (4, b"", b"avscan: %s: may not be entered\n" % path.encode()))
+    cases.same("a service of the group", ended(start(4002, "service", path, "set.txt")), (0, b"closed\n", b""))
+    cases.same("the filter of the group", ended(filter), (0, ANSWERED, b""))
+    cases.same("the folder is empty", os.listdir(folder), [])
 
 
 def carry(source, target, limit, at_end):
@@ -370,7 +591,7 @@ def main():
     if len(sys.argv) != 2:
         sys.exit("usage: tests/sockets.py PROGRAM")
     cases = Cases()
-    for part in (meetings, hostile_services, hostile_filters, places, inputs, kills, hosts):
+    for part in (meetings, many_files, stopped_and_continued, waits, modes, recipe, hostile_services, hostile_filters, places, inputs, kills, hosts):
         begun = time.time()
         try:
             with tempfile.TemporaryDirectory() as folder:
