@@ -14,18 +14,22 @@ _avscan() {
         COMPREPLY=($(compgen -W "5 30 60 300" -- "$word"))
         return
         ;;
+    --mode)
+        COMPREPLY=($(compgen -W "600 660 666" -- "$word"))
+        return
+        ;;
     esac
     case $command in
     scan) options="--quiet --help" ;;
     host) options="--openers --workers --quiet --help" ;;
-    filter) options="--wait --quiet --help" ;;
+    filter) options="--wait --mode --quiet --help" ;;
     service) options="--wait --help" ;;
     help) options="run scan host filter service" ;;
     *) options="--help" ;;
     esac
     case $command:$word in
     help:* | *:-*) COMPREPLY=($(compgen -W "$options" -- "$word")) ;;
-    *) COMPREPLY=($(compgen -f -- "$word")) ;;
+    *) mapfile -t COMPREPLY < <(compgen -f -- "$word") ;;
     esac
 }
 complete -o filenames -F _avscan avscan

@@ -13,4 +13,5 @@ complete -c avscan -n "__fish_seen_subcommand_from scan host filter" -s q -l qui
 complete -c avscan -n "__fish_seen_subcommand_from host" -l openers -x -a "(seq 16)" -d "Threads that open files"
 complete -c avscan -n "__fish_seen_subcommand_from host" -l workers -x -a "(seq 16)" -d "Threads that scan"
 complete -c avscan -n "__fish_seen_subcommand_from filter service" -l wait -x -a "5 30 60 300" -d "Seconds to wait for the other side"
+complete -c avscan -n "__fish_seen_subcommand_from filter" -l mode -x -a "600 660 666" -d "Who may join at the socket"
 complete -c avscan -n "__fish_seen_subcommand_from help" -x -a "$commands"

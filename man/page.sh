@@ -30,7 +30,7 @@ command_page() { # PROGRAM
     echo 'avscan \- hold opens of files until a scanning service has judged their content'
     echo .SH SYNOPSIS
     for command in run scan host filter service; do
-        "$1" "$command" --help | sed -n -e 's/-/\\-/g' -e 's/^Usage: \(avscan [a-z]*\)\(.*\)/.br\n.B \1\n\2/p'
+        "$1" "$command" --help | sed -n -e 's/-/\\-/g' -e 's/^Usage: \(avscan [a-z]*\) *\(.*\)/.br\n.B \1\n\2/p'
     done
     echo .SH DESCRIPTION
     "$1" --help | words
@@ -57,7 +57,7 @@ format_page() { # NAME WHAT HEADING
 
 case ${1-} in
 avscan.1) command_page "$2" ;;
-avsig.5) format_page avsig "signature files of avscan" "Signature files, format 1" ;;
+avsig.5) format_page avsig "signature files of avscan" "Signature files" ;;
 avscript.5) format_page avscript "scripts of avscan" "Scripts" ;;
 *)
     echo "page.sh: there is no page ${1-}" >&2
