@@ -4,6 +4,7 @@ It is written apart from the program, for tests/random_scripts.py and tests/prog
 
 MAXIMA = {"streams": 65536, "length": 1 << 20, "generation": (1 << 48) - 1, "questions": 1024, "pended": 4096, "jobs": 256, "cache": 4096, "chunk": 4096, "audit": 1 << 20}
 NO_STREAM, INFECTED, NOT_CONNECTED, BUSY, TIMED_OUT, PORT_LOST, SCAN_FAILED, UNSETTLED, REMOVED, RESTARTED = range(1, 11)
+LAST_PLACE = (1 << 20) - 1
 
 
 class Refused(Exception):
@@ -29,9 +30,17 @@ class Cache:
         del self.entries[self.size:]
 
 
+def pattern_of(word):
+    """The bytes of HEX or HEX@LOW-HIGH, and the first and the last place at which they may begin."""
+    digits, _, places = word.partition("@")
+    low, high = map(int, places.split("-")) if places else (0, LAST_PLACE)
+    return bytes.fromhex(digits), low, high
+
+
 def verdict_of(patterns, content):
-    """None where it is clean, else the index and the end of the signature that ends first."""
-    found = [(content.find(p) + len(p), i) for i, p in enumerate(patterns) if p in content]
+    """None where it is clean, else the index and the end of the signature that ends first, of those that begin where they may."""
+    found = [(start + len(p), i) for i, (p, low, high) in enumerate(patterns)
+             for start in range(low, min(high, len(content) - len(p)) + 1) if content.startswith(p, start)]
     return min(found)[::-1] if found else None
 
 
@@ -386,7 +395,8 @@ class World:
         return next(patterns for v, patterns in self.sets if v == version)
 
     def publish(self, version, patterns):
-        if not 1 <= version or len(patterns) > 1024 or any(len(p) > 64 for p in patterns) or sum(map(len, patterns)) > 16384:
+        if not 1 <= version or len(patterns) > 1024 or any(len(p) > 64 or not low <= high <= LAST_PLACE for p, low, high in patterns) \
+                or sum(len(p) for p, _, _ in patterns) > 16384:
             raise Refused("BadSet")
         if self.sets and version <= self.sets[-1][0]:
             raise Refused("OldVersion")
@@ -444,7 +454,7 @@ def lines_of_command(world, line):
 def run(world, verb, words):
     name = words[0].encode("latin-1") if words else b""
     steps = {
-        "publish": lambda: (world.publish, int(words[0]), [bytes.fromhex(w) for w in words[1:]]),
+        "publish": lambda: (world.publish, int(words[0]), [pattern_of(w) for w in words[1:]]),
         "create": lambda: (world.create, name), "remove": lambda: (world.remove, name), "cleanup": lambda: (world.cleanup, name),
         "judge": lambda: (world.judge, name), "open": lambda: (world.open, name, *map(int, words[1:])),
         "write": lambda: (world.changed, name, int(words[1]), b"" if words[2] == "-" else bytes.fromhex(words[2])),

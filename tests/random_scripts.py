@@ -25,6 +25,14 @@ def some_bytes(chance, most):
     return bytes(chance.choice(b"AB") for _ in range(chance.randint(0, most))).hex() or "-"
 
 
+def places(chance):
+    """Where a signature may begin: anywhere, or in a range, which now and then is out of order."""
+    if chance.random() < 0.5:
+        return ""
+    low = chance.randrange(5)
+    return f"@{low}-{chance.choice([low, low, low + 1, low + 2, 1048575, low - 1 if low and chance.random() < 0.2 else low])}"
+
+
 def place(chance, count):
     """A place of a list: mostly one of the last three, sometimes any, and now and then none that is there."""
     if count == 0 or chance.random() < 0.02:
@@ -48,8 +56,8 @@ def command(chance, world):
     kind = kind_of(chance, world)
     if kind == "publish":
         last = world.sets[-1][0] if world.sets else 0
-        patterns = [some_bytes(chance, 3) for _ in range(chance.randrange(3))]
-        return " ".join(["publish", str(last + chance.choice([0, 1, 1, 2]))] + [p for p in patterns if p != "-"])
+        patterns = [some_bytes(chance, 3) for _ in range(chance.randrange(4))]
+        return " ".join(["publish", str(last + chance.choice([0, 1, 1, 2]))] + [p + places(chance) for p in patterns if p != "-"])
     if kind == "write":
         return f"write {name} {chance.choice([0, 0, 1, 2, 5])} {some_bytes(chance, 4)}"
     if kind == "cut":

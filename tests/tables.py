@@ -3,7 +3,8 @@
 
 SCRIPTS: commands behind `volume 1 closed` (or a whole script), and the lines behind `boot 1`.
 BAD_SCRIPTS: a whole script and the number of its first bad line.
-SETS: the lines of a signature file behind its head, and the answer: how many signatures it has, or its bad line and kind.
+SETS, RANGED_SETS: the lines of a signature file of format 1 or 2 behind its head, and the answer: how many signatures it has, or its
+bad line and kind.
 The last line says how many passed and how many failed."""
 import os, subprocess, sys, tempfile
 
@@ -66,6 +67,10 @@ SCRIPTS = [
     (["publish 1 " + " ".join(times(hexadecimal(64), 256))], ["version 1 signatures 256"]),
     (["publish 1 " + " ".join(times(hexadecimal(64), 256) + ["41"])], ["refused BadSet"]),
     ([f"publish {BIG}"], [f"version {BIG} signatures 0"]),
+    # a signature is found where it may begin; places out of order or range are no set
+    (["publish 1 41@1048575-1048575", "publish 2 41@0-1048575", "publish 3 41@1048575-1048576", "publish 3 41@1-0", "publish 3 41@18446744073709551615-0"],
+     ["version 1 signatures 1", "version 2 signatures 1", "refused BadSet", "refused BadSet", "refused BadSet"]),
+    (["publish 2", "publish 1 41@1-0", "publish 1 41@0-0"], ["version 2 signatures 0", "refused BadSet", "refused OldVersion"]),
     # a removed number is not known; the verdict is the least end, and of these the least index
     (["publish 1 4243 414243 43", "create a", "write a 0 41424344", "judge a"],
      ["version 1 signatures 3", "stream 1 generation 1", "stream 1 generation 2 length 4", "judge 1 generation 2 version 1 infected 0 end 3"]),
@@ -90,6 +95,11 @@ BAD_SCRIPTS += [
     ("volume 1 closed\nwrite a - 41\n", 2), ("volume 1 closed\nwrite a 0 --\n", 2), ("volume 1 closed\ncut a\n", 2), ("volume 1 closed\ncut a 1 2\n", 2), ("volume 1 closed\ncut a x\n", 2),
     ("volume 1 closed\njudge\n", 2), ("volume 1 closed\njudge a b\n", 2), ("volume 1 closed\nJudge a\n", 2), ("volume 1 closed\nerase a\n", 2), ("volume 1 closed\n\n#\nx\n", 4),
 ]
+
+# a place that is no number, or not two of them
+BAD_SCRIPTS += [(f"volume 1 closed\npublish 1 41{places}\n", 2) for places in
+                ("@", "@1", "@1-", "@-1", "@1-2-3", "@1-2@3-4", "@01-2", "@1-02", "@+1-2", "@1--2", "@x-2", "@1-x", "@1-18446744073709551616", "@@1-2", "-1")]
+BAD_SCRIPTS += [("volume 1 closed\npublish 1 @1-2\n", 2), ("volume 1 closed\npublish 1 4@1-2\n", 2), ("volume 1 closed\npublish 1 41@1 -2\n", 2)]
 
 # a bad line behind `volume 1 closed`, a verb with the words that it does not take
 BAD_LINES = [f"{verb}{words}" for verb in ("remove", "cleanup", "judge", "create") for words in ("", " ", "  a", " a ", " a b")]
@@ -132,12 +142,25 @@ SETS = [
 
 SETS += [([f"a{sign} 41"], (3, 3)) for sign in OTHER_SIGNS]
 
+# the same of format 2, where a range may stand behind the digits
+RANGED_SETS = [(lines, answer) for lines, answer in SETS if answer != (3, 4)]
+RANGED_SETS += [
+    (["a 41 0 0"], (1, None)), (["a 41 0 1048575"], (1, None)), (["a 41 1048575 1048575"], (1, None)), (["a 41 3 9", "b 42", "c 43 0 1"], (3, None)),
+    (["a 41 0 1048576"], (3, 9)), (["a 41 1048576 1048576"], (3, 9)), (["a 41 1 0"], (3, 9)), (["a 41 1048575 1048574"], (3, 9)), (["a 41 18446744073709551616 1"], (3, 9)),
+    (["a 41 "], (3, 9)), (["a 41 1"], (3, 9)), (["a 41 1 "], (3, 9)), (["a 41 1 2 "], (3, 9)), (["a 41 1 2 3"], (3, 9)), (["a 41  1 2"], (3, 9)), (["a 41 1  2"], (3, 9)),
+    (["a 41 01 2"], (3, 9)), (["a 41 1 02"], (3, 9)), (["a 41 +1 2"], (3, 9)), (["a 41 -1 2"], (3, 9)), (["a 41 1-2"], (3, 9)), (["a 41 x 2"], (3, 9)), (["a 41 1 2\r"], (3, 9)), (["a 41 42"], (3, 9)),
+    (["a 4"], (3, 4)), (["a 4g"], (3, 4)), (["a 41\r"], (3, 4)), (["a 4G 1 2"], (3, 4)), (["a 4 2 1"], (3, 4)), (["a 4\t1 2"], (3, 4)),
+    (["a  0 3"], (3, 5)), (["a  3 0"], (3, 5)), (["a " + hexadecimal(65) + " 3 0"], (3, 5)), (["a " + hexadecimal(64) + " 3 0"], (3, 9)), (["+ 41 3 0"], (3, 3)),
+    (["a 41", "a 42 3 0"], (4, 9)), (["a 41 0 3", "a 42 0 3"], (4, 6)),
+    ([f"{name} 41 0 9" for name in NAMES[:1024]] + ["x 41 9 0"], (1027, 9)), ([f"{name} 41 0 9" for name in NAMES[:1024]] + ["x 41 0 9"], (1027, 7)),
+]
+
 # a whole signature file | (bad line, kind)
 FILES = [
     (b"", (1, 8)), (b"avsig 1", (1, 8)), (b"avsig 3", (1, 8)), (b"avsig 1\n", (2, 8)), (b"avsig 1\nversion 1", (2, 8)), (b"avsig 1\nversion 0", (2, 8)), (b"avsig 1\nversion 1\na 41", (3, 8)), (b"avsig 1\nversion 1\n+", (3, 8)),
-    (b"avsig 2\n", (1, 1)), (b"avsig 1 \n", (1, 1)), (b"avsig 1\r\n", (1, 1)), (b"Avsig 1\n", (1, 1)), (b"\n", (1, 1)), (b"avsig 3\nversion 0\n", (1, 1)),
+    (b"avsig 2\n", (2, 8)), (b"avsig 2", (1, 8)), (b"avsig 2\nversion 0\n", (2, 2)), (b"avsig 2\nversion 1\na 41 2 1", (3, 8)), (b"avsig 2 \n", (1, 1)), (b"avsig 12\n", (1, 1)), (b"avsig 0\n", (1, 1)), (b"avsig 1 \n", (1, 1)), (b"avsig 1\r\n", (1, 1)), (b"Avsig 1\n", (1, 1)), (b"\n", (1, 1)), (b"avsig 3\nversion 0\n", (1, 1)),
     (b"avsig 1\nversion 0\n", (2, 2)), (b"avsig 1\nversion 01\n", (2, 2)), (b"avsig 1\nversion\n", (2, 2)), (b"avsig 1\nversion 1 \n", (2, 2)), (b"avsig 1\nversion  1\n", (2, 2)), (b"avsig 1\nversion 18446744073709551616\n", (2, 2)),
-    (b"avsig 1\nversion 1\n", (0, None)), (b"avsig 1\nversion 18446744073709551615\n", (0, None)),
+    (b"avsig 1\nversion 1\n", (0, None)), (b"avsig 2\nversion 1\n", (0, None)), (b"avsig 1\nversion 18446744073709551615\n", (0, None)),
 ]
 
 
@@ -194,6 +217,8 @@ def main():
             tables.file(content, answer)
         for lines, answer in SETS:
             tables.file(b"avsig 1\nversion 1\n" + b"".join(as_bytes(line) + b"\n" for line in lines), answer)
+        for lines, answer in RANGED_SETS:
+            tables.file(b"avsig 2\nversion 1\n" + b"".join(as_bytes(line) + b"\n" for line in lines), answer)
     print(f"{tables.passed} passed, {tables.failed} failed")
     sys.exit(1 if tables.failed else 0)
 

@@ -5,14 +5,14 @@ use Rattle.av_filter.specs.Conduct.{disconnects, filter_step}
 use Rattle.av_filter.specs.Opening.{open_asked, open_cached, open_found, open_judged, opened}
 use Rattle.av_filter.specs.Receiving.{greeted, reads, receives, replies}
 use Rattle.av_filter_table.specs.Asking.{asks, ended, lost_contexts}
-use Rattle.av_match.specs.Scanning.{index_of, moved, resting, run as scan_run, word_after}
+use Rattle.av_match.specs.Scanning.{index_of, is_past, moved, resting, run as scan_run, word_after}
 use Rattle.av_service.specs.Conduct.{service_step}
 use Rattle.av_service.specs.Lending.{finished}
 use Rattle.av_service.specs.Scanning.{chunk_found, dropped, receives as service_receives, scan_cached, scan_found}
 use Rattle.av_engines.specs.Examples.{AreWorked}
 
 abbrev computed : Bool
-unfolding again disconnects filter_step open_asked open_cached open_found open_judged opened greeted reads receives replies asks ended lost_contexts index_of moved resting scan_run word_after service_step finished chunk_found dropped service_receives scan_cached scan_found
+unfolding again disconnects filter_step open_asked open_cached open_found open_judged opened greeted reads receives replies asks ended lost_contexts index_of is_past moved resting scan_run word_after service_step finished chunk_found dropped service_receives scan_cached scan_found
 computed = true
 
 pub are_worked : AreWorked

@@ -10,9 +10,9 @@ use Rattle.av_filter_table.specs.Table.{Table, mounted}
 use Rattle.av_frame.specs.declared.message.Body.{Body}
 use Rattle.av_frame.specs.declared.message.Body.TheVariants.{Scan, Chunk, Hello, Read, Reply}
 use Rattle.av_frame.specs.declared.outcome.Outcome.TheVariants.{Judged}
-use Rattle.av_match.specs.Scanning.{as_pattern}
 use Rattle.av_pend.specs.declared.answer.Answer.TheVariants.{Denied, Granted}
 use Rattle.av_service.specs.Desk.{Desk, just_started}
+use Rattle.av_sigset.specs.Set.{widest}
 use Rattle.av_sigset.specs.declared.signature.Pattern.{Pattern}
 use Rattle.av_store.specs.Store.{Store}
 use Rattle.av_engines.specs.Serving.{service_run}
@@ -40,7 +40,7 @@ worked_desk = just_started 1 greatest_values 1
 
 -- one signature of two bytes that the stream lacks
 abbrev pub worked_patterns : ℕ → List Pattern
-worked_patterns version = as_pattern (88 ∷ 88 ∷ []) ∷ []
+worked_patterns version = record { bytes = 88 ∷ 88 ∷ []; span = widest } ∷ []
 
 -- the first question of the first boot
 abbrev pub first_id : MessageId

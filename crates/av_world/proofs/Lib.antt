@@ -14,6 +14,7 @@ pub mod JudgeLemmas
 pub mod NeedLemmas
 pub mod OnceLemmas
 pub mod PathLemmas
+pub mod PatternLemmas
 pub mod PlacedLemmas
 pub mod ProgressLemmas
 pub mod PublishLemmas

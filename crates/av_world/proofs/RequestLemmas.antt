@@ -14,6 +14,7 @@ use Rattle.av_service.specs.Work.{WorkState}
 use Rattle.av_service.specs.declared.fault.ConnectFault.{ConnectFault}
 use Rattle.av_sigset.specs.Catalogue.{IsFalling, latest, may_publish, set_at}
 use Rattle.av_sigset.specs.Judge.{bad_line}
+use Rattle.av_sigset.specs.declared.signature.Pattern.{Pattern}
 use Rattle.av_sigset.specs.Made.{fault_in, serial_signatures, set_made}
 use Rattle.av_base.specs.Refused.{unless, IsFaultOf}
 use Rattle.av_sigset.specs.Set.{NumberedSet}
@@ -114,7 +115,7 @@ added_ok w e s (Ok done) h = refl
 added_ok w e s (Err f) h = absurd cc
 
 -- a set that can be made under a version that may be published is published
-pub can_be_published : (w : WorldState) (e : Event) (version : ℕ) (ps : List (List ℕ)) → IsOk (set_made version ps) → may_publish w.sets version ≡ Ok tt → IsOk (published w e (set_made version ps))
+pub can_be_published : (w : WorldState) (e : Event) (version : ℕ) (ps : List Pattern) → IsOk (set_made version ps) → may_publish w.sets version ≡ Ok tt → IsOk (published w e (set_made version ps))
 can_be_published w e version ps =
     elim (version == 0) as (λ b. IsOk (cond b (bad_line 2 Version) (unless {A = NumberedSet} (fault_in 0 0 ps) (record { version = version; signatures = serial_signatures 0 ps })))
     → may_publish w.sets version ≡ Ok tt

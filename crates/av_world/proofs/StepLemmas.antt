@@ -21,7 +21,7 @@ use Rattle.av_store.specs.Rows.{number_named}
 use Rattle.av_store.specs.Store.{Store}
 use Rattle.av_world.specs.Cores.{IsFilterEvent, IsServiceEvent, Names}
 use Rattle.av_world.specs.Cores as cores
-use Rattle.av_world.specs.World.{WorldState, added, after, back_at, bytes_of, changed_line, connected, done, down_frame, filter_event, member, named_event, no_line, published, reacted, responded, step_fault, step_of, up_frame, with_set, work_at, work_event, world_of, world_or}
+use Rattle.av_world.specs.World.{WorldState, added, after, back_at, changed_line, connected, done, down_frame, filter_event, member, named_event, no_line, published, reacted, responded, step_fault, step_of, up_frame, with_set, work_at, work_event, world_of, world_or}
 use Rattle.av_base.specs.Refused.{unless}
 use Rattle.av_world.specs.declared.event.Event.{Event}
 use Rattle.av_world.specs.declared.event.Event.TheVariants.{Publish, Create, Write, Cut, Remove, Open, Cleanup, Down, Up, Run, Timeout, Connect, DisconnectFilter, DisconnectService, RestartFilter, RestartService}
@@ -37,7 +37,7 @@ after_service w e s = responded w e (service_step w.desk s)
 
 -- a set of these patterns is published
 pub record IsPublished (w : WorldState) (v : ℕ) (ps : List Pattern) (s : NumberedSet) : Type 0 where
-  pub made : set_made v (bytes_of ps) ≡ Ok s
+  pub made : set_made v ps ≡ Ok s
   pub may : may_publish w.sets s.version ≡ Ok tt
 
 -- what each kind of event keeps
@@ -71,12 +71,12 @@ module _ (P : Event → WorldState → Type 0) (w : WorldState) (before : (e : E
   by_work keeps k None is = before (Run k)
   by_work keeps k (Some x) is = keeps.work k x is
 
-  by_catalogue : Preserves P w → (v : ℕ) (ps : List Pattern) (s : NumberedSet) → set_made v (bytes_of ps) ≡ Ok s → (r : Result (Unit {0}) CatalogueFault) → may_publish w.sets s.version ≡ r
+  by_catalogue : Preserves P w → (v : ℕ) (ps : List Pattern) (s : NumberedSet) → set_made v ps ≡ Ok s → (r : Result (Unit {0}) CatalogueFault) → may_publish w.sets s.version ≡ r
       → P (Publish v ps) (world_or w (added w (Publish v ps) s r))
   by_catalogue keeps v ps s made (Ok free) is = keeps.publish v ps s (record { made = made; may = is })
   by_catalogue keeps v ps s made (Err f) is = before (Publish v ps)
 
-  by_set : Preserves P w → (v : ℕ) (ps : List Pattern) (r : Result NumberedSet SetFault) → set_made v (bytes_of ps) ≡ r → P (Publish v ps) (world_or w (published w (Publish v ps) r))
+  by_set : Preserves P w → (v : ℕ) (ps : List Pattern) (r : Result NumberedSet SetFault) → set_made v ps ≡ r → P (Publish v ps) (world_or w (published w (Publish v ps) r))
   by_set keeps v ps (Ok s) is = by_catalogue keeps v ps s is (may_publish w.sets s.version) refl
   by_set keeps v ps (Err f) is = before (Publish v ps)
 
@@ -86,7 +86,7 @@ module _ (P : Event → WorldState → Type 0) (w : WorldState) (before : (e : E
 
   pub step_keeps : Preserves P w → (e : Event) → P e (after w e)
   unfolding step_of
-  step_keeps k (Publish v ps) = by_set k v ps (set_made v (bytes_of ps)) refl
+  step_keeps k (Publish v ps) = by_set k v ps (set_made v ps) refl
   step_keeps k (Create name) = by_filter k _ (λ v. Created v.last) _ (cores.creates name)
   step_keeps k (Write name o b) = by_name k _ changed_line (λ s. Changes (change.Write s o b)) name (number_named name w.volume.streams) refl (λ s is. cores.writes name o b s is)
   step_keeps k (Cut name n) = by_name k _ changed_line (λ s. Changes (change.Cut s n)) name (number_named name w.volume.streams) refl (λ s is. cores.cuts name n s is)

@@ -20,6 +20,7 @@ use Rattle.av_pend.specs.declared.answer.Answer.{Answer}
 use Rattle.av_pend.specs.declared.answer.Answer.TheVariants.{Granted, Unscanned, Denied}
 use Rattle.av_service.specs.Audit as audit
 use Rattle.av_service.specs.declared.note.Note.TheVariants as service_note
+use Rattle.av_sigset.specs.Set.{widest}
 use Rattle.av_sigset.specs.declared.signature.Pattern.{Pattern}
 use Rattle.av_filter.specs.Conduct.{FilterEvent}
 use Rattle.av_filter.specs.Conduct as filter
@@ -99,7 +100,7 @@ abc = 0x41 ∷ 0x42 ∷ 0x43 ∷ []
 
 -- a pattern of these bytes
 abbrev pub pattern_of : List ℕ → Pattern
-pattern_of bytes = record { bytes = bytes }
+pattern_of bytes = record { bytes = bytes; span = widest }
 
 -- a set of one pattern, "XX"
 abbrev pub xx : List Pattern
@@ -282,6 +283,30 @@ ByteByByte =
     ∷ Told (Denied 1 cause.Infected ∷ []) [] [] Quiet
     ∷ []
 
+-- "AB", where it begins at one of these places
+abbrev pub ab_from : ℕ → ℕ → Pattern
+ab_from low high = record { bytes = 0x41 ∷ 0x42 ∷ []; span = record { low = low; high = high } }
+
+-- the last chunk of "ABAB" in chunks of one byte, under this signature: the reply, and what becomes of the open
+abbrev pub ended_under : Pattern → List Said
+ended_under p =
+    saying_with (record greatest_values { chunk = 1 })
+    (Publish 1 (p ∷ []) ∷ Create a ∷ Write a 0 (0x41 ∷ 0x42 ∷ 0x41 ∷ 0x42 ∷ []) ∷ Connect ∷ Up 1 ∷ Open a 0
+    ∷ Down 1 ∷ Up 2 ∷ Down 2 ∷ Run 1 ∷ Up 3 ∷ Down 3 ∷ Run 2 ∷ Up 4 ∷ Down 4 ∷ Run 3 ∷ Up 5 ∷ Down 5 ∷ [])
+    (Run 4 ∷ Up 6 ∷ [])
+
+-- it begins at places 0 and 2, and place 1 is between them
+abbrev pub PassedOutOfRange : Type 0
+PassedOutOfRange =
+    ended_under (ab_from 1 1)
+    ≡ Told [] [] (Reply (id 1 1) (Judged 1 Clean) ∷ []) Quiet ∷ Told (Granted 1 0 1 2 1 ∷ []) [] [] Quiet ∷ []
+
+-- of the two the second is in this range
+abbrev pub FoundInRange : Type 0
+FoundInRange =
+    ended_under (ab_from 2 9)
+    ≡ Told [] [] (Reply (id 1 1) (Judged 1 (Infected 0 4)) ∷ []) Quiet ∷ Told (Denied 1 cause.Infected ∷ []) [] [] Quiet ∷ []
+
 -- a publication in the midst of a scan: what the scan kept under the old set is gone with it
 abbrev pub ScannedAfresh : Type 0
 ScannedAfresh =
@@ -379,6 +404,8 @@ MoreScripts =
       orphaned_later : OrphanedLater;
       replied_twice : RepliedTwice;
       byte_by_byte : ByteByByte;
+      passed_out_of_range : PassedOutOfRange;
+      found_in_range : FoundInRange;
       scanned_afresh : ScannedAfresh;
       spent_by_writes : SpentByWrites;
       port_lost : PortLost;

@@ -10,7 +10,7 @@ use Rattle.av_world.specs.Serving.{MayCall, service_refusal}
 use Rattle.av_world.specs.Serving as serving
 use Rattle.av_world.specs.Stage.{at_history, line_after}
 use Rattle.av_world.specs.Stage as stage
-use Rattle.av_world.specs.World.{Outcome, WorldState, bytes_of, down_frame, filter_event, member, published, service_outcome, step_of, up_frame, work_at, work_event}
+use Rattle.av_world.specs.World.{Outcome, WorldState, down_frame, filter_event, member, published, service_outcome, step_of, up_frame, work_at, work_event}
 use Rattle.av_base.specs.Refused.{unless}
 use Rattle.av_world.specs.declared.event.Event.{Event}
 use Rattle.av_world.specs.declared.fault.StepFault.{StepFault}
@@ -25,7 +25,7 @@ served w e s = unless (option_map fault.Connect (service_refusal w.desk s)) (ser
 
 -- what comes of a request
 abbrev pub outcome_of : WorldState → Event → Request → Outcome
-outcome_of w e (request.Publish version patterns) = published w e (set_made version (bytes_of patterns.now))
+outcome_of w e (request.Publish version patterns) = published w e (set_made version patterns.now)
 outcome_of w e (request.Filter call) = filter_event w e (line_after call) (stage.event_called call)
 outcome_of w e (request.Service call) = served w e (serving.event_called w.sets call)
 outcome_of w e (request.Down k) = down_frame w e (member w.down k)

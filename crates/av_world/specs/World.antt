@@ -200,10 +200,6 @@ work_event w e k (Some x) = service_event (back_at w k) e Silent (done (map publ
 
 -- ---- publications and connections
 
--- the bytes of patterns
-abbrev pub bytes_of : List Pattern → List (List ℕ)
-bytes_of patterns = map (λ p. p.bytes) patterns
-
 -- a world with one set more, the newest first
 abbrev pub with_set : WorldState → NumberedSet → WorldState
 with_set w s = record w { sets = s ∷ w.sets }
@@ -227,7 +223,7 @@ connected w e (Some f) = Err (fault.Connect f)
 
 -- what an event does, or why it is refused
 unfoldable pub step_of : WorldState → Event → Outcome
-step_of w (Publish version patterns) = published w (Publish version patterns) (set_made version (bytes_of patterns))
+step_of w (Publish version patterns) = published w (Publish version patterns) (set_made version patterns)
 step_of w (Create name) = filter_event w (Create name) (λ v. Created v.last) (Changes (change.Create name))
 step_of w (Write name offset bytes) =
     named_event w (Write name offset bytes) changed_line (λ s. Changes (change.Write s offset bytes))

@@ -1,5 +1,5 @@
 -- The lines of a script, apart from any way to read them.
-use Rattle.std.specs.Prelude.{ℕ, Bool, true, false, ◌==◌, ◌||◌, List, [], ◌∷◌, Option, None, Some, Result, Ok, Err, codes, map, if◌then◌else◌}
+use Rattle.std.specs.Prelude.{ℕ, Bool, true, false, ◌==◌, ◌||◌, ◌&&◌, is_some, List, [], ◌∷◌, Option, None, Some, Result, Ok, Err, codes, map, if◌then◌else◌}
 use Rattle.std.specs.List.{list_all}
 use Rattle.std.specs.Option.{option_map}
 use Rattle.std.specs.Str.{bytes_eq}
@@ -10,6 +10,8 @@ use Rattle.av_base.specs.declared.limits.LimitField.TheVariants.{Streams, Length
 use Rattle.av_base.specs.declared.mode.Mode.{Mode}
 use Rattle.av_base.specs.declared.mode.Mode.TheVariants.{FailClosed, FailOpen}
 use Rattle.av_base.specs.Decimal.{decimal_of}
+use Rattle.av_sigset.specs.Set.{widest}
+use Rattle.av_sigset.specs.declared.signature.Span.{Span}
 use Rattle.av_base.specs.Line.{pieces_of}
 use Rattle.av_sigset.specs.declared.signature.Pattern.{Pattern}
 use Rattle.av_world.specs.declared.event.Event.TheVariants.{Publish, Create, Write, Cut, Remove, Open, Cleanup, Down, Up, Run, Timeout, Connect, DisconnectFilter, DisconnectService, RestartFilter, RestartService}
@@ -43,9 +45,47 @@ or_no_bytes (Err e) = []
 abbrev pub bytes_in : List ℕ → List ℕ
 bytes_in word = or_no_bytes (decode_of word)
 
+-- from one number to another, in order or not
+abbrev pub span_from : Option ℕ → Option ℕ → Option Span
+span_from None high = None
+span_from (Some low) None = None
+span_from (Some low) (Some high) = Some (record { low = low; high = high })
+
+-- the span of the words round a hyphen: two numbers
+abbrev pub span_round : List (List ℕ) → Option Span
+span_round [] = None
+span_round (low ∷ []) = None
+span_round (low ∷ high ∷ []) = span_from (decimal_of low) (decimal_of high)
+span_round (low ∷ high ∷ other ∷ rest) = None
+
+-- the span of the words behind the first @: without any it is the widest
+abbrev pub span_behind : List (List ℕ) → Option Span
+span_behind [] = Some widest
+span_behind (range ∷ []) = span_round (pieces_of 45 range)
+span_behind (range ∷ other ∷ rest) = None
+
+-- this span, or the widest
+abbrev pub span_or : Option Span → Span
+span_or None = widest
+span_or (Some s) = s
+
+-- the words round each @ spell a pattern: bytes in hexadecimal, and a span
+abbrev pub are_pattern : List (List ℕ) → Bool
+are_pattern [] = false
+are_pattern (digits ∷ behind) = is_hex digits && is_some (span_behind behind)
+
+-- a word of a pattern: HEX, or HEX@LOW-HIGH
+abbrev pub is_pattern : List ℕ → Bool
+is_pattern word = are_pattern (pieces_of 64 word)
+
+-- the pattern of such words
+abbrev pub pattern_of_words : List (List ℕ) → Pattern
+pattern_of_words [] = record { bytes = []; span = widest }
+pattern_of_words (digits ∷ behind) = record { bytes = bytes_in digits; span = span_or (span_behind behind) }
+
 -- the pattern that a word spells
 abbrev pub pattern_in : List ℕ → Pattern
-pattern_in word = record { bytes = bytes_in word }
+pattern_in word = pattern_of_words (pieces_of 64 word)
 
 -- a hyphen stands for no bytes
 abbrev pub is_hyphen : List ℕ → Bool
@@ -124,7 +164,7 @@ open_line (name ∷ rest) = unless (is_empty name) (option_map (λ n. Says (Step
 abbrev pub publish_line : List (List ℕ) → Option Line
 publish_line [] = None
 publish_line (version ∷ patterns) =
-    when (list_all is_hex patterns) (option_map (λ v. Says (Step (Publish v (map pattern_in patterns)))) (decimal_of version))
+    when (list_all is_pattern patterns) (option_map (λ v. Says (Step (Publish v (map pattern_in patterns)))) (decimal_of version))
 
 -- the field of the limits that a word names
 abbrev pub field_named : List ℕ → Option LimitField

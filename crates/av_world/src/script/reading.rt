@@ -5,7 +5,7 @@ ghost use Rattle.av_world.specs.Script.Grammar.{bare_line, cut_line, least_of, l
 ghost use Rattle.av_world.specs.Script.Statement.{Reads, bare_step, named_command, numbered_step};
 ghost use Rattle.av_world.specs.Script.Words.{one_word, two_words, three_words};
 
-use crate::script::hexadecimal::{are_hex, is_content};
+use crate::script::hexadecimal::{are_patterns, is_content};
 use crate::script::setting::read_setting;
 use crate::script::statement::Statement;
 use crate::script::verb::{BareVerb, NameVerb, NumberVerb};
@@ -71,7 +71,7 @@ fn publish(words: Option<&[u8]>) -> Option<Statement<'_>>
     ensures { Reads result (publish_line (rest_of 32 (option_copied words.entry))) }
 {
     let (version, patterns) = first_piece(words?, b' ');
-    if !are_hex(patterns) {
+    if !are_patterns(patterns) {
         return None;
     }
     let version = decimal(version)?;

@@ -2,7 +2,7 @@ ghost use Rattle.std.specs.Prelude.{◌≡◌, ◌≤◌, List};
 ghost use Rattle.av_sigset.specs.Catalogue.{latest};
 ghost use Rattle.av_sigset.specs.Made.{set_made};
 ghost use Rattle.av_world.specs.Stage.{Takes, at_history};
-ghost use Rattle.av_world.specs.World.{bytes_of, published};
+ghost use Rattle.av_world.specs.World.{published};
 ghost use Rattle.av_world.specs.declared.event.Event.{Event};
 
 use super::serving::{ServiceCall, serve};
@@ -25,7 +25,7 @@ impl Stage {
         requires { self.old.desk.version ≤ latest self.old.sets }
         ensures { (h : List Event) (e : Event)
             → Takes self.old self.new h e
-            (published (at_history h self.old) e (set_made version (bytes_of patterns.now))) result }
+            (published (at_history h self.old) e (set_made version patterns.now)) result }
     {
         let before = self.places();
         let set = SignatureSet::from_patterns(alloc, version, patterns.as_slice()).ok()?;

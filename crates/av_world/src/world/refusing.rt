@@ -7,7 +7,7 @@ ghost use Rattle.av_base.specs.Refused.{IsFaultOf, IsRefusal};
 ghost use Rattle.av_world.specs.Serving.{service_refusal};
 ghost use Rattle.av_world.specs.Serving as serving;
 ghost use Rattle.av_world.specs.Stage.{at_history, event_called};
-ghost use Rattle.av_world.specs.World.{bytes_of, member, published, step_fault, step_of, work_at};
+ghost use Rattle.av_world.specs.World.{member, published, step_fault, step_of, work_at};
 ghost use Rattle.av_world.specs.declared.event.Event.{Event};
 ghost use Rattle.av_world.specs.declared.fault.StepFault.TheVariants as fault;
 
@@ -66,7 +66,7 @@ impl Stage {
     #[tactic(auto, using(crate::proofs::RequestLemmas::can_be_published))]
     fn publish_refusal(&self, version: Version, patterns: &Patterns) -> Option<StepFault>
         ensures { (h : List Event) (e : Event)
-            → IsFaultOf (published (at_history h self.now) e (set_made version (bytes_of patterns.now))) result }
+            → IsFaultOf (published (at_history h self.now) e (set_made version patterns.now)) result }
     {
         if SignatureSet::patterns_fault(version, patterns.as_slice()).is_some() {
             return Some(StepFault::BadSet);
