@@ -57,9 +57,10 @@ fn run_command<'a>(alloc: Global) -> Result<Command<'a>, Error> {
                  scanning service connects, the stream is\
                  \nopened, and the filter's question is delivered to the service.\
                  \n\nCommands:\
-                 \n  publish V HEX..   create NAME   write NAME OFFSET HEX   cut NAME LENGTH   remove NAME   judge NAME\
+                 \n  publish V PATTERN..   create NAME   write NAME OFFSET HEX   cut NAME LENGTH   remove NAME   judge NAME\
                  \n  open NAME [LEAST]   cleanup NAME   connect   down K   up K   work K   timeout SEQ\
                  \n  disconnect filter|service   restart filter|service\
+                 \nA PATTERN is HEX, or HEX@LOW-HIGH where it has to begin from place LOW to place HIGH of a content.\
                  \ndocs/FORMATS.md says what each does and prints.\
                  \n\nExample:\
                  \n  avscan run examples/late_reply.avs",
@@ -77,6 +78,9 @@ fn scan_command<'a>(alloc: Global) -> Result<Command<'a>, Error> {
                  \n\n  avsig 1\
                  \n  version 1\
                  \n  two.x 5858\
+                 \n\nIn a file that begins with `avsig 2` two numbers behind the bytes may say from which to which place of a \
+                 file they have to begin:\
+                 \n`two.x 5858 0 1023`.\
                  \n\nA line of the output is `FILE clean` or `FILE infected INDEX NAME end PLACE`: which \
                  signature ends first, and at which byte.\
                  \ndocs/FORMATS.md has the whole format.\
