@@ -1,3 +1,6 @@
+ghost use Rattle.std.specs.Prelude.{◌≡◌};
+ghost use Rattle.av_gate.specs.Seats.{calls_of};
+
 use crate::call::Call;
 use av_ends::FloorSeat;
 use av_filter::Note;
@@ -15,4 +18,13 @@ pub struct SeatCall {
 pub struct Seat {
     pub(crate) floor: FloorSeat,
     pub(crate) calls: Vec<SeatCall>,
+}
+
+impl Seat {
+    /// The calls that it made and that were accepted, in their order. It takes no memory.
+    pub fn calls(&self) -> &[SeatCall]
+        ensures { result.now ≡ calls_of self.now }
+    {
+        self.calls.as_slice()
+    }
 }
