@@ -1,7 +1,7 @@
 -- The patterns that end a word have the finds of all.
-use Rattle.std.proofs.Common.{ℕ, ◌≡◌, ◌<◌, ◌+◌, ◌-◌, ◌&&◌, true, false, List, [], ◌∷◌, length, slice_index, Some, if◌then◌else◌, refl, sym, ap, arith, ◌∙◌}
+use Rattle.std.proofs.Common.{ℕ, ◌≡◌, ◌<◌, ◌+◌, ◌-◌, ◌&&◌, true, false, List, [], ◌∷◌, length, Some, if◌then◌else◌, refl, ap, ◌∙◌}
 use Rattle.av_sigset.specs.declared.signature.Pattern.{Pattern}
-use Rattle.av_match.specs.Endings.{AreEndings, endings_from, first_of}
+use Rattle.av_match.specs.Endings.{endings_from, first_of}
 use Rattle.av_match.specs.Match.{begins_in}
 use Rattle.av_match.specs.Ranged.{IsStop}
 use Rattle.av_match.specs.Search.{bytes_of, find_at, occurs_at}

@@ -1,15 +1,15 @@
 -- A walk that passes what is no find, and the stops that tell it.
-use Rattle.std.proofs.Common.{ℕ, zero, suc, ◌≡◌, ◌≤◌, ◌<◌, ◌+◌, ◌-◌, ◌*◌, ◌==◌, Bool, true, false, cond, List, [], ◌∷◌, ◌++◌, length, take, drop, slice_index, Option, None, Some, refl, sym, ◌∙◌, ap, ap₂, subst, arith, eqb-true, if◌then◌else◌, drop-drop, inl, inr, ◌&&◌, nat_lt, slice_index_or, lt-ltb, le-ltb, length-drop, length-take-le, take-append-drop}
+use Rattle.std.proofs.Common.{ℕ, suc, ◌≡◌, ◌≤◌, ◌<◌, ◌+◌, ◌-◌, ◌*◌, ◌==◌, Bool, true, false, List, [], ◌∷◌, ◌++◌, length, take, drop, slice_index, Option, None, Some, refl, sym, ◌∙◌, ap, ap₂, arith, eqb-true, if◌then◌else◌, drop-drop, inl, inr, ◌&&◌, nat_lt, slice_index_or, lt-ltb, le-ltb, length-drop, length-take-le, take-append-drop}
 use Rattle.std.proofs.lemmas.Bool.{and_parts, and_from, cases_lt, true≢false}
 use Rattle.std.proofs.lemmas.Bool.Decides.{nat_tests}
 use Rattle.std.proofs.lemmas.List.{take_all, length-map, get_or-map}
 use Rattle.av_base.specs.declared.verdict.Verdict.TheVariants.{Infected}
 use Rattle.av_sigset.specs.declared.signature.Pattern.{Pattern}
 use Rattle.av_match.specs.Longest.{longest, is_end}
-use Rattle.av_match.specs.Part.{AllPatterns, IsAutomaton, IsPart, number_of, output_of}
+use Rattle.av_match.specs.Part.{AllPatterns, IsAutomaton, IsPart, number_of}
 use Rattle.av_match.specs.Ranged.{IsHorizon, IsStop, found_or, reach_find}
 use Rattle.av_match.specs.Reach.{reach}
-use Rattle.av_match.specs.Scanning.{ScanState, are_bound, index_of, is_past, state_words, resting, word_after, moved, moved_by, step, run, landed}
+use Rattle.av_match.specs.Scanning.{are_bound, index_of, is_past, state_words, resting, word_after, moved, step, run, landed}
 use Rattle.av_match.specs.Search.{bytes_of, find_at, index_at, occurs_at}
 use Rattle.av_match.specs.Words.{word_at, is_word, AllBytes}
 use Rattle.av_match.specs.declared.cells.Reached.{Reached}

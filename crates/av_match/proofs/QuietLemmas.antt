@@ -1,5 +1,5 @@
 -- Parts of a piece side by side, in which nothing is found.
-use Rattle.std.proofs.Common.{ℕ, suc, ◌≡◌, ◌<◌, ◌≤◌, ◌+◌, ◌-◌, ◌*◌, true, List, [], ◌∷◌, ◌++◌, length, take, drop, slice_index, Option, None, Some, refl, sym, ◌∙◌, ap, subst, arith, append_assoc, take-add, length-take-le, length-drop, drop-drop, take-append-drop}
+use Rattle.std.proofs.Common.{ℕ, suc, ◌≡◌, ◌<◌, ◌≤◌, ◌+◌, ◌-◌, ◌*◌, true, List, [], ◌∷◌, ◌++◌, length, take, drop, slice_index, None, Some, refl, sym, ◌∙◌, ap, subst, arith, append_assoc, take-add, length-take-le, length-drop, drop-drop, take-append-drop}
 use Rattle.std.proofs.lemmas.List.{append-nil, at_drop_more}
 use Rattle.av_sigset.specs.declared.signature.Pattern.{Pattern}
 use Rattle.av_match.specs.Longest.{longest}
@@ -10,7 +10,7 @@ use Rattle.av_match.specs.Scanning.{state_words}
 use Rattle.av_match.specs.Search.{bytes_of, find_at}
 use Rattle.av_match.specs.Words.{word_at, is_word, AllBytes}
 use Rattle.av_match.specs.declared.cells.Reached.{Reached}
-use Rattle.av_match.specs.declared.cells.Reached.TheVariants.{Through, Hit}
+use Rattle.av_match.specs.declared.cells.Reached.TheVariants.{Through}
 use Rattle.av_match.proofs.FindLemmas.{finds_joined}
 use Rattle.av_match.proofs.GrowLemmas.{upto_most}
 use Rattle.av_match.proofs.LaneLemmas.{part_bytes}

@@ -1,9 +1,8 @@
 -- Worked verdicts of patterns that are bound to spans, computed.
 use Rattle.std.proofs.Common.{ℕ, ◌≡◌, List, [], ◌∷◌, refl}
-use Rattle.av_base.specs.declared.verdict.Verdict.{Verdict}
 use Rattle.av_base.specs.declared.verdict.Verdict.TheVariants.{Clean, Infected}
 use Rattle.av_sigset.specs.declared.signature.Pattern.{Pattern}
-use Rattle.av_match.specs.Match.{occurs, or_else, verdict, verdict_at, verdict_to}
+use Rattle.av_match.specs.Match.{verdict, verdict_at, verdict_to}
 
 -- bytes that begin from one place to another
 abbrev bound : List ℕ → ℕ → ℕ → Pattern

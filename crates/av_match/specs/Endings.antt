@@ -1,5 +1,5 @@
 -- The patterns that end a word, as a scan keeps them.
-use Rattle.std.specs.Prelude.{ℕ, ◌≡◌, ◌+◌, ◌-◌, ◌<◌, List, [], ◌∷◌, length, slice_index, slice_index_or, Option, None, Some, if◌then◌else◌}
+use Rattle.std.specs.Prelude.{ℕ, ◌≡◌, ◌+◌, ◌-◌, ◌^◌, ◌<◌, List, [], ◌∷◌, length, slice_index, slice_index_or, Option, None, Some, if◌then◌else◌}
 use Rattle.av_sigset.specs.declared.signature.Pattern.{Pattern}
 use Rattle.av_match.specs.Match.{begins_in}
 use Rattle.av_match.specs.Search.{bytes_of, occurs_at}
@@ -18,6 +18,10 @@ endings_from i (p ∷ ps) w =
 abbrev pub first_of : List Ending → ℕ → Option ℕ
 first_of [] e = None
 first_of (x ∷ xs) e = if begins_in x.span (e - x.length) then Some x.index else first_of xs e
+
+-- behind this place of a content, below 2^64, none of them begins in its span
+abbrev pub IsLast : List Ending → ℕ → Type 0
+IsLast xs last = (e : ℕ) → e < 2 ^ 64 → last < e → first_of xs e ≡ None
 
 -- of pattern i, which is a state's stop, those that end it
 abbrev pub AreEndingsOf : List Pattern → List (List Ending) → ℕ → Type 0

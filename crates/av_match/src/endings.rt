@@ -1,8 +1,9 @@
 //! The patterns that end a word: what a state at which some pattern ends has to be asked.
 ghost use Rattle.std.specs.Prelude.{◌≡◌, ◌<◌, ◌≤◌, ℕ, [], length, slice_index, false, IfOk};
-ghost use Rattle.av_match.specs.Endings.{AreEndings, endings_from, first_of};
+ghost use Rattle.av_match.specs.Endings.{AreEndings, IsLast, endings_from, first_of};
 
 use crate::plain::{begins_in, occurs};
+use av_sigset::signature::MAX_PLACE;
 use av_sigset::{Pattern, Span};
 use std::alloc::{AllocError, Global};
 use std::marker::Model;
@@ -15,19 +16,24 @@ pub struct Ending {
     pub span: Span,
 }
 
-/// The patterns that end one word, which contracts see as their list.
+/// The patterns that end one word, which contracts see as their list, and a place of a content behind which none of them is
+/// found.
 #[derive(Drop)]
 pub struct Endings {
     list: Vec<Ending>,
+    last: u64,
 }
 
 impl Model for Endings {
     ghost use Rattle.std.specs.Prelude.{List};
+    ghost use Rattle.av_match.specs.Endings.{IsLast};
     ghost use Rattle.av_match.specs.declared.endings.Ending.{Ending};
 
     ghost Value = { List Ending };
 
     ghost view = { λ e. e.list.items };
+
+    ghost invariant = { λ e. IsLast e.list.items e.last };
 }
 
 impl Endings {
@@ -37,6 +43,7 @@ impl Endings {
     {
         Endings {
             list: Vec::new(alloc),
+            last: 0,
         }
     }
 
@@ -45,15 +52,19 @@ impl Endings {
         requires { length patterns.now ≤ 1024 }
         ensures { IfOk result (λ e. e ≡ endings_from 0 patterns.now word.now) }
     {
-        Ok(Endings {
-            list: list_of(alloc, patterns, word)?,
-        })
+        let list = list_of(alloc, patterns, word)?;
+        let last = last_of(list.as_slice());
+        Ok(Endings { list, last })
     }
 
     /// The first that begins in its span, where the word ends at this place of a content.
+    #[inline(always)]
     pub fn first(&self, end_at: u64) -> Option<u32>
         ensures { result ≡ first_of self.now end_at }
     {
+        if self.last < end_at {
+            return None;
+        }
         first_of(self.list.as_slice(), end_at)
     }
 }
@@ -75,6 +86,20 @@ fn list_of(alloc: Global, patterns: &[Pattern], word: &[u8]) -> Result<Vec<Endin
         }
     }
     Ok(list)
+}
+
+// A place of a content behind which none of these is found.
+fn last_of(list: &[Ending]) -> u64
+    ensures { IsLast list.now result }
+{
+    let mut last = 0u64;
+    for ending in list {
+        if MAX_PLACE <= ending.span.high {
+            return u64::MAX;
+        }
+        last = last.max(ending.span.high.saturating_add(ending.length));
+    }
+    last
 }
 
 // The first of these that begins in its span, where they end at this place of a content.

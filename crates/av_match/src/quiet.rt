@@ -116,6 +116,7 @@ fn quiet_lanes(
 }
 
 // The state to which a byte leads, where nothing is found there.
+#[inline(always)]
 fn quiet_step(walk: &Walk<'_>, state: usize, byte: u8, end_at: u64) -> Option<usize>
     requires { state < length walk.now.stops.now }
     ensures inside { IfSome result (λ t. t < length walk.now.stops.now) }

@@ -145,6 +145,7 @@ pub struct Walk<'a> {
 }
 
 // The first pattern that ends a state's word and begins in its span, where the word ends at this place of a content.
+#[inline(always)]
 pub(crate) fn find(walk: &Walk<'_>, state: usize, end_at: u64) -> Option<u32>
     requires { state < length walk.now.stops.now }
     ensures { let v = word_at (state_words walk.now.patterns.now) state in result ≡ find_at 0 walk.now.patterns.now v (length v) end_at }

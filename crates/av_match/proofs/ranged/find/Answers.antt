@@ -1,8 +1,7 @@
-use Rattle.std.proofs.Common.{sym, arith, ◌<◌, ◌≡◌, ◌-◌, [], length, slice_index, ◌∙◌}
+use Rattle.std.proofs.Common.{sym, arith, ◌<◌, ◌-◌, [], length, slice_index, ◌∙◌}
 use Rattle.std.proofs.lemmas.List.{get_or_default}
 use Rattle.av_match.specs.Ranged.{IsStop}
 use Rattle.av_match.specs.Scanning.{state_words}
-use Rattle.av_match.specs.Search.{bytes_of}
 use Rattle.av_match.specs.Words.{word_at}
 use Rattle.av_match.proofs.EndingLemmas.{asked}
 use Rattle.av_match.proofs.FindLemmas.{stop_none}

@@ -1,6 +1,5 @@
-use Rattle.std.proofs.Common.{◌≡◌, ◌+◌, ◌∷◌, [], List, ℕ, nat_lt, ◌&&◌, drop, length, arith, sym, ap, ◌∙◌}
+use Rattle.std.proofs.Common.{◌≡◌, ◌+◌, ◌∷◌, [], nat_lt, ◌&&◌, drop, arith, sym, ap, ◌∙◌}
 use Rattle.std.proofs.lemmas.List.{drop_all, drop_more}
-use Rattle.av_sigset.specs.declared.signature.Pattern.{Pattern}
 use Rattle.av_match.specs.Scanning.{is_past}
 use Rattle.av_match.proofs.FindLemmas.{horizon_all, horizon_more, horizon_none}
 use Rattle.av_match.proofs.ranged.horizon_of.Goals as goal

@@ -1,4 +1,4 @@
-use Rattle.std.proofs.Common.{ℕ, ◌≡◌, ◌<◌, ◌≤◌, ◌&&◌, drop, nat_lt}
+use Rattle.std.proofs.Common.{ℕ, ◌≡◌, ◌<◌, ◌&&◌, drop, nat_lt}
 use Rattle.av_match.specs.Scanning.{is_past}
 use Rattle.av_match.proofs.ranged.horizon_of.Given as goal
 

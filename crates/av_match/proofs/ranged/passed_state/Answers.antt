@@ -1,7 +1,6 @@
-use Rattle.std.proofs.Common.{◌≡◌, ◌<◌, length, arith}
+use Rattle.std.proofs.Common.{◌<◌, length, arith}
 use Rattle.av_match.specs.Scanning.{state_words}
 use Rattle.av_match.specs.Search.{bytes_of}
-use Rattle.av_match.specs.Words.{AllBytes}
 use Rattle.av_match.proofs.FindLemmas.{finds_through}
 use Rattle.av_match.proofs.LaneLemmas.{after_through}
 use Rattle.av_match.proofs.ReachLemmas.{outputs_length}

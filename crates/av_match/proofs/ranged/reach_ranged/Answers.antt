@@ -1,13 +1,6 @@
-use Rattle.std.proofs.Common.{◌≡◌, ◌≤◌, ◌<◌, ◌+◌, ◌-◌, length, take, drop, arith, sym, ap, ◌∙◌}
+use Rattle.std.proofs.Common.{◌≡◌, ◌≤◌, ◌+◌, ◌-◌, length, take, drop, arith, sym, ap, ◌∙◌}
 use Rattle.av_match.specs.Ranged.{reach_find}
-use Rattle.av_match.specs.Reach.{reach}
-use Rattle.av_match.specs.Scanning.{state_words}
-use Rattle.av_match.specs.Search.{bytes_of}
-use Rattle.av_match.specs.Words.{AllBytes}
-use Rattle.av_match.specs.declared.cells.Reached.TheVariants.{Through, Hit}
-use Rattle.av_match.proofs.FindLemmas.{finds_through, ranged_hit, ranged_on}
-use Rattle.av_match.proofs.LaneLemmas.{after_through, part_bytes}
-use Rattle.av_match.proofs.ReachLemmas.{outputs_length}
+use Rattle.av_match.proofs.FindLemmas.{ranged_hit, ranged_on}
 use Rattle.av_match.proofs.ranged.reach_ranged.Goals as goal
 
 pub returns-in-Hit-clause-reach : goal.returns-in-Hit-clause-reach

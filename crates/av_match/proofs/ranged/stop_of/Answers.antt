@@ -1,8 +1,8 @@
-use Rattle.std.proofs.Common.{◌≡◌, ◌+◌, arith, sym, ap, ap₂, ◌∙◌}
+use Rattle.std.proofs.Common.{◌≡◌, arith, sym, ap, ◌∙◌}
 use Rattle.av_sigset.specs.declared.signature.Pattern.{Pattern}
 use Rattle.av_match.specs.Search.{bytes_of}
 use Rattle.av_match.specs.Words.{word_at}
-use Rattle.av_match.proofs.FindLemmas.{IsBest, best_more, best_same, best_stop, bytes_at}
+use Rattle.av_match.proofs.FindLemmas.{best_more, best_same, best_stop, bytes_at}
 use Rattle.av_match.proofs.ranged.stop_of.Goals as goal
 use Rattle.av_match.proofs.ranged.stop_of.Goals.{then-is_longer, else-is_longer}
 

@@ -1,6 +1,6 @@
-use Rattle.std.proofs.Common.{◌≡◌, ◌≤◌, ◌<◌, ◌+◌, ◌-◌, length, take, true, None, Some, arith, sym, ap, subst, ◌∙◌, length-take-le}
+use Rattle.std.proofs.Common.{◌≡◌, ◌≤◌, ◌+◌, length, take, true, None, Some, arith, ap, subst, ◌∙◌, length-take-le}
 use Rattle.av_match.specs.Ranged.{IsHorizon}
-use Rattle.av_match.specs.Scanning.{Compiled, is_past, landed, run}
+use Rattle.av_match.specs.Scanning.{Compiled, is_past, landed}
 use Rattle.av_match.specs.declared.cells.Reached.TheVariants.{Through}
 use Rattle.av_match.proofs.FindLemmas.{horizon_never, horizon_open, horizon_past}
 use Rattle.av_match.proofs.TableLemmas.{any_scan, front_chunk, past_chunk, searching}

@@ -1,4 +1,4 @@
-use Rattle.std.proofs.Common.{◌≡◌, ◌≤◌, ◌<◌, length, slice_index, inl, inr, None, Some, arith, sym, ap, ap₂, subst, true, false, ◌∙◌}
+use Rattle.std.proofs.Common.{◌≡◌, ◌<◌, length, slice_index, inl, inr, None, Some, arith, sym, ap, ap₂, subst, false, ◌∙◌}
 use Rattle.av_match.specs.Ranged.{IsRangedOf, reach_find}
 use Rattle.av_match.specs.Reach.{reach}
 use Rattle.av_match.specs.Scanning.{Compiled, are_bound, landed, resting, state_words}
