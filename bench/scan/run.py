@@ -12,7 +12,7 @@ milliseconds and those of scanning alone are of time gone by. Prints whether eac
 answer was wrong, else 0. With the word `alone` after the program only scanning alone is timed."""
 import os, random, re, shutil, subprocess, sys, tempfile
 
-import alone
+import alone, ranged
 from cases import KINDS, MIB, Case, ordinary_files, put, sets_of
 
 ROUNDS = 9
@@ -233,6 +233,10 @@ def scanning_alone(folder, cases, goals):
     print()
     alone.table(cases, scanners, speed)
     alone.goals(cases, speed, goals)
+    bound = ranged.ranged_cases(folder, ordinary_files())
+    speed = ranged.measured(bound, ours[:2], alone.ROUNDS)
+    ranged.table(bound, ours[:2], speed)
+    ranged.goals(bound, speed, goals)
     took = min(nanoseconds for name, nanoseconds in ours[0].build + ours[1].build if name == "r16-1000")
     goals.judge("build of 1,000 patterns", took / 1e6, 45, False, " ms", 1)
 
