@@ -19,9 +19,10 @@ use Rattle.av_store.specs.Files.{File}
 use Rattle.av_store.specs.Store.{Store}
 use Rattle.av_filter.proofs.EachLemmas.{each-append, each-map}
 use Rattle.av_world.proofs.SceneLemmas.{Lawful, lawful_filter, lawful_call, lawful_opening, answers_just, sets_same, held_right}
-use Rattle.av_world.specs.Audits.{AreLegal, AuditsGrantOnlyClean, AuditsHoldOneVerdict, CameDown, CameUp, FinishesItsWorks, IsDelivered, IsOfWorks, OfFilter, OfService, SideEntry, answers_in, filter_side, past_end, service_side}
+use Rattle.av_world.specs.Audits.{AreLegal, AuditsGrantOnlyClean, AuditsHoldOneVerdict, AuditsJudgeRightly, CameDown, CameUp, FinishesItsWorks, IsDelivered, IsOfWorks, OfFilter, OfService, SideEntry, answers_in, filter_side, past_end, service_side}
 use Rattle.av_world.specs.Headline.{IsJustified}
 use Rattle.av_world.specs.Past.{Past}
+use Rattle.av_world.specs.Safety.{JudgesItsContent}
 use Rattle.av_world.specs.Scene.{Answered, MayReact, MayRespond, Scene, opening, past_call, past_filter, told_at}
 
 -- what may come, by the two audits and by what was sent
@@ -98,6 +99,11 @@ module _ (mode : Mode) (limits : LimitValues) (number : ℕ) (service_limits : L
   one_verdict =
       let c : Scene = end_scene first es in
       held_right c.past c.volume c.table c.desk c.down c.up c.works at_end.lawful.filter at_end.lawful.keeps at_end.lawful.desk at_end.lawful.up
+
+  pub judged_bytes : AuditsJudgeRightly fs sets (just_started number service_limits (latest_as sets)) es
+  judged_bytes =
+      let c : Scene = end_scene first es in
+      All-from_recursion (JudgesItsContent c.past c.down c.works c.desk.last_lease c.desk.version) c.desk.jobs at_end.lawful.desk.jobs
 
   pub only_clean : AuditsGrantOnlyClean mode fs sets es
   only_clean = All-from_recursion (λ (a : Answered). IsJustified mode a.past a.answer) _ at_end.answers

@@ -7,7 +7,7 @@ use Rattle.av_filter.specs.Conduct.{FilterEvent}
 use Rattle.av_filter.specs.Conduct as filter
 use Rattle.av_filter_table.specs.Table.{Table, mounted}
 use Rattle.av_frame.specs.declared.message.Body.{Body}
-use Rattle.av_service.specs.Audit.{By, Call, IsCatalogue, IsServiceAudit, ServiceEntry, desk_end, sent_up, sets_after}
+use Rattle.av_service.specs.Audit.{By, Call, IsCatalogue, IsServiceAudit, ServiceEntry, desk_end, lent_by, sent_up, sets_after}
 use Rattle.av_service.specs.Conduct.{Receives, Finishes}
 use Rattle.av_service.specs.Desk.{Desk, just_started}
 use Rattle.av_service.specs.Work.{WorkState}
@@ -18,7 +18,7 @@ use Rattle.av_store.specs.Store.{Store}
 use Rattle.av_world.specs.Headline.{IsJustified}
 use Rattle.av_world.specs.Held.{held_among}
 use Rattle.av_world.specs.Past.{Past, IsRightEntry}
-use Rattle.av_world.specs.Safety.{Among}
+use Rattle.av_world.specs.Safety.{Among, JudgesItsContent}
 use Rattle.av_world.specs.Scene.{Answered, opening_past, past_call, past_filter, told_at}
 use Rattle.av_world.specs.World.{done}
 
@@ -85,6 +85,13 @@ AuditsHoldOneVerdict fs t v sets d es =
     All (IsRightEntry (past_end (opening_past fs sets) es))
     (held_among k.table k.volume.streams (desk_end d (service_side es))
     (sent_down [] (filter_side es)) (sent_up [] (service_side es)))
+
+-- each job has judged the content that it was asked about, and keeps the scan of what it has judged
+abbrev pub AuditsJudgeRightly : List File → List Publication → Desk → List SideEntry → Type 0
+AuditsJudgeRightly fs sets d es =
+    let end = desk_end d (service_side es) in
+    All (JudgesItsContent (past_end (opening_past fs sets) es) (sent_down [] (filter_side es)) (lent_by [] (service_side es))
+    end.last_lease end.version) end.jobs
 
 -- each answer of two audits is justified by the past at which it was given
 abbrev pub AuditsGrantOnlyClean : Mode → List File → List Publication → List SideEntry → Type 0

@@ -1,5 +1,6 @@
 -- The protocol's safety, beyond the headline: what jobs judge, at which floor opens are granted, and why others are not.
-use Rattle.std.specs.Prelude.{◌≡◌, ◌≢◌, ℕ, ◌<◌, ◌≤◌, ◌⊎◌, false, List, [], ◌∷◌, ◌++◌, length, drop, Option, Some, None, All}
+use Rattle.std.specs.Prelude.{◌≡◌, ◌≢◌, ℕ, ◌+◌, ◌==◌, ◌<◌, ◌≤◌, ◌⊎◌, false, List, [], ◌∷◌, ◌++◌, length, drop, Option, Some, None, All, if◌then◌else◌}
+use Rattle.std.specs.Option.{option_map}
 use Rattle.std.specs.List.{AllByRecursion}
 use Rattle.av_base.specs.declared.cause.Cause.{Cause}
 use Rattle.av_base.specs.declared.cause.Cause.TheVariants.{NoStream, NotConnected, Busy, TimedOut, PortDisconnected, ScanFailed, Unsettled, StreamRemoved, FilterRestart}
@@ -30,10 +31,11 @@ use Rattle.av_store.specs.History.{content, generation_of}
 use Rattle.av_store.specs.Rows.{stream_at}
 use Rattle.av_store.specs.Store.{Store, greatest}
 use Rattle.av_world.specs.Cores.{IsFilterEvent}
-use Rattle.av_world.specs.Held.{asked}
-use Rattle.av_world.specs.Past.{Past, past, IsVerdictOf}
+use Rattle.av_world.specs.Held.{asked, submitted}
+use Rattle.av_world.specs.Past.{Past, number_then, past, IsVerdictOf}
 use Rattle.av_world.specs.World.{WorldState}
 use Rattle.av_world.specs.declared.event.Event.{Event}
+use Rattle.av_world.specs.declared.event.Event.TheVariants.{Open}
 
 -- a list begins another
 abbrev pub IsFront : List ℕ → List ℕ → Type 0
@@ -92,49 +94,77 @@ pub record Waits (t : Table) (id : MessageId) (n : ℕ) : Type 0 where
   pub number : waiting.held.open_id ≡ n
   pub question : waiting.question ≡ id
 
--- why an event at this table and volume leaves an open denied or unscanned; p: the past after the event
+-- the number of an open that comes now
+abbrev pub next_open : Store → ℕ
+next_open v = v.opens + 1
+
+-- the change writes or cuts this stream
+abbrev pub Rewrites : ℕ → Change → Type 0
+Rewrites s (change.Create name) = ⊥
+Rewrites s (change.Write t o b) = s ≡ t
+Rewrites s (change.Cut t l) = s ≡ t
+Rewrites s (change.Remove t) = ⊥
+
+-- why an event at this table and volume leaves an open denied or unscanned: at an open the one that it submits, else one
+-- that waits; p: the past after the event
 pub data Explains (p : Past) (t : Table) (v : Store) : FilterEvent → ℕ → Cause → Type 0 where
-  no_stream : (s least n : ℕ) → stream_at s v.streams ≡ None → Explains p t v (Opens s least) n NoStream
-  judged_now : (s least n version index end_at : ℕ) → least ≤ version
+  no_stream : (s least : ℕ) → stream_at s v.streams ≡ None → Explains p t v (Opens s least) (next_open v) NoStream
+  judged_now : (s least version index end_at : ℕ) → least ≤ version
       → IsVerdictOf p s (generation_of p.streams s) version (Infected index end_at)
-      → Explains p t v (Opens s least) n cause.Infected
+      → Explains p t v (Opens s least) (next_open v) cause.Infected
   judged_late : (id : MessageId) (o : Outcome) (q : Question) (n version index end_at : ℕ) → question_at id t.questions ≡ Some q
       → (w : Waits t q.id n) → w.waiting.held.least ≤ version
       → IsVerdictOf p q.stream (generation_of p.streams q.stream) version (Infected index end_at)
       → Explains p t v (Receives (Reply id o)) n cause.Infected
-  not_connected : (s least n : ℕ) → t.connected ≡ false → Explains p t v (Opens s least) n NotConnected
-  opens_full : (s least n : ℕ) → t.limits.pended ≤ length t.pended → Explains p t v (Opens s least) n Busy
-  questions_full : (s least n : ℕ) → t.limits.questions ≤ length t.questions → Explains p t v (Opens s least) n Busy
-  no_number : (s least n : ℕ) → greatest ≤ t.sequence → Explains p t v (Opens s least) n Busy
-  no_number_changed : (c : Change) (n : ℕ) → greatest ≤ t.sequence → Explains p t v (Changes c) n Busy
-  no_number_stale : (id : MessageId) (version : ℕ) (r : Verdict) (n : ℕ) → greatest ≤ t.sequence
-      → Explains p t v (Receives (Reply id (Judged version r))) n Busy
+  not_connected : (s least : ℕ) → t.connected ≡ false → Explains p t v (Opens s least) (next_open v) NotConnected
+  opens_full : (s least : ℕ) → t.limits.pended ≤ length t.pended → Explains p t v (Opens s least) (next_open v) Busy
+  questions_full : (s least : ℕ) → t.limits.questions ≤ length t.questions → Explains p t v (Opens s least) (next_open v) Busy
+  no_number : (s least : ℕ) → greatest ≤ t.sequence → Explains p t v (Opens s least) (next_open v) Busy
+  no_number_changed : (c : Change) (s : ℕ) (q : Question) (n : ℕ) → Rewrites s c → question_of s t.questions ≡ Some q
+      → Waits t q.id n → greatest ≤ t.sequence → Explains p t v (Changes c) n Busy
+  no_number_stale : (id : MessageId) (version : ℕ) (r : Verdict) (n : ℕ) → version < t.floor → Waits t id n
+      → greatest ≤ t.sequence → Explains p t v (Receives (Reply id (Judged version r))) n Busy
   timed_out : (seq n : ℕ) → Waits t (record { boot = t.boot; seq = seq }) n → Explains p t v (TimesOut seq) n TimedOut
-  disconnected : (n : ℕ) → Explains p t v Disconnects n PortDisconnected
+  disconnected : (id : MessageId) (n : ℕ) → Waits t id n → Explains p t v Disconnects n PortDisconnected
   failed : (id : MessageId) (why : FailCause) (n : ℕ) → Waits t id n
       → Explains p t v (Receives (Reply id (Failed why))) n ScanFailed
-  unsettled_write : (s o : ℕ) (b : List ℕ) (q : Question) (n : ℕ) → question_of s t.questions ≡ Some q → (w : Waits t q.id n)
-      → 8 ≤ w.waiting.held.rescans → Explains p t v (Changes (change.Write s o b)) n Unsettled
-  unsettled_cut : (s l : ℕ) (q : Question) (n : ℕ) → question_of s t.questions ≡ Some q → (w : Waits t q.id n)
-      → 8 ≤ w.waiting.held.rescans → Explains p t v (Changes (change.Cut s l)) n Unsettled
+  unsettled_changed : (c : Change) (s : ℕ) (q : Question) (n : ℕ) → Rewrites s c → question_of s t.questions ≡ Some q
+      → (w : Waits t q.id n) → 8 ≤ w.waiting.held.rescans → Explains p t v (Changes c) n Unsettled
   unsettled_stale : (id : MessageId) (version : ℕ) (r : Verdict) (n : ℕ) → version < t.floor → (w : Waits t id n)
       → 8 ≤ w.waiting.held.rescans → Explains p t v (Receives (Reply id (Judged version r))) n Unsettled
   removed : (s : ℕ) (q : Question) (n : ℕ) → question_of s t.questions ≡ Some q → Waits t q.id n
       → Explains p t v (Changes (change.Remove s)) n StreamRemoved
-  restarted : (n : ℕ) → Explains p t v Restarts n FilterRestart
+  restarted : (id : MessageId) (n : ℕ) → Waits t id n → Explains p t v Restarts n FilterRestart
+
+-- what an open asked for: its stream, and the least version of its verdict
+pub record Submission : Type 0 where
+  pub stream : ℕ
+  pub least : ℕ
+
+-- what the open of this number asked for when it was submitted; the newest event comes first
+unfoldable pub submission : List Event → ℕ → Option Submission
+submission [] n = None
+submission (Open name least ∷ es) n =
+    if n == submitted es + 1 then Some (record { stream = number_then (past es) name; least = least }) else submission es n
+submission (_ ∷ es) n = submission es n
 
 -- the causes under which fail-open mode lets an open through
 abbrev pub IsByMode : Cause → Type 0
 IsByMode c = (c ≢ NoStream) × (c ≢ cause.Infected) × (c ≢ StreamRemoved)
 
--- a grant is at the floor, and not below the open's least; every other answer is explained
-abbrev pub IsExplained : Past → Table → Store → FilterEvent → ℕ → Answer → Type 0
-IsExplained p t v f floor (Granted n least s g version) = (least ≤ version) × (version ≡ floor)
-IsExplained p t v f floor (Unscanned n s g c) = IsByMode c × Explains p t v f n c
-IsExplained p t v f floor (Denied n c) = Explains p t v f n c
+-- a grant is at the floor, not below the least version that its open asked for, and of the stream that it asked for; every
+-- other answer is explained, and one that lets an open through is of its stream too
+abbrev pub IsExplained : (ℕ → Option Submission) → Past → Table → Store → FilterEvent → ℕ → Answer → Type 0
+IsExplained wanted p t v f floor (Granted n least s g version) =
+    (wanted n ≡ Some (record { stream = s; least = least })) × (least ≤ version) × (version ≡ floor)
+IsExplained wanted p t v f floor (Unscanned n s g c) =
+    (option_map (λ o. o.stream) (wanted n) ≡ Some s) × IsByMode c × Explains p t v f n c
+IsExplained wanted p t v f floor (Denied n c) = Explains p t v f n c
 
 -- so is each answer that an event of the world gave
 abbrev pub AnswersExplained : WorldState → Event → WorldState → Type 0
 AnswersExplained w e w' =
-    All (λ a. (f : FilterEvent) × IsFilterEvent w e f × IsExplained (past w'.history) w.table w.volume f w'.table.floor a.answer)
+    All (λ a. (f : FilterEvent)
+    × IsFilterEvent w e f
+    × IsExplained (submission w'.history) (past w'.history) w.table w.volume f w'.table.floor a.answer)
     (drop (length w.answers) w'.answers)

@@ -13,7 +13,7 @@ ghost use Rattle.av_sigset.specs.Publication.{Publication, latest_as};
 ghost use Rattle.av_sigset.specs.Catalogue.{latest};
 ghost use Rattle.av_store.specs.Files.{File};
 ghost use Rattle.av_store.specs.Store.{Store};
-ghost use Rattle.av_world.specs.Audits.{AreLegal, AuditsGrantOnlyClean, AuditsHoldOneVerdict, SideEntry};
+ghost use Rattle.av_world.specs.Audits.{AreLegal, AuditsGrantOnlyClean, AuditsHoldOneVerdict, AuditsJudgeRightly, SideEntry};
 ghost use Rattle.av_world.specs.Examples.{ComeTrue};
 ghost use Rattle.av_world.specs.Headline.{AnswersOnce, GrantsOnlyClean, HoldsOneVerdict, NeverDiffers};
 ghost use Rattle.av_world.specs.Path.{EndsWithVerdict, IsReady};
@@ -39,8 +39,9 @@ pub fn headline()
 {}
 
 /// Over every list of events: a running job has judged the beginning of the content that it was asked about, and keeps
-/// the scan of that under the present version, from which its work goes on; each grant is at the floor and not below its
-/// open's least; and every other answer is explained by the event that gives it.
+/// the scan of that under the present version, from which its work goes on; each grant is at the floor, of the stream that its
+/// open asked for and not below the least version that it asked for; and every other answer is explained by the event that
+/// gives it, of the open that it submits or of one that waits.
 pub fn protocol_safety()
     ensures judged_bytes { (number : ℕ) (mode : Mode) (limits : LimitValues) (history : List Event)
         → JobsJudgeRightly (world_of (start number mode limits) history) }
@@ -58,13 +59,17 @@ pub fn whole_path()
 {}
 
 /// The headline of two audits, each legal by itself, put together in any order in which each message that came had been
-/// sent by the other side before: from whatever volume and catalogue, each part of the headline holds. The third is the
-/// filter's alone; open numbers are counted from the opening volume's last.
+/// sent by the other side before: from whatever volume and catalogue, each part of the headline holds, and each job keeps the
+/// scan of what it has judged of the content that it was asked about. The third part is the filter's alone; open numbers are
+/// counted from the opening volume's last.
 pub fn audits()
     ensures one_verdict { (mode : Mode) (limits : LimitValues) (number : ℕ) (service_limits : LimitValues) (files : List File)
         (v : Store) (sets : List Publication) (es : List SideEntry) → AreLegal mode limits number service_limits files v sets es
         → AuditsHoldOneVerdict files (mounted mode limits v.boot) v sets
         (just_started number service_limits (latest_as sets)) es }
+    ensures judged_bytes { (mode : Mode) (limits : LimitValues) (number : ℕ) (service_limits : LimitValues) (files : List File)
+        (v : Store) (sets : List Publication) (es : List SideEntry) → AreLegal mode limits number service_limits files v sets es
+        → AuditsJudgeRightly files sets (just_started number service_limits (latest_as sets)) es }
     ensures only_clean { (mode : Mode) (limits : LimitValues) (number : ℕ) (service_limits : LimitValues) (files : List File)
         (v : Store) (sets : List Publication) (es : List SideEntry) → AreLegal mode limits number service_limits files v sets es
         → AuditsGrantOnlyClean mode files sets es }
