@@ -219,6 +219,57 @@ fn refused_or_not_every_row_is_answered_as_written(rt: HostRuntime) -> Result<()
     Ok(())
 }
 
+const FULL: [(Step<'static>, Said); 5] = [
+    (Step::Hello(1), Said::Welcome),
+    (Step::Open(b"a"), Said::Submitted(1)),
+    (Step::Clean(1, 1), Said::Quiet),
+    (Step::Open(b"a"), Said::AuditFull),
+    (Step::Write(b"a", 9, b"A"), Said::AuditFull),
+];
+
+// An open is answered and the audit is full: the ticket still polls, twice, and the floor is still read.
+fn looked_at_beside_a_full_audit<R: Wait + Abort>(
+    rt: &R,
+    alloc: Global,
+    gate: &Gate,
+    mut seat: Seat,
+) -> Result<(Vec<Seat>, Vec<Receipt>), Fail>
+    requires { IsSeatOf gate.now seat }
+{
+    let mut tickets = Vec::with_capacity(alloc, 4)?;
+    let apart = first_otherwise(rt, alloc, gate, &mut seat, &mut tickets, FULL.as_slice());
+    assert_eq!(rt; apart, None);
+    let first = answers_told(alloc, tickets.as_slice())?;
+    let again = answers_told(alloc, tickets.as_slice())?;
+    assert_eq!(rt; first.as_slice(), [Told::Granted(2, 1)].as_slice());
+    assert_eq!(rt; again.as_slice(), [Told::Granted(2, 1)].as_slice());
+    assert_eq!(rt; gate.floor(&mut seat).get(), 1);
+    assert_eq!(rt; seat.calls().len(), 3);
+    Ok((seats_of(alloc, seat)?, receipts_of(alloc, tickets)?))
+}
+
+#[test]
+fn a_ticket_polls_beside_a_full_audit_and_its_receipt_closes_the_gate(
+    rt: HostRuntime,
+) -> Result<(), Fail> {
+    let alloc = rt.alloc();
+    let limits = Limits::check(LimitValues::greatest().with(LimitField::Audit, 3))?;
+    let (gate, seat) = gate_of_two(alloc, Mode::FailClosed, limits)?;
+    let (seats, receipts) = match looked_at_beside_a_full_audit(&rt, alloc, &gate, seat) {
+        Ok(left) => left,
+        Err(why) => {
+            gate.abandon();
+            return Err(why);
+        }
+    };
+    assert_eq!(rt; receipts.len(), 1);
+    let Ok(audit) = closed(gate, seats, receipts) else {
+        return Err(Fail::new("not closed"));
+    };
+    assert_eq!(rt; audit.events.len(), 3);
+    Ok(())
+}
+
 #[test]
 fn an_audit_holds_a_write_with_its_bytes(rt: HostRuntime) -> Result<(), Fail> {
     let row = Row {

@@ -17,12 +17,13 @@ pub struct Row<'a> {
     pub closing: Option<CloseFault>,
 }
 
-pub const ROWS: [Row<'static>; 8] = [
+pub const ROWS: [Row<'static>; 10] = [
     Row {
         name: "a question whose time is up is answered by the mode, and a late reply finds no waiter",
         mode: Mode::FailClosed,
-        limit: (LimitField::Audit, 4),
+        limit: (LimitField::Audit, 5),
         steps: &[
+            (Step::Write(b"a", 0, b"XY"), Said::Quiet),
             (Step::Hello(1), Said::Welcome),
             (Step::Open(b"a"), Said::Submitted(1)),
             (Step::TimeOut(1), Said::Quiet),
@@ -35,14 +36,15 @@ pub const ROWS: [Row<'static>; 8] = [
     Row {
         name: "the same where what can't be judged is let through",
         mode: Mode::FailOpen,
-        limit: (LimitField::Audit, 4),
+        limit: (LimitField::Audit, 5),
         steps: &[
+            (Step::Write(b"a", 0, b"XY"), Said::Quiet),
             (Step::Hello(1), Said::Welcome),
             (Step::Open(b"a"), Said::Submitted(1)),
             (Step::TimeOut(1), Said::Quiet),
             (Step::Clean(1, 1), Said::NoWaiter),
         ],
-        told: &[Told::Unscanned(2, Cause::TimedOut)],
+        told: &[Told::Unscanned(3, Cause::TimedOut)],
         messages: 2,
         closing: None,
     },
@@ -51,6 +53,7 @@ pub const ROWS: [Row<'static>; 8] = [
         mode: Mode::FailClosed,
         limit: (LimitField::Audit, 100),
         steps: &[
+            (Step::Write(b"a", 0, b"XY"), Said::Quiet),
             (Step::Hello(1), Said::Welcome),
             (Step::Open(b"a"), Said::Submitted(1)),
             (Step::Disconnect, Said::Quiet),
@@ -85,6 +88,42 @@ pub const ROWS: [Row<'static>; 8] = [
         told: &[Told::Waits, Told::Denied(Cause::Busy)],
         messages: 1,
         closing: Some(CloseFault::Held),
+    },
+    Row {
+        name: "the same once the service is lost: the cleanups are among the calls that are compared",
+        mode: Mode::FailClosed,
+        limit: (LimitField::Pended, 1),
+        steps: &[
+            (Step::Hello(1), Said::Welcome),
+            (Step::Write(b"a", 0, b"ABC"), Said::Quiet),
+            (Step::Cleanup(b"a"), Said::Quiet),
+            (Step::Cleanup(b"a"), Said::Quiet),
+            (Step::Open(b"a"), Said::Submitted(1)),
+            (Step::Open(b"a"), Said::Submitted(2)),
+            (Step::Disconnect, Said::Quiet),
+        ],
+        told: &[
+            Told::Denied(Cause::PortDisconnected),
+            Told::Denied(Cause::Busy),
+        ],
+        messages: 1,
+        closing: None,
+    },
+    Row {
+        name: "a full audit beside an open that was answered",
+        mode: Mode::FailClosed,
+        limit: (LimitField::Audit, 3),
+        steps: &[
+            (Step::Hello(1), Said::Welcome),
+            (Step::Open(b"a"), Said::Submitted(1)),
+            (Step::Clean(1, 1), Said::Quiet),
+            (Step::Open(b"a"), Said::AuditFull),
+            (Step::Write(b"a", 9, b"A"), Said::AuditFull),
+            (Step::Disconnect, Said::AuditFull),
+        ],
+        told: &[Told::Granted(2, 1)],
+        messages: 1,
+        closing: None,
     },
     Row {
         name: "a full audit comes before what the volume would refuse",
