@@ -1,5 +1,5 @@
 -- Which histories a list of events leads to.
-use Rattle.std.proofs.Common.{ℕ, ◌≡◌, ◌<◌, ◌+◌, ◌++◌, inl, inr, List, [], ◌∷◌, length, reverse, take, get_or, Ok, refl, sym, ap, ◌∙◌, subst}
+use Rattle.std.proofs.Common.{ℕ, ◌≡◌, ◌<◌, ◌+◌, ◌++◌, inl, inr, List, [], ◌∷◌, length, reverse, take, get_or, Ok, Err, refl, sym, ap, ◌∙◌, subst}
 use Rattle.std.proofs.lemmas.List.{reverse-append, take_more}
 use Rattle.std.specs.Prelude.{IsOk}
 use Rattle.av_base.specs.Limits.{AreInRange}
@@ -11,7 +11,7 @@ use Rattle.av_world.proofs.WholeLemmas.{stays_whole}
 use Rattle.av_world.specs.Headline.{AnswersOnce, GrantsOnlyClean, HoldsOneVerdict, NeverDiffers}
 use Rattle.av_world.specs.Reached.{IsKept, IsReached, KeepsPromise}
 use Rattle.av_world.specs.Stage.{at_history}
-use Rattle.av_world.specs.World.{WorldState, Gives, nothing, accepted, passed_over, Passes, after, start, step_of, world_of, world_or}
+use Rattle.av_world.specs.World.{WorldState, Gives, Outcome, nothing, accepted, refused_by_name, without_memory, Passes, after, start, step_of, world_of, world_or}
 use Rattle.av_world.specs.declared.event.Event.{Event}
 use Rattle.av_world.specs.declared.report.Report.{Report}
 
@@ -24,8 +24,11 @@ pub begins : (s : WorldState) → s.history ≡ [] → IsGiven s s []
 begins s none = record { gives = subst (Gives s []) (sym none) nothing; leads = ap (world_of s) (sym none) }
 
 pub goes_on : (s w next : WorldState) (es : List Event) (e : Event) → IsGiven s w es → Passes w next e → IsGiven s next (e ∷ es)
-goes_on s w next es e given (inl same) =
-    subst (λ x. IsGiven s x (e ∷ es)) (sym same) (record { gives = passed_over es w.history e given.gives; leads = given.leads })
+goes_on s w next es e given (inl same) = subst (λ x. IsGiven s x (e ∷ es)) (sym same) (record { gives = stays (step_of (world_of s w.history) e) refl; leads = given.leads })
+  where
+    stays : (r : Outcome) → step_of (world_of s w.history) e ≡ r → Gives s (e ∷ es) w.history
+    stays (Ok p) is = without_memory es w.history e given.gives (subst IsOk (sym is) refl)
+    stays (Err f) is = refused_by_name es w.history e f given.gives is
 goes_on s w next es e given (inr happened) =
     let joined : next.history ≡ e ∷ w.history = happened.2 in
     record {

@@ -264,7 +264,9 @@ world_of w (e ∷ es) = after (world_of w es) e
 pub data Gives (w : WorldState) : List Event → List Event → Type 0 where
   nothing : Gives w [] []
   accepted : (es hs : List Event) (e : Event) → Gives w es hs → IsOk (step_of (world_of w hs) e) → Gives w (e ∷ es) (e ∷ hs)
-  passed_over : (es hs : List Event) (e : Event) → Gives w es hs → Gives w (e ∷ es) hs
+  refused_by_name : (es hs : List Event) (e : Event) (f : StepFault) → Gives w es hs → step_of (world_of w hs) e ≡ Err f
+      → Gives w (e ∷ es) hs
+  without_memory : (es hs : List Event) (e : Event) → Gives w es hs → IsOk (step_of (world_of w hs) e) → Gives w (e ∷ es) hs
 
 -- a step goes on to the next world; where it is refused the world stays and the event is handed back
 abbrev pub Steps : WorldState → WorldState → Event → Result Report (Refused Event StepFault) → Type 0
