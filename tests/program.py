@@ -246,6 +246,10 @@ def kinds(cases, program):
             for words in (["scan", SET, LETTER, name], ["scan", name, LETTER], ["host", SET, LETTER, name], ["host", name, LETTER], ["filter", pipe + ".s", name], ["service", pipe + ".s", name]):
                 done = run([program, *words], stdout=subprocess.PIPE)
                 cases.check(f"avscan {' '.join(words)}", (done.returncode, done.stdout, done.stderr) == (4, b"", told), f"{done}")
+        done = run([program, "scan", SET, "/dev/stdin"], b"a letter", stdout=subprocess.PIPE)
+        cases.check("avscan scan of a pipe that it was handed", (done.returncode, done.stdout, done.stderr) == (0, b"/dev/stdin clean\n", b""), f"{done}")
+        done = run(["bash", "-c", f'"{program}" scan "{SET}" <(printf XX)'], stdout=subprocess.PIPE)
+        cases.check("avscan scan of a pipe of the shell", done.returncode == 0 and done.stdout.startswith(b"/dev/fd/") and done.stdout.endswith(b" clean\n"), f"{done}")
         name = os.path.join(work, "a\x1b[31m\n\x7f\u009bz\u00e9")
         told = os.fsencode(work) + rb"/a\x1b[31m\x0a\x7f\xc2\x9bz" + "\u00e9".encode()
         for words in (["scan", SET, name], ["host", SET, name], ["run", name], ["filter", pipe + ".s", name], ["service", pipe + ".s", name]):

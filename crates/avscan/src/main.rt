@@ -248,16 +248,14 @@ fn volume_of<E: Write>(
     Ok(volume)
 }
 
-// A file with its content as far as one byte past the limit, where it can be read. What is no regular file is not read: a
-// FIFO or a terminal may never end.
+// A file with its content as far as one byte past the limit, where it can be read.
 fn read_file<'a>(rt: &HostRuntime, name: &'a str, buffer: &'a mut [u8]) -> Input<'a> {
     let unread = Input {
         name,
         content: None,
     };
-    match fs::metadata(rt, name) {
-        Ok(metadata) if metadata.is_file() => {}
-        _ => return unread,
+    if !may_end(rt, name) {
+        return unread;
     }
     let Ok(file) = fs::open(rt, name) else {
         return unread;
@@ -268,5 +266,17 @@ fn read_file<'a>(rt: &HostRuntime, name: &'a str, buffer: &'a mut [u8]) -> Input
             content: Some(&buffer[..count]),
         },
         Err(_) => unread,
+    }
+}
+
+// Whether a file is regular, or one that the program was handed open. Any other is not waited for: a FIFO or a terminal may
+// never end.
+fn may_end(rt: &HostRuntime, name: &str) -> bool {
+    if name == "/dev/stdin" || name.starts_with("/dev/fd/") {
+        return true;
+    }
+    match fs::metadata(rt, name) {
+        Ok(metadata) => metadata.is_file(),
+        Err(_) => false,
     }
 }
