@@ -1,12 +1,13 @@
-use crate::tests::rows::{CONNECTED, CONNECTED_LINES, Head, ROWS, SCANNED, SCANNED_LINES};
-use av_base::Refusal;
-use av_fakes::{may_refuse, refuse_no_more};
 use crate::event::Event;
 use crate::output::judgement::print_judged;
 use crate::output::refusal::print_refused;
+use crate::report::Judged;
 use crate::script::command::Command;
 use crate::script::{Script, parse_script};
+use crate::tests::rows::{CONNECTED, CONNECTED_LINES, Head, ROWS, SCANNED, SCANNED_LINES};
 use crate::world::World;
+use av_base::Refusal;
+use av_fakes::{may_refuse, refuse_no_more};
 use std::alloc::Global;
 use std::collections::VecDeque;
 use std::process::Abort;
@@ -98,6 +99,8 @@ fn try_step<R: Abort>(
     out: &mut Vec<u8>,
 ) -> Result<(), Fail> {
     let before = sizes(world);
+    let held = world.held(alloc)?;
+    let judged = judgements(world);
     may_refuse(alloc);
     let first = world.step(alloc, event);
     refuse_no_more(alloc);
@@ -107,6 +110,8 @@ fn try_step<R: Abort>(
             Refusal::Fault(fault) => print_refused(fault.word(), out)?,
             Refusal::NoMemory => {
                 assert_eq!(rt; sizes(world), before);
+                assert_eq!(rt; world.held(alloc)?.as_slice(), held.as_slice());
+                assert_eq!(rt; judgements(world), judged);
                 step_with_memory(rt, alloc, world, refused.value, out)?;
             }
         },
@@ -129,6 +134,11 @@ fn step_with_memory<R: Abort>(
         },
     }
     Ok(())
+}
+
+// What is judged of two streams now: their generations, their contents and the latest set are in it.
+fn judgements(world: &World) -> [Option<Judged>; 2] {
+    [world.judge(b"a").ok(), world.judge(b"b").ok()]
 }
 
 // How much a world has kept: events, answers and messages each way.

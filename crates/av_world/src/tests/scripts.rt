@@ -1,9 +1,9 @@
-use av_base::{Mode, Refusal};
-use av_fakes::{FakeReader, FakeWriter, Fault, may_refuse, refuse_no_more};
-use av_store::StoreFault;
 use crate::fault::{JudgeFault, StepFault};
 use crate::run_script::{RunFault, run_script};
 use crate::script::{ScriptFault, parse_script};
+use av_base::{Mode, Refusal};
+use av_fakes::{FakeReader, FakeWriter, Fault, may_refuse, refuse_no_more};
+use av_store::StoreFault;
 use std::test::Fail;
 
 #[test]

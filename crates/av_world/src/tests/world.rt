@@ -1,11 +1,12 @@
-use av_base::{Generation, Limits, Mode, OpenId, StreamId, Verdict, Version};
-use av_cache::Entry;
-use av_fakes::{may_refuse, refuse_no_more};
-use av_pend::Answer;
+use crate::event::Event;
 use crate::given::Given;
 use crate::script::command::Command;
 use crate::script::parse_script;
 use crate::world::World;
+use av_base::{Generation, Limits, Mode, OpenId, StreamId, Verdict, Version};
+use av_cache::Entry;
+use av_fakes::{may_refuse, refuse_no_more};
+use av_pend::Answer;
 use std::alloc::Global;
 use std::process::Abort;
 use std::test::Fail;
@@ -64,6 +65,20 @@ fn a_world_tells_what_was_sent_and_answered(rt: HostRuntime) -> Result<(), Fail>
     assert_eq!(rt; sent, [11, 2, 3]);
     assert!(rt; answered);
     assert_eq!(rt; mount, (Mode::FailClosed, Limits::greatest()));
+    Ok(())
+}
+
+// No clause can say that memory was refused in truth: a run that lets nothing happen is proved too.
+#[test]
+fn a_run_that_is_not_refused_memory_lets_each_event_happen(rt: HostRuntime) -> Result<(), Fail> {
+    let world = granted(&rt, rt.alloc())?;
+    let history = world.history();
+    let happened = history.len();
+    let first = matches!(history.first(), Some(Event::Publish { .. }));
+    let last = matches!(history.last(), Some(Event::Up { place: 3 }));
+    world.close();
+    assert_eq!(rt; happened, 11);
+    assert!(rt; first && last);
     Ok(())
 }
 
