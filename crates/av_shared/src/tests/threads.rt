@@ -307,6 +307,15 @@ fn grants_are_present(audit: &GateAudit) -> bool {
         && present_grants(audit, StreamId::new(2)).is_some()
 }
 
+// How many calls the seats made together.
+fn calls_made(seats: &[Seat]) -> usize {
+    let mut made = 0usize;
+    for seat in seats {
+        made = made.saturating_add(seat.calls().len());
+    }
+    made
+}
+
 fn run_closed<R: Threads + Wait + Abort + Sync>(rt: &R, alloc: Global) -> Result<(), Fail> {
     let desk = desk_of(alloc, b"XX")?;
     let (gate, seat) = gate_of_two(alloc)?;
@@ -318,10 +327,12 @@ fn run_closed<R: Threads + Wait + Abort + Sync>(rt: &R, alloc: Global) -> Result
         }
     };
     let receipt_count = receipts.len();
+    let call_count = calls_made(seats.as_slice());
     let Ok((gate, desk)) = closed(gate, desk, seats, receipts) else {
         return Err(Fail::new("not closed"));
     };
     assert_eq!(rt; receipt_count, 40);
+    assert_eq!(rt; gate.events.len(), call_count);
     let used_up = joined(alloc, &gate, &desk)?;
     assert_eq!(rt; used_up, (gate.events.len(), desk.events.len()));
     assert!(rt; grants_are_present(&gate));
