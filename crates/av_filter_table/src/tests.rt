@@ -4,12 +4,12 @@ ghost use Rattle.av_filter_table.specs.Answering.{MayJudge};
 ghost use Rattle.av_filter_table.specs.FilterTable.{id_of, open_numbers};
 ghost use Rattle.av_filter_table.specs.Table.{question_at};
 
+use crate::{FilterTable, Question, answering};
 use av_base::{
     Cause, Generation, LimitField, LimitValues, Limits, MessageId, Mode, OpenId, StreamId, Verdict,
     Version,
 };
 use av_context::ContextState;
-use crate::{FilterTable, Question, answering};
 use av_pend::{Again, Answer, PendedOpen};
 use av_store::Volume;
 use std::alloc::Global;

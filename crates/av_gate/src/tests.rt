@@ -8,11 +8,11 @@ ghost use Rattle.av_gate.specs.Seats.{IsSeatOf};
 
 use self::rows::{ROWS, Row};
 use self::said::{Said, Step, Told, message_of, what_is_said, what_is_told};
+use crate::{Audit, CloseFault, Event, Gate, GateFault, Seat, Unclosed};
 use av_base::{LimitField, LimitValues, Limits, Mode, Refusal, Refused, StreamId};
 use av_ends::{Receipt, Ticket};
 use av_fakes::{may_refuse, refuse_no_more};
 use av_filter::Note;
-use crate::{Audit, CloseFault, Event, Gate, GateFault, Seat, Unclosed};
 use av_store::Volume;
 use std::alloc::Global;
 use std::process::Abort;

@@ -1,11 +1,11 @@
 // Calls of a desk that are to be accepted. Memory may be refused to each; it is made again then, and what it handed back is
 // handed in again.
 use crate::tests::said::{Said, all_said};
+use crate::{Desk, DeskFault, Lent, Taken};
 use av_base::{
     ByteList, Generation, LimitField, LimitValues, Limits, MessageId, Refusal, Refused, StreamId,
     Version,
 };
-use crate::{Desk, DeskFault, Lent, Taken};
 use av_fakes::{may_refuse, refuse_no_more};
 use av_frame::{Body, Message};
 use av_service::{Done, Note};

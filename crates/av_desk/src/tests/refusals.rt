@@ -1,8 +1,8 @@
 // Each refusal, in its order: nothing has changed, and what was handed in comes back.
 use crate::tests::calls;
 use crate::tests::said::{Said, told};
-use av_base::{Lease, LimitField, Limits, Refusal, Refused, Version};
 use crate::{Desk, DeskFault, Taken};
+use av_base::{Lease, LimitField, Limits, Refusal, Refused, Version};
 use av_frame::Message;
 use av_service::{Done, Note};
 use av_sigset::{Catalogue, SignatureSet};

@@ -1,8 +1,8 @@
 // Courses of events through a desk, driven by hand, with what they send and what the audit says of them.
 use crate::tests::calls;
 use crate::tests::said::{Asked, Row, Said, rows};
-use av_base::{Limits, Verdict};
 use crate::{Desk, Lent};
+use av_base::{Limits, Verdict};
 use av_service::Note;
 use std::alloc::Global;
 use std::process::Abort;

@@ -1,6 +1,6 @@
 // What a desk sent, and what its audit says that it was asked, as plain data.
-use av_base::{Lease, Verdict};
 use crate::{Audit, Entry, Event};
+use av_base::{Lease, Verdict};
 use av_frame::{Body, Message, Outcome};
 use av_service::Note;
 use std::alloc::{AllocError, Global};

@@ -2,8 +2,8 @@
 use crate::tests::calls;
 use crate::tests::rows::{JUDGED_TWICE, judged_twice};
 use crate::tests::said::{Said, told};
-use av_base::{Refused, Verdict};
 use crate::{Desk, Lent, Taken};
+use av_base::{Refused, Verdict};
 use av_fakes::{may_refuse, refuse_no_more};
 use av_frame::Message;
 use std::alloc::{AllocError, Global};

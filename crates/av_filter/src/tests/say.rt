@@ -1,6 +1,6 @@
 // What a filter gives out, as text.
-use av_base::{MessageId, Refusal};
 use crate::{FilterFault, Note, Out};
+use av_base::{MessageId, Refusal};
 use av_frame::{Body, Message};
 use av_pend::Answer;
 use std::alloc::{AllocError, Global};

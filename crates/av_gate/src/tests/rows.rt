@@ -1,7 +1,7 @@
 // Scripts of steps through one gate over the streams a and b, each at generation 2, and what comes of them.
+use crate::CloseFault;
 use crate::tests::said::{Said, Step, Told};
 use av_base::{Cause, LimitField, Mode};
-use crate::CloseFault;
 use av_store::StoreFault;
 
 #[derive(Clone, Copy)]

@@ -1,8 +1,8 @@
 // Steps of a gate, and what they say, as plain numbers.
+use crate::GateFault;
 use av_base::{Cause, MessageId, Refusal, Verdict, Version};
 use av_filter::{FilterFault, Note};
 use av_frame::{Body, Message, Outcome};
-use crate::GateFault;
 use av_pend::Answer;
 use av_store::StoreFault;
 

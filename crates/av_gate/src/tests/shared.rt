@@ -4,9 +4,9 @@ ghost use Rattle.av_gate.specs.Seats.{IsSeatOf};
 
 use super::said::{Step, Told, message_of, what_is_told};
 use super::{closed, gate_of_two, take};
+use crate::{Audit, CloseFault, Gate, GateFault, Seat};
 use av_base::{Limits, Mode, Refusal};
 use av_ends::{Receipt, Ticket};
-use crate::{Audit, CloseFault, Gate, GateFault, Seat};
 use std::alloc::Global;
 use std::process::Abort;
 use std::sync::Wait;

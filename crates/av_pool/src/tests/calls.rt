@@ -1,10 +1,10 @@
 // Works that a desk lends, and what comes out of a pool, as plain data.
 ghost use Rattle.std.specs.Prelude.{◌≡◌};
 
+use crate::{Giver, Stopped, Taker};
 use av_base::{ByteList, Generation, Limits, MessageId, StreamId, Verdict, Version};
 use av_desk::{Desk, Lent, Taken};
 use av_frame::{Body, Message};
-use crate::{Giver, Stopped, Taker};
 use av_service::Done;
 use av_sigset::{Catalogue, SignatureSet};
 use std::alloc::{AllocError, Global};

@@ -2,8 +2,8 @@
 ghost use Rattle.std.specs.Prelude.{◌≡◌};
 
 use crate::tests::calls;
-use av_base::Lease;
 use crate::{Giver, Pace, Pool, Taker};
+use av_base::Lease;
 use std::alloc::Global;
 use std::process::Abort;
 use std::sync::atomic::AtomicU64;

@@ -4,10 +4,10 @@ ghost use Rattle.av_pool.specs.Pool.{AreEndsOf};
 
 use crate::tests::calls;
 use crate::tests::calls::Told;
+use crate::{Giver, Pool, StartFault, Taker};
 use av_base::Refusal;
 use av_desk::{Desk, Lent};
 use av_fakes::{may_refuse, refuse_no_more};
-use crate::{Giver, Pool, StartFault, Taker};
 use std::alloc::Global;
 use std::sync::Wait;
 use std::test::Fail;
