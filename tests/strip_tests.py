@@ -12,6 +12,7 @@ import shutil
 import sys
 
 ITEM = re.compile(r"(?:pub(?:\(\w+\))? )?(?:const )?(fn|struct|enum|trait|type|const|static|impl)\b(?:<[^{]*?>(?= ))?(?:.*? for)? \W*(\w+)")
+VALUE = re.compile(r"(?:pub(?:\(\w+\))? )?(?:const|static) (?!fn)")
 WORD = re.compile(r"\w+")
 # A module of tests, in a file of its own or within a file.
 DECLARED = re.compile(r"#\[cfg\(test\)\]\n(?:pub(?:\(\w+\))? )?mod (\w+)(?:;\n| \{\n.*?^\}\n)", re.M | re.S)
@@ -29,21 +30,29 @@ class Block:
 
 
 def blocks_of(path):
-    """The items of a file. One ends at a line that begins no deeper than the item and closes it."""
-    blocks, lines = [], []
+    """The items of a file, with the lines above each that belong to it, and what stands between them."""
+    blocks, lines, is_within, is_value = [], [], False, None
     with open(path, encoding="utf-8") as file:
         for line in file.read().split("\n"):
             lines.append(line)
-            if not line or line[0] not in " \t" and line.endswith(("}", ";")):
+            if line and line[0] not in " \t#/":
+                is_within = not line.endswith(("}", ";"))
+                is_value = VALUE.match(line)
+            # (a value's last line may be an indented one)
+            if (not line or line[0] not in " \t#/") and not is_within or not line and is_value:
                 blocks.append(Block(lines))
-                lines = []
+                lines, is_within, is_value = [], False, None
     return blocks + [Block(lines)] * bool(lines)
 
 
 def reached(blocks, prefix):
-    """The tests that stay and the blocks that they name, through others too. What is written for a type is named with the type."""
+    """The tests that stay and the blocks that they, or lines that import, name, through others too. What is written for a type is named
+    with the type."""
     found = [it for it in blocks if it.is_test and prefix and it.name.startswith(prefix)]
     waiting, words = list(found), set()
+    for block in blocks:
+        if not block.kind and found:
+            words |= set(WORD.findall(block.text))
     while waiting:
         words |= waiting.pop().words
         more = [it for it in blocks if it.kind and not it.is_test and it.name in words and it not in found]
