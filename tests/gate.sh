@@ -3,7 +3,7 @@
 # built, and the must-fail edits. The last line counts them all.
 # `rt ci` runs in a copy without edits and without tests: it would try each edit in a check of its own, and prove each crate again with
 # its tests. A second proof of each crate, whose work is kept, is what edits and the tests that have to be built are tried over. Where
-# the machine is slow, the edits that are left after 120 minutes are not tried, and a line says how many. docs/GATE.md says what each
+# the machine is slow, the edits that are left after 125 minutes are not tried, and a line says how many. docs/GATE.md says what each
 # part costs.
 set -u
 cd "$(dirname "$0")/.."
@@ -56,9 +56,9 @@ echo "gate: proving each library, whose work is kept"
 python3 tests/prove.py --times "$times" --libraries || failed=$((failed + 1))
 done_with proofs
 echo "gate: the tests"
-step tests python3 tests/run_tests.py --times "$times"
+step tests python3 tests/run_tests.py --times "$times" --of 3
 echo "gate: refused memory"
-step refused-memory sh tests/refused-memory.sh $(grep -l refused_or_not_ -r crates/*/src | cut -d / -f 2 | sort -u)
+step refused-memory sh tests/refused-memory.sh $(cat out/built)
 echo "gate: values that must be spent"
 step must-be-spent python3 tests/must_be_spent.py
 echo "gate: the cases of tests/ on the built program"
@@ -80,7 +80,7 @@ step install sh tests/install.sh "$program"
 echo "gate: what the documents name"
 step documents python3 tests/docs.py "$program"
 echo "gate: must-fail edits, over the proofs that were kept"
-step edits python3 tests/edits.py --times "$times" --until $((begun + 7200))
+step edits python3 tests/edits.py --times "$times" --until $((begun + 7500))
 echo "gate: $(nproc) processors, $(($(date +%s) - begun)) s; out/gate-times has what each part took"
 echo "$passed passed, $failed failed"
 [ "$failed" = 0 ]
