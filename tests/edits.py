@@ -225,6 +225,12 @@ class Tally:
 def tried(crate, edits, crates, until, times):
     """Tries edits of a crate in a room of their own. Where the machine has no room for it, those that are left count as not tried."""
     begun, tally = time.time(), Tally(until)
+    kept = [f"{CRATES}/{it}/out/rlib/stamp" for it in rooms.below(crates, [crate]) if it != crate]
+    kept += [] if rooms.is_program(crate) else [f"{CRATES}/{crate}/out/incremental"]
+    if tally.is_over(len(edits)) or not all(map(os.path.exists, kept)):
+        tally.untried = len(edits)
+        print(f"{crate}: {len(edits)} edits were not tried, for want of time or of a proof that was kept", flush=True)
+        return tally
     with tempfile.TemporaryDirectory(prefix="edits-", dir=f"{TOP}/out", ignore_cleanup_errors=True) as room:
         try:
             tally.copy = Copy(crate, crates, room)

@@ -2,9 +2,9 @@
 # The whole gate: every proof from nothing (`rt ci`), every test, what must not compile, each case of tests/ on the program as it was
 # built, and the must-fail edits. The last line counts them all.
 # `rt ci` runs in a copy without edits and without tests: it would try each edit in a check of its own, and prove each crate again with
-# its tests. A second proof of each crate, whose work is kept, is what edits and the tests that have to be built are tried over. Where
-# the machine is slow, the edits that are left after 125 minutes are not tried, and a line says how many. docs/GATE.md says what each
-# part costs.
+# its tests. A second proof of each crate, whose work is kept, is what the tests that have to be built and the edits are tried over:
+# these come last, and none of them is begun once the gate has run for 125 minutes; lines say what was left. docs/GATE.md says what
+# each part costs.
 set -u
 cd "$(dirname "$0")/.."
 begun=$(date +%s)
@@ -52,15 +52,6 @@ python3 tests/strip_tests.py "$room" > "$room/log"
 step rt-ci sh -c 'cd "$1" && rt ci' - "$room" 2>&1
 program=$room/crates/avscan/out/avscan
 [ -x "$program" ] || { echo "gate: rt ci built no program"; echo "$passed passed, $((failed + 1)) failed"; exit 1; }
-echo "gate: proving each library, whose work is kept"
-python3 tests/prove.py --times "$times" --libraries || failed=$((failed + 1))
-done_with proofs
-echo "gate: the tests"
-step tests python3 tests/run_tests.py --times "$times" --of 3
-echo "gate: refused memory"
-step refused-memory sh tests/refused-memory.sh $(cat out/built)
-echo "gate: values that must be spent"
-step must-be-spent python3 tests/must_be_spent.py
 echo "gate: the cases of tests/ on the built program"
 step cases python3 tests/run.py "$program" tests/scripts tests/words tests/scan
 echo "gate: the tables of cases"
@@ -79,8 +70,19 @@ echo "gate: what is installed, and where"
 step install sh tests/install.sh "$program"
 echo "gate: what the documents name"
 step documents python3 tests/docs.py "$program"
+echo "gate: the tests"
+step tests python3 tests/run_tests.py --times "$times" --only run
+echo "gate: values that must be spent"
+step must-be-spent python3 tests/must_be_spent.py
+until=$((begun + 7500))
+echo "gate: proving each library, whose work is kept"
+python3 tests/prove.py --times "$times" --until $until --libraries || failed=$((failed + 1))
+done_with proofs
+echo "gate: refused memory"
+step built python3 tests/run_tests.py --times "$times" --only built --of 3 --until $until
+step refused-memory sh tests/refused-memory.sh $(cat out/built)
 echo "gate: must-fail edits, over the proofs that were kept"
-step edits python3 tests/edits.py --times "$times" --until $((begun + 7500))
+step edits python3 tests/edits.py --times "$times" --until $until
 echo "gate: $(nproc) processors, $(($(date +%s) - begun)) s; out/gate-times has what each part took"
 echo "$passed passed, $failed failed"
 [ "$failed" = 0 ]

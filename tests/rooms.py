@@ -139,15 +139,17 @@ class Job:
             return file.read()
 
 
-def in_lanes(tasks, begin, ended_with, count):
-    """Begins tasks side by side, each once those it waits for have ended well, first those with the most behind them.
+def in_lanes(tasks, begin, ended_with, count, until=float("inf")):
+    """Begins tasks side by side, each once those it waits for have ended well, first those with the most behind them, and none once
+    the clock (seconds since 1970) is past `until`.
 
     `tasks` has for each key its size and what it waits for, later ones behind; `begin(key, jobs, ended)` begins one and gives its
     Job; `ended_with(key, job)` says whether it ended well. `count` is how many processors there are. Gives the keys that were not begun.
     """
     first, left, running, done, ended = behind(tasks), list(tasks), {}, set(), threading.Condition()
     while left or running:
-        ready = sorted((it for it in left if done.issuperset(tasks[it][1])), key=lambda it: -first[it])
+        open_now = [] if time.time() > until else left
+        ready = sorted((it for it in open_now if done.issuperset(tasks[it][1])), key=lambda it: -first[it])
         if not ready and not running:
             break
         for at, key in enumerate(ready):
