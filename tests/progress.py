@@ -2,8 +2,8 @@
 """Random scripts, each stopped at a random place and then finished: by deliveries, runs and a new connection of the service alone, each
 open that waited must get the verdict of its stream.
 
-Which commands finish a script is read off the lines that the program printed. `publish 0` is refused and changes nothing: it stands after
-each command, and its line tells apart what the commands printed. The plain model foretells the list, so that the program runs once. The
+Which commands finish a script is read off the lines that the program printed. A name that is too long is refused and changes nothing: its
+creation stands after each command, and its line tells apart what the commands printed. The plain model foretells the list, so that the program runs once. The
 seed is the script's number: `tests/progress.py PROGRAM 17` tries that one. The last line says how many passed and how many failed."""
 import os, random, subprocess, sys
 import plain_world, random_scripts
@@ -11,7 +11,7 @@ import plain_world, random_scripts
 SECONDS = 60
 SCRIPTS = 2000
 ENOUGH = 500
-MARK, MARKED = "publish 0", "refused BadSet"
+MARK, MARKED = "create " + "x" * 256, "refused BadName"
 CARRYING = ("down ", "up ", "work ", "connect", "disconnect service")
 
 
