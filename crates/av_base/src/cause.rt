@@ -1,7 +1,7 @@
 ghost use Rattle.std.specs.Prelude.{◌≡◌, ◌↔◌, IsSome, IfSome};
 ghost use Rattle.av_base.specs.Cause.{number_of, IsCauseNumber};
 
-/// Why an open was not granted. Frames and scripts write a cause as its number.
+/// Why an open was not granted. Scripts print a cause as its number.
 #[derive(Clone, Copy, Debug, PartialEq, Eq)]
 pub enum Cause {
     /// There is no such stream.

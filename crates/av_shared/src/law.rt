@@ -13,7 +13,7 @@ use av_world::laws::audits;
 /// each message that came had been sent by the other side before, and where each work that came back to the desk is one that
 /// it lent: no two verdicts stand for one stream, generation and version; each grant of a fail-closed gate names the present
 /// generation of a content that holds no signature of its version; and each open is pended or answered, once. What is asked
-/// of each audit is what `close` says of it.
+/// of each audit is what `close` says of it; that the gate's volume keeps these files is asked beside it.
 pub fn headline_of_audits(gate: &av_gate::Audit, desk: &av_desk::Audit)
     requires gate { IsLegal gate.now }
     requires desk { IsServiceAudit (opened_by desk.now) (started_by desk.now) desk.now.events.items }
