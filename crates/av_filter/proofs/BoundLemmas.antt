@@ -1,20 +1,13 @@
 -- Every event leaves the streams of a volume in their ranges.
-use Rattle.std.proofs.Common.{◌≡◌, ℕ, ◌+◌, ◌<◌, ◌≤◌, true, false, cond, not, ◌&&◌, ◌||◌, ◌==◌, nat_le, nat_lt, List, [], ◌∷◌, ◌++◌, length, take, drop, Option, Some, None, Result, Ok, Err, refl, sym, ap, ◌∙◌, subst, arith, length-append}
-use Rattle.std.proofs.lemmas.Bool.{cond_both, leb-false, ltb-false}
-use Rattle.std.proofs.lemmas.List.{length-take, length-drop}
-use Rattle.std.specs.List.{AllByRecursion as Each, list_any}
-use Rattle.std.specs.Map.{remove_entry, set_value}
-use Rattle.std.specs.Prelude.{is_some}
-use Rattle.av_base.proofs.LimitLemmas.{generation_in}
-use Rattle.av_base.specs.Overwrite.{overwritten}
-use Rattle.av_base.specs.declared.limits.LimitValues.{LimitValues}
+use Rattle.std.proofs.Common.{◌≡◌, ℕ, not, ◌&&◌, ◌==◌, nat_le, nat_lt, List, length, Option, Some, None, refl, sym, subst}
+use Rattle.std.proofs.lemmas.Bool.{cond_both}
+use Rattle.std.specs.List.{list_any}
 use Rattle.av_base.specs.declared.verdict.Verdict.{Verdict}
 use Rattle.av_cache.specs.declared.entry.Entry.{Entry}
-use Rattle.av_filter.proofs.EachLemmas.{each-append}
 use Rattle.av_filter.proofs.FitLemmas.{accepted}
 use Rattle.av_filter.specs.Again.{again}
 use Rattle.av_filter_table.specs.Asking.{is_held}
-use Rattle.av_filter.specs.Bounds.{AreInBounds, IsInBounds, KeepsBounds}
+use Rattle.av_filter.specs.Bounds.{KeepsBounds}
 use Rattle.av_filter.specs.Changing.{changed_volume, changes, cleaned, removed, rewritten}
 use Rattle.av_filter.specs.Conduct.{FilterEvent, Opens, Changes, CleansUp, Receives, TimesOut, Disconnects, Restarts, booted, disconnects, filter_refusal, filter_step, restarts, times_out}
 use Rattle.av_filter.specs.Opening.{open_asked, open_cached, open_found, open_judged, opened, taken}
@@ -27,125 +20,12 @@ use Rattle.av_frame.specs.declared.message.Body.{Body}
 use Rattle.av_frame.specs.declared.message.Body.TheVariants.{Hello, Read, Reply, Updated}
 use Rattle.av_frame.specs.declared.outcome.Outcome.{Outcome}
 use Rattle.av_frame.specs.declared.outcome.Outcome.TheVariants.{Judged, Failed}
-use Rattle.av_store.specs.Content.{cut_to, new_stream, written}
+use Rattle.av_store.proofs.BoundLemmas.{change_in}
+use Rattle.av_store.specs.Bounds.{AreInBounds}
 use Rattle.av_store.specs.Files.{Change, Create, Write, Cut, Remove}
-use Rattle.av_store.specs.Rows.{Streams, is_number, number_named, replaced, stream_at, without}
-use Rattle.av_store.specs.Seen.{change_of, volume_of}
-use Rattle.av_store.specs.Store.{Store, create_of, greatest, is_name, on_stream, put_stream, remove_of, stepped, with_streams}
-use Rattle.av_store.specs.declared.fault.StoreFault.{StoreFault}
-use Rattle.av_store.specs.declared.fault.StoreFault.TheVariants.{NoStream}
+use Rattle.av_store.specs.Rows.{stream_at}
+use Rattle.av_store.specs.Store.{Store}
 use Rattle.av_store.specs.declared.stream.Stream.{Stream}
-
--- ---- lists of streams
-
--- what holds of each row holds of the one that is found
-found_in : (P : ℕ → Stream → Type 0) (ss : Streams) (s : ℕ) (x : Stream) → Each (λ (r : ℕ × Stream). P r.0 r.1) ss → stream_at s ss ≡ Some x → (n : ℕ) × P n x
-found_in P [] s x all h = absurd (cc (h))
-found_in P (r ∷ ss) s x all h =
-    (elim (is_number s r.0) as (λ b. cond b (Some r.1) (stream_at s ss) ≡ Some x → (n : ℕ) × P n x) [
-      | true ↦ λ g. let same : r.1 ≡ x = cc (g) in (r.0, subst (P r.0) same all.0)
-      | false ↦ λ g. found_in P ss s x all.1 g
-    ]) h
-
-replaced_in : (limits : LimitValues) (ss : Streams) (s : ℕ) (y : Stream) → ((n : ℕ) → 1 ≤ n → IsInBounds limits (n, y)) → Each (IsInBounds limits) ss → Each (IsInBounds limits) (replaced s y ss)
-replaced_in limits [] s y h all = tt
-replaced_in limits (r ∷ ss) s y h all =
-    elim (is_number s r.0) as (λ b. Each (IsInBounds limits) (cond b ((r.0, y) ∷ ss) (r ∷ set_value (is_number s) ss y))) [
-      | true ↦ (h r.0 all.0.number, all.1)
-      | false ↦ (all.0, replaced_in limits ss s y h all.1)
-    ]
-
-without_in : (limits : LimitValues) (ss : Streams) (s : ℕ) → Each (IsInBounds limits) ss → Each (IsInBounds limits) (without s ss)
-without_in limits [] s all = tt
-without_in limits (r ∷ ss) s all =
-    elim (is_number s r.0) as (λ b. Each (IsInBounds limits) (cond b ss (r ∷ remove_entry (is_number s) ss))) [
-      | true ↦ all.1
-      | false ↦ (all.0, without_in limits ss s all.1)
-    ]
-
--- ---- steps on one stream
-
--- a stream by itself
-record Bounded (limits : LimitValues) (x : Stream) : Type 0 where
-  low : 1 ≤ x.generation
-  high : x.generation ≤ limits.generation
-  size : length x.bytes ≤ limits.length
-
-written_in : (limits : LimitValues) (o : ℕ) (b : List ℕ) (x y : Stream) → Bounded limits x → written limits o b x ≡ Ok y → Bounded limits y
-written_in limits o b x y h is =
-    cond_both (nat_lt (length x.bytes) o) _ _ (λ r. r ≡ Ok y → Bounded limits y) (λ e g. absurd (cc (g)))
-    (λ e. cond_both (nat_lt limits.length (o + length b)) _ _ (λ r. r ≡ Ok y → Bounded limits y) (λ w g. absurd (cc (g)))
-    (λ w. cond_both (nat_le limits.generation x.generation) _ _ (λ r. r ≡ Ok y → Bounded limits y) (λ k g. absurd (cc (g)))
-    (λ k g.
-    let next : Stream = record x { generation = x.generation + 1; bytes = overwritten x.bytes o b } in
-    let same : next ≡ y = cc (g) in
-    let hole : o ≤ length x.bytes = ltb-false (length x.bytes) o e in
-    let fits : o + length b ≤ limits.length = ltb-false limits.length (o + length b) w in
-    let more : x.generation < limits.generation = leb-false limits.generation x.generation k in
-    let tail : List ℕ = drop (o + length b) x.bytes in
-    let total : length (overwritten x.bytes o b) ≡ length (take o x.bytes) + length b + length tail = length-append (take o x.bytes ++ b) tail ∙ ap (λ n. n + length tail) (length-append (take o x.bytes) b) in
-    let front = length-take o x.bytes in
-    let rest = length-drop (o + length b) x.bytes in
-    subst (Bounded limits) same (record { low = omega arith; high = omega (arith, more); size = omega (arith, total, front, rest, hole, fits, h.size) })))) is
-
-cut_in : (limits : LimitValues) (n : ℕ) (x y : Stream) → Bounded limits x → cut_to limits n x ≡ Ok y → Bounded limits y
-cut_in limits n x y h is =
-    cond_both (nat_lt (length x.bytes) n) _ _ (λ r. r ≡ Ok y → Bounded limits y) (λ e g. absurd (cc (g)))
-    (λ e. cond_both (nat_le limits.generation x.generation) _ _ (λ r. r ≡ Ok y → Bounded limits y) (λ k g. absurd (cc (g)))
-    (λ k g.
-    let next : Stream = record x { generation = x.generation + 1; bytes = take n x.bytes } in
-    let same : next ≡ y = cc (g) in
-    let more : x.generation < limits.generation = leb-false limits.generation x.generation k in
-    let front = length-take n x.bytes in
-    subst (Bounded limits) same (record { low = omega arith; high = omega (arith, more); size = omega (arith, front, h.size) }))) is
-
-stepped_in : (v w : Store) (s : ℕ) (step : Stream → Result Stream StoreFault) → ((x y : Stream) → Bounded v.limits x → step x ≡ Ok y → Bounded v.limits y) → AreInBounds v → with_streams v (stepped v.streams s step) ≡ Ok w → AreInBounds w
-stepped_in v w s step keep a h =
-    (elim (stream_at s v.streams) as (λ o. stream_at s v.streams ≡ o → with_streams v (put_stream v.streams s (on_stream o step)) ≡ Ok w → AreInBounds w) [
-      | None ↦ λ at g. absurd (cc (g))
-      | Some x ↦ λ at g.
-          let here = found_in (λ n y. IsInBounds v.limits (n, y)) v.streams s x (each_pair v.limits v.streams a.streams) at in
-          let bounded : Bounded v.limits x = record { low = here.1.low; high = here.1.high; size = here.1.size } in
-          (elim (step x) as (λ r. step x ≡ r → with_streams v (put_stream v.streams s r) ≡ Ok w → AreInBounds w) [
-            | Ok y ↦ λ is k.
-                let same : record v { streams = replaced s y v.streams } ≡ w = cc (k) in
-                let b : Bounded v.limits y = keep x y bounded is in
-                subst AreInBounds same (record { limits = a.limits; streams = replaced_in v.limits v.streams s y (λ n low. record { number = low; low = b.low; high = b.high; size = b.size }) a.streams })
-            | Err f ↦ λ is k. absurd (cc (k))
-          ]) refl g
-    ]) refl h
-  where
-    each_pair : (limits : LimitValues) (ss : Streams) → Each (IsInBounds limits) ss → Each (λ (r : ℕ × Stream). IsInBounds limits (r.0, r.1)) ss
-    each_pair limits [] all = tt
-    each_pair limits (r ∷ ss) all = (all.0, each_pair limits ss all.1)
-
-created_in : (v w : Store) (name : List ℕ) → AreInBounds v → volume_of (create_of v name) ≡ Ok w → AreInBounds w
-created_in v w name a h =
-    cond_both (not (is_name name)) _ _ (λ (r : Result (ℕ × Store) StoreFault). volume_of r ≡ Ok w → AreInBounds w) (λ e g. absurd (cc (g)))
-    (λ e. cond_both (is_some (number_named name v.streams)) _ _ (λ (r : Result (ℕ × Store) StoreFault). volume_of r ≡ Ok w → AreInBounds w) (λ e g. absurd (cc (g)))
-    (λ e. cond_both (nat_le v.limits.streams (length v.streams) || nat_le greatest v.last) _ _ (λ (r : Result (ℕ × Store) StoreFault). volume_of r ≡ Ok w → AreInBounds w) (λ e g. absurd (cc (g)))
-    (λ e g.
-    let next : Store = record v { streams = v.streams ++ (v.last + 1, new_stream name) ∷ []; last = v.last + 1 } in
-    let same : next ≡ w = cc (g) in
-    subst AreInBounds same
-    (record {
-      limits = a.limits;
-      streams = each-append (IsInBounds v.limits) v.streams ((v.last + 1, new_stream name) ∷ []) a.streams (record { number = omega arith; low = omega arith; high = (generation_in v.limits a.limits).0; size = omega arith }, tt);
-    })))) h
-
-removed_in : (v w : Store) (s : ℕ) → AreInBounds v → remove_of v s ≡ Ok w → AreInBounds w
-removed_in v w s a h =
-    (elim (is_some (stream_at s v.streams)) as (λ b. with_streams v (cond b (Ok (without s v.streams)) (Err NoStream)) ≡ Ok w → AreInBounds w) [
-      | true ↦ λ g. let same : record v { streams = without s v.streams } ≡ w = cc (g) in subst AreInBounds same (record { limits = a.limits; streams = without_in v.limits v.streams s a.streams })
-      | false ↦ λ g. absurd (cc (g))
-    ]) h
-
-pub change_in : (v w : Store) (c : Change) → AreInBounds v → change_of v c ≡ Ok w → AreInBounds w
-unfolding change_of
-change_in v w (Create name) a h = created_in v w name a h
-change_in v w (Write s o b) a h = stepped_in v w s (written v.limits o b) (λ x y bounded is. written_in v.limits o b x y bounded is) a h
-change_in v w (Cut s n) a h = stepped_in v w s (cut_to v.limits n) (λ x y bounded is. cut_in v.limits n x y bounded is) a h
-change_in v w (Remove s) a h = removed_in v w s a h
 
 -- ---- the volume after each event
 

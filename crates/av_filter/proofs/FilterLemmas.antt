@@ -3,9 +3,7 @@ use Rattle.std.proofs.Common.{◌≡◌, ℕ, None, IfOk, OnOk, Result, Ok, Err,
 use Rattle.av_base.specs.declared.limits.LimitValues.{LimitValues}
 use Rattle.av_base.specs.declared.mode.Mode.{Mode}
 use Rattle.av_base.specs.declared.refusal.Refusal.{Refusal}
-use Rattle.av_filter.proofs.BoundLemmas.{keeps_bounds}
 use Rattle.av_filter.proofs.FitLemmas.{event_fits, mounted_fits, opened_fits}
-use Rattle.av_filter.specs.Bounds.{AreInBounds}
 use Rattle.av_filter.specs.Call.{Meets, MeetsAlways, Reacts}
 use Rattle.av_filter.specs.Conduct.{FilterEvent, booted, filter_refusal, filter_step, restarts}
 use Rattle.av_filter.specs.Fit.{Fits}
@@ -28,10 +26,6 @@ pub fits_unless : (result : Result Out (Refusal FilterFault)) (t : Table) (v : S
 fits_unless (Ok out) t v t' v' e fits is = fits_where out t' v' (filter_step t v e) is.1 (event_fits t v e fits is.0)
 fits_unless (Err why) t v t' v' e fits is = tt
 
-pub bounds_unless : (result : Result Out (Refusal FilterFault)) (t : Table) (v : Store) (t' : Table) (v' : Store) (e : FilterEvent) → AreInBounds v → Meets t v t' v' result (filter_refusal t v e) (filter_step t v e) → OnOk result (AreInBounds v')
-bounds_unless (Ok out) t v t' v' e bounds is = subst AreInBounds (sym is.1.volume) (keeps_bounds.events t v e bounds is.0)
-bounds_unless (Err why) t v t' v' e bounds is = tt
-
 -- an open whose number is taken
 pub fits_opened : (out : Out) (t : Table) (v : Store) (t' : Table) (v' : Store) (s least : ℕ) → Fits t v → v' ≡ taken v → Reacts out t' (taken v) (opened t v s least) → Fits t' v'
 fits_opened out t v t' v' s least fits is reacts = subst (Fits t') (sym is) (fits_where out t' (taken v) (opened t v s least) reacts (opened_fits t v fits s least))
@@ -48,7 +42,3 @@ fits_restarted out t t' v v' is = fits_where out t' v' (restarts t v) is (mounte
 pub on_restart : {E : Type 0} (P : Type 0) (r : Result Out E) (t t' : Table) (v v' : Store) → ((out : Out) → Reacts out t' v' (restarts t v) → P) → IfOk r (λ out. Reacts out t' v' (restarts t v)) → OnOk r P
 on_restart P (Ok out) t t' v v' f h = f out h
 on_restart P (Err e) t t' v v' f h = tt
-
-pub bounds_restarted : (out : Out) (t t' : Table) (v v' : Store) → AreInBounds v → Reacts out t' v' (restarts t v) → AreInBounds v'
-unfolding restarts
-bounds_restarted out t t' v v' bounds is = subst AreInBounds (sym is.volume) (record { limits = bounds.limits; streams = bounds.streams })

@@ -16,7 +16,6 @@ use Rattle.av_filter.proofs.EachLemmas.{find_each, find_passes}
 use Rattle.av_filter.proofs.ClosingLemmas.{own_id}
 use Rattle.av_filter.proofs.VolumeLemmas.{there_after}
 use Rattle.av_filter.proofs.QuestionLemmas.{found_own}
-use Rattle.av_filter.specs.Bounds.{AreInBounds, IsInBounds}
 use Rattle.av_filter.specs.Fit.{AreInOrder, Fits, IsGiven, IsPresent, IsScanned, IsThere}
 use Rattle.av_filter.specs.Ready.{IsRunning}
 use Rattle.av_filter_table.specs.Answering.{present_generation, stream_generation}
@@ -24,6 +23,7 @@ use Rattle.av_filter_table.specs.FilterTable.{id_of}
 use Rattle.av_filter_table.specs.Rewriting.{change_by}
 use Rattle.av_filter_table.specs.declared.rewriting.Rewriting.{Rewriting}
 use Rattle.av_filter_table.specs.declared.rewriting.Rewriting.TheVariants as rewriting
+use Rattle.av_store.specs.Bounds.{AreInBounds, IsInBounds}
 use Rattle.av_store.specs.Files.{Write, Cut}
 use Rattle.av_store.specs.Seen.{change_of}
 use Rattle.av_filter_table.specs.Table.{Table, context_of, is_modified, question_at, question_of}

@@ -1,26 +1,13 @@
--- A volume whose streams are in the ranges that messages want.
-use Rattle.std.specs.Prelude.{ℕ, ◌≡◌, ◌≤◌, length, None}
-use Rattle.std.specs.List.{AllByRecursion}
+-- The ranges of a volume's streams, over events.
+use Rattle.std.specs.Prelude.{ℕ, ◌≡◌, None}
 use Rattle.av_base.specs.Limits.{AreInRange}
 use Rattle.av_base.specs.declared.limits.LimitValues.{LimitValues}
 use Rattle.av_filter.specs.Conduct.{FilterEvent, filter_refusal, filter_step}
 use Rattle.av_filter_table.specs.Table.{Table}
+use Rattle.av_store.specs.Bounds.{AreInBounds}
 use Rattle.av_store.specs.Store.{Store, empty_store}
-use Rattle.av_store.specs.declared.stream.Stream.{Stream}
 
--- a stream's number, generation and length
-pub record IsInBounds (limits : LimitValues) (s : ℕ × Stream) : Type 0 where
-  pub number : 1 ≤ s.0
-  pub low : 1 ≤ s.1.generation
-  pub high : s.1.generation ≤ limits.generation
-  pub size : length s.1.bytes ≤ limits.length
-
--- the limits are in range, and so is each stream under them
-pub record AreInBounds (v : Store) : Type 0 where
-  pub limits : AreInRange v.limits
-  pub streams : AllByRecursion (IsInBounds v.limits) v.streams
-
--- an empty volume is so, and every event leaves it so
+-- an empty volume is in them, and every event leaves it so
 pub record KeepsBounds : Type 0 where
   pub starts : (number : ℕ) (limits : LimitValues) → AreInRange limits → AreInBounds (empty_store number limits)
   pub events : (t : Table) (v : Store) (e : FilterEvent) → AreInBounds v → filter_refusal t v e ≡ None

@@ -4,7 +4,8 @@ ghost use Rattle.std.specs.Vec.{vec_capacity};
 ghost use Rattle.av_base.specs.declared.cause.Cause.TheVariants.{Unsettled};
 ghost use Rattle.av_filter.specs.Again.{again};
 ghost use Rattle.av_filter.specs.Call.{MeetsAlways};
-ghost use Rattle.av_filter.specs.Ready.{IsReady, IsRunning};
+ghost use Rattle.av_filter.specs.Fit.{Fits};
+ghost use Rattle.av_filter.specs.Ready.{IsRunning};
 ghost use Rattle.av_filter_table.specs.Answering.{by_mode};
 ghost use Rattle.av_filter_table.specs.Asking.{asked_again, is_held, is_lost};
 ghost use Rattle.av_filter_table.specs.Table.{next_id, opens_of, sequence_left};
@@ -28,7 +29,7 @@ pub(crate) fn ask_again(
     volume: &Volume,
     question: &Question,
 ) -> Result<Out, AllocError>
-    requires ready { IsReady table.old volume.now }
+    requires fits { Fits table.old volume.now }
     requires runs { IsRunning table.old question.now }
     ensures { MeetsAlways table.old volume.now table.new volume.now result (again table.old volume.now question.now []) }
 {

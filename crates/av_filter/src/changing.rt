@@ -6,7 +6,8 @@ ghost use Rattle.av_filter.specs.Again.{again};
 ghost use Rattle.av_filter.specs.Call.{Meets, MeetsAlways};
 ghost use Rattle.av_filter.specs.Changing.{changed_volume, changes, cleaned, removed, rewritten};
 ghost use Rattle.av_filter.specs.Conduct.{Changes, filter_refusal};
-ghost use Rattle.av_filter.specs.Ready.{IsReady, IsRunning};
+ghost use Rattle.av_filter.specs.Fit.{Fits};
+ghost use Rattle.av_filter.specs.Ready.{IsRunning};
 ghost use Rattle.av_filter.specs.declared.fault.FilterFault.{FilterFault};
 ghost use Rattle.av_filter.specs.declared.fault.FilterFault.TheVariants as fault;
 ghost use Rattle.av_filter_table.specs.Answering.{by_mode};
@@ -44,7 +45,7 @@ pub(crate) fn rewrite(
     stream: StreamId,
     rewriting: Rewriting<'_>,
 ) -> Result<Out, Refusal<FilterFault>>
-    requires { IsReady table.old volume.old }
+    requires { Fits table.old volume.old }
     ensures { Meets table.old volume.old table.new volume.new result
         (option_map fault.Store (result_err (change_of volume.old (change_by stream rewriting.entry)))) (rewritten table.old
         (changed_volume volume.old (change_by stream rewriting.entry)) stream (question_of stream table.old.questions)) }
@@ -68,7 +69,7 @@ fn rewrite_asked(
     question: &Question,
     rewriting: Rewriting<'_>,
 ) -> Result<Out, AllocError>
-    requires ready { IsReady table.old volume.old }
+    requires fits { Fits table.old volume.old }
     requires runs { IsRunning table.old question.now }
     requires accepted { result_err (change_of volume.old (change_by question.now.stream rewriting)) ≡ None }
     ensures { MeetsAlways table.old volume.old table.new volume.new result (again table.old
@@ -112,7 +113,7 @@ fn ask_anew_after(
     question: &Question,
     answers: &mut Vec<Answer>,
 ) -> Result<MessageId, AllocError>
-    requires ready { IsReady table.old volume.old }
+    requires fits { Fits table.old volume.old }
     requires runs { IsRunning table.old question.now }
     requires accepted { result_err (change_of volume.old (change_by question.now.stream rewriting)) ≡ None }
     requires left { sequence_left table.old ≡ true }
@@ -125,7 +126,7 @@ fn ask_anew_after(
     ensures table { OnOk result (table.new ≡ asked_again table.old volume.new question.now) }
     ensures err { OnErr result ((table.new ≡ table.old) × (volume.new ≡ volume.old)) }
 {
-    let _mounted = table.boot();
+    let (_mounted, _ranges) = (table.boot(), volume.limits());
     table.ask_again_after(volume, rewriting, question.id.seq, answers)
 }
 
@@ -137,7 +138,7 @@ pub(crate) fn remove(
     volume: &mut Volume,
     stream: StreamId,
 ) -> Result<Out, Refusal<FilterFault>>
-    requires { IsReady table.old volume.old }
+    requires { Fits table.old volume.old }
     ensures { Meets table.old volume.old table.new volume.new result
         (filter_refusal table.old volume.old (Changes (Remove stream))) (changes table.old volume.old (Remove stream)) }
 {
@@ -178,7 +179,7 @@ pub(crate) fn clean_up(
     volume: &Volume,
     stream: StreamId,
 ) -> Result<Out, AllocError>
-    requires { IsReady table.old volume.now }
+    requires { Fits table.old volume.now }
     ensures { MeetsAlways table.old volume.now table.new volume.now result
         (cleaned table.old volume.now stream (stream_at stream volume.now.streams)) }
 {

@@ -1,6 +1,5 @@
 ghost use Rattle.std.specs.Prelude.{◌≡◌, ◌↔◌, [], Ok, Err, IsOk, IfErr, IfOk, OnErr, OnOk, length};
 ghost use Rattle.av_base.specs.Answers.{Reads};
-ghost use Rattle.av_filter.specs.Bounds.{AreInBounds};
 ghost use Rattle.av_filter.specs.Call.{Meets, MeetsAlways, Reacts};
 ghost use Rattle.av_filter.specs.Changing.{changes, cleaned};
 ghost use Rattle.av_filter.specs.Conduct.{Changes, Opens, TimesOut, disconnects, filter_refusal, filter_step, restarts};
@@ -52,13 +51,11 @@ impl Filter {
         mode: Mode,
         limits: Limits,
     ) -> Result<Filter, Refusal<BootSpent>>
-        requires { AreInBounds volume.old }
         ensures ok { IfOk result (λ f. (f ≡ mounted mode limits volume.new.boot)
             × (mount_of volume.old ≡ Ok (volume.new.boot, volume.new))) }
         ensures err { OnErr result (volume.new ≡ volume.old) }
         ensures why { IfErr result (λ e. Reads (Err e) (mount_of volume.old)) }
         ensures fits { IfOk result (λ f. Fits f volume.new) }
-        ensures bounds { OnOk result (AreInBounds volume.new) }
     {
         let last = volume.boot();
         if last == u64::MAX {
@@ -81,11 +78,9 @@ impl Filter {
         least: Version,
     ) -> Result<Out, Refusal<FilterFault>>
         requires fits { Fits self.old volume.old }
-        requires bounds { AreInBounds volume.old }
         ensures event { Meets self.old volume.old self.new volume.new result
             (filter_refusal self.old volume.old (Opens stream least)) (opened self.old volume.old stream least) }
         ensures fits { OnOk result (Fits self.new volume.new) }
-        ensures bounds { OnOk result (AreInBounds volume.new) }
     {
         if volume.opens_left() == 0 {
             return Err(Refusal::Fault(FilterFault::OpensSpent));
@@ -108,11 +103,9 @@ impl Filter {
         bytes: &[u8],
     ) -> Result<Out, Refusal<FilterFault>>
         requires fits { Fits self.old volume.old }
-        requires bounds { AreInBounds volume.old }
         ensures event { Meets self.old volume.old self.new volume.new result (filter_refusal self.old volume.old
             (Changes (Write stream offset bytes.now))) (changes self.old volume.old (Write stream offset bytes.now)) }
         ensures fits { OnOk result (Fits self.new volume.new) }
-        ensures bounds { OnOk result (AreInBounds volume.new) }
     {
         let rewriting = Rewriting::Write { offset, bytes };
         changing::rewrite(&mut self.table, alloc, volume, stream, rewriting)
@@ -128,11 +121,9 @@ impl Filter {
         length: u64,
     ) -> Result<Out, Refusal<FilterFault>>
         requires fits { Fits self.old volume.old }
-        requires bounds { AreInBounds volume.old }
         ensures event { Meets self.old volume.old self.new volume.new result (filter_refusal self.old volume.old
             (Changes (Cut stream length))) (changes self.old volume.old (Cut stream length)) }
         ensures fits { OnOk result (Fits self.new volume.new) }
-        ensures bounds { OnOk result (AreInBounds volume.new) }
     {
         let rewriting = Rewriting::Cut { length };
         changing::rewrite(&mut self.table, alloc, volume, stream, rewriting)
@@ -147,11 +138,9 @@ impl Filter {
         stream: StreamId,
     ) -> Result<Out, Refusal<FilterFault>>
         requires fits { Fits self.old volume.old }
-        requires bounds { AreInBounds volume.old }
         ensures event { Meets self.old volume.old self.new volume.new result
             (filter_refusal self.old volume.old (Changes (Remove stream))) (changes self.old volume.old (Remove stream)) }
         ensures fits { OnOk result (Fits self.new volume.new) }
-        ensures bounds { OnOk result (AreInBounds volume.new) }
     {
         changing::remove(&mut self.table, alloc, volume, stream)
     }
@@ -165,7 +154,6 @@ impl Filter {
         stream: StreamId,
     ) -> Result<Out, AllocError>
         requires fits { Fits self.old volume.now }
-        requires bounds { AreInBounds volume.now }
         ensures event { MeetsAlways self.old volume.now self.new volume.now result
             (cleaned self.old volume.now stream (stream_at stream volume.now.streams)) }
         ensures fits { OnOk result (Fits self.new volume.now) }
@@ -182,7 +170,6 @@ impl Filter {
         message: &Message,
     ) -> Result<Out, AllocError>
         requires fits { Fits self.old volume.now }
-        requires bounds { AreInBounds volume.now }
         ensures event { MeetsAlways self.old volume.now self.new volume.now result (receives self.old volume.now message.now) }
         ensures fits { OnOk result (Fits self.new volume.now) }
     {
@@ -193,7 +180,6 @@ impl Filter {
     #[tactic(auto, unfolding(crate::specs::Conduct::filter_step))]
     pub fn timeout(&mut self, alloc: Global, volume: &Volume, seq: u64) -> Result<Out, AllocError>
         requires fits { Fits self.old volume.now }
-        requires bounds { AreInBounds volume.now }
         ensures event { MeetsAlways self.old volume.now self.new volume.now result
             (filter_step self.old volume.now (TimesOut seq)) }
         ensures fits { OnOk result (Fits self.new volume.now) }
@@ -204,7 +190,6 @@ impl Filter {
     /// The service is lost: every question ends, and every open is answered by the mode. It costs a logarithm for each.
     pub fn disconnect(&mut self, alloc: Global, volume: &Volume) -> Result<Out, AllocError>
         requires fits { Fits self.old volume.now }
-        requires bounds { AreInBounds volume.now }
         ensures event { MeetsAlways self.old volume.now self.new volume.now result (disconnects self.old volume.now) }
         ensures fits { OnOk result (Fits self.new volume.now) }
     {
@@ -214,12 +199,10 @@ impl Filter {
     /// Mounts the filter anew, in its place: BootSpent, NoMemory. Every open is answered by the mode, and nothing is known
     /// any more. It costs a logarithm for each open and question, and a new cache.
     pub fn remount(&mut self, alloc: Global, volume: &mut Volume) -> Result<Out, Refusal<BootSpent>>
-        requires { AreInBounds volume.old }
         ensures ok { IfOk result (λ out. Reacts out self.new volume.new (restarts self.old volume.old)) }
         ensures err { OnErr result ((self.new ≡ self.old) × (volume.new ≡ volume.old)) }
         ensures why { IfErr result (λ e. Reads (Err e) (mount_of volume.old)) }
         ensures fits { OnOk result (Fits self.new volume.new) }
-        ensures bounds { OnOk result (AreInBounds volume.new) }
     {
         ending_all::remount(&mut self.table, alloc, volume)
     }
@@ -230,12 +213,10 @@ impl Filter {
         alloc: Global,
         volume: &mut Volume,
     ) -> Result<(Filter, Out), Refused<Filter, BootSpent>>
-        requires { AreInBounds volume.old }
         ensures ok { IfOk result (λ r. Reacts r.1 r.0 volume.new (restarts self volume.old)) }
         ensures err { IfErr result (λ e. (e.value ≡ self) × (volume.new ≡ volume.old)) }
         ensures why { IfErr result (λ e. Reads (Err e.why) (mount_of volume.old)) }
         ensures fits { IfOk result (λ r. Fits r.0 volume.new) }
-        ensures bounds { OnOk result (AreInBounds volume.new) }
     {
         let mut filter = self;
         match filter.remount(alloc, volume) {

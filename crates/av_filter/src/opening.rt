@@ -3,8 +3,9 @@ ghost use Rattle.std.specs.Option.{option_map};
 ghost use Rattle.av_cache.specs.Cache.{look, verdict_of};
 ghost use Rattle.av_filter.specs.Arriving.{IsAnswered, IsArrival};
 ghost use Rattle.av_filter.specs.Call.{Reacts};
+ghost use Rattle.av_filter.specs.Fit.{Fits};
 ghost use Rattle.av_filter.specs.Opening.{opened, taken};
-ghost use Rattle.av_filter.specs.Ready.{IsReady, IsRunning};
+ghost use Rattle.av_filter.specs.Ready.{IsRunning};
 ghost use Rattle.av_filter_table.specs.Table.{context_of, current, question_of};
 ghost use Rattle.av_pend.specs.Pend.{refused, waiting_from};
 ghost use Rattle.av_store.specs.Store.{greatest};
@@ -46,7 +47,7 @@ pub(crate) fn open(
     stream: StreamId,
     least: Version,
 ) -> Result<Out, AllocError>
-    requires ready { IsReady table.old volume.now }
+    requires fits { Fits table.old volume.now }
     requires left { volume.now.opens < greatest }
     ensures ok { IfOk result (λ out. Reacts out table.new (taken volume.now) (opened table.old volume.now stream least)) }
     ensures err { OnErr result (table.new ≡ table.old) }
@@ -81,7 +82,7 @@ fn open_unjudged(
     volume: &Volume,
     arrival: &Arrival,
 ) -> Result<Out, AllocError>
-    requires ready { IsReady table.old volume.now }
+    requires fits { Fits table.old volume.now }
     requires arrival { IsArrival arrival.now table.old volume.now }
     requires unjudged { current (context_of table.old.contexts arrival.now.stream) arrival.now.floor ≡ None }
     ensures ok { IfOk result
@@ -108,7 +109,7 @@ fn join(
     arrival: &Arrival,
     question: &Question,
 ) -> Result<Out, AllocError>
-    requires ready { IsReady table.old volume.now }
+    requires fits { Fits table.old volume.now }
     requires arrival { IsArrival arrival.now table.old volume.now }
     requires unjudged { current (context_of table.old.contexts arrival.now.stream) arrival.now.floor ≡ None }
     requires asked { question_of arrival.now.stream table.old.questions ≡ Some question.now }
@@ -171,7 +172,7 @@ fn open_unknown(
     volume: &Volume,
     arrival: &Arrival,
 ) -> Result<Out, AllocError>
-    requires ready { IsReady table.old volume.now }
+    requires fits { Fits table.old volume.now }
     requires arrival { IsArrival arrival.now table.old volume.now }
     requires unjudged { current (context_of table.old.contexts arrival.now.stream) arrival.now.floor ≡ None }
     requires unasked { question_of arrival.now.stream table.old.questions ≡ None }

@@ -1,7 +1,7 @@
 ghost use Rattle.std.specs.Prelude.{◌≡◌, ◌≤◌, ◌<◌, IfOk, drop, length, take};
 ghost use Rattle.av_base.specs.declared.limits.TheConstants.{MAX_CHUNK, MAX_LENGTH};
 ghost use Rattle.av_filter.specs.Call.{MeetsAlways, Reacts};
-ghost use Rattle.av_filter.specs.Ready.{IsReady};
+ghost use Rattle.av_filter.specs.Fit.{Fits};
 ghost use Rattle.av_filter.specs.Receiving.{greeted, reads, receives, replies};
 ghost use Rattle.av_filter_table.specs.Table.{question_at};
 ghost use Rattle.av_frame.specs.Message.{IsInRange, IsPart};
@@ -27,7 +27,7 @@ pub(crate) fn receive(
     volume: &Volume,
     message: &Message,
 ) -> Result<Out, AllocError>
-    requires { IsReady table.old volume.now }
+    requires { Fits table.old volume.now }
     ensures { MeetsAlways table.old volume.now table.new volume.now result (receives table.old volume.now message.now) }
 {
     match message.body() {
@@ -80,7 +80,7 @@ fn read(
     offset: u64,
     count: u32,
 ) -> Result<Out, AllocError>
-    requires ready { IsReady table.now volume.now }
+    requires fits { Fits table.now volume.now }
     requires asked { IsInRange (Read id offset count) }
     ensures { IfOk result
         (λ out. Reacts out table.now volume.now
@@ -98,6 +98,7 @@ fn read(
     if bytes.len() as u64 <= offset {
         return Out::sends(alloc, Message::no_chunk(id, offset, NoChunkCause::PastEnd));
     }
+    let _ranges = volume.limits();
     let most = min(u64::from(count), table.limits().values().chunk);
     let chunk = part(alloc, bytes, offset, most)?;
     Out::sends(alloc, Message::chunk(id, offset, chunk))
@@ -112,7 +113,7 @@ fn reply(
     id: MessageId,
     outcome: Outcome,
 ) -> Result<Out, AllocError>
-    requires { IsReady table.old volume.now }
+    requires { Fits table.old volume.now }
     ensures { MeetsAlways table.old volume.now table.new volume.now result
         (replies table.old volume.now outcome (question_at id table.old.questions)) }
 {

@@ -1,6 +1,5 @@
 ghost use Rattle.std.specs.Prelude.{◌≡◌, ◌≤◌, true, None, IfOk, IfSome, OnErr, OnOk, is_some, length};
 ghost use Rattle.std.specs.List.{AllByRecursion};
-ghost use Rattle.av_filter.specs.Bounds.{AreInBounds};
 ghost use Rattle.av_filter.specs.Fit.{AreInOrder, IsGiven, IsThere};
 ghost use Rattle.av_filter.specs.Ready.{IsRunning};
 ghost use Rattle.av_filter_table.specs.Answering.{present_bytes, present_generation};
@@ -43,10 +42,10 @@ pub(crate) fn running_of(table: &FilterTable, stream: StreamId) -> Option<Questi
 // The message that asks for the scan of a stream's present content.
 pub(crate) fn scan_message(volume: &Volume, id: MessageId, stream: StreamId) -> Message
     requires id { IsId id }
-    requires bounds { AreInBounds volume.now }
     requires there { IsThere volume.now.streams stream }
     ensures { result ≡ Scan id stream (present_generation volume.now stream) (length (present_bytes volume.now stream)) }
 {
+    let _ranges = volume.limits();
     Message::scan(
         id,
         stream,

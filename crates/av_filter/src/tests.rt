@@ -4,7 +4,6 @@ mod say;
 mod steps;
 
 ghost use Rattle.std.specs.Prelude.{OnOk, IfOk};
-ghost use Rattle.av_filter.specs.Bounds.{AreInBounds};
 ghost use Rattle.av_filter.specs.Fit.{Fits};
 
 use self::plain::Plain;
@@ -59,9 +58,7 @@ fn run_row(alloc: Global, row: &Row<'_>) -> Result<Option<usize>, Fail> {
 // A filter after a restart, and what the restart gives out. One that memory refuses has handed the filter back, and is made
 // again.
 fn restarted(alloc: Global, filter: Filter, volume: &mut Volume) -> Result<(Filter, Out), Fail>
-    requires { AreInBounds volume.old }
     ensures fits { IfOk result (λ r. Fits r.0 volume.new) }
-    ensures bounds { OnOk result (AreInBounds volume.new) }
 {
     may_refuse(alloc);
     let first = filter.restart(alloc, volume);
@@ -84,11 +81,8 @@ fn restarted(alloc: Global, filter: Filter, volume: &mut Volume) -> Result<(Filt
 }
 
 // A volume with the streams 1 and 2, without bytes.
-fn volume_of_two(alloc: Global) -> Result<Volume, Fail>
-    ensures { IfOk result (λ v. AreInBounds v) }
-{
+fn volume_of_two(alloc: Global) -> Result<Volume, Fail> {
     let mut volume = Volume::new(alloc, 1, Limits::greatest());
-    let _in_range = Limits::greatest().values();
     let _first = volume.create(alloc, b"a")?;
     let _second = volume.create(alloc, b"b")?;
     Ok(volume)
@@ -103,8 +97,6 @@ fn run_steps(
     steps: &[(Step<'_>, &str)],
 ) -> Result<Option<usize>, AllocError>
     requires fits { Fits filter.old volume.old }
-    requires bounds { AreInBounds volume.old }
-    ensures bounds { AreInBounds volume.new }
 {
     for (i, (step, want)) in steps.iter().enumerate() {
         let before = seen(filter, volume);
@@ -143,9 +135,7 @@ fn happen(
     step: Step<'_>,
 ) -> Result<Out, Refusal<FilterFault>>
     requires fits { Fits filter.old volume.old }
-    requires bounds { AreInBounds volume.old }
     ensures fits { Fits filter.new volume.new }
-    ensures bounds { AreInBounds volume.new }
 {
     match step {
         Step::Open(stream, least) => {
@@ -209,8 +199,6 @@ fn run_beside(
     plain: &mut Plain,
 ) -> Result<Option<u64>, AllocError>
     requires fits { Fits filter.old volume.old }
-    requires bounds { AreInBounds volume.old }
-    ensures bounds { AreInBounds volume.new }
 {
     let mut x: u64 = plain.boot().wrapping_add(20_261_122);
     for i in 0..10_000u64 {

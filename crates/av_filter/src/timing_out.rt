@@ -1,7 +1,7 @@
 ghost use Rattle.std.specs.Prelude.{◌≡◌};
 ghost use Rattle.av_filter.specs.Call.{MeetsAlways};
 ghost use Rattle.av_filter.specs.Conduct.{times_out};
-ghost use Rattle.av_filter.specs.Ready.{IsReady};
+ghost use Rattle.av_filter.specs.Fit.{Fits};
 ghost use Rattle.av_filter_table.specs.FilterTable.{id_of};
 ghost use Rattle.av_filter_table.specs.Table.{question_at};
 
@@ -23,7 +23,7 @@ pub(crate) fn time_out(
     volume: &Volume,
     seq: u64,
 ) -> Result<Out, AllocError>
-    requires { IsReady table.old volume.now }
+    requires { Fits table.old volume.now }
     ensures { MeetsAlways table.old volume.now table.new volume.now result
         (times_out table.old volume.now (question_at (id_of table.old.boot seq) table.old.questions)) }
 {

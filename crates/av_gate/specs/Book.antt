@@ -4,7 +4,6 @@ use Rattle.std.specs.List.{flat_map}
 use Rattle.av_base.specs.declared.limits.LimitValues.{LimitValues}
 use Rattle.av_base.specs.declared.mode.Mode.{Mode}
 use Rattle.av_filter.specs.Audit.{FilterEntry, IsFilterAudit, Kept, filter_end}
-use Rattle.av_filter.specs.Bounds.{AreInBounds}
 use Rattle.av_filter.specs.Conduct.{FilterEvent, filter_refusal, filter_step}
 use Rattle.av_filter.specs.Fit.{Fits}
 use Rattle.av_filter.specs.Reaction.{Reaction}
@@ -95,4 +94,3 @@ pub record IsKept (b : Book) (t : Table) (v : Store) : Type 0 where
   pub within : length b.events ≤ b.limits.audit
   pub behind : b.sent ≤ length b.events
   pub fits : Fits t v
-  pub bounds : AreInBounds v

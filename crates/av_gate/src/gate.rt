@@ -1,7 +1,6 @@
 ghost use Rattle.std.specs.Prelude.{◌≡◌, ◌≢◌, ◌≤◌, ◌<◌, ◌++◌, ◌∷◌, [], Ok, Err, Some, IfOk, IfErr, IfSome, IsSome, IsSomeAnd, vec_len};
 ghost use Rattle.std.specs.Vec.{vec_capacity};
 ghost use Rattle.av_base.specs.Answers.{Reads};
-ghost use Rattle.av_filter.specs.Bounds.{AreInBounds};
 ghost use Rattle.av_gate.specs.Versions.{version_shown};
 ghost use Rattle.av_gate.specs.declared.call.Call.TheVariants as call;
 ghost use Rattle.av_store.specs.Store.{mount_of};
@@ -51,7 +50,6 @@ impl Gate {
         mode: Mode,
         limits: Limits,
     ) -> Result<(Gate, Seat), Refused<Volume, BootSpent>>
-        requires { AreInBounds volume }
         ensures ok { IfOk result (λ r. IsSeatOf r.0 r.1 × (calls_of r.1 ≡ []) × (floor_seen r.1 ≡ 0)) }
         ensures back { IfErr result (λ e. e.value ≡ volume) }
         ensures why { IfErr result (λ e. Reads (Err e.why) (mount_of volume)) }

@@ -1,4 +1,3 @@
-ghost use Rattle.av_filter.specs.Bounds.{AreInBounds};
 ghost use Rattle.av_filter.specs.Fit.{Fits};
 ghost use Rattle.av_gate.specs.Events.{Did, event_of};
 
@@ -16,7 +15,6 @@ pub(crate) fn happen(
     event: &Event,
 ) -> Option<Out>
     requires fits { Fits filter.old volume.old }
-    requires bounds { AreInBounds volume.old }
     ensures { Did filter.old volume.old filter.new volume.new (event_of event.now) result }
 {
     match event {

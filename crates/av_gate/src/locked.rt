@@ -1,6 +1,5 @@
 ghost use Rattle.std.specs.Prelude.{◌≡◌, ◌≤◌, ◌<◌, ◌↔◌, length, Ok, Err, IsOk, IfOk, IfErr, OnOk, OnErr, IsTrue, MatchBool, ◌≢◌, ◌-◌, []};
 ghost use Rattle.av_base.specs.Answers.{Answers, Reads};
-ghost use Rattle.av_filter.specs.Bounds.{AreInBounds};
 ghost use Rattle.av_filter.specs.Conduct.{Changes, CleansUp, Disconnects, Opens, Receives, TimesOut};
 ghost use Rattle.av_filter.specs.declared.note.Note.TheVariants.{Submitted};
 ghost use Rattle.av_gate.specs.Book.{happens, opening, settled_of, state_of, stream_of, waiting_of};
@@ -22,7 +21,7 @@ use crate::naming::stream_of;
 use crate::settled::Settled;
 use av_base::{ByteList, Limits, Mode, OpenId, Refusal, Refused, Version};
 use av_ends::{Due, Receipt, Ticket};
-use av_filter::laws::{audits_answer_once, events_keep_fit, volumes_stay_in_bounds};
+use av_filter::laws::{audits_answer_once, events_keep_fit};
 use av_filter::{Filter, FilterFault};
 use av_frame::Message;
 use av_pend::Answer;
@@ -69,7 +68,6 @@ impl Locked {
         mode: Mode,
         limits: Limits,
     ) -> Result<Locked, Refused<Volume, BootSpent>>
-        requires { AreInBounds volume }
         ensures ok { IfOk result (λ s. (s ≡ opening s.start mode limits) × (mount_of volume ≡ Ok (s.start.boot, s.start))) }
         ensures back { IfErr result (λ e. e.value ≡ volume) }
         ensures why { IfErr result (λ e. Reads (Err e.why) (mount_of volume)) }
@@ -245,7 +243,6 @@ impl Locked {
             return Err(Refusal::NoMemory);
         }
         events_keep_fit();
-        volumes_stay_in_bounds();
         let Some(out) = happen(&mut self.filter, &mut self.volume, alloc, &event) else {
             return Err(Refusal::NoMemory);
         };

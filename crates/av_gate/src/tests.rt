@@ -3,7 +3,6 @@ mod said;
 mod shared;
 
 ghost use Rattle.std.specs.Prelude.{IfOk};
-ghost use Rattle.av_filter.specs.Bounds.{AreInBounds};
 ghost use Rattle.av_gate.specs.Seats.{IsSeatOf};
 
 use self::rows::{ROWS, Row};
@@ -20,11 +19,8 @@ use std::sync::Wait;
 use std::test::Fail;
 
 // A volume with the streams a and b, each of them written once.
-fn volume_of_two(alloc: Global) -> Result<Volume, Fail>
-    ensures { IfOk result (λ v. AreInBounds v) }
-{
+fn volume_of_two(alloc: Global) -> Result<Volume, Fail> {
     let mut volume = Volume::new(alloc, 1, Limits::greatest());
-    let _in_range = Limits::greatest().values();
     let first = volume.create(alloc, b"a")?;
     let second = volume.create(alloc, b"b")?;
     volume.write(first, 0, b"ABC")?;

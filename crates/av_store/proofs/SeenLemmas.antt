@@ -213,7 +213,7 @@ as_of v ss n = record v { streams = ss; last = n }
 found : (v : Store) (fs : List File) (s : ℕ) → Keeps v fs → stream_at s v.streams ≡ option_map stream_of (file_of fs s)
 found v fs s k = ap (stream_at s) k.streams ∙ stream_seen fs s
 
-made : (v : Store) (fs : List File) (name : List ℕ) → Keeps v fs
+pub made : (v : Store) (fs : List File) (name : List ℕ) → Keeps v fs
     → as_of v (v.streams ++ (v.last + 1, new_stream name) ∷ []) (v.last + 1) ≡ as_of v (seen (files_after fs (Create name))) (length (files_after fs (Create name)))
 unfolding files_after
 made v fs name k =
@@ -317,7 +317,7 @@ took v fs s k =
           λ i. Ok (as_of v (streams i) (count i))
     ]) refl
 
-changes : (v : Store) (fs : List File) (c : Change) → Keeps v fs
+pub changes : (v : Store) (fs : List File) (c : Change) → Keeps v fs
     → change_of v c ≡ unless (change_refusal v.limits fs c) (as_of v (seen (files_after fs c)) (length (files_after fs c)))
 changes v fs (Create name) k = created v fs name k
 changes v fs (Write s o b) k = wrote v fs s o b k

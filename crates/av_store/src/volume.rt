@@ -3,7 +3,9 @@ ghost use Rattle.std.specs.Option.{option_map, option_copied};
 ghost use Rattle.av_base.specs.Answers.{Answers, AnswersAtOnce, Steps, StepsAtOnce, Reads};
 ghost use Rattle.std.specs.Result.{result_err};
 ghost use Rattle.av_store.specs.Store.{Store, greatest, is_name, is_printable, create_of, write_of, cut_of, remove_of, read_of, mount_of, open_number_of, empty_store};
+ghost use Rattle.av_store.specs.Bounds.{AreInBounds};
 ghost use Rattle.av_store.specs.Rows.{stream_at, number_named};
+ghost use Rattle.av_store.specs.Sound.{IsOfFiles};
 
 use crate::fault::{BootSpent, OpensSpent, StoreFault};
 use crate::stream::Stream;
@@ -29,6 +31,7 @@ pub struct Volume {
 impl Model for Volume {
     ghost use Rattle.av_store.specs.Store.{Store};
     ghost use Rattle.av_store.specs.Index.{IsIndexed};
+    ghost use Rattle.av_store.specs.Sound.{IsSound};
 
     ghost Value = { Store };
 
@@ -41,7 +44,7 @@ impl Model for Volume {
       streams = v.rows.entries;
     } };
 
-    ghost invariant = { λ v. IsIndexed v.names.entries v.rows.entries v.last };
+    ghost invariant = { λ v. IsIndexed v.names.entries v.rows.entries v.last × IsSound v.limits v.last v.rows.entries };
 }
 
 impl Volume {
@@ -49,6 +52,7 @@ impl Volume {
     pub fn new(alloc: Global, number: u64, limits: Limits) -> Volume
         ensures { result ≡ empty_store number limits }
     {
+        let _in_range = limits.values();
         Volume {
             number,
             boot: 0,
@@ -65,6 +69,14 @@ impl Volume {
         ensures { result ≡ self.now.number }
     {
         self.number
+    }
+
+    /// The limits that it keeps to. It takes no memory.
+    pub fn limits(&self) -> Limits
+        ensures value { result ≡ self.now.limits }
+        ensures bounds { AreInBounds self.now }
+    {
+        self.limits
     }
 
     /// How often it was mounted: the boot of the last mount. It takes no memory.
@@ -215,7 +227,8 @@ impl Volume {
 
     /// The stream that was created last, removed or not; 0 where none was. It takes no memory.
     pub fn last_created(&self) -> StreamId
-        ensures { result ≡ self.now.last }
+        ensures value { result ≡ self.now.last }
+        ensures files { IsOfFiles self.now }
     {
         StreamId::new(self.last)
     }

@@ -6,7 +6,7 @@ use Rattle.av_filter.proofs.changing.ask_anew_after.Goals as goal
 
 pub ask_again_after-requires-clause-next : goal.ask_again_after-requires-clause-next
 ask_again_after-requires-clause-next c =
-    if_running c.args.table.now c.args.question.now (λ q. present_generation c.args.volume.now q.stream + 1 < 2 ^ 64) c.requires.runs (next_generation c.args.volume.now c.args.question.now.stream c.requires.ready.bounds)
+    if_running c.args.table.now c.args.question.now (λ q. present_generation c.args.volume.now q.stream + 1 < 2 ^ 64) c.requires.runs (next_generation c.args.volume.now c.args.question.now.stream c.limits-ranges.ensures.bounds)
 
 pub returns-clause-table : goal.returns-clause-table
 returns-clause-table c =

@@ -6,4 +6,4 @@ use Rattle.av_filter.proofs.changing.clean_up.Goals as goal
 pub ask_scan-requires-clause-none : goal.ask_scan-requires-clause-none
 ask_scan-requires-clause-none c =
     let yes : c.is_to_be_asked.result ≡ true = search rules in
-    unasked c.args.table.now c.args.volume.now c.args.stream c.requires.fits (and_left (is_modified (context_of c.args.table.now.contexts c.args.stream)) (can_ask c.args.table.now) (sym c.is_to_be_asked.ensures ∙ yes))
+    unasked c.args.table.now c.args.volume.now c.args.stream c.requires (and_left (is_modified (context_of c.args.table.now.contexts c.args.stream)) (can_ask c.args.table.now) (sym c.is_to_be_asked.ensures ∙ yes))

@@ -1,14 +1,9 @@
 use Rattle.std.proofs.Common.{rules, arith, ap}
 use Rattle.std.proofs.lemmas.Grind.{common_steps}
 use Rattle.av_filter.specs.Again.{again}
-use Rattle.av_filter.proofs.BoundLemmas.{change_in}
 use Rattle.av_filter.proofs.ReadyLemmas.{there_by}
-use Rattle.av_filter_table.specs.Rewriting.{change_by}
 use Rattle.av_store.specs.Seen.{kept_or}
 use Rattle.av_filter.proofs.changing.rewrite_asked.Goals as goal
-
-pub scan_message-requires-clause-bounds : goal.scan_message-requires-clause-bounds
-scan_message-requires-clause-bounds c = change_in c.args.volume.now c.ask_anew_after.new.volume (change_by c.args.question.now.stream c.args.rewriting) c.requires.ready.bounds c.in_ok-id.ensures.volume
 
 pub scan_message-requires-clause-there : goal.scan_message-requires-clause-there
 scan_message-requires-clause-there c = there_by c.args.volume.now c.ask_anew_after.new.volume c.args.question.now.stream c.args.rewriting c.in_ok-id.ensures.volume

@@ -16,7 +16,7 @@ returns-then-not-has_room-clause-ok c =
     (opened_crowded t v a.stream a.least i.present c.args.question.now i.there (at_floor a t v _ i c.requires.unjudged) c.requires.asked full)) c.refuse_at_once.ensures.ok
 
 pub add_open-requires-clause-last : goal.add_open-requires-clause-last
-add_open-requires-clause-last c = numbers_below c.args.table.now c.args.volume.now c.waiting.result.open_id c.requires.ready.fits (ap (λ w. w.open_id) c.waiting.ensures ∙ c.requires.arrival.open_id)
+add_open-requires-clause-last c = numbers_below c.args.table.now c.args.volume.now c.waiting.result.open_id c.requires.fits (ap (λ w. w.open_id) c.waiting.ensures ∙ c.requires.arrival.open_id)
 
 pub returns-clause-ok : goal.returns-clause-ok
 returns-clause-ok c =

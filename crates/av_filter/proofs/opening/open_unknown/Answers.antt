@@ -43,7 +43,7 @@ returns-then-not-can_ask-clause-ok c =
     (opened_busy t v a.stream a.least i.present i.there (at_floor a t v _ i c.requires.unjudged) c.requires.unasked (cached_at a t v _ i c.requires.miss) room near can)) c.refuse_at_once-then-not-can_ask.ensures.ok
 
 pub ask_for-requires-clause-last : goal.ask_for-requires-clause-last
-ask_for-requires-clause-last c = numbers_below c.args.table.now c.args.volume.now c.waiting.result.open_id c.requires.ready.fits (ap (λ w. w.open_id) c.waiting.ensures ∙ c.requires.arrival.open_id)
+ask_for-requires-clause-last c = numbers_below c.args.table.now c.args.volume.now c.waiting.result.open_id c.requires.fits (ap (λ w. w.open_id) c.waiting.ensures ∙ c.requires.arrival.open_id)
 
 pub returns-in-Ok-clause-ok : goal.returns-in-Ok-clause-ok
 returns-in-Ok-clause-ok c =

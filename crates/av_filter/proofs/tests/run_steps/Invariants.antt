@@ -1,6 +1,5 @@
-use Rattle.av_filter.specs.Bounds.{AreInBounds}
 use Rattle.av_filter.specs.Fit.{Fits}
 use Rattle.av_filter.proofs.tests.run_steps.Given as goal
 
 abbrev pub invariant-loop-i : goal.invariant-loop-i
-invariant-loop-i l = Fits l.filter l.volume × AreInBounds l.volume
+invariant-loop-i l = Fits l.filter l.volume

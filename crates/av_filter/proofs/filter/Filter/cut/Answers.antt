@@ -1,5 +1,5 @@
 use Rattle.std.proofs.Common.{sym, subst}
-use Rattle.av_filter.proofs.FilterLemmas.{bounds_unless, fits_unless}
+use Rattle.av_filter.proofs.FilterLemmas.{fits_unless}
 use Rattle.av_filter.specs.Changing.{changes}
 use Rattle.av_filter.specs.Conduct.{Changes, filter_refusal, filter_step}
 use Rattle.av_filter.specs.Fit.{Fits}
@@ -11,9 +11,3 @@ unfolding filter_refusal filter_step changes
 returns-clause-fits c =
     let v = c.args.volume.now in
     fits_unless c.rewrite.result c.self.inside.table v c.rewrite.new.table c.rewrite.new.volume (Changes (Cut c.args.stream c.args.length)) (subst (λ t. Fits t v) (sym c.self.view_is) c.requires.fits) c.rewrite.ensures
-
-pub returns-clause-bounds : goal.returns-clause-bounds
-unfolding filter_refusal filter_step changes
-returns-clause-bounds c =
-    let v = c.args.volume.now in
-    bounds_unless c.rewrite.result c.self.inside.table v c.rewrite.new.table c.rewrite.new.volume (Changes (Cut c.args.stream c.args.length)) c.requires.bounds c.rewrite.ensures

@@ -1,5 +1,5 @@
 use Rattle.std.proofs.Common.{sym, subst}
-use Rattle.av_filter.proofs.FilterLemmas.{bounds_unless, fits_unless}
+use Rattle.av_filter.proofs.FilterLemmas.{fits_unless}
 use Rattle.av_filter.specs.Changing.{changes}
 use Rattle.av_filter.specs.Conduct.{Changes, filter_refusal, filter_step}
 use Rattle.av_filter.specs.Fit.{Fits}
@@ -11,9 +11,3 @@ unfolding filter_refusal filter_step changes
 returns-clause-fits c =
     let v = c.args.volume.now in
     fits_unless c.remove.result c.self.inside.table v c.remove.new.table c.remove.new.volume (Changes (Remove c.args.stream)) (subst (λ t. Fits t v) (sym c.self.view_is) c.requires.fits) c.remove.ensures
-
-pub returns-clause-bounds : goal.returns-clause-bounds
-unfolding filter_refusal filter_step changes
-returns-clause-bounds c =
-    let v = c.args.volume.now in
-    bounds_unless c.remove.result c.self.inside.table v c.remove.new.table c.remove.new.volume (Changes (Remove c.args.stream)) c.requires.bounds c.remove.ensures
