@@ -54,7 +54,7 @@ impl Credit {
     }
 }
 
-/// Whether windows are worth a trial: after each piece that they gave up more pieces go by without one.
+/// Whether a quick way to read a piece is worth a trial: after each piece that it gave up more pieces go by without one.
 #[derive(Drop)]
 pub struct Patience {
     wait: u8,
@@ -76,7 +76,7 @@ impl Patience {
         false
     }
 
-    /// A piece was passed over.
+    /// A piece was read that way.
     pub fn won(&mut self) {
         self.losses /= 2;
     }

@@ -195,7 +195,10 @@ pub fn reach_ranged(
     ensures place { place_of result ≤ length chunk.now }
     ensures bytes { AllBytes chunk.now }
 {
-    let mut patience = Patience::new();
+    let mut trials = Trials {
+        windows: Patience::new(),
+        silence: Patience::new(),
+    };
     let mut state = from;
     let mut start = 0usize;
     'pieces: while start < chunk.len() {
@@ -205,7 +208,7 @@ pub fn reach_ranged(
             state,
             place: start,
         };
-        match passed_state(tables, walk, &mut patience, from, fed, piece) {
+        match passed_state(tables, walk, &mut trials, from, fed, piece) {
             Some(next) => state = next,
             None => match walk_on(walk, from, fed, piece) {
                 Reached::Through { state: next } => state = next,
@@ -217,12 +220,20 @@ pub fn reach_ranged(
     Reached::Through { state }
 }
 
+// Which ways to read a piece are worth a trial: by windows, and as one in which no pattern ends.
+#[derive(Drop)]
+struct Trials {
+    windows: Patience,
+    silence: Patience,
+}
+
 // The state to which a piece leads, where nothing is found in it: by windows or six parts where no pattern ends there, and
-// else by six parts that ask each state at which one does.
+// else by six parts that ask each state at which one does. A piece that fails the first way is read twice, so pieces
+// behind it go by without that trial.
 fn passed_state(
     tables: &Tables<'_>,
     walk: &Walk<'_>,
-    patience: &mut Patience,
+    trials: &mut Trials,
     from: Position,
     fed: u64,
     piece: &[u8],
@@ -234,10 +245,14 @@ fn passed_state(
     ensures passed { IfSome result (λ t. reach_find walk.now.patterns.now walk.now.cells.now fed from.state from.place piece.now ≡ Through t) }
     ensures inside { IfSome result (λ t. t < length walk.now.stops.now) }
 {
-    match quick_state(tables, patience, from.state, piece) {
-        Some(next) => Some(next),
-        None => quiet_piece(walk, from, fed, piece),
+    if trials.silence.is_tried() {
+        if let Some(next) = quick_state(tables, &mut trials.windows, from.state, piece) {
+            trials.silence.won();
+            return Some(next);
+        }
+        trials.silence.lost();
     }
+    quiet_piece(walk, from, fed, piece)
 }
 
 // The state to which a piece leads from one that gives nothing out, where nothing is given out on the way.
