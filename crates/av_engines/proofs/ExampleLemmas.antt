@@ -17,4 +17,4 @@ computed = true
 
 pub are_worked : AreWorked
 unfolding computed
-are_worked = record { serves = refl; watches = refl; grants = refl; is_over = refl; nothing_behind = refl; not_before = refl; none_at_once = refl; lost = refl }
+are_worked = record { serves = refl; watches = refl; grants = refl; is_over = refl; nothing_behind = refl; not_before = refl; at_once = refl; grants_then = refl; none_at_once = refl; lost = refl }

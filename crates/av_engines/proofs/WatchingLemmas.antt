@@ -1,6 +1,6 @@
 -- The engine of a filter, event by event.
-use Rattle.std.proofs.Common.{ℕ, ◌≡◌, ◌+◌, ◌&&◌, not, Bool, true, false, cond, if◌then◌else◌, nat_eq, List, [], ◌∷◌, ◌++◌, length, take, drop, refl, sym, ap, subst, ◌∙◌, append_assoc, append-nil, take-append-drop, arith, inl, inr}
-use Rattle.std.specs.Prelude.{Option, Some, None, IfSome, ◌⊎◌, Result, Ok, Err, OnErr}
+use Rattle.std.proofs.Common.{ℕ, ◌≡◌, ◌+◌, ◌&&◌, not, Bool, true, false, cond, nat_eq, List, [], ◌∷◌, ◌++◌, length, take, drop, refl, sym, ap, subst, ◌∙◌, append_assoc, append-nil, take-append-drop, arith, inl, inr}
+use Rattle.std.specs.Prelude.{Option, Some, None, IfSome, ◌⊎◌, Result, Ok, Err, OnErr, OnOk}
 use Rattle.std.specs.Io.KnownBytes.{Appends}
 use Rattle.std.specs.List.{flat_map}
 use Rattle.std.proofs.KnownBytes.{Appends-nil, Appends-trans}
@@ -24,7 +24,7 @@ use Rattle.av_engines.specs.Exchange.{Passes, StopsAs}
 use Rattle.av_engines.specs.FilterEnd.{Hears, IsAmid, IsAt, IsLeft, IsStill, IsWithin, Leaves, Puts, RunsTo, WatchesTo}
 use Rattle.av_engines.specs.Incoming.{Received, Takes, unread}
 use Rattle.av_engines.specs.Spelled.{AreSpelled, IsSent, SpellsAll, SpellsFirst, SpellsUpToFault}
-use Rattle.av_engines.specs.Watching.{Led, Standing, all_happened, events_of, filter_run, filter_text, happened, heard, heard_all, is_done, joined, later, opens_of, standing, unled}
+use Rattle.av_engines.specs.Watching.{Led, Standing, all_happened, due, events_of, filter_run, filter_text, happened, heard, heard_all, is_done, joined, later, opens_of, standing, unled}
 use Rattle.av_engines.proofs.IncomingLemmas.{takes_few, takes_none, takes_then}
 use Rattle.av_engines.proofs.ExchangeLemmas.{first_spelled, prefix_whole, stopped_sent, stopped_spelled}
 
@@ -139,6 +139,14 @@ pub on_err : {A E : Type 0} (P : Type 0) (r : Result A E) → P → OnErr r P
 on_err P (Ok a) p = tt
 on_err P (Err e) p = p
 
+pub ok_then : {A E P Q : Type 0} (r : Result A E) → (P → Q) → OnOk r P → OnOk r Q
+ok_then (Ok a) f p = f p
+ok_then (Err e) f p = p
+
+pub err_then : {A E P Q : Type 0} (r : Result A E) → (P → Q) → OnErr r P → OnErr r Q
+err_then (Ok a) f p = p
+err_then (Err e) f p = f p
+
 -- one event happened, and its answers were kept
 pub amid_event : (e : FilterEvent) (out : Out) (t t' : Table) (v v' : Store) (answers mid given : List Answer)
     → Reacts out t' v' (filter_step t v e) → mid ≡ answers → given ≡ mid ++ out.answers.items → IsAmid (unled t v answers) (e ∷ []) t' v' given
@@ -153,32 +161,19 @@ amid_event e out t t' v v' answers mid given reacts same kept = record {
   };
 }
 
--- a message left the filter connected, and the opens were submitted
-submits : (opens : List ℕ) (submitted : Bool) (w : Led) → w.table.connected ≡ true → submitted ≡ false → joined opens submitted w ≡ record { led = all_happened w (opens_of opens); submitted = true }
-submits opens submitted w first second = rw (first, second) refl
-
-pub hears_submitted : (opens : List ℕ) (s : Standing) (m : Body) (t t' : Table) (v v' : Store) (answers answers' : List Answer) (waited waits more : List ℕ) (submitted : Bool)
-    → Puts (happened s.led (Receives m)) t v answers waited waits → t.connected ≡ true → s.submitted ≡ false
-    → Puts (all_happened (unled t v answers) (opens_of opens)) t' v' answers' waits more → submitted ≡ true → Hears (heard opens s m) t' v' answers' submitted waited more
-hears_submitted opens s m t t' v v' answers answers' waited waits more submitted first connected before second now =
-    let w = happened s.led (Receives m) in
-    let same = submits opens s.submitted w (ap (λ (k : Table). k.connected) (sym first.at.table) ∙ connected) before in
-    subst (λ x. Hears x t' v' answers' submitted waited more) (sym same)
-    (record { puts = puts_then w t t' v v' answers answers' waited waits more (opens_of opens) first second; submitted_is = now })
-
--- memory was refused to one of these opens
-pub amid_submitted : (opens : List ℕ) (s : Standing) (m : Body) (t t' : Table) (v v' : Store) (answers answers' : List Answer)
-    → IsAt (happened s.led (Receives m)) t v answers → t.connected ≡ true → s.submitted ≡ false
-    → IsAmid (unled t v answers) (opens_of opens) t' v' answers' → IsAmid s.led (events_of opens s m) t' v' answers'
-amid_submitted opens s m t t' v v' answers answers' first connected before second =
-    let now : (happened s.led (Receives m)).table.connected ≡ true = ap (λ (k : Table). k.connected) (sym first.table) ∙ connected in
-    let all : Receives m ∷ opens_of opens ≡ events_of opens s m = rw (now, before) refl in
-    subst (λ es. IsAmid s.led es t' v' answers') all (amid_then s.led (Receives m ∷ []) (opens_of opens) t t' v v' answers answers' first second)
+-- memory was refused to one of the opens behind a message
+pub amid_joined : (opens : List ℕ) (s : Standing) (m : Body) (t t' : Table) (v v' : Store) (answers answers' : List Answer) (before : Bool)
+    → IsAt (happened s.led (Receives m)) t v answers → before ≡ s.submitted
+    → IsAmid (unled t v answers) (due opens before t) t' v' answers' → IsAmid s.led (events_of opens s m) t' v' answers'
+amid_joined opens s m t t' v v' answers answers' before first same second =
+    let all : due opens before t ≡ due opens s.submitted (happened s.led (Receives m)).table =
+    ap (λ b. due opens b t) same ∙ ap (due opens s.submitted) first.table in
+    amid_then s.led (Receives m ∷ []) _ t t' v v' answers answers' first (subst (λ es. IsAmid (unled t v answers) es t' v' answers') all second)
 
 -- or to the message
 pub amid_received : (opens : List ℕ) (s : Standing) (m : Body) (t' : Table) (v' : Store) (answers' : List Answer) → IsAmid s.led (Receives m ∷ []) t' v' answers' → IsAmid s.led (events_of opens s m) t' v' answers'
 amid_received opens s m t' v' answers' amid =
-    amid_more s.led (Receives m ∷ []) (if (happened s.led (Receives m)).table.connected && not s.submitted then opens_of opens else []) (events_of opens s m) t' v' answers' refl amid
+    amid_more s.led (Receives m ∷ []) (due opens s.submitted (happened s.led (Receives m)).table) (events_of opens s m) t' v' answers' refl amid
 
 -- ---- messages one by one
 
@@ -191,6 +186,30 @@ behind_all w s = record { led = behind w s.led; submitted = s.submitted }
 joined_by : (b : Bool) (submitted : Bool) (es : List FilterEvent) (w x : Led) → joined_as b submitted es (behind w x) ≡ behind_all w (joined_as b submitted es x)
 joined_by true submitted es w x = ap (λ k. record { led = k; submitted = true }) (happened_behind x.table x.volume w.sent x.sent x.answers es)
 joined_by false submitted es w x = refl
+
+-- what joins behind a message
+pub hears_joined : (opens : List ℕ) (s : Standing) (m : Body) (t t' : Table) (v v' : Store) (answers answers' : List Answer) (waited waits more : List ℕ) (before submitted : Bool)
+    → Puts (happened s.led (Receives m)) t v answers waited waits → before ≡ s.submitted
+    → Hears (joined opens before (unled t v answers)) t' v' answers' submitted waits more → Hears (heard opens s m) t' v' answers' submitted waited more
+hears_joined opens s m t t' v v' answers answers' waited waits more before submitted first same second =
+    let w = happened s.led (Receives m) in
+    let x : Standing = joined opens s.submitted (restarted w) in
+    let here : joined opens before (unled t v answers) ≡ x = ap (λ b. joined opens b (unled t v answers)) same ∙ ap (joined opens s.submitted) (found w t v answers first.at) in
+    let whole : heard opens s m ≡ behind_all w x =
+    ap (joined opens s.submitted) (happened_from w []) ∙ joined_by (w.table.connected && not s.submitted) s.submitted (opens_of opens) w (restarted w) in
+    let h : Hears x t' v' answers' submitted waits more = subst (λ k. Hears k t' v' answers' submitted waits more) here second in
+    subst (λ k. Hears k t' v' answers' submitted waited more) (sym whole)
+    (record {
+      puts = record {
+        at = record { table = h.puts.at.table; volume = h.puts.at.volume; answered = h.puts.at.answered };
+        sent =
+            h.puts.sent
+            ∙ ap (λ l. l ++ flat_map frame x.led.sent) first.sent
+            ∙ append_assoc waited (flat_map frame w.sent) (flat_map frame x.led.sent)
+            ∙ ap (λ l. waited ++ l) (sym (flat_map-append frame w.sent x.led.sent));
+      };
+      submitted_is = h.submitted_is;
+    })
 
 -- a message, behind what happened before
 heard_from : (opens : List ℕ) (s : Standing) (m : Body) → heard opens s m ≡ behind_all s.led (heard opens (record { led = restarted s.led; submitted = s.submitted }) m)
@@ -221,17 +240,22 @@ pub record IsWatching (opens : List ℕ) (old : Table) (store : Store) (from now
   pub went : Appends w u written
   pub text : filter_text old store opens messages ≡ written ++ waits
 
-pub watching_begins : (opens : List ℕ) (t : Table) (v : Store) (from : Received) (waits : List ℕ) (a w : Option (List ℕ)) (answers : List Answer) (submitted : Bool)
-    → waits ≡ [] → answers ≡ [] → submitted ≡ false → IsWatching opens t v from from waits a a w w t v answers submitted
-watching_begins opens t v from waits a w answers submitted none first before = record {
-  messages = [];
-  taken = takes_none from a;
-  at = record { table = refl; volume = refl; answered = first };
-  submitted_is = before;
-  written = [];
-  went = Appends-nil w;
-  text = sym none;
-}
+pub watching_begins : (opens : List ℕ) (t t' : Table) (v v' : Store) (from : Received) (waits more : List ℕ) (a w : Option (List ℕ)) (answers answers' : List Answer) (before submitted : Bool)
+    → waits ≡ [] → answers ≡ [] → before ≡ false → Hears (joined opens before (unled t v answers)) t' v' answers' submitted waits more
+    → IsWatching opens t v from from more a a w w t' v' answers' submitted
+watching_begins opens t t' v v' from waits more a w answers answers' before submitted none first not_yet hears =
+    let start : Standing = joined opens false (unled t v []) in
+    let same : joined opens before (unled t v answers) ≡ start = ap (λ b. joined opens b (unled t v answers)) not_yet ∙ ap (λ l. joined opens false (unled t v l)) first in
+    let h : Hears start t' v' answers' submitted waits more = subst (λ k. Hears k t' v' answers' submitted waits more) same hears in
+    record {
+      messages = [];
+      taken = takes_none from a;
+      at = h.puts.at;
+      submitted_is = h.submitted_is;
+      written = [];
+      went = Appends-nil w;
+      text = sym (h.puts.sent ∙ ap (λ l. l ++ flat_map frame start.led.sent) none);
+    }
 
 -- whether all opens are answered, by what the code counts
 pub done_is : (opens : List ℕ) (old : Table) (store : Store) (from now : Received) (waits : List ℕ) (a b w u : Option (List ℕ)) (t : Table) (v : Store) (answers : List Answer) (submitted : Bool) (first answered : ℕ)
@@ -254,7 +278,7 @@ watching_goes_on opens old store from x y a b c w v u t t' k k' answers answers'
     ap (λ l. record { led = l; submitted = submitted }) (found before.led t k answers h.at) ∙ ap (λ s. record { led = restarted before.led; submitted = s }) h.submitted_is in
     let after = heard opens (standing t k answers submitted) m in
     let more : filter_run old store opens (h.messages ++ m ∷ []) ≡ behind_all before.led after =
-    heard_more opens store.opens (standing old store [] false) h.messages m left ∙ heard_from opens before m ∙ ap (λ s. behind_all before.led (heard opens s m)) (sym here) in
+    heard_more opens store.opens (joined opens false (unled old store [])) h.messages m left ∙ heard_from opens before m ∙ ap (λ s. behind_all before.led (heard opens s m)) (sym here) in
     record {
       messages = h.messages ++ m ∷ [];
       taken = takes_then from x.incoming y.incoming a b c h.messages (m ∷ []) h.taken passes.taken;
@@ -375,14 +399,14 @@ left_at w t t' v answers answers' first second = at_then w t t' v v answers answ
 kept_at : (w : Led) (t t' : Table) (v : Store) (answers answers' : List Answer) → IsAt w t v answers → t' ≡ t → answers' ≡ answers → IsAt w t' v answers'
 kept_at w t t' v answers answers' at table same = record { table = table ∙ at.table; volume = at.volume; answered = same ∙ at.answered }
 
-kept_within : (opens : List ℕ) (first : ℕ) (a : Option (List ℕ)) (messages : List Body) (s : Standing) (t t' : Table) (v : Store) (answers answers' : List Answer) → t' ≡ t → answers' ≡ answers
-    → IsWithin opens first a messages s t v answers → IsWithin opens first a messages s t' v answers'
-kept_within opens first a messages s t t' v answers answers' table same within = subst (λ k. IsWithin opens first a messages s k v answers') (sym table) (subst (IsWithin opens first a messages s t v) (sym same) within)
+kept_within : (opens : List ℕ) (from : Led) (a : Option (List ℕ)) (messages : List Body) (s : Standing) (t t' : Table) (v : Store) (answers answers' : List Answer) → t' ≡ t → answers' ≡ answers
+    → IsWithin opens from a messages s t v answers → IsWithin opens from a messages s t' v answers'
+kept_within opens from a messages s t t' v answers answers' table same within = subst (λ k. IsWithin opens from a messages s k v answers') (sym table) (subst (IsWithin opens from a messages s t v) (sym same) within)
 
 -- an engine that would end otherwise than by Memory, with this left of its run, ends so or with Memory
 ends_as : (opens : List ℕ) (old : Table) (store : Store) (a w u : Option (List ℕ)) (turns : ℕ) (e end : End) (t t' : Table) (v : Store) (answers answers' : List Answer)
     → (runs : RunsTo opens old store t v answers a w u turns e) → IsAt (filter_run old store opens runs.messages).led t v answers
-    → (IsAt (happened (filter_run old store opens runs.messages).led Disconnects) t' v answers' → IsLeft e (IsWithin opens store.opens a runs.messages (filter_run old store opens runs.messages) t' v answers') (is_done store.opens (length opens) (filter_run old store opens runs.messages)) (filter_run old store opens runs.messages).led t' v answers')
+    → (IsAt (happened (filter_run old store opens runs.messages).led Disconnects) t' v answers' → IsLeft e (IsWithin opens (unled old store []) a runs.messages (filter_run old store opens runs.messages) t' v answers') (is_done store.opens (length opens) (filter_run old store opens runs.messages)) (filter_run old store opens runs.messages).led t' v answers')
     → ((end ≡ e) × IsAt (happened (unled t v answers) Disconnects) t' v answers') ⊎ ((end ≡ Memory) × (t' ≡ t) × (answers' ≡ answers))
     → WatchesTo opens old store t' v answers' a w u turns end
 ends_as opens old store a w u turns e end t t' v answers answers' runs at left (inl k) =
@@ -409,7 +433,7 @@ watched opens old store a w u turns Frame end t t' v answers answers' runs leave
 watched opens old store a w u turns Closed end t t' v answers answers' runs leaves = ends_as opens old store a w u turns Closed end t t' v answers answers' runs runs.left.1 (λ at. (runs.left.0, at)) leaves
 watched opens old store a w u turns Memory end t t' v answers answers' runs leaves =
     subst (λ x. WatchesTo opens old store t' v answers' a w u turns x) (sym leaves.0)
-    (record { messages = runs.messages; spelled = runs.spelled; few = runs.few; sent = runs.sent; left = kept_within opens store.opens a runs.messages _ t t' v answers answers' leaves.1 leaves.2 runs.left })
+    (record { messages = runs.messages; spelled = runs.spelled; few = runs.few; sent = runs.sent; left = kept_within opens (unled old store []) a runs.messages _ t t' v answers answers' leaves.1 leaves.2 runs.left })
 watched opens old store a w u turns AuditFull end t t' v answers answers' runs leaves = absurd runs.spelled
 
 nothing_spelled : (a : Option (List ℕ)) → IfSome a (SpellsFirst [])
@@ -417,11 +441,12 @@ nothing_spelled None = tt
 nothing_spelled (Some xs) = record { more = xs; whole = refl; in_range = tt }
 
 -- memory was refused before the first read
-pub nothing_watched : (opens : List ℕ) (t : Table) (v : Store) (a w : Option (List ℕ)) (turns : ℕ) (answers : List Answer) → answers ≡ [] → RunsTo opens t v t v answers a w w turns Memory
-nothing_watched opens t v a w turns answers none = record {
+pub nothing_watched : (opens : List ℕ) (t t' : Table) (v v' : Store) (a w : Option (List ℕ)) (turns : ℕ) (answers answers' : List Answer) (before : Bool)
+    → answers ≡ [] → before ≡ false → IsAmid (unled t v answers) (due opens before t) t' v' answers' → RunsTo opens t v t' v' answers' a w w turns Memory
+nothing_watched opens t t' v v' a w turns answers answers' before none not_yet amid = record {
   messages = [];
   spelled = nothing_spelled a;
   few = omega arith;
-  sent = prefix_whole w w [] (Appends-nil w);
-  left = IsWithin.between (record { table = refl; volume = refl; answered = none });
+  sent = record { front = []; back = filter_text t v opens []; parts = refl; appended = Appends-nil w };
+  left = IsWithin.begun refl (subst (λ b. IsAmid (unled t v []) (due opens b t) t' v' answers') not_yet (subst (λ l. IsAmid (unled t v l) (due opens before t) t' v' answers') none amid));
 }

@@ -5,7 +5,7 @@ use Rattle.av_base.specs.declared.cause.Cause.TheVariants.{PortDisconnected}
 use Rattle.av_base.specs.declared.message_id.MessageId.{MessageId}
 use Rattle.av_base.specs.declared.mode.Mode.TheVariants.{FailClosed}
 use Rattle.av_base.specs.declared.verdict.Verdict.TheVariants.{Clean}
-use Rattle.av_filter.specs.Conduct.{Disconnects}
+use Rattle.av_filter.specs.Conduct.{Disconnects, Receives}
 use Rattle.av_filter_table.specs.Table.{Table, mounted}
 use Rattle.av_frame.specs.declared.message.Body.{Body}
 use Rattle.av_frame.specs.declared.message.Body.TheVariants.{Scan, Chunk, Hello, Read, Reply}
@@ -16,7 +16,7 @@ use Rattle.av_sigset.specs.Set.{widest}
 use Rattle.av_sigset.specs.declared.signature.Pattern.{Pattern}
 use Rattle.av_store.specs.Store.{Store}
 use Rattle.av_engines.specs.Serving.{service_run}
-use Rattle.av_engines.specs.Watching.{filter_run, happened, is_done}
+use Rattle.av_engines.specs.Watching.{filter_run, happened, is_done, unled}
 
 -- a volume with one stream of three bytes
 abbrev pub worked_store : Store
@@ -54,8 +54,12 @@ down = Scan first_id 1 2 3 ∷ Chunk first_id 0 (65 ∷ 66 ∷ 67 ∷ []) ∷ []
 abbrev pub up : List Body
 up = Hello 1 1 ∷ Read first_id 0 3 ∷ Reply first_id (Judged 1 Clean) ∷ []
 
--- Each side's text of what the other sends is that of the worked run. A message behind the last answer changes nothing; and
--- where the service is lost before its reply, the open is denied.
+-- a filter that was greeted before
+abbrev pub greeted_table : Table
+greeted_table = (happened (unled worked_table worked_store []) (Receives (Hello 1 1))).table
+
+-- Each side's text of what the other sends is that of the worked run. A message behind the last answer changes nothing; where
+-- the service is lost before its reply, the open is denied; and a filter that was greeted before submits at once.
 pub record AreWorked : Type 0 where
   pub serves : (service_run worked_patterns worked_desk down).sent ≡ up
   pub watches : (filter_run worked_table worked_store (1 ∷ []) up).led.sent ≡ down
@@ -64,6 +68,14 @@ pub record AreWorked : Type 0 where
   pub nothing_behind : filter_run worked_table worked_store (1 ∷ []) (up ++ Read first_id 0 3 ∷ [])
       ≡ filter_run worked_table worked_store (1 ∷ []) up
   pub not_before : (filter_run worked_table worked_store (1 ∷ []) (Hello 2 1 ∷ [])).led.sent ≡ []
+  pub at_once : (filter_run greeted_table worked_store (1 ∷ []) []).led.sent ≡ Scan first_id 1 2 3 ∷ []
+  pub grants_then : (filter_run greeted_table worked_store (1 ∷ []) (Read first_id 0 3 ∷ Reply first_id (Judged 1 Clean) ∷ [])).led
+      ≡ record {
+        table = (filter_run worked_table worked_store (1 ∷ []) up).led.table;
+        volume = (filter_run worked_table worked_store (1 ∷ []) up).led.volume;
+        sent = down;
+        answers = Granted 1 0 1 2 1 ∷ [];
+      }
   pub none_at_once : (filter_run worked_table worked_store [] up).led.sent ≡ []
   pub lost : (happened (filter_run worked_table worked_store (1 ∷ []) (Hello 1 1 ∷ [])).led Disconnects).answers
       ≡ Denied 1 PortDisconnected ∷ []

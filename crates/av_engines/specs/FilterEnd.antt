@@ -4,7 +4,7 @@ use Rattle.std.specs.List.{flat_map}
 use Rattle.av_engines.specs.declared.end.End.{End}
 use Rattle.av_engines.specs.declared.end.End.TheVariants.{Done, WriteFault, Memory, AuditFull}
 use Rattle.av_engines.specs.Spelled.{AreSpelled, CameIn, IsSent, SpellsFirst}
-use Rattle.av_engines.specs.Watching.{Led, Standing, all_happened, events_of, filter_run, filter_text, happened, is_done, unled}
+use Rattle.av_engines.specs.Watching.{Led, Standing, all_happened, due, events_of, filter_run, filter_text, happened, is_done, unled}
 use Rattle.av_filter.specs.Conduct.{FilterEvent, Disconnects}
 use Rattle.av_filter_table.specs.Table.{Table}
 use Rattle.av_frame.specs.declared.message.Body.{Body}
@@ -25,13 +25,15 @@ pub record IsAmid (w : Led) (all : List FilterEvent) (t : Table) (v : Store) (an
   pub first : events ++ rest ≡ all
   pub at : IsAt (all_happened w events) t v answers
 
--- What a want of memory leaves behind messages of the input: what they led to; or, where opens are left to be answered, what
--- the first of the events led to that the input's next message brings.
-pub data IsWithin (opens : List ℕ) (first : ℕ) (input : Option (List ℕ)) (messages : List Body) (s : Standing)
+-- What a want of memory leaves behind messages of the input: what they led to; where opens are left to be answered, what
+-- the first of the events led to that the input's next message brings; or, before any message, what the first opens led to
+-- of a filter that was connected.
+pub data IsWithin (opens : List ℕ) (from : Led) (input : Option (List ℕ)) (messages : List Body) (s : Standing)
     (t : Table) (v : Store) (answers : List Answer) : Type 0 where
-  between : IsAt s.led t v answers → IsWithin opens first input messages s t v answers
-  amid : (next : Body) → IfSome input (SpellsFirst (messages ++ next ∷ [])) → is_done first (length opens) s ≡ false
-      → IsAmid s.led (events_of opens s next) t v answers → IsWithin opens first input messages s t v answers
+  begun : messages ≡ [] → IsAmid from (due opens false from.table) t v answers → IsWithin opens from input messages s t v answers
+  between : IsAt s.led t v answers → IsWithin opens from input messages s t v answers
+  amid : (next : Body) → IfSome input (SpellsFirst (messages ++ next ∷ [])) → is_done from.volume.opens (length opens) s ≡ false
+      → IsAmid s.led (events_of opens s next) t v answers → IsWithin opens from input messages s t v answers
 
 -- Where the run of the messages is left: as it is, where all opens are answered; disconnected, where the input ended or
 -- failed and they are not, or where a write failed; and where memory was refused, as `within` says.
@@ -49,7 +51,7 @@ pub record WatchesTo (opens : List ℕ) (t : Table) (v : Store) (t' : Table) (v'
   pub spelled : AreSpelled end input messages
   pub few : CameIn turns messages
   pub sent : IsSent end held holds (filter_text t v opens messages)
-  pub left : IsLeft end (IsWithin opens v.opens input messages (filter_run t v opens messages) t' v' answers)
+  pub left : IsLeft end (IsWithin opens (unled t v []) input messages (filter_run t v opens messages) t' v' answers)
       (is_done v.opens (length opens) (filter_run t v opens messages)) (filter_run t v opens messages).led t' v' answers
 
 -- the same before the filter is disconnected
@@ -66,7 +68,7 @@ pub record RunsTo (opens : List ℕ) (t : Table) (v : Store) (t' : Table) (v' : 
   pub spelled : AreSpelled end input messages
   pub few : CameIn turns messages
   pub sent : IsSent end held holds (filter_text t v opens messages)
-  pub left : IsStill end (IsWithin opens v.opens input messages (filter_run t v opens messages) t' v' answers)
+  pub left : IsStill end (IsWithin opens (unled t v []) input messages (filter_run t v opens messages) t' v' answers)
       (is_done v.opens (length opens) (filter_run t v opens messages)) (filter_run t v opens messages).led t' v' answers
 
 -- events led from a table, a volume and answers to others, and their frames wait to go out behind those that did

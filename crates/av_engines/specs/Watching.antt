@@ -1,5 +1,5 @@
--- The filter over a stream of frames: what it sends and answers as messages come, the opens submitted right after the first
--- message that leaves it connected.
+-- The filter over a stream of frames: what it sends and answers as messages come, the opens submitted as soon as it is
+-- connected, at once or right after a message.
 use Rattle.std.specs.Prelude.{ℕ, ◌&&◌, ◌==◌, Bool, true, false, not, nat_lt, List, [], ◌∷◌, ◌++◌, length, map, if◌then◌else◌}
 use Rattle.std.specs.List.{count_by, flat_map}
 use Rattle.av_filter.specs.Conduct.{FilterEvent, Opens, Receives, filter_step}
@@ -40,11 +40,15 @@ pub record Standing : Type 0 where
   pub led : Led
   pub submitted : Bool
 
--- the filter is connected after a message, or it isn't
+-- the filter is connected, so that the opens are submitted where they weren't, or it isn't
 abbrev pub joined : List ℕ → Bool → Led → Standing
 joined opens submitted w =
     if w.table.connected && not submitted then record { led = all_happened w (opens_of opens); submitted = true }
     else record { led = w; submitted = submitted }
+
+-- the opens that are submitted there
+abbrev pub due : List ℕ → Bool → Table → List FilterEvent
+due opens submitted t = if t.connected && not submitted then opens_of opens else []
 
 -- a message comes
 abbrev pub heard : List ℕ → Standing → Body → Standing
@@ -52,8 +56,7 @@ heard opens s m = joined opens s.submitted (happened s.led (Receives m))
 
 -- what a message brings: it comes, and where it is the first that leaves the filter connected the opens are submitted
 abbrev pub events_of : List ℕ → Standing → Body → List FilterEvent
-events_of opens s m =
-    Receives m ∷ (if (happened s.led (Receives m)).table.connected && not s.submitted then opens_of opens else [])
+events_of opens s m = Receives m ∷ due opens s.submitted (happened s.led (Receives m)).table
 
 -- how many answers are to opens of a later number than this one
 abbrev pub later : ℕ → List Answer → ℕ
@@ -76,9 +79,9 @@ unled t v answers = record { table = t; volume = v; sent = []; answers = answers
 abbrev pub standing : Table → Store → List Answer → Bool → Standing
 standing t v answers submitted = record { led = unled t v answers; submitted = submitted }
 
--- where messages lead an engine that has submitted nothing
+-- where messages lead an engine
 abbrev pub filter_run : Table → Store → List ℕ → List Body → Standing
-filter_run t v opens ms = heard_all opens v.opens (standing t v [] false) ms
+filter_run t v opens ms = heard_all opens v.opens (joined opens false (unled t v [])) ms
 
 -- what is written meanwhile
 abbrev pub filter_text : Table → Store → List ℕ → List Body → List ℕ

@@ -13,10 +13,12 @@ mod wrong_to_service;
 
 use self::cut::CutReader;
 use self::frames::{DOWN, UP};
-use self::sides::{served, watched};
-use self::told::{LOST, Told};
+use self::sides::{served, watched, watched_again};
+use self::text::bytes_of;
+use self::told::{LOST, Told, denied, granted};
 use crate::end::End;
 use crate::watching::Watched;
+use av_base::{Cause, StreamId};
 use av_fakes::{FakeReader, FakeWriter, Fault};
 use std::alloc::Global;
 use std::test::Fail;
@@ -68,6 +70,27 @@ fn runs_in_pieces(alloc: Global, piece: usize) -> Result<bool, Fail> {
     let mut answer = FakeWriter::new(alloc);
     let end = served(alloc, &mut back, &mut answer, 1_000)?;
     Ok(watched && end == End::Closed && answer.taken() == UP.as_slice())
+}
+
+#[test]
+fn a_filter_that_is_connected_submits_at_once(rt: HostRuntime) -> Result<(), Fail> {
+    let alloc = rt.alloc();
+    let mut writer = FakeWriter::new(alloc);
+    let nothing = &mut FakeReader::new(&[]);
+    let known = watched_again(alloc, &[StreamId::new(1)], nothing, &mut writer)?;
+    assert_eq!(rt; known.end, End::Done);
+    assert_eq!(rt; known.answers.as_slice(), [granted(2, 1)].as_slice());
+    assert_eq!(rt; writer.taken().len(), 0);
+    let nothing = &mut FakeReader::new(&[]);
+    let asked = watched_again(alloc, &[StreamId::new(2)], nothing, &mut writer)?;
+    assert_eq!(rt; asked.end, End::Closed);
+    assert_eq!(rt;
+        asked.answers.as_slice(),
+        [denied(2, Cause::PortDisconnected)].as_slice()
+    );
+    let scan = bytes_of(alloc, &["00000029 01 [1] [2] [2] [2] [3]"])?;
+    assert_eq!(rt; writer.taken(), scan.as_slice());
+    Ok(())
 }
 
 #[test]

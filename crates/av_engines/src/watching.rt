@@ -3,8 +3,7 @@ ghost use Rattle.std.specs.List.{flat_map};
 ghost use Rattle.std.specs.Vec.{vec_capacity};
 ghost use Rattle.av_engines.specs.FilterEnd.{Hears, IsAmid, IsAt, Leaves, Puts, RunsTo, WatchesTo};
 ghost use Rattle.av_engines.specs.Incoming.{unread};
-ghost use Rattle.av_engines.specs.Watching.{all_happened, events_of, happened, heard, opens_of, standing, unled};
-ghost use Rattle.av_filter.specs.Bounds.{AreInBounds};
+ghost use Rattle.av_engines.specs.Watching.{all_happened, due, events_of, happened, heard, joined, opens_of, standing, unled};
 ghost use Rattle.av_filter.specs.Call.{MeetsAlways, Reacts};
 ghost use Rattle.av_filter.specs.Conduct.{Disconnects, Opens, Receives, filter_step};
 ghost use Rattle.av_filter.specs.Fit.{Fits};
@@ -45,8 +44,8 @@ impl Watched {
 }
 
 /// Runs a filter over a stream of frames: it handles each message that comes, and submits an open of each of these streams,
-/// in order, for any version, right after the first message that leaves it connected. It ends with Done once all of them are
-/// answered, at once where there are none, and what was sent went out. Else with ReadFault, also once `turns` reads were
+/// in order, for any version, as soon as it is connected: at once, or right after the message that connects it. It ends with
+/// Done once all of them are answered, at once where there are none, and what was sent went out. Else with ReadFault, also once `turns` reads were
 /// made; WriteFault; Frame; Closed; each of these disconnects the filter, so that each open that was submitted is answered;
 /// or with Memory, also where it is refused to that: the filter is where the messages led, or within the next of them. It holds the answers, a buffer, and the frames of one message.
 pub fn serve_filter<R: Read, W: Write>(
@@ -59,12 +58,10 @@ pub fn serve_filter<R: Read, W: Write>(
     turns: u64,
 ) -> Watched
     requires fits { Fits filter.old volume.old }
-    requires bounds { AreInBounds volume.old }
     requires left { volume.old.opens + length opens.now ≤ greatest }
     ensures watches { WatchesTo opens.now filter.old volume.old filter.new volume.new result.answers.items
         (R.remaining reader.old) (W.contents writer.old) (W.contents writer.new) turns result.end }
     ensures fits { Fits filter.new volume.new }
-    ensures bounds { AreInBounds volume.new }
 {
     let taken = u64::MAX - volume.opens_left();
     let mut tally = Tally::new(alloc, taken);
@@ -87,13 +84,11 @@ fn begin<R: Read, W: Write>(
     turns: u64,
 ) -> End
     requires fits { Fits filter.old volume.old }
-    requires bounds { AreInBounds volume.old }
     requires left { volume.old.opens + length opens.now ≤ greatest }
     requires none { (tally.old.answers.items ≡ []) × (tally.old.first ≡ volume.old.opens) × (tally.old.submitted ≡ false) }
     ensures runs { RunsTo opens.now filter.old volume.old filter.new volume.new tally.new.answers.items (R.remaining reader.old)
         (W.contents writer.old) (W.contents writer.new) turns result }
     ensures fits { Fits filter.new volume.new }
-    ensures bounds { AreInBounds volume.new }
 {
     match Exchange::new(alloc, turns) {
         Ok(mut exchange) => {
@@ -104,7 +99,8 @@ fn begin<R: Read, W: Write>(
     }
 }
 
-// Handles each message that comes, until all opens are answered or none comes.
+// Submits the opens where the filter is connected, and handles each message that comes, until all opens are answered or none
+// comes.
 fn watch<R: Read, W: Write>(
     alloc: Global,
     volume: &mut Volume,
@@ -116,16 +112,19 @@ fn watch<R: Read, W: Write>(
     writer: &mut W,
 ) -> End
     requires fits { Fits filter.old volume.old }
-    requires bounds { AreInBounds volume.old }
     requires left { volume.old.opens + length opens.now ≤ greatest }
     requires nothing { (unread exchange.old.incoming ≡ []) × (exchange.old.outgoing ≡ []) }
     requires none { (tally.old.answers.items ≡ []) × (tally.old.first ≡ volume.old.opens) × (tally.old.submitted ≡ false) }
     ensures runs { RunsTo opens.now filter.old volume.old filter.new volume.new tally.new.answers.items (R.remaining reader.old)
         (W.contents writer.old) (W.contents writer.new) exchange.old.incoming.turns result }
     ensures fits { Fits filter.new volume.new }
-    ensures bounds { AreInBounds volume.new }
 {
     bytes_spell_one_list();
+    let outgoing = &mut exchange.outgoing;
+    match join(alloc, volume, filter, opens, tally, outgoing) {
+        Ok(()) => {}
+        Err(_) => return End::Memory,
+    }
     'messages: while tally.answered != opens.len() {
         let message = match exchange.next(reader, writer) {
             Ok(message) => message,
@@ -143,7 +142,7 @@ fn watch<R: Read, W: Write>(
     }
 }
 
-// Handles a message, and submits the opens where it is the first that leaves the filter connected.
+// Handles a message, and submits the opens where it connects the filter.
 fn hear(
     alloc: Global,
     volume: &mut Volume,
@@ -154,7 +153,6 @@ fn hear(
     message: &Message,
 ) -> Result<(), AllocError>
     requires fits { Fits filter.old volume.old }
-    requires bounds { AreInBounds volume.old }
     requires left { tally.old.submitted ≡ false → volume.old.opens + length opens.now ≤ greatest }
     ensures ok { OnOk result
         (Hears (heard opens.now (standing filter.old volume.old tally.old.answers.items tally.old.submitted) message.now)
@@ -166,10 +164,34 @@ fn hear(
     ensures left { OnOk result (tally.new.submitted ≡ false
         → (tally.old.submitted ≡ false) × (volume.new.opens ≡ volume.old.opens)) }
     ensures fits { Fits filter.new volume.new }
-    ensures bounds { AreInBounds volume.new }
     ensures first { tally.new.first ≡ tally.old.first }
 {
     receive(alloc, volume, filter, tally, outgoing, message)?;
+    join(alloc, volume, filter, opens, tally, outgoing)
+}
+
+// Submits the opens where the filter is connected and they weren't submitted.
+fn join(
+    alloc: Global,
+    volume: &mut Volume,
+    filter: &mut Filter,
+    opens: &[StreamId],
+    tally: &mut Tally,
+    outgoing: &mut Outgoing,
+) -> Result<(), AllocError>
+    requires fits { Fits filter.old volume.old }
+    requires left { tally.old.submitted ≡ false → volume.old.opens + length opens.now ≤ greatest }
+    ensures ok { OnOk result
+        (Hears (joined opens.now tally.old.submitted (unled filter.old volume.old tally.old.answers.items))
+        filter.new volume.new tally.new.answers.items tally.new.submitted outgoing.old outgoing.new) }
+    ensures amid { OnErr result
+        (IsAmid (unled filter.old volume.old tally.old.answers.items) (due opens.now tally.old.submitted filter.old)
+        filter.new volume.new tally.new.answers.items) }
+    ensures left { OnOk result (tally.new.submitted ≡ false
+        → (tally.old.submitted ≡ false) × (volume.new.opens ≡ volume.old.opens)) }
+    ensures fits { Fits filter.new volume.new }
+    ensures first { tally.new.first ≡ tally.old.first }
+{
     if filter.connected() && !tally.submitted {
         tally.submitted = true;
         submit_all(alloc, volume, filter, opens, tally, outgoing)?;
@@ -187,7 +209,6 @@ fn submit_all(
     outgoing: &mut Outgoing,
 ) -> Result<(), AllocError>
     requires fits { Fits filter.old volume.old }
-    requires bounds { AreInBounds volume.old }
     requires left { volume.old.opens + length opens.now ≤ greatest }
     ensures ok { OnOk result
         (Puts (all_happened (unled filter.old volume.old tally.old.answers.items) (opens_of opens.now)) filter.new volume.new
@@ -196,7 +217,6 @@ fn submit_all(
         (IsAmid (unled filter.old volume.old tally.old.answers.items) (opens_of opens.now) filter.new volume.new
         tally.new.answers.items) }
     ensures fits { Fits filter.new volume.new }
-    ensures bounds { AreInBounds volume.new }
     ensures rest { (tally.new.first ≡ tally.old.first) × (tally.new.submitted ≡ tally.old.submitted) }
 {
     'opens: for stream in opens {
@@ -208,7 +228,6 @@ fn submit_all(
 // Disconnects the filter, where its engine did not end with Done or Memory. The end; Memory, where it was refused to that.
 fn leave(alloc: Global, volume: &Volume, filter: &mut Filter, tally: &mut Tally, end: End) -> End
     requires fits { Fits filter.old volume.now }
-    requires bounds { AreInBounds volume.now }
     ensures leaves { Leaves end result filter.old volume.now tally.old.answers.items filter.new tally.new.answers.items }
     ensures fits { Fits filter.new volume.now }
 {
@@ -230,7 +249,6 @@ fn disconnect(
     tally: &mut Tally,
 ) -> Result<(), AllocError>
     requires fits { Fits filter.old volume.now }
-    requires bounds { AreInBounds volume.now }
     ensures ok { OnOk result
         (IsAt (happened (unled filter.old volume.now tally.old.answers.items) Disconnects) filter.new
         volume.now tally.new.answers.items) }
@@ -253,7 +271,6 @@ fn receive(
     message: &Message,
 ) -> Result<(), AllocError>
     requires fits { Fits filter.old volume.now }
-    requires bounds { AreInBounds volume.now }
     ensures ok { OnOk result
         (Puts (all_happened (unled filter.old volume.now tally.old.answers.items) (Receives message.now ∷ [])) filter.new
         volume.now tally.new.answers.items outgoing.old outgoing.new) }
@@ -276,7 +293,6 @@ fn tell(
     message: &Message,
 ) -> Result<Out, AllocError>
     requires fits { Fits filter.old volume.now }
-    requires bounds { AreInBounds volume.now }
     ensures event { MeetsAlways filter.old volume.now filter.new volume.now result
         (filter_step filter.old volume.now (Receives message.now)) }
     ensures few { IfOk result (λ out. length out.answers.items ≤ length filter.old.pended + 1) }
@@ -296,7 +312,6 @@ fn submit(
 ) -> Result<(), AllocError>
     requires left { volume.old.opens < greatest }
     requires fits { Fits filter.old volume.old }
-    requires bounds { AreInBounds volume.old }
     ensures ok { OnOk result
         (Puts (all_happened (unled filter.old volume.old tally.old.answers.items) (Opens stream 0 ∷ [])) filter.new volume.new
         tally.new.answers.items outgoing.old outgoing.new) }
@@ -304,7 +319,6 @@ fn submit(
         tally.new.answers.items }
     ensures taken { OnOk result (volume.new.opens ≡ volume.old.opens + 1) }
     ensures fits { Fits filter.new volume.new }
-    ensures bounds { AreInBounds volume.new }
     ensures rest { (tally.new.first ≡ tally.old.first) × (tally.new.submitted ≡ tally.old.submitted) }
 {
     tally.make_room(filter)?;
@@ -322,13 +336,11 @@ fn open(
 ) -> Result<Out, AllocError>
     requires left { volume.old.opens < greatest }
     requires fits { Fits filter.old volume.old }
-    requires bounds { AreInBounds volume.old }
     ensures event { MeetsAlways filter.old volume.old filter.new volume.new result
         (filter_step filter.old volume.old (Opens stream 0)) }
     ensures few { IfOk result (λ out. length out.answers.items ≤ length filter.old.pended + 1) }
     ensures taken { OnOk result (volume.new.opens ≡ volume.old.opens + 1) }
     ensures fits { Fits filter.new volume.new }
-    ensures bounds { AreInBounds volume.new }
 {
     match filter.open(alloc, volume, stream, Version::new(0)) {
         Ok(out) => Ok(out),

@@ -1,6 +1,5 @@
 // Both engines over a volume of two streams, `ABC` and `AXX`, and a set of version 1 with the pattern `XX`.
 ghost use Rattle.std.specs.Prelude.{IfOk, OnOk};
-ghost use Rattle.av_filter.specs.Bounds.{AreInBounds};
 
 use crate::end::End;
 use crate::serving::serve_service;
@@ -19,20 +18,19 @@ use std::io::{Read, Write};
 #[derive(Clone, Copy, Debug)]
 pub struct Unmade;
 
-pub fn volume_of_two(alloc: Global) -> Result<Volume, Unmade>
-    ensures { IfOk result (λ v. AreInBounds v) }
-{
+pub fn volume_of_two(alloc: Global) -> Result<Volume, Unmade> {
     let mut volume = Volume::new(alloc, 1, Limits::greatest());
-    let _in_range = Limits::greatest().values();
     add_stream(alloc, &mut volume, b"a", b"ABC")?;
     add_stream(alloc, &mut volume, b"b", b"AXX")?;
     Ok(volume)
 }
 
-fn add_stream(alloc: Global, volume: &mut Volume, name: &[u8], content: &[u8]) -> Result<(), Unmade>
-    requires { AreInBounds volume.old }
-    ensures { OnOk result (AreInBounds volume.new) }
-{
+fn add_stream(
+    alloc: Global,
+    volume: &mut Volume,
+    name: &[u8],
+    content: &[u8],
+) -> Result<(), Unmade> {
     let Ok(stream) = volume.create(alloc, name) else {
         return Err(Unmade);
     };
@@ -102,6 +100,48 @@ pub fn watched_within<R: Read, W: Write>(
         turns,
     );
     refuse_no_more(alloc);
+    filter.abandon();
+    Ok(watched)
+}
+
+// The filter's engine, on a filter that was greeted in a run of one open.
+pub fn watched_again<R: Read, W: Write>(
+    alloc: Global,
+    opens: &[StreamId],
+    reader: &mut R,
+    writer: &mut W,
+) -> Result<Watched, Unmade> {
+    let mut volume = volume_of_two(alloc)?;
+    let Ok(mut filter) = Filter::mount(alloc, &mut volume, Mode::FailClosed, Limits::greatest())
+    else {
+        return Err(Unmade);
+    };
+    if volume.opens_left() < 1 {
+        filter.abandon();
+        return Err(Unmade);
+    }
+    let first = serve_filter(
+        alloc,
+        &mut volume,
+        &mut filter,
+        &[StreamId::new(1)],
+        &mut FakeReader::new(&UP),
+        &mut FakeWriter::new(alloc),
+        1_000,
+    );
+    if first.end != End::Done || volume.opens_left() < opens.len() as u64 {
+        filter.abandon();
+        return Err(Unmade);
+    }
+    let watched = serve_filter(
+        alloc,
+        &mut volume,
+        &mut filter,
+        opens,
+        reader,
+        writer,
+        1_000,
+    );
     filter.abandon();
     Ok(watched)
 }

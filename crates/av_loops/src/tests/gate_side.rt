@@ -1,6 +1,5 @@
 // The loops round a gate, over streams in memory.
 ghost use Rattle.std.specs.Prelude.{IfOk};
-ghost use Rattle.av_filter.specs.Bounds.{AreInBounds};
 ghost use Rattle.av_gate.specs.Seats.{IsSeatOf};
 
 use crate::{gate_in, gate_out};
@@ -27,10 +26,7 @@ const SCAN: &[u8] =
     b"\0\0\0\x29\x01\0\0\0\0\0\0\0\x01\0\0\0\0\0\0\0\x01\0\0\0\0\0\0\0\x01\0\0\0\0\0\0\0\x02\0\0\0\0\0\0\0\x03";
 
 // A volume with the stream a, which holds ABC.
-fn volume_of_one(alloc: Global, limits: Limits) -> Result<Volume, Fail>
-    ensures { IfOk result (λ v. AreInBounds v) }
-{
-    let _in_range = limits.values();
+fn volume_of_one(alloc: Global, limits: Limits) -> Result<Volume, Fail> {
     let mut volume = Volume::new(alloc, 1, limits);
     let stream = volume.create(alloc, b"a")?;
     volume.write(stream, 0, b"ABC")?;

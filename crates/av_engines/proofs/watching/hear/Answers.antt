@@ -1,6 +1,5 @@
-use Rattle.std.proofs.Common.{◌∙◌, sym}
 use Rattle.av_engines.specs.Watching.{standing}
-use Rattle.av_engines.proofs.WatchingLemmas.{amid_received, amid_submitted, hears_submitted, on_err}
+use Rattle.av_engines.proofs.WatchingLemmas.{amid_received, amid_joined, err_then, hears_joined, ok_then, on_err}
 use Rattle.av_engines.proofs.watching.hear.Goals as goal
 
 pub returns-in_err-receive-clause-amid : goal.returns-in_err-receive-clause-amid
@@ -8,13 +7,12 @@ returns-in_err-receive-clause-amid c =
     let s = standing c.args.filter.now c.args.volume.now c.args.tally.now.answers.items c.args.tally.now.submitted in
     on_err _ c.from_residual.result (amid_received c.args.opens.now s c.args.message.now _ _ _ c.receive.ensures.amid)
 
-pub returns-in_err-submit_all-clause-amid : goal.returns-in_err-submit_all-clause-amid
-returns-in_err-submit_all-clause-amid c =
+pub returns-clause-ok : goal.returns-clause-ok
+returns-clause-ok c =
     let s = standing c.args.filter.now c.args.volume.now c.args.tally.now.answers.items c.args.tally.now.submitted in
-    on_err _ c.from_residual-in_err-submit_all.result
-    (amid_submitted c.args.opens.now s c.args.message.now _ _ _ _ _ _ c.in_ok-receive.ensures.ok.at (sym c.connected.ensures ∙ c.if-connected.true) (sym c.receive.ensures.rest.1 ∙ c.if-not-tally.true) c.in_err-submit_all.ensures.amid)
+    ok_then c.join.result (hears_joined c.args.opens.now s c.args.message.now _ _ _ _ _ _ _ _ _ _ _ c.in_ok-receive.ensures.ok c.receive.ensures.rest.1) c.join.ensures.ok
 
-pub returns-in_ok-submit_all-clause-ok : goal.returns-in_ok-submit_all-clause-ok
-returns-in_ok-submit_all-clause-ok c =
-    hears_submitted c.args.opens.now (standing c.args.filter.now c.args.volume.now c.args.tally.now.answers.items c.args.tally.now.submitted) c.args.message.now _ _ _ _ _ _ _ _ _ _
-    c.in_ok-receive.ensures.ok (sym c.connected.ensures ∙ c.if-connected.true) (sym c.receive.ensures.rest.1 ∙ c.if-not-tally.true) c.in_ok-submit_all.ensures.ok c.submit_all.ensures.rest.1
+pub returns-clause-amid : goal.returns-clause-amid
+returns-clause-amid c =
+    let s = standing c.args.filter.now c.args.volume.now c.args.tally.now.answers.items c.args.tally.now.submitted in
+    err_then c.join.result (amid_joined c.args.opens.now s c.args.message.now _ _ _ _ _ _ _ c.in_ok-receive.ensures.ok.at c.receive.ensures.rest.1) c.join.ensures.amid

@@ -1,5 +1,4 @@
 use Rattle.std.proofs.Common.{◌≡◌, ◌+◌, ◌≤◌, false, length}
-use Rattle.av_filter.specs.Bounds.{AreInBounds}
 use Rattle.av_filter.specs.Fit.{Fits}
 use Rattle.av_store.specs.Store.{greatest}
 use Rattle.av_engines.specs.Incoming.{budget}
@@ -10,12 +9,11 @@ use Rattle.av_engines.proofs.watching.watch.Given as goal
 abbrev pub invariant-messages : goal.invariant-messages
 invariant-messages g l = record {
   watching :
-      IsWatching l.initial.opens l.initial.filter l.initial.volume l.initial.exchange.incoming l.exchange.incoming l.exchange.outgoing
+      IsWatching l.initial.opens l.fn.filter l.fn.volume l.initial.exchange.incoming l.exchange.incoming l.exchange.outgoing
       (g.R.Read.remaining l.initial.reader) (g.R.Read.remaining l.reader) (g.W.Write.contents l.initial.writer) (g.W.Write.contents l.writer) l.filter l.volume l.tally.answers.items l.tally.submitted;
   left : l.tally.submitted ≡ false → l.volume.opens + length l.opens ≤ greatest;
   fits : Fits l.filter l.volume;
-  bounds : AreInBounds l.volume;
-  first : l.tally.first ≡ l.initial.volume.opens;
+  first : l.tally.first ≡ l.fn.volume.opens;
 }
 
 abbrev pub decreases-messages : goal.decreases-messages
