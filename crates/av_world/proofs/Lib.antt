@@ -1,5 +1,6 @@
 pub mod AskedLemmas
 pub mod AuditLemmas
+pub mod BackLemmas
 pub mod ContentLemmas
 pub mod DeliveryLemmas
 pub mod DeskLemmas
@@ -12,6 +13,7 @@ pub mod HeldLemmas
 pub mod HexLemmas
 pub mod JudgeLemmas
 pub mod NeedLemmas
+pub mod ObjectLemmas
 pub mod OnceLemmas
 pub mod PathLemmas
 pub mod PatternLemmas

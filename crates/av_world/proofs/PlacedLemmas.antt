@@ -1,25 +1,25 @@
 use Rattle.std.proofs.Common.{ℕ, zero, suc, ◌≡◌, ◌<◌, ◌+◌, ◌++◌, List, [], ◌∷◌, length, take, drop, get_or, refl, sym, ap, ◌∙◌, append_assoc, append-nil, arith}
-use Rattle.av_world.specs.Text.Messages.{placed_text}
+use Rattle.av_world.specs.Text.Messages.{placed}
 
--- one line more
-pub placed_next : {A : Type 0} (f : ℕ → A → List ℕ) (k : ℕ) (xs : List A) (i : ℕ) (d : A) → i < length xs
-    → placed_text f k (take (suc i) xs) ≡ placed_text f k (take i xs) ++ f (k + i) (get_or xs i d)
+-- one more
+pub placed_next : {A B : Type 0} (f : ℕ → A → List B) (k : ℕ) (xs : List A) (i : ℕ) (d : A) → i < length xs
+    → placed f k (take (suc i) xs) ≡ placed f k (take i xs) ++ f (k + i) (get_or xs i d)
 placed_next f k [] i d lt = absurd (omega arith)
 placed_next f k (x ∷ xs) zero d lt = let same : k + 0 ≡ k = omega arith in rw same (append-nil (f k x))
 placed_next f k (x ∷ xs) (suc i) d lt =
     let lower : i < length xs = omega arith in
     let place : k + 1 + i ≡ k + suc i = omega arith in
-    ap (λ t. f k x ++ t) (placed_next f (k + 1) xs i d lower ∙ ap (λ n. placed_text f (k + 1) (take i xs) ++ f n (get_or xs i d)) place)
-    ∙ sym (append_assoc (f k x) (placed_text f (k + 1) (take i xs)) (f (k + suc i) (get_or xs i d)))
+    ap (λ t. f k x ++ t) (placed_next f (k + 1) xs i d lower ∙ ap (λ n. placed f (k + 1) (take i xs) ++ f n (get_or xs i d)) place)
+    ∙ sym (append_assoc (f k x) (placed f (k + 1) (take i xs)) (f (k + suc i) (get_or xs i d)))
 
--- the lines before one, that one, and those behind it
-pub placed_around : {A : Type 0} (f : ℕ → A → List ℕ) (k : ℕ) (xs : List A) (i : ℕ) (d : A) → i < length xs
-    → placed_text f k (take i xs) ++ (f (k + i) (get_or xs i d) ++ placed_text f (k + suc i) (drop (suc i) xs)) ≡ placed_text f k xs
+-- what is told before one, of that one, and behind it
+pub placed_around : {A B : Type 0} (f : ℕ → A → List B) (k : ℕ) (xs : List A) (i : ℕ) (d : A) → i < length xs
+    → placed f k (take i xs) ++ (f (k + i) (get_or xs i d) ++ placed f (k + suc i) (drop (suc i) xs)) ≡ placed f k xs
 placed_around f k [] i d lt = absurd (omega arith)
 placed_around f k (x ∷ xs) zero d lt = let same : k + 0 ≡ k = omega arith in let next : k + suc 0 ≡ k + 1 = omega arith in rw same (rw next refl)
 placed_around f k (x ∷ xs) (suc i) d lt =
     let lower : i < length xs = omega arith in
     let place : k + suc i ≡ k + 1 + i = omega arith in
     let next : k + suc (suc i) ≡ k + 1 + suc i = omega arith in
-    append_assoc (f k x) (placed_text f (k + 1) (take i xs)) (f (k + suc i) (get_or xs i d) ++ placed_text f (k + suc (suc i)) (drop (suc i) xs))
+    append_assoc (f k x) (placed f (k + 1) (take i xs)) (f (k + suc i) (get_or xs i d) ++ placed f (k + suc (suc i)) (drop (suc i) xs))
     ∙ ap (λ t. f k x ++ t) (rw place (rw next (placed_around f (k + 1) xs i d lower)))

@@ -1,5 +1,5 @@
 -- How much a call gives out: few messages, and no more answers than opens wait.
-use Rattle.std.proofs.Common.{ℕ, ◌+◌, ◌≤◌, length, Option, Some, None, sym, subst}
+use Rattle.std.proofs.Common.{◌+◌, ◌≤◌, length, Option, Some, None, sym, subst}
 use Rattle.std.specs.Prelude.{IfSome}
 use Rattle.av_filter.proofs.RoomLemmas.{small_reaction}
 use Rattle.av_filter.specs.Conduct.{FilterEvent}

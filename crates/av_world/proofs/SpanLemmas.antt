@@ -15,7 +15,6 @@ use Rattle.av_cache.specs.declared.entry.Entry.{Entry}
 use Rattle.av_filter.proofs.BoundLemmas.{keeps_bounds}
 use Rattle.av_filter.specs.Again.{again}
 use Rattle.av_filter_table.specs.Asking.{asks, ended, is_held, next_question}
-use Rattle.av_filter.specs.Bounds.{AreInBounds, IsInBounds}
 use Rattle.av_filter.specs.Changing.{changes, cleaned, removed, rewritten}
 use Rattle.av_filter.specs.Conduct.{FilterEvent, Opens, Changes, CleansUp, Receives, TimesOut, Disconnects, Restarts, disconnects, filter_step, restarts, times_out}
 use Rattle.av_filter_table.specs.declared.question.Question.{Question}
@@ -39,6 +38,7 @@ use Rattle.av_service.specs.Scanning.{awaits, chunk_found, dropped, most_leases,
 use Rattle.av_sigset.specs.Catalogue.{latest}
 use Rattle.av_store.specs.declared.stream.Stream.{Stream}
 use Rattle.av_store.specs.Files.{Change, Create, Write, Cut, Remove}
+use Rattle.av_store.specs.Bounds.{AreInBounds, IsInBounds}
 use Rattle.av_store.specs.Rows.{Streams, is_number, stream_at}
 use Rattle.av_store.specs.Store.{Store}
 use Rattle.av_world.proofs.ReachLemmas.{can_always_finish}

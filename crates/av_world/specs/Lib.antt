@@ -1,9 +1,11 @@
 pub mod Audits
+pub mod Back
 pub mod Cores
 pub mod Examples
 pub mod Headline
 pub mod Held
 pub mod Judge
+pub mod Objects
 pub mod Output
 pub mod Past
 pub mod Path

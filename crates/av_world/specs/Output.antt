@@ -3,6 +3,7 @@ use Rattle.std.specs.Prelude.{ℕ, ◌≡◌, ◌<◌, length, List, Option, Res
 use Rattle.std.specs.Io.KnownBytes.{Appends, Keeps}
 use Rattle.av_base.specs.Device.{AppendsPrefix}
 use Rattle.av_world.specs.Script.{ScriptText, script_of}
+use Rattle.av_world.specs.Objects.{script_json}
 use Rattle.av_world.specs.Text.{script_text}
 use Rattle.av_world.specs.declared.run_script.TheConstants.{MAX_SCRIPT}
 use Rattle.av_world.specs.declared.run_script.RunFault.{RunFault}
@@ -26,6 +27,24 @@ PrintsSome old new (Err f) = Keeps old new
 -- a front of the lines of a script was written
 abbrev pub PrintsFront : Option (List ℕ) → Option (List ℕ) → List ℕ → Type 0
 PrintsFront old new input = PrintsSome old new (script_of input)
+
+-- the whole output of a script as JSON
+abbrev pub PrintsJsonAll : Option (List ℕ) → Option (List ℕ) → List ℕ → Result ScriptText ScriptFault → Type 0
+PrintsJsonAll old new input (Ok s) = Appends old new (script_json input s)
+PrintsJsonAll old new input (Err f) = ⊥
+
+-- all objects of a script were written
+abbrev pub PrintsJson : Option (List ℕ) → Option (List ℕ) → List ℕ → Type 0
+PrintsJson old new input = PrintsJsonAll old new input (script_of input)
+
+-- a front of them, and nothing for a text that is no script
+abbrev pub PrintsJsonSome : Option (List ℕ) → Option (List ℕ) → List ℕ → Result ScriptText ScriptFault → Type 0
+PrintsJsonSome old new input (Ok s) = AppendsPrefix old new (script_json input s)
+PrintsJsonSome old new input (Err f) = Keeps old new
+
+-- a front of the objects of a script was written
+abbrev pub PrintsJsonFront : Option (List ℕ) → Option (List ℕ) → List ℕ → Type 0
+PrintsJsonFront old new input = PrintsJsonSome old new input (script_of input)
 
 -- a fault that comes once lines may be written: memory was refused, or a write failed
 abbrev pub IsLate : RunFault → Type 0

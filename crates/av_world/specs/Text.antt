@@ -21,7 +21,7 @@ use Rattle.av_world.specs.Judge.{judged_of}
 use Rattle.av_world.specs.Script.{ScriptText}
 use Rattle.av_world.specs.Text.Answers.{answers_text, pended_text}
 use Rattle.av_world.specs.Text.Lines.{judged_text, line_text}
-use Rattle.av_world.specs.Text.Messages.{message_text, placed_text, work_text}
+use Rattle.av_world.specs.Text.Messages.{message_text, placed, work_text}
 use Rattle.av_world.specs.Text.Notes.{note_text}
 use Rattle.av_world.specs.Text.Refusals.{judge_word_of, refused_text, word_of}
 use Rattle.av_world.specs.World.{WorldState, after, start, step_of}
@@ -36,9 +36,9 @@ abbrev pub sent_text : Report → List Body → List Body → List (Option WorkS
 sent_text r down up works =
     spelt
     (
-    placed_text (message_text Down) (r.before.down + 1) (between r.before.down r.after.down down)
-    ∷ placed_text (message_text Up) (r.before.up + 1) (between r.before.up r.after.up up)
-    ∷ placed_text work_text (r.before.works + 1) (between r.before.works r.after.works works) ∷ []
+    placed (message_text Down) (r.before.down + 1) (between r.before.down r.after.down down)
+    ∷ placed (message_text Up) (r.before.up + 1) (between r.before.up r.after.up up)
+    ∷ placed work_text (r.before.works + 1) (between r.before.works r.after.works works) ∷ []
     )
 
 -- the lines of a step, by the world's lists after it: its own line, opens, messages, work, and its note

@@ -40,27 +40,27 @@ pub enum StepFault {
 
 impl StepFault {
     /// The word that a script's output has for the fault.
-    pub fn word(self) -> &'static [u8]
+    pub fn word(self) -> &'static str
         ensures { result.now ≡ word_of self }
     {
         match self {
-            StepFault::NoSuchName => b"NoSuchName".as_slice(),
-            StepFault::NoSuchFrame => b"NoSuchFrame".as_slice(),
-            StepFault::NoSuchWork => b"NoSuchWork".as_slice(),
-            StepFault::BadSet => b"BadSet".as_slice(),
-            StepFault::Catalogue(CatalogueFault::OldVersion) => b"OldVersion".as_slice(),
-            StepFault::Catalogue(CatalogueFault::CatalogueFull) => b"CatalogueFull".as_slice(),
-            StepFault::Store(StoreFault::BadName) => b"BadName".as_slice(),
-            StepFault::Store(StoreFault::Exists) => b"Exists".as_slice(),
-            StepFault::Store(StoreFault::Full) => b"Full".as_slice(),
-            StepFault::Store(StoreFault::NoStream) => b"NoStream".as_slice(),
-            StepFault::Store(StoreFault::Hole) => b"Hole".as_slice(),
-            StepFault::Store(StoreFault::TooLarge) => b"TooLarge".as_slice(),
-            StepFault::Store(StoreFault::GenerationSpent) => b"GenerationSpent".as_slice(),
-            StepFault::OpensSpent => b"OpensSpent".as_slice(),
-            StepFault::BootSpent => b"BootSpent".as_slice(),
-            StepFault::Connect(ConnectFault::NoSignatures) => b"NoSignatures".as_slice(),
-            StepFault::Connect(ConnectFault::AlreadyConnected) => b"AlreadyConnected".as_slice(),
+            StepFault::NoSuchName => "NoSuchName",
+            StepFault::NoSuchFrame => "NoSuchFrame",
+            StepFault::NoSuchWork => "NoSuchWork",
+            StepFault::BadSet => "BadSet",
+            StepFault::Catalogue(CatalogueFault::OldVersion) => "OldVersion",
+            StepFault::Catalogue(CatalogueFault::CatalogueFull) => "CatalogueFull",
+            StepFault::Store(StoreFault::BadName) => "BadName",
+            StepFault::Store(StoreFault::Exists) => "Exists",
+            StepFault::Store(StoreFault::Full) => "Full",
+            StepFault::Store(StoreFault::NoStream) => "NoStream",
+            StepFault::Store(StoreFault::Hole) => "Hole",
+            StepFault::Store(StoreFault::TooLarge) => "TooLarge",
+            StepFault::Store(StoreFault::GenerationSpent) => "GenerationSpent",
+            StepFault::OpensSpent => "OpensSpent",
+            StepFault::BootSpent => "BootSpent",
+            StepFault::Connect(ConnectFault::NoSignatures) => "NoSignatures",
+            StepFault::Connect(ConnectFault::AlreadyConnected) => "AlreadyConnected",
         }
     }
 }
@@ -78,12 +78,12 @@ pub enum JudgeFault {
 
 impl JudgeFault {
     /// The word that a script's output has for the fault.
-    pub fn word(self) -> &'static [u8]
+    pub fn word(self) -> &'static str
         ensures { result.now ≡ judge_word_of self }
     {
         match self {
-            JudgeFault::NoSuchName => b"NoSuchName".as_slice(),
-            JudgeFault::NoSignatures => b"NoSignatures".as_slice(),
+            JudgeFault::NoSuchName => "NoSuchName",
+            JudgeFault::NoSignatures => "NoSignatures",
         }
     }
 }

@@ -14,6 +14,7 @@ ghost use Rattle.av_sigset.specs.Catalogue.{latest};
 ghost use Rattle.av_store.specs.Files.{File};
 ghost use Rattle.av_store.specs.Store.{Store};
 ghost use Rattle.av_world.specs.Audits.{AreLegal, AuditsGrantOnlyClean, AuditsHoldOneVerdict, AuditsJudgeRightly, SideEntry};
+ghost use Rattle.av_world.specs.Back.{JudgementTellsText, ObjectsTellText};
 ghost use Rattle.av_world.specs.Examples.{ComeTrue};
 ghost use Rattle.av_world.specs.Headline.{AnswersOnce, GrantsOnlyClean, HoldsOneVerdict, NeverDiffers};
 ghost use Rattle.av_world.specs.Path.{EndsWithVerdict, IsReady};
@@ -112,4 +113,10 @@ pub fn progress()
     ensures leads { (w : WorldState) (events history : List Event)
         → onward events (world_of w history) ≡ world_of w (reverse events ++ history) }
     ensures worked { AreWorked }
+{}
+
+/// Text and JSON never disagree: the objects of a report lead back to its lines, and that of a judgement to its line.
+pub fn objects_tell_text()
+    ensures report { ObjectsTellText }
+    ensures judgement { JudgementTellsText }
 {}

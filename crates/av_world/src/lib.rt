@@ -17,6 +17,7 @@ pub mod laws;
 pub mod output;
 pub mod pattern;
 pub mod report;
+pub mod run_json;
 pub mod run_script;
 pub mod script;
 #[cfg(test)]

@@ -9,6 +9,7 @@ pub mod judgement;
 mod line;
 mod message;
 mod note;
+pub mod objects;
 pub mod refusal;
 mod work;
 

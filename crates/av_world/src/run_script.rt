@@ -1,8 +1,9 @@
-ghost use Rattle.std.specs.Prelude.{◌≡◌, ◌≤◌, ◌++◌, is_ok, length, IfErr, IfSome, OnOk, OnErr};
+ghost use Rattle.std.specs.Prelude.{◌≡◌, ◌≤◌, ◌++◌, is_ok, length, IfErr, IfOk, IfSome, Ok, OnOk, OnErr};
 ghost use Rattle.std.specs.Io.KnownBytes.{Appends};
 ghost use Rattle.av_base.specs.Device.{AppendsPrefix};
 ghost use Rattle.av_world.specs.Output.{IsLate, IsTrueOf, KeepsEarly, Prints, PrintsFront};
 ghost use Rattle.av_world.specs.Text.{boot_text, command_text, command_world, commands_text, script_text, step_text};
+ghost use Rattle.av_world.specs.Script.{script_of};
 ghost use Rattle.av_world.specs.World.{after, step_of};
 
 use crate::event::Event;
@@ -55,6 +56,21 @@ pub fn run_script<R: Read, W: Write>(
     ensures fault { IfErr result (λ f. IfSome (R.remaining reader.old) (IsTrueOf f)) }
     ensures early { IfErr result (λ f. KeepsEarly f (W.contents writer.old) (W.contents writer.new)) }
 {
+    let (_text, script) = read_script(alloc, reader, turns)?;
+    print_script(alloc, script, writer)
+}
+
+/// Reads a script whole, and gives its text and what it says.
+pub fn read_script<R: Read>(
+    alloc: Global,
+    reader: &mut R,
+    turns: u64,
+) -> Result<(Vec<u8>, Script), RunFault>
+    ensures text { IfOk result (λ p. IfSome (R.remaining reader.old) (λ input. p.0.items ≡ input)) }
+    ensures script { IfOk result (λ p. script_of p.0.items ≡ Ok p.1) }
+    ensures bound { IfOk result (λ p. length p.0.items ≤ MAX_SCRIPT) }
+    ensures fault { IfErr result (λ f. IfSome (R.remaining reader.old) (IsTrueOf f)) }
+{
     let text = match read_whole(alloc, reader, MAX_SCRIPT, turns) {
         Ok(text) => text,
         Err(ReadFault::Device) => return Err(RunFault::Read),
@@ -62,7 +78,7 @@ pub fn run_script<R: Read, W: Write>(
         Err(ReadFault::NoMemory) => return Err(RunFault::NoMemory),
     };
     match parse_script(alloc, &text) {
-        Ok(script) => print_script(alloc, script, writer),
+        Ok(script) => Ok((text, script)),
         Err(Refusal::Fault(fault)) => Err(RunFault::BadScript { line: fault.line }),
         Err(Refusal::NoMemory) => Err(RunFault::NoMemory),
     }

@@ -8,9 +8,9 @@ ghost use Rattle.av_base.specs.Refused.{IsRefusal};
 
 pub mod command;
 mod hexadecimal;
-mod reading;
+pub mod reading;
 mod setting;
-mod statement;
+pub mod statement;
 mod verb;
 mod words;
 

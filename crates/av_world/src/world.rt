@@ -2,8 +2,10 @@ ghost use Rattle.std.specs.Prelude.{◌≡◌, ◌∷◌, reverse, IfOk, OnErr, 
 ghost use Rattle.std.specs.Io.KnownBytes.{Appends};
 ghost use Rattle.std.specs.Option.{option_copied};
 ghost use Rattle.av_base.specs.Device.{AppendsPrefix};
+ghost use Rattle.av_json.specs.Member.{Puts};
 ghost use Rattle.av_world.specs.Headline.{AnswersOnce, GrantsOnlyClean, HoldsOneVerdict, NeverDiffers};
 ghost use Rattle.av_world.specs.Judge.{judged_of, latest_set};
+ghost use Rattle.av_world.specs.Objects.{report_tokens};
 ghost use Rattle.av_world.specs.Past.{IsRight, IsTold, past};
 ghost use Rattle.av_world.specs.Reached.{KeepsPromise};
 ghost use Rattle.av_world.specs.Text.{report_text};
@@ -23,12 +25,14 @@ mod working;
 use crate::event::Event;
 use crate::fault::{JudgeFault, StepFault};
 use crate::given::Given;
+use crate::output::objects::put_report;
 use crate::output::print_report;
 use crate::report::{Judged, Report};
 use av_base::{Limits, Mode, Refused, WriteFault};
 use av_frame::Message;
 use av_match::plain::plain_verdict;
 use av_sigset::{Catalogue, SignatureSet};
+use json::Writer;
 use stage::Stage;
 use std::alloc::{AllocError, Global};
 use std::io::Write;
@@ -131,6 +135,15 @@ impl World {
             self.stage.works.as_slice(),
             writer,
         )
+    }
+
+    /// Puts an object for each line of a step, by the report that it gave.
+    pub fn put(&self, alloc: Global, report: &Report, line: &mut Writer) -> Result<(), AllocError>
+        ensures { Puts result line.old line.new (report_tokens self.now report.now) }
+    {
+        let answers = self.answers();
+        let works = self.stage.works.as_slice();
+        put_report(alloc, report, answers, self.down(), self.up(), works, line)
     }
 
     /// Lets events happen in turn to a new world and passes over those that are refused, also those that memory refuses.

@@ -82,3 +82,10 @@ is_setting Silent = false
 is_setting (Limit which value) = true
 is_setting (Volume number mode) = true
 is_setting (Says command) = false
+
+-- whether a line does something
+abbrev pub is_told : Line → Bool
+is_told Silent = false
+is_told (Limit which value) = false
+is_told (Volume number mode) = true
+is_told (Says command) = true

@@ -50,10 +50,10 @@ message_parts (Updated version) = codes " updated " ∷ decimal version ∷ code
 abbrev pub message_text : Way → ℕ → Body → List ℕ
 message_text way place message = spelt (way_word way ∷ decimal place ∷ message_parts message)
 
--- the lines of what stands in a list from a place on, each with its place
-abbrev pub placed_text : {A : Type 0} → (ℕ → A → List ℕ) → ℕ → List A → List ℕ
-placed_text text place [] = []
-placed_text text place (x ∷ xs) = text place x ++ placed_text text (place + 1) xs
+-- what is told of all that stands in a list from a place on, each with its place
+abbrev pub placed : {A B : Type 0} → (ℕ → A → List B) → ℕ → List A → List B
+placed told place [] = []
+placed told place (x ∷ xs) = told place x ++ placed told (place + 1) xs
 
 -- work that was lent: its job's id, where its bytes begin, and how many they are
 abbrev pub work_text : ℕ → Option WorkState → List ℕ

@@ -161,8 +161,8 @@ fn print_submitted<W: Write>(
     )
 }
 
-// Whether the open of this number has its answer among these.
-fn is_answered(open_id: OpenId, answers: &[Given]) -> bool
+/// Whether the open of this number has its answer among these.
+pub fn is_answered(open_id: OpenId, answers: &[Given]) -> bool
     ensures { result ≡ is_answered open_id answers.now }
 {
     answers

@@ -5,7 +5,7 @@ ghost use Rattle.av_base.specs.Device.{AppendsPrefix};
 ghost use Rattle.av_base.specs.declared.verdict.Verdict.TheVariants.{Clean, Infected};
 ghost use Rattle.av_frame.specs.declared.message.Body.TheVariants.{Scan, Chunk, NoChunk, Abort, Hello, Read, Reply, Updated};
 ghost use Rattle.av_frame.specs.declared.outcome.Outcome.TheVariants.{Failed, Judged};
-ghost use Rattle.av_world.specs.Text.Messages.{message_text, placed_text, way_word};
+ghost use Rattle.av_world.specs.Text.Messages.{message_text, placed, way_word};
 
 use crate::output::part;
 use av_base::parts::write_parts;
@@ -31,11 +31,11 @@ impl Way {
     }
 }
 
-// Where a message stands, counted from 1.
+/// Where a message stands, counted from 1.
 #[derive(Clone, Copy)]
-struct Place {
-    way: Way,
-    number: u64,
+pub struct Place {
+    pub way: Way,
+    pub number: u64,
 }
 
 /// Writes the lines of messages from one place of their list up to another, both counted from 0.
@@ -47,9 +47,9 @@ pub fn print_messages<W: Write>(
     writer: &mut W,
 ) -> Result<(), WriteFault>
     ensures ok { OnOk result (Appends (W.contents writer.old) (W.contents writer.new)
-        (placed_text (message_text way) (from + 1) (between from to messages.now))) }
+        (placed (message_text way) (from + 1) (between from to messages.now))) }
     ensures err { OnErr result (AppendsPrefix (W.contents writer.old) (W.contents writer.new)
-        (placed_text (message_text way) (from + 1) (between from to messages.now))) }
+        (placed (message_text way) (from + 1) (between from to messages.now))) }
 {
     for (index, message) in part(messages, from, to).iter().enumerate() {
         let number = from + index as u64 + 1;

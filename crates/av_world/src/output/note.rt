@@ -21,11 +21,16 @@ pub fn print_note<W: Write>(note: Note, writer: &mut W) -> Result<(), WriteFault
     };
     write_parts(
         writer,
-        &[Part::Text(b"note "), Part::Text(word), Part::Text(b"\n")],
+        &[
+            Part::Text(b"note "),
+            Part::Text(word.as_bytes()),
+            Part::Text(b"\n"),
+        ],
     )
 }
 
-fn note_word(note: Note) -> Option<&'static [u8]>
+/// The word of a note that is told.
+pub fn note_word(note: Note) -> Option<&'static str>
     ensures { option_copied result ≡ note_word note }
 {
     match note {
@@ -34,28 +39,28 @@ fn note_word(note: Note) -> Option<&'static [u8]>
     }
 }
 
-fn filter_word(note: FilterNote) -> Option<&'static [u8]>
+fn filter_word(note: FilterNote) -> Option<&'static str>
     ensures { option_copied result ≡ filter_word note }
 {
     match note {
         FilterNote::Quiet | FilterNote::Submitted { .. } => None,
-        FilterNote::Welcome => Some(b"Welcome".as_slice()),
-        FilterNote::NoWaiter => Some(b"NoWaiter".as_slice()),
-        FilterNote::Ignored => Some(b"Ignored".as_slice()),
-        FilterNote::NoStream => Some(b"NoStream".as_slice()),
-        FilterNote::WrongVolume => Some(b"WrongVolume".as_slice()),
-        FilterNote::Connected => Some(b"Connected".as_slice()),
-        FilterNote::OldVersion => Some(b"OldVersion".as_slice()),
+        FilterNote::Welcome => Some("Welcome"),
+        FilterNote::NoWaiter => Some("NoWaiter"),
+        FilterNote::Ignored => Some("Ignored"),
+        FilterNote::NoStream => Some("NoStream"),
+        FilterNote::WrongVolume => Some("WrongVolume"),
+        FilterNote::Connected => Some("Connected"),
+        FilterNote::OldVersion => Some("OldVersion"),
     }
 }
 
-fn service_word(note: ServiceNote) -> Option<&'static [u8]>
+fn service_word(note: ServiceNote) -> Option<&'static str>
     ensures { option_copied result ≡ service_word note }
 {
     match note {
         ServiceNote::Quiet => None,
-        ServiceNote::Repeat => Some(b"Repeat".as_slice()),
-        ServiceNote::Ignored => Some(b"Ignored".as_slice()),
-        ServiceNote::Orphan => Some(b"Orphan".as_slice()),
+        ServiceNote::Repeat => Some("Repeat"),
+        ServiceNote::Ignored => Some("Ignored"),
+        ServiceNote::Orphan => Some("Orphan"),
     }
 }

@@ -8,12 +8,16 @@ use av_base::{Part, WriteFault};
 use std::io::Write;
 
 /// Writes the line of a refusal.
-pub fn print_refused<W: Write>(word: &[u8], writer: &mut W) -> Result<(), WriteFault>
+pub fn print_refused<W: Write>(word: &str, writer: &mut W) -> Result<(), WriteFault>
     ensures ok { OnOk result (Appends (W.contents writer.old) (W.contents writer.new) (refused_text word.now)) }
     ensures err { OnErr result (AppendsPrefix (W.contents writer.old) (W.contents writer.new) (refused_text word.now)) }
 {
     write_parts(
         writer,
-        &[Part::Text(b"refused "), Part::Text(word), Part::Text(b"\n")],
+        &[
+            Part::Text(b"refused "),
+            Part::Text(word.as_bytes()),
+            Part::Text(b"\n"),
+        ],
     )
 }

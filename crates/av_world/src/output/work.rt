@@ -2,7 +2,7 @@ ghost use Rattle.std.specs.Prelude.{◌≡◌, ◌+◌, OnOk, OnErr};
 ghost use Rattle.std.specs.Io.KnownBytes.{Appends};
 ghost use Rattle.std.specs.List.{between};
 ghost use Rattle.av_base.specs.Device.{AppendsPrefix};
-ghost use Rattle.av_world.specs.Text.Messages.{placed_text, work_text};
+ghost use Rattle.av_world.specs.Text.Messages.{placed, work_text};
 
 use crate::output::part;
 use av_base::parts::write_parts;
@@ -19,9 +19,9 @@ pub fn print_works<W: Write>(
     writer: &mut W,
 ) -> Result<(), WriteFault>
     ensures ok { OnOk result (Appends (W.contents writer.old) (W.contents writer.new)
-        (placed_text work_text (from + 1) (between from to works.now))) }
+        (placed work_text (from + 1) (between from to works.now))) }
     ensures err { OnErr result (AppendsPrefix (W.contents writer.old) (W.contents writer.new)
-        (placed_text work_text (from + 1) (between from to works.now))) }
+        (placed work_text (from + 1) (between from to works.now))) }
 {
     for (index, work) in part(works, from, to).iter().enumerate() {
         let number = from + index as u64 + 1;

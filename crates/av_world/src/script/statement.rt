@@ -1,5 +1,5 @@
 ghost use Rattle.std.specs.Prelude.{◌≡◌, IfOk};
-ghost use Rattle.av_world.specs.Script.Statement.{Commands, is_setting, meaning};
+ghost use Rattle.av_world.specs.Script.Statement.{Commands, is_setting, is_told, meaning};
 
 use crate::event::Event;
 use crate::script::command::Command;
@@ -57,6 +57,13 @@ impl Statement<'_> {
         ensures { result ≡ is_setting (meaning self.entry) }
     {
         matches!(self, Statement::Limit { .. } | Statement::Volume { .. })
+    }
+
+    /// Whether it does something: a command, or the volume line, which mounts the filter.
+    pub fn is_told(self) -> bool
+        ensures { result ≡ is_told (meaning self.entry) }
+    {
+        !matches!(self, Statement::Silent | Statement::Limit { .. })
     }
 
     /// The command that a statement is, where it is one, with copies of what it views.

@@ -10,9 +10,9 @@ use std::test::Fail;
 fn a_fault_has_its_word(rt: HostRuntime) -> Result<(), Fail> {
     assert_eq!(rt;
         StepFault::Store(StoreFault::GenerationSpent).word(),
-        b"GenerationSpent".as_slice()
+        "GenerationSpent"
     );
-    assert_eq!(rt; JudgeFault::NoSignatures.word(), b"NoSignatures".as_slice());
+    assert_eq!(rt; JudgeFault::NoSignatures.word(), "NoSignatures");
     Ok(())
 }
 

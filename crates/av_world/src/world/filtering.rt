@@ -1,6 +1,5 @@
 ghost use Rattle.std.specs.Prelude.{◌≡◌, ◌≤◌, ◌+◌, ◌++◌, [], map, length, reverse, vec_len, IfSome};
 ghost use Rattle.std.specs.Vec.{vec_capacity};
-ghost use Rattle.av_filter.specs.Bounds.{AreInBounds};
 ghost use Rattle.av_filter.specs.Fit.{Fits};
 ghost use Rattle.av_filter.specs.declared.note.Note.TheVariants.{Quiet};
 ghost use Rattle.av_store.specs.Rows.{stream_at};
@@ -64,7 +63,6 @@ fn ask(
     call: &FilterCall<'_>,
 ) -> Option<Out>
     requires fits { Fits filter.old volume.old }
-    requires bounds { AreInBounds volume.old }
     ensures reacts { Calls filter.old volume.old filter.new volume.new (event_called call.now) result }
     ensures few { IfSome result (IsSmallOut (length filter.old.pended)) }
 {
@@ -80,7 +78,6 @@ fn answer(
     call: &FilterCall<'_>,
 ) -> Option<Out>
     requires fits { Fits filter.old volume.old }
-    requires bounds { AreInBounds volume.old }
     ensures { Calls filter.old volume.old filter.new volume.new (event_called call.now) result }
 {
     match *call {
@@ -144,7 +141,6 @@ impl Stage {
         call: &FilterCall<'_>,
     ) -> Option<Report>
         requires fits { Fits self.old.table self.old.volume }
-        requires bounds { AreInBounds self.old.volume }
         ensures { (e : Event)
             → Takes self.old self.new (reverse history.now) e
             (filter_event (at_history (reverse history.now) self.old) e (line_after call.now) (event_called call.now)) result }

@@ -1,5 +1,4 @@
 ghost use Rattle.std.specs.Prelude.{◌≡◌, ◌≤◌, List, reverse};
-ghost use Rattle.av_filter.specs.Bounds.{AreInBounds};
 ghost use Rattle.av_filter.specs.Fit.{Fits};
 ghost use Rattle.av_sigset.specs.Catalogue.{latest};
 ghost use Rattle.av_world.specs.Request.{MayAsk, outcome_of, served};
@@ -36,7 +35,6 @@ impl Stage {
     // Does what an event asks for.
     fn answer(&mut self, alloc: Global, history: &[Event], request: &Request<'_>) -> Option<Report>
         requires fits { Fits self.old.table self.old.volume }
-        requires bounds { AreInBounds self.old.volume }
         requires version { self.old.desk.version ≤ latest self.old.sets }
         requires may { MayAsk self.old.desk.version request.now }
         ensures { (e : Event)
@@ -74,7 +72,6 @@ impl Stage {
     // Delivers a message to the filter.
     fn deliver_up(&mut self, alloc: Global, history: &[Event], place: u64) -> Option<Report>
         requires fits { Fits self.old.table self.old.volume }
-        requires bounds { AreInBounds self.old.volume }
         ensures { (e : Event)
             → Takes self.old self.new (reverse history.now) e
             (up_frame (at_history (reverse history.now) self.old) e (member self.old.up place)) result }

@@ -5,7 +5,7 @@ use Rattle.av_base.proofs.DeviceLemmas.{prefix_after, prefix_before}
 use Rattle.av_base.specs.Device.{AppendsPrefix}
 use Rattle.av_world.proofs.PlacedLemmas.{placed_around, placed_next}
 use Rattle.av_world.proofs.WriteLemmas.{on_err}
-use Rattle.av_world.specs.Text.Messages.{message_text, placed_text}
+use Rattle.av_world.specs.Text.Messages.{message_text, placed}
 use Rattle.av_world.proofs.output.message.print_messages.Goals as goal
 
 pub loop-index-preserved : goal.loop-index-preserved
@@ -19,7 +19,7 @@ loop-index-preserved g c =
     (ap (λ n. f n c.message-item.result) place ∙ ap (f (c.args.from + 1 + c.loop-index.index)) c.message-item.is) c.in_ok-print_message.ensures.ok in
     let next : suc c.loop-index.index ≡ c.loop-index.index + 1 = omega arith in
     subst (Appends (g.W.Write.contents c.args.writer.now) (g.W.Write.contents c.print_message.new.writer))
-    (sym (placed_next f first items c.loop-index.index c.message-item.result c.loop-index-test.true) ∙ ap (λ n. placed_text f first (take n items)) next)
+    (sym (placed_next f first items c.loop-index.index c.message-item.result c.loop-index-test.true) ∙ ap (λ n. placed f first (take n items)) next)
     (Appends-trans _ _ _ _ _ c.loop-index.invariant wrote)
 
 pub returns-in_err-print_message-clause-err : goal.returns-in_err-print_message-clause-err
@@ -33,5 +33,5 @@ returns-in_err-print_message-clause-err g c =
     (ap (λ n. f n c.message-item.result) place ∙ ap (f (c.args.from + 1 + c.loop-index.index)) c.message-item.is) c.in_err-print_message.ensures.err in
     on_err _
     (subst (AppendsPrefix (g.W.Write.contents c.args.writer.now) (g.W.Write.contents c.print_message.new.writer))
-    (placed_around f first items c.loop-index.index c.message-item.result c.loop-index-test.true ∙ ap (placed_text f first) c.part-message-items.ensures.items)
-    (prefix_after _ _ _ _ _ c.loop-index.invariant (prefix_before _ _ _ (placed_text f (first + suc c.loop-index.index) (drop (suc c.loop-index.index) items)) wrote)))
+    (placed_around f first items c.loop-index.index c.message-item.result c.loop-index-test.true ∙ ap (placed f first) c.part-message-items.ensures.items)
+    (prefix_after _ _ _ _ _ c.loop-index.invariant (prefix_before _ _ _ (placed f (first + suc c.loop-index.index) (drop (suc c.loop-index.index) items)) wrote)))
