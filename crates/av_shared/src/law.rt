@@ -5,6 +5,8 @@ ghost use Rattle.av_gate.specs.Claims.{IsLegal, table_of};
 ghost use Rattle.av_service.specs.Audit.{IsCatalogue, IsServiceAudit};
 ghost use Rattle.av_shared.specs.History.{AreOneHistory};
 ghost use Rattle.av_store.specs.Files.{File};
+ghost use Rattle.av_store.specs.Seen.{Keeps};
+ghost use Rattle.av_store.specs.Sound.{IsOfFiles};
 ghost use Rattle.av_world.specs.Audits.{AuditsGrantOnlyClean, AuditsHoldOneVerdict, SideEntry};
 
 use av_world::laws::audits;
@@ -13,16 +15,20 @@ use av_world::laws::audits;
 /// each message that came had been sent by the other side before, and where each work that came back to the desk is one that
 /// it lent: no two verdicts stand for one stream, generation and version; each grant of a fail-closed gate names the present
 /// generation of a content that holds no signature of its version; and each open is pended or answered, once. What is asked
-/// of each audit is what `close` says of it; that the gate's volume keeps these files is asked beside it.
+/// of each audit is what `close` says of it; and the gate's volume, as every volume, keeps what some files say.
 pub fn headline_of_audits(gate: &av_gate::Audit, desk: &av_desk::Audit)
     requires gate { IsLegal gate.now }
     requires desk { IsServiceAudit (opened_by desk.now) (started_by desk.now) desk.now.events.items }
     requires catalogue { IsCatalogue (opened_by desk.now) }
-    ensures one_verdict { (files : List File) (history : List SideEntry) → AreOneHistory gate.now desk.now files history
+    ensures files { IsOfFiles gate.now.volume }
+    ensures one_verdict { (files : List File) (history : List SideEntry) → Keeps gate.now.volume files
+        → AreOneHistory gate.now desk.now history
         → AuditsHoldOneVerdict files (table_of gate.now) gate.now.volume (opened_by desk.now) (started_by desk.now) history }
-    ensures only_clean { (files : List File) (history : List SideEntry) → AreOneHistory gate.now desk.now files history
+    ensures only_clean { (files : List File) (history : List SideEntry) → Keeps gate.now.volume files
+        → AreOneHistory gate.now desk.now history
         → AuditsGrantOnlyClean gate.now.mode files (opened_by desk.now) history }
     ensures answers_once { AuditAnswersOnce (table_of gate.now) gate.now.volume gate.now.events.items }
 {
+    let _of_files = gate.volume.last_created();
     audits();
 }

@@ -1,6 +1,7 @@
 //! A gate and a desk together: what the audits promise that their two `close` calls give.
 #![tactic(auto)]
 
+pub mod apart;
 pub mod law;
 #[cfg(test)]
 mod tests;

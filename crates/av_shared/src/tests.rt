@@ -6,15 +6,18 @@ mod threads;
 
 ghost use Rattle.std.specs.Prelude.{IfOk};
 ghost use Rattle.av_desk.specs.Audit.{opened_by, started_by};
-ghost use Rattle.av_filter.specs.Bounds.{AreInBounds};
 ghost use Rattle.av_filter.specs.Once.{AuditAnswersOnce};
 ghost use Rattle.av_gate.specs.Claims.{table_of};
 ghost use Rattle.av_gate.specs.Seats.{IsSeatOf};
+ghost use Rattle.av_shared.specs.Apart.{HoldsApart};
 ghost use Rattle.av_shared.specs.History.{AreOneHistory};
+ghost use Rattle.av_store.specs.Seen.{Keeps};
+ghost use Rattle.av_store.specs.Sound.{IsOfFiles};
 ghost use Rattle.av_world.specs.Audits.{AuditsGrantOnlyClean, AuditsHoldOneVerdict};
 
 use self::between::Between;
-use self::rows::{ROWS, Row};
+use self::rows::{APART, ROWS, Row};
+use crate::apart::are_apart;
 use crate::law::headline_of_audits;
 use av_base::{Limits, Mode, StreamId, Version};
 use av_desk::{Audit as DeskAudit, Desk, Event as DeskEvent};
@@ -28,11 +31,8 @@ use std::sync::Wait;
 use std::test::Fail;
 
 // A volume with the streams a and b, in which nothing is written.
-fn volume_of_two(alloc: Global) -> Result<Volume, Fail>
-    ensures { IfOk result (λ v. AreInBounds v) }
-{
+fn volume_of_two(alloc: Global) -> Result<Volume, Fail> {
     let mut volume = Volume::new(alloc, 1, Limits::greatest());
-    let _in_range = Limits::greatest().values();
     let _first = volume.create(alloc, b"a")?;
     let _second = volume.create(alloc, b"b")?;
     Ok(volume)
@@ -65,9 +65,10 @@ fn closed(
     seats: Vec<Seat>,
     receipts: Vec<Receipt>,
 ) -> Result<(GateAudit, DeskAudit), CloseFault>
-    ensures one_verdict { IfOk result (λ r. (files : _) (history : _) → AreOneHistory r.0 r.1 files history
+    ensures files { IfOk result (λ r. IsOfFiles r.0.volume) }
+    ensures one_verdict { IfOk result (λ r. (files : _) (history : _) → Keeps r.0.volume files → AreOneHistory r.0 r.1 history
         → AuditsHoldOneVerdict files (table_of r.0) r.0.volume (opened_by r.1) (started_by r.1) history) }
-    ensures only_clean { IfOk result (λ r. (files : _) (history : _) → AreOneHistory r.0 r.1 files history
+    ensures only_clean { IfOk result (λ r. (files : _) (history : _) → Keeps r.0.volume files → AreOneHistory r.0 r.1 history
         → AuditsGrantOnlyClean r.0.mode files (opened_by r.1) history) }
     ensures answers_once { IfOk result (λ r. AuditAnswersOnce (table_of r.0) r.0.volume r.0.events.items) }
 {
@@ -163,6 +164,33 @@ fn run_closed<R: Wait + Abort>(
     }
 }
 
+// Runs a row in which nothing comes over, on a gate and a desk of its own. What the law says of the two audits holds of them
+// with nothing asked: the files are those that the gate's volume keeps, and the history is looked at.
+fn run_apart<R: Wait + Abort>(
+    rt: &R,
+    alloc: Global,
+    row: &Row<'_>,
+) -> Result<(GateAudit, DeskAudit), Fail>
+    ensures { IfOk result (λ r. HoldsApart r.0 r.1) }
+{
+    let desk = desk_of(alloc, b"XX")?;
+    let (gate, seat) = gate_of_two(alloc)?;
+    let (seats, receipts) = match run(rt, alloc, &gate, &desk, seat, row) {
+        Ok(given) => given,
+        Err(why) => {
+            gate.abandon();
+            return Err(why);
+        }
+    };
+    let Ok((gate, desk)) = closed(gate, desk, seats, receipts) else {
+        return Err(Fail::new("not closed"));
+    };
+    if !are_apart(&gate, &desk) {
+        return Err(Fail::new("something came over"));
+    }
+    Ok((gate, desk))
+}
+
 // Whether the first event is the write of ABC over the beginning of stream 1.
 fn begins_with_the_write(audit: &GateAudit) -> bool {
     let Some(entry) = audit.events.get(0) else {
@@ -187,6 +215,23 @@ fn finished(alloc: Global, audit: &DeskAudit) -> Result<Vec<u64>, Fail> {
         }
     }
     Ok(leases)
+}
+
+#[test]
+fn the_law_holds_of_audits_between_which_nothing_came_over(rt: HostRuntime) -> Result<(), Fail> {
+    let (gate, desk) = run_apart(&rt, rt.alloc(), &APART)?;
+    assert_eq!(rt; (gate.events.len(), desk.events.len()), (2, 1));
+    assert!(rt; begins_with_the_write(&gate));
+    Ok(())
+}
+
+#[test]
+fn audits_of_a_message_that_came_are_not_apart(rt: HostRuntime) -> Result<(), Fail> {
+    for row in &ROWS {
+        let (gate, desk) = run_closed(&rt, rt.alloc(), row)?;
+        assert!(rt; !are_apart(&gate, &desk), "{}", row.name);
+    }
+    Ok(())
 }
 
 #[test]

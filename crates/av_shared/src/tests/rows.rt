@@ -11,6 +11,18 @@ pub struct Row<'a> {
     pub finished: &'a [u64],
 }
 
+// The greeting is lost.
+pub const APART: Row<'static> = Row {
+    name: "nothing comes over",
+    steps: &[
+        (Step::Write(b"a", 0, b"ABC"), ""),
+        (Step::Connect, "up 1 hello volume 1 version 1\n"),
+        (Step::Open(b"a"), "open 1 denied cause 3\n"),
+    ],
+    filter_steps: 2,
+    finished: &[],
+};
+
 pub const ROWS: [Row<'static>; 2] = [
     Row {
         name: "a reply under an older set is asked again",

@@ -1,0 +1,55 @@
+ghost use Rattle.std.specs.Prelude.{◌≡◌, IsTrue};
+ghost use Rattle.std.specs.List.{list_all};
+ghost use Rattle.av_desk.specs.Entry.{call_of};
+ghost use Rattle.av_gate.specs.Events.{event_of};
+ghost use Rattle.av_shared.specs.Apart.{are_apart, hears_nothing, one_by_one, takes_nothing};
+ghost use Rattle.av_shared.specs.History.{AreOneHistory};
+
+use av_desk::{Entry as DeskEntry, Event as DeskEvent};
+use av_gate::{Entry as GateEntry, Event as GateEvent};
+
+/// Whether nothing came over from the one to the other: no message to either, and no work back to the desk. Then the gate's
+/// events, and behind them the desk's, are one history of both. It takes no memory, and a look at each event.
+pub fn are_apart(gate: &av_gate::Audit, desk: &av_desk::Audit) -> bool
+    ensures exact { result ≡ are_apart gate.now desk.now }
+    ensures history { IsTrue result → AreOneHistory gate.now desk.now (one_by_one gate.now desk.now) }
+{
+    heard_nothing(gate.events.as_slice()) && took_nothing(desk.events.as_slice())
+}
+
+fn heard_nothing(events: &[GateEntry]) -> bool
+    ensures { result ≡ list_all (λ x. hears_nothing x.event) events.now }
+{
+    events.iter().all(|entry| hears_nothing(entry.event()))
+}
+
+fn hears_nothing(event: &GateEvent) -> bool
+    ensures { result ≡ hears_nothing (event_of event.now) }
+{
+    match event {
+        GateEvent::Receive { .. } => false,
+        GateEvent::Open { .. }
+        | GateEvent::Write { .. }
+        | GateEvent::CleanUp { .. }
+        | GateEvent::TimeOut { .. }
+        | GateEvent::Disconnect => true,
+    }
+}
+
+fn took_nothing(events: &[DeskEntry]) -> bool
+    ensures { result ≡ list_all (λ x. takes_nothing x.call) events.now }
+{
+    events.iter().all(|entry| takes_nothing(entry.event()))
+}
+
+fn takes_nothing(event: &DeskEvent) -> bool
+    ensures { result ≡ takes_nothing (call_of event.now) }
+{
+    match event {
+        DeskEvent::Receive { .. } | DeskEvent::Finish { .. } => false,
+        DeskEvent::Connect
+        | DeskEvent::Publish { .. }
+        | DeskEvent::Disconnect
+        | DeskEvent::Restart { .. } => true,
+    }
+}
