@@ -1,3 +1,5 @@
+pub mod Listed
 pub mod Opened
 pub mod Scan
 pub mod Streams
+pub mod Walk

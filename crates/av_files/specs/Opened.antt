@@ -1,10 +1,20 @@
 -- The lines that opened files print.
-use Rattle.std.specs.Prelude.{ℕ, List, [], ◌∷◌, codes, decimal}
+use Rattle.std.specs.Prelude.{ℕ, Bool, false, true, not, if◌then◌else◌, List, [], ◌∷◌, codes, decimal, map}
+use Rattle.std.specs.List.{filter}
 use Rattle.av_base.specs.Part.{spelt}
 use Rattle.av_base.specs.Cause.{number_of}
 use Rattle.av_base.specs.declared.cause.Cause.{Cause}
+use Rattle.av_base.specs.declared.cause.Cause.TheVariants.{Infected}
+use Rattle.av_json.specs.File.{opened_tokens}
+use Rattle.av_json.specs.Line.{object_line}
 use Rattle.av_pend.specs.declared.answer.Answer.{Answer}
 use Rattle.av_pend.specs.declared.answer.Answer.TheVariants.{Granted, Unscanned, Denied}
+use Rattle.av_status.specs.Tally.{has_line, no_files, with_scanned}
+use Rattle.av_status.specs.declared.tally.Form.{Form}
+use Rattle.av_status.specs.declared.tally.Form.TheVariants.{Lines, Json}
+use Rattle.av_status.specs.declared.tally.Shown.{Shown}
+use Rattle.av_status.specs.declared.tally.Tally.{Tally}
+use Rattle.av_status.specs.declared.tally.Wishes.{Wishes}
 use Rattle.av_files.specs.declared.opened.Opened.{Opened}
 
 -- an open that was let through, and one that was kept out, for a cause
@@ -24,6 +34,57 @@ answer_text file (Granted number least stream generation version) =
 answer_text file (Unscanned number stream generation cause) = unscanned_text file generation cause
 answer_text file (Denied number cause) = denied_text file cause
 
--- a file's line
-abbrev pub opened_text : Opened → List ℕ
-opened_text o = answer_text o.name.now o.answer
+-- the object of a file that was opened, and the end of its line
+abbrev pub object_of : Opened → List ℕ
+object_of o = object_line (opened_tokens o.name.now o.answer)
+
+-- the line of a file that was opened, in this form
+abbrev pub line_of : Form → Opened → List ℕ
+line_of Lines o = answer_text o.name.now o.answer
+line_of Json o = object_of o
+
+-- the open was granted
+abbrev pub is_granted : Answer → Bool
+is_granted (Granted number least stream generation version) = true
+is_granted (Unscanned number stream generation cause) = false
+is_granted (Denied number cause) = false
+
+-- an open was denied since a signature occurs
+abbrev pub is_infection : Cause → Bool
+is_infection Infected = true
+is_infection c = false
+
+-- the file's open was
+abbrev pub is_infected_answer : Answer → Bool
+is_infected_answer (Granted number least stream generation version) = false
+is_infected_answer (Unscanned number stream generation cause) = false
+is_infected_answer (Denied number cause) = is_infection cause
+
+-- a signature occurs in the file
+abbrev pub is_infected : Opened → Bool
+is_infected o = is_infected_answer o.answer
+
+-- the file has a line
+abbrev pub is_shown : Shown → Opened → Bool
+is_shown shown o = has_line shown (not (is_granted o.answer))
+
+-- the line of a file, where it has one
+abbrev pub opened_line : Wishes → Opened → List ℕ
+opened_line wishes o = if is_shown wishes.shown o then line_of wishes.form o else []
+
+-- the lines of the files that have one
+abbrev pub opened_lines : Wishes → List Opened → List ℕ
+opened_lines wishes opened = spelt (map (line_of wishes.form) (filter (is_shown wishes.shown) opened))
+
+-- one file more: it was scanned where it was granted or a signature occurs
+abbrev pub with_opened : Tally → Opened → Tally
+with_opened t o = if is_granted o.answer then with_scanned t false else if is_infected o then with_scanned t true else t
+
+-- files that were opened, counted one after the other
+abbrev pub tally_from : Tally → List Opened → Tally
+tally_from t [] = t
+tally_from t (o ∷ opened) = tally_from (with_opened t o) opened
+
+-- the files in numbers, as far as they were scanned
+abbrev pub tally_of : List Opened → Tally
+tally_of opened = tally_from no_files opened

@@ -1,20 +1,26 @@
-//! Files: scanned one by one, or made streams of a volume, each with the lines that the program prints of them.
+//! Files: found in folders and lists, scanned one by one, or made streams of a volume, each with the line that the program prints.
 //!
 //! ```text
 //! let scanner = Scanner::read(alloc, set_file, &mut err)?;
-//! let verdict = scanner.scan(file, &mut err)?;
+//! let verdict = scanner.scan_pieces("a.bin", &mut reader, &mut buffer, 4_000_000, &mut err)?;
 //! add_file(alloc, &mut volume, file, &mut err)?;
 //! ```
 #![tactic(auto)]
 
+pub mod listed;
+pub mod object;
 pub mod opened;
 pub mod scan;
 pub mod scanner;
 pub mod streams;
 #[cfg(test)]
 mod tests;
+pub mod walk;
 
-pub use opened::{Opened, print_opened};
-pub use scan::{Scanned, print_scanned, scan_files};
+pub use listed::{Failing, with_listed};
+pub use object::line_failed;
+pub use opened::{Opened, conclude_opened, print_opened};
+pub use scan::{Scanned, print_one, print_scanned, scan_files};
 pub use scanner::{Input, MAX_FILE, Scanner, read_set};
 pub use streams::{TURNS, VOLUME, add_file, empty_volume};
+pub use walk::{Met, Walk};

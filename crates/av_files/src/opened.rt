@@ -1,14 +1,19 @@
-ghost use Rattle.std.specs.Prelude.{◌≡◌, map, OnOk};
+ghost use Rattle.std.specs.Prelude.{◌≡◌, true, OnOk};
+ghost use Rattle.std.specs.List.{list_any};
 ghost use Rattle.std.specs.Io.KnownBytes.{Appends};
-ghost use Rattle.av_base.specs.Part.{spelt};
-ghost use Rattle.av_files.specs.Opened.{answer_text, denied_text, opened_text, unscanned_text};
-ghost use Rattle.av_status.specs.declared.status.Status.TheVariants.{Done};
+ghost use Rattle.av_files.specs.Opened.{answer_text, denied_text, is_granted, is_infected, line_of, object_of, opened_line, opened_lines, tally_of, unscanned_text};
+ghost use Rattle.av_status.specs.Status.{IsFault};
+ghost use Rattle.av_status.specs.declared.status.Status.TheVariants.{Done, Found};
 
+use crate::object::{line_failed, new_line};
 use av_base::parts::write_parts;
 use av_base::{Cause, Generation, Part, WriteFault};
+use av_json::{LineFault, put_opened, write_line};
 use av_pend::Answer;
 use av_status::faults::device_failed;
 use av_status::status::Status;
+use av_status::tally::{Form, Tally, Wishes, conclude};
+use std::alloc::Global;
 use std::io::Write;
 
 /// A file that was opened: its name and what its open was told.
@@ -18,26 +23,139 @@ pub struct Opened<'a> {
     pub answer: Answer,
 }
 
-/// Writes a line for each file that was opened, and leaves none in a buffer.
-pub fn print_opened<W: Write, E: Write>(opened: &[Opened<'_>], out: &mut W, err: &mut E) -> Status
-    ensures { result ≡ Done → Appends (W.contents out.old) (W.contents out.new) (spelt (map opened_text opened.now)) }
+/// Writes a line for each file that was opened, as far as it is to be shown, and leaves none in a buffer.
+pub fn print_opened<W: Write, E: Write>(
+    alloc: Global,
+    opened: &[Opened<'_>],
+    wishes: Wishes,
+    out: &mut W,
+    err: &mut E,
+) -> Status
+    ensures { result ≡ Done → Appends (W.contents out.old) (W.contents out.new) (opened_lines wishes opened.now) }
 {
-    if print_lines(opened, out).is_err() || out.flush().is_err() {
+    if let Err(fault) = print_lines(alloc, opened, wishes, out) {
+        return line_failed(err, fault);
+    }
+    if out.flush().is_err() {
         return device_failed(err);
     }
     Status::Done
 }
 
-fn print_lines<W: Write>(opened: &[Opened<'_>], out: &mut W) -> Result<(), WriteFault>
-    ensures { OnOk result (Appends (W.contents out.old) (W.contents out.new) (spelt (map opened_text opened.now))) }
+/// Ends a run in which so many files were to be opened, these have their answers, and the rest ended with this status. A file
+/// counts as scanned where it was granted, or denied since a signature occurs in it.
+pub fn conclude_opened<E: Write>(
+    opened: &[Opened<'_>],
+    files: usize,
+    ended: Status,
+    wishes: Wishes,
+    err: &mut E,
+) -> Status
+    ensures fault { IsFault ended → result ≡ ended }
+    ensures found { result ≡ Found → ended ≡ Done → list_any is_infected opened.now ≡ true }
 {
+    let mut tally = tally_of(opened);
+    tally.missed = (files as u64).saturating_sub(tally.scanned);
+    tally.worst = ended;
+    conclude(err, tally, wishes)
+}
+
+// The files in numbers, as far as they were scanned.
+fn tally_of(opened: &[Opened<'_>]) -> Tally
+    ensures { result ≡ tally_of opened.now }
+{
+    let mut tally = Tally::new();
     for file in opened {
-        match print_answer(file.name, file.answer, out) {
+        match file.answer {
+            Answer::Granted { .. } => tally.add_scanned(false),
+            Answer::Denied {
+                cause: Cause::Infected,
+                ..
+            } => tally.add_scanned(true),
+            _ => {}
+        }
+    }
+    tally
+}
+
+fn print_lines<W: Write>(
+    alloc: Global,
+    opened: &[Opened<'_>],
+    wishes: Wishes,
+    out: &mut W,
+) -> Result<(), LineFault>
+    ensures { OnOk result (Appends (W.contents out.old) (W.contents out.new) (opened_lines wishes opened.now)) }
+{
+    let mut room = Vec::new(alloc);
+    for file in opened {
+        match print_shown(alloc, file, wishes, &mut room, out) {
             Ok(()) => {}
-            Err(_) => return Err(WriteFault),
+            Err(fault) => return Err(fault),
         }
     }
     Ok(())
+}
+
+// Writes the line of a file, where it is to be shown.
+fn print_shown<W: Write>(
+    alloc: Global,
+    file: &Opened<'_>,
+    wishes: Wishes,
+    room: &mut Vec<u8>,
+    out: &mut W,
+) -> Result<(), LineFault>
+    ensures { OnOk result (Appends (W.contents out.old) (W.contents out.new) (opened_line wishes file.now)) }
+{
+    if wishes.shown.has_line(!is_granted(file.answer)) {
+        print_in(alloc, wishes.form, file, room, out)
+    } else {
+        Ok(())
+    }
+}
+
+// Writes the line of a file in this form.
+fn print_in<W: Write>(
+    alloc: Global,
+    form: Form,
+    file: &Opened<'_>,
+    room: &mut Vec<u8>,
+    out: &mut W,
+) -> Result<(), LineFault>
+    ensures { OnOk result (Appends (W.contents out.old) (W.contents out.new) (line_of form file.now)) }
+{
+    match form {
+        Form::Lines => match print_answer(file.name, file.answer, out) {
+            Ok(()) => Ok(()),
+            Err(_) => Err(LineFault::Write),
+        },
+        Form::Json => print_object(alloc, file, room, out),
+    }
+}
+
+// Writes the object of a file.
+fn print_object<W: Write>(
+    alloc: Global,
+    file: &Opened<'_>,
+    room: &mut Vec<u8>,
+    out: &mut W,
+) -> Result<(), LineFault>
+    ensures { OnOk result (Appends (W.contents out.old) (W.contents out.new) (object_of file.now)) }
+{
+    let mut line = new_line(alloc, room);
+    if put_opened(alloc, &mut line, file.name.as_bytes(), file.answer).is_err() {
+        return Err(LineFault::NoMemory);
+    }
+    *room = write_line(line, out)?;
+    Ok(())
+}
+
+fn is_granted(answer: Answer) -> bool
+    ensures { result ≡ is_granted answer }
+{
+    match answer {
+        Answer::Granted { .. } => true,
+        _ => false,
+    }
 }
 
 // Writes the line of what an open was told.

@@ -1,16 +1,22 @@
-ghost use Rattle.std.specs.Prelude.{◌≡◌, ◌≢◌, map, IfErr, IfOk, OnOk};
+ghost use Rattle.std.specs.Prelude.{◌≡◌, map, Some, true, IfErr, IfOk, OnOk};
+ghost use Rattle.std.specs.List.{list_any};
 ghost use Rattle.std.specs.Option.{option_copied};
 ghost use Rattle.std.specs.Io.KnownBytes.{Appends};
 ghost use Rattle.av_base.specs.Part.{spelt};
-ghost use Rattle.av_files.specs.Scan.{Scans, file_text, line_of, verdict_text};
-ghost use Rattle.av_status.specs.declared.status.Status.TheVariants.{Done};
+ghost use Rattle.av_files.specs.Scan.{Scans, is_infected, line_of, name_found, object_of, scanned_of, shown_line, shown_lines, tally_of, verdict_text};
+ghost use Rattle.av_status.specs.Status.{EndsWell, IsFault};
+ghost use Rattle.av_status.specs.Tally.{with_scanned};
+ghost use Rattle.av_status.specs.declared.status.Status.TheVariants.{Found};
 
+use crate::object::{line_failed, new_line};
 use crate::scanner::{Input, Scanner};
 use av_base::parts::write_parts;
 use av_base::{Part, Verdict, WriteFault};
+use av_json::{LineFault, put_scanned, write_line};
 use av_sigset::SignatureSet;
 use av_status::faults::{device_failed, out_of_memory};
 use av_status::status::Status;
+use av_status::tally::{Form, Tally, Wishes, conclude};
 use std::alloc::Global;
 use std::io::Write;
 
@@ -21,23 +27,26 @@ pub struct Scanned<'a> {
     pub verdict: Verdict,
 }
 
-/// Scans files under the set of a signature file and writes a line for each, in the order given. The set and then each file is
-/// judged before a line is written; the first fault ends it, with one line to `err`. Each file is scanned in one pass.
+/// Scans files under the set of a signature file and writes a line for each that is to be shown, in the order given. The set and
+/// then each file is judged before a line is written; the first fault ends it, with one line to `err`. Each file is scanned in
+/// one pass.
 pub fn scan_files<W: Write, E: Write>(
     alloc: Global,
     set: Input<'_>,
     files: &[Input<'_>],
+    wishes: Wishes,
     out: &mut W,
     err: &mut E,
 ) -> Status
-    ensures { result ≡ Done → Scans (option_copied set.entry.content) files.now (W.contents out.old) (W.contents out.new) }
+    ensures { EndsWell result
+        → Scans wishes (option_copied set.entry.content) files.now (W.contents out.old) (W.contents out.new) }
 {
     let scanner = match Scanner::read(alloc, set, err) {
         Ok(scanner) => scanner,
         Err(status) => return status,
     };
     match verdicts_of(alloc, &scanner, files, err) {
-        Ok(scanned) => print_scanned(&scanner, scanned.as_slice(), out, err),
+        Ok(scanned) => print_scanned(alloc, &scanner, scanned.as_slice(), wishes, out, err),
         Err(status) => status,
     }
 }
@@ -49,8 +58,8 @@ fn verdicts_of<'a, E: Write>(
     files: &[Input<'a>],
     err: &mut E,
 ) -> Result<Vec<Scanned<'a>>, Status>
-    ensures scanned { IfOk result (λ scanned. map (line_of scanner.now) scanned.items ≡ map (file_text scanner.now) files.now) }
-    ensures status { IfErr result (λ status. status ≢ Done) }
+    ensures scanned { IfOk result (λ scanned. map (λ s. Some s) scanned.items ≡ map (scanned_of scanner.now) files.now) }
+    ensures status { IfErr result (λ status. IsFault status) }
 {
     let Ok(mut scanned) = Vec::with_capacity(alloc, files.len()) else {
         return Err(out_of_memory(err));
@@ -68,35 +77,158 @@ fn verdicts_of<'a, E: Write>(
     Ok(scanned)
 }
 
-/// Writes the lines of files that were scanned, and leaves none in a buffer.
+/// Writes the lines of files that were scanned, as far as they are to be shown, and leaves none in a buffer. Then it ends the run.
 pub fn print_scanned<W: Write, E: Write>(
+    alloc: Global,
     scanner: &Scanner,
     scanned: &[Scanned<'_>],
+    wishes: Wishes,
     out: &mut W,
     err: &mut E,
 ) -> Status
-    ensures { result ≡ Done → Appends (W.contents out.old) (W.contents out.new) (spelt (map (line_of scanner.now) scanned.now)) }
+    ensures lines { EndsWell result
+        → Appends (W.contents out.old) (W.contents out.new) (shown_lines wishes scanner.now scanned.now) }
+    ensures found { result ≡ Found → list_any (λ s. is_infected s.verdict) scanned.now ≡ true }
 {
-    if print_lines(scanner.set(), scanned, out).is_err() || out.flush().is_err() {
+    if let Err(fault) = print_lines(alloc, scanner.set(), scanned, wishes, out) {
+        return line_failed(err, fault);
+    }
+    if out.flush().is_err() {
         return device_failed(err);
     }
-    Status::Done
+    conclude(err, tally_of(scanned), wishes)
+}
+
+// The files in numbers.
+fn tally_of(scanned: &[Scanned<'_>]) -> Tally
+    ensures { result ≡ tally_of scanned.now }
+{
+    let mut tally = Tally::new();
+    for file in scanned {
+        tally.add_scanned(is_infected(file.verdict));
+    }
+    tally
+}
+
+/// Writes the line of a file that was scanned, where it is to be shown, and counts the file. A line of JSON is built in `room`.
+pub fn print_one<W: Write>(
+    alloc: Global,
+    scanner: &Scanner,
+    file: Scanned<'_>,
+    wishes: Wishes,
+    tally: &mut Tally,
+    room: &mut Vec<u8>,
+    out: &mut W,
+) -> Result<(), LineFault>
+    ensures line { OnOk result (Appends (W.contents out.old) (W.contents out.new) (shown_line wishes scanner.now file.entry)) }
+    ensures counted { tally.new ≡ with_scanned tally.old (is_infected file.entry.verdict) }
+{
+    tally.add_scanned(is_infected(file.verdict));
+    print_shown(alloc, scanner.set(), file, wishes, room, out)
+}
+
+/// Whether a signature was found.
+pub fn is_infected(verdict: Verdict) -> bool
+    ensures { result ≡ is_infected verdict }
+{
+    match verdict {
+        Verdict::Clean => false,
+        Verdict::Infected { .. } => true,
+    }
 }
 
 fn print_lines<W: Write>(
+    alloc: Global,
     set: &SignatureSet,
     scanned: &[Scanned<'_>],
+    wishes: Wishes,
     out: &mut W,
-) -> Result<(), WriteFault>
-    ensures { OnOk result (Appends (W.contents out.old) (W.contents out.new) (spelt (map (line_of set.now) scanned.now))) }
+) -> Result<(), LineFault>
+    ensures { OnOk result (Appends (W.contents out.old) (W.contents out.new) (shown_lines wishes set.now scanned.now)) }
 {
+    let mut room = Vec::new(alloc);
     for file in scanned {
-        match print_verdict(set, file.name, file.verdict, out) {
+        match print_shown(alloc, set, *file, wishes, &mut room, out) {
             Ok(()) => {}
-            Err(_) => return Err(WriteFault),
+            Err(fault) => return Err(fault),
         }
     }
     Ok(())
+}
+
+// Writes the line of a file, where it is to be shown.
+fn print_shown<W: Write>(
+    alloc: Global,
+    set: &SignatureSet,
+    file: Scanned<'_>,
+    wishes: Wishes,
+    room: &mut Vec<u8>,
+    out: &mut W,
+) -> Result<(), LineFault>
+    ensures { OnOk result (Appends (W.contents out.old) (W.contents out.new) (shown_line wishes set.now file.entry)) }
+{
+    if wishes.shown.has_line(is_infected(file.verdict)) {
+        print_in(alloc, wishes.form, set, file, room, out)
+    } else {
+        Ok(())
+    }
+}
+
+// Writes the line of a file in this form.
+fn print_in<W: Write>(
+    alloc: Global,
+    form: Form,
+    set: &SignatureSet,
+    file: Scanned<'_>,
+    room: &mut Vec<u8>,
+    out: &mut W,
+) -> Result<(), LineFault>
+    ensures { OnOk result (Appends (W.contents out.old) (W.contents out.new) (line_of form set.now file.entry)) }
+{
+    match form {
+        Form::Lines => match print_verdict(set, file.name, file.verdict, out) {
+            Ok(()) => Ok(()),
+            Err(_) => Err(LineFault::Write),
+        },
+        Form::Json => print_object(alloc, set, file, room, out),
+    }
+}
+
+// Writes the object of a file.
+fn print_object<W: Write>(
+    alloc: Global,
+    set: &SignatureSet,
+    file: Scanned<'_>,
+    room: &mut Vec<u8>,
+    out: &mut W,
+) -> Result<(), LineFault>
+    ensures { OnOk result (Appends (W.contents out.old) (W.contents out.new) (object_of set.now file.entry)) }
+{
+    let mut line = new_line(alloc, room);
+    let name = name_found(set, file.verdict);
+    let put = put_scanned(
+        alloc,
+        &mut line,
+        file.name.as_bytes(),
+        set.version(),
+        file.verdict,
+        name,
+    );
+    if put.is_err() {
+        return Err(LineFault::NoMemory);
+    }
+    *room = write_line(line, out)?;
+    Ok(())
+}
+
+// The name of the signature that was found.
+fn name_found(set: &SignatureSet, verdict: Verdict) -> &[u8]
+    ensures { result.now ≡ name_found set.now verdict }
+{
+    match verdict {
+        Verdict::Clean => b"".as_slice(),
+        Verdict::Infected { index, .. } => set.name(index as usize).unwrap_or(b"".as_slice()),
+    }
 }
 
 // Writes the line of a verdict.

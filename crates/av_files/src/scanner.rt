@@ -1,20 +1,21 @@
-ghost use Rattle.std.specs.Prelude.{◌≡◌, ◌≢◌, IfErr, IfOk, Some};
+ghost use Rattle.std.specs.Prelude.{◌≡◌, ◌<◌, ◌≤◌, length, IfErr, IfOk, IfSome, IsErrOf, Some};
 ghost use Rattle.std.specs.Option.{option_copied};
 ghost use Rattle.av_match.specs.Match.{verdict};
 ghost use Rattle.av_sigset.specs.Set.{patterns_of};
 ghost use Rattle.av_files.specs.Scan.{HasVerdict, SpellsSet};
-ghost use Rattle.av_status.specs.declared.status.Status.TheVariants.{Done};
+ghost use Rattle.av_status.specs.Status.{IsFault};
+ghost use Rattle.av_status.specs.declared.status.Status.TheVariants.{Refused};
 
-use av_base::{Refusal, Verdict};
+use av_base::{ReadFault, Refusal, Verdict};
 use av_match::{Automaton, Scan};
 use av_sigset::SignatureSet;
 use av_status::faults::{bad_set, out_of_memory, too_large, unreadable};
 use av_status::status::Status;
 use std::alloc::Global;
-use std::io::Write;
+use std::io::{Read, Write};
 use std::marker::Model;
 
-/// The most bytes of a signature file, and of a file that is scanned.
+/// The most bytes of a signature file, and of a file that is scanned where nothing else is asked for.
 pub const MAX_FILE: usize = 1_048_576;
 
 /// A file: the name under which it was asked for, and its content, where it could be read.
@@ -28,7 +29,7 @@ impl<'a> Input<'a> {
     /// The content, where it was read. Where it was not, a line to `err` says so.
     pub fn readable<E: Write>(self, err: &mut E) -> Result<&'a [u8], Status>
         ensures content { IfOk result (λ content. option_copied self.entry.content ≡ Some content.now) }
-        ensures status { IfErr result (λ status. status ≢ Done) }
+        ensures status { IfErr result (λ status. IsFault status) }
     {
         match self.content {
             Some(content) => Ok(content),
@@ -44,7 +45,7 @@ pub fn read_set<E: Write>(
     err: &mut E,
 ) -> Result<SignatureSet, Status>
     ensures set { IfOk result (SpellsSet (option_copied file.entry.content)) }
-    ensures status { IfErr result (λ status. status ≢ Done) }
+    ensures status { IfErr result (λ status. IsFault status) }
 {
     let content = fitting(file, err)?;
     match SignatureSet::read(alloc, content) {
@@ -76,7 +77,7 @@ impl Scanner {
     /// The scanner of a signature file's set. Where there is none, one line to `err` says why.
     pub fn read<E: Write>(alloc: Global, file: Input<'_>, err: &mut E) -> Result<Scanner, Status>
         ensures set { IfOk result (SpellsSet (option_copied file.entry.content)) }
-        ensures status { IfErr result (λ status. status ≢ Done) }
+        ensures status { IfErr result (λ status. IsFault status) }
     {
         let set = read_set(alloc, file, err)?;
         let Ok(automaton) = Automaton::build(alloc, &set) else {
@@ -88,10 +89,33 @@ impl Scanner {
     /// The verdict of a file's content, in one pass. Where there is none, one line to `err` says why.
     pub fn scan<E: Write>(&self, file: Input<'_>, err: &mut E) -> Result<Verdict, Status>
         ensures verdict { IfOk result (HasVerdict self.now (option_copied file.entry.content)) }
-        ensures status { IfErr result (λ status. status ≢ Done) }
+        ensures status { IfErr result (λ status. IsFault status) }
     {
         let content = fitting(file, err)?;
         Ok(judge(&self.set, &self.automaton, content))
+    }
+
+    /// The verdict of all bytes that a reader has left, at most `most` of them, which go through the buffer a piece at a time.
+    /// Where there is none, one line to `err` says why: a read failed, or there are more bytes.
+    pub fn scan_pieces<R: Read, E: Write>(
+        &self,
+        name: &str,
+        reader: &mut R,
+        buffer: &mut [u8],
+        most: u64,
+        err: &mut E,
+    ) -> Result<Verdict, Status>
+        requires { 0 < length buffer.old }
+        ensures verdict { IfOk result (λ v. IfSome (R.remaining reader.old) (λ content. HasVerdict self.now (Some content) v)) }
+        ensures short { IfOk result (λ v. IfSome (R.remaining reader.old) (λ content. length content ≤ most)) }
+        ensures long { IsErrOf result Refused → IfSome (R.remaining reader.old) (λ content. most < length content) }
+        ensures status { IfErr result (λ status. IsFault status) }
+    {
+        match judge_pieces(&self.set, &self.automaton, reader, buffer, most) {
+            Ok(verdict) => Ok(verdict),
+            Err(ReadFault::TooLong) => Err(too_large(err, name)),
+            Err(_) => Err(unreadable(err, name)),
+        }
     }
 
     /// The set.
@@ -105,7 +129,7 @@ impl Scanner {
 // The content of a file, where it was read and is not too large.
 fn fitting<'a, E: Write>(file: Input<'a>, err: &mut E) -> Result<&'a [u8], Status>
     ensures content { IfOk result (λ content. option_copied file.entry.content ≡ Some content.now) }
-    ensures status { IfErr result (λ status. status ≢ Done) }
+    ensures status { IfErr result (λ status. IsFault status) }
 {
     let content = file.readable(err)?;
     if content.len() > MAX_FILE {
@@ -122,4 +146,36 @@ fn judge(set: &SignatureSet, automaton: &Automaton, content: &[u8]) -> Verdict
     let mut scan = Scan::start(set.version(), content.len() as u64);
     let _ = scan.feed(automaton, content);
     scan.end()
+}
+
+// The verdict of all bytes that a reader has left, piece by piece. No fault is NoMemory.
+fn judge_pieces<R: Read>(
+    set: &SignatureSet,
+    automaton: &Automaton,
+    reader: &mut R,
+    buffer: &mut [u8],
+    most: u64,
+) -> Result<Verdict, ReadFault>
+    requires room { 0 < length buffer.old }
+    requires built { automaton.now ≡ record { version = set.now.version; patterns = patterns_of set.now.signatures } }
+    ensures verdict { IfOk result (λ v. IfSome (R.remaining reader.old) (λ content. v ≡ verdict (patterns_of set.now.signatures) content)) }
+    ensures short { IfOk result (λ v. IfSome (R.remaining reader.old) (λ content. length content ≤ most)) }
+    ensures long { IsErrOf result ReadFault.TooLong → IfSome (R.remaining reader.old) (λ content. most < length content) }
+{
+    let mut scan = Scan::start(set.version(), most);
+    let mut left = most;
+    'pieces: for _ in 0..u64::MAX {
+        let Ok(count) = reader.read(buffer) else {
+            return Err(ReadFault::Device);
+        };
+        if count == 0 {
+            return Ok(scan.end());
+        }
+        if count as u64 > left {
+            return Err(ReadFault::TooLong);
+        }
+        left -= count as u64;
+        let _ = scan.feed(automaton, &buffer[..count]);
+    }
+    Err(ReadFault::Device)
 }

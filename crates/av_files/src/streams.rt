@@ -1,10 +1,9 @@
-ghost use Rattle.std.specs.Prelude.{◌≡◌, ◌≢◌, IfErr, IfOk, OnOk};
+ghost use Rattle.std.specs.Prelude.{◌≡◌, IfErr, OnOk};
 ghost use Rattle.std.specs.Option.{option_copied};
 ghost use Rattle.av_base.specs.Limits.{greatest_values};
-ghost use Rattle.av_filter.specs.Bounds.{AreInBounds};
 ghost use Rattle.av_store.specs.Store.{empty_store};
 ghost use Rattle.av_files.specs.Streams.{HasFile};
-ghost use Rattle.av_status.specs.declared.status.Status.TheVariants.{Done};
+ghost use Rattle.av_status.specs.Status.{IsFault};
 
 use crate::scanner::Input;
 use av_base::{Limits, Refusal};
@@ -23,11 +22,8 @@ pub const VOLUME: u64 = 1;
 /// The volume of a program's files: number 1, never mounted, with no stream yet.
 pub fn empty_volume(alloc: Global) -> Volume
     ensures empty { result ≡ empty_store VOLUME greatest_values }
-    ensures bounds { AreInBounds result }
 {
-    let limits = Limits::greatest();
-    let _in_range = limits.values();
-    Volume::new(alloc, VOLUME, limits)
+    Volume::new(alloc, VOLUME, Limits::greatest())
 }
 
 /// Makes a file a stream under its path, by one create and one write. Where it can't be one, a line to `err` says why: it
@@ -38,10 +34,8 @@ pub fn add_file<E: Write>(
     file: Input<'_>,
     err: &mut E,
 ) -> Result<(), Status>
-    requires { AreInBounds volume.old }
     ensures file { OnOk result (HasFile volume.old volume.new file.entry.name.now (option_copied file.entry.content)) }
-    ensures bounds { OnOk result (AreInBounds volume.new) }
-    ensures status { IfErr result (λ status. status ≢ Done) }
+    ensures status { IfErr result (λ status. IsFault status) }
 {
     let content = file.readable(err)?;
     match add_stream(alloc, volume, file.name.as_bytes(), content) {
@@ -58,9 +52,7 @@ fn add_stream(
     name: &[u8],
     content: &[u8],
 ) -> Result<(), Refusal<StoreFault>>
-    requires { AreInBounds volume.old }
     ensures file { OnOk result (HasFile volume.old volume.new name.now (Some content.now)) }
-    ensures bounds { OnOk result (AreInBounds volume.new) }
 {
     let stream = volume.create(alloc, name)?;
     let _done = volume.write(stream, 0, content)?;
@@ -69,7 +61,7 @@ fn add_stream(
 
 // Says why a file can't be a stream.
 fn refused<E: Write>(alloc: Global, err: &mut E, file: &str, fault: StoreFault) -> Status
-    ensures { result ≢ Done }
+    ensures { IsFault result }
 {
     match format!(in alloc; "{fault}") {
         Ok(word) => file_refused(err, file, word.as_str()),

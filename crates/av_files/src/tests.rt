@@ -1,10 +1,21 @@
+use crate::listed::{Failing, listed, with_listed};
+use crate::opened::{Opened, print_opened};
 use crate::scan::scan_files;
-use crate::scanner::Input;
-use av_fakes::{FakeWriter, Fault};
-use av_status::Status;
+use crate::scanner::{Input, Scanner};
+use av_base::{Cause, Generation, OpenId, StreamId, Verdict, Version};
+use av_fakes::{FakeReader, FakeWriter, Fault};
+use av_pend::Answer;
+use av_status::{Form, Shown, Status, Tally, Wishes};
 use std::test::Fail;
 
 const SET: &[u8] = b"avsig 1\nversion 1\nx 5858\n";
+
+const PLAIN: Wishes = Wishes {
+    shown: Shown::All,
+    form: Form::Lines,
+    has_found_status: false,
+    has_summary: false,
+};
 
 fn input<'a>(name: &'a str, content: Option<&'a [u8]>) -> Input<'a> {
     Input { name, content }
@@ -48,6 +59,7 @@ fn files_are_scanned_until_the_first_fault(rt: HostRuntime) -> Result<(), Fail> 
             rt.alloc(),
             input("set", set),
             files.as_slice(),
+            PLAIN,
             &mut out,
             &mut err,
         );
@@ -71,10 +83,261 @@ fn lines_that_can_not_be_written_are_told(rt: HostRuntime) -> Result<(), Fail> {
             let mut out = FakeWriter::new(rt.alloc()).in_pieces_of(1).with(fault);
             let mut err = FakeWriter::new(rt.alloc());
             let set = input("set", Some(SET));
-            let ended = scan_files(rt.alloc(), set, files.as_slice(), &mut out, &mut err);
+            let ended = scan_files(rt.alloc(), set, files.as_slice(), PLAIN, &mut out, &mut err);
             assert_eq!(rt; ended, Status::Device, "{fault:?}");
             assert_eq!(rt; err.taken(), b"avscan: device\n".as_slice());
         }
+    }
+    Ok(())
+}
+
+#[test]
+fn a_content_in_pieces_has_the_verdict_of_the_whole(rt: HostRuntime) -> Result<(), Fail> {
+    let mut err = FakeWriter::new(rt.alloc());
+    let Ok(scanner) = Scanner::read(rt.alloc(), input("set", Some(SET)), &mut err) else {
+        panic!(rt; "no set");
+    };
+    let infected = Verdict::Infected {
+        index: 0,
+        end_at: 5,
+    };
+    let rows: [(&[u8], Verdict); 4] = [
+        (b"AAAXXA", infected),
+        (b"AAAXX", infected),
+        (b"AXAXAX", Verdict::Clean),
+        (b"", Verdict::Clean),
+    ];
+    for (content, verdict) in rows {
+        for piece in 1..8 {
+            let mut buffer = [0u8; 7];
+            for most in [content.len() as u64, 100] {
+                let mut reader = FakeReader::new(content).in_pieces_of(piece);
+                let got = scanner.scan_pieces("a", &mut reader, &mut buffer, most, &mut err);
+                assert!(&rt; got == Ok(verdict));
+            }
+        }
+    }
+    assert!(&rt; err.taken().is_empty());
+    Ok(())
+}
+
+#[test]
+fn a_content_that_is_too_long_or_fails_is_told(rt: HostRuntime) -> Result<(), Fail> {
+    let mut err = FakeWriter::new(rt.alloc());
+    let Ok(scanner) = Scanner::read(rt.alloc(), input("set", Some(SET)), &mut err) else {
+        panic!(rt; "no set");
+    };
+    let content = b"AAAXXA".as_slice();
+    for piece in 1..8 {
+        let mut buffer = [0u8; 4];
+        let mut err = FakeWriter::new(rt.alloc());
+        let mut reader = FakeReader::new(content).in_pieces_of(piece);
+        let got = scanner.scan_pieces("a", &mut reader, &mut buffer, 5, &mut err);
+        assert!(&rt; got == Err(Status::Refused));
+        assert_eq!(rt; err.taken(), b"avscan: a: TooLarge\n".as_slice());
+    }
+    for place in 1..8 {
+        let mut buffer = [0u8; 4];
+        let mut err = FakeWriter::new(rt.alloc());
+        let mut reader = FakeReader::new(content).in_pieces_of(1).failing_at(place);
+        let got = scanner.scan_pieces("a", &mut reader, &mut buffer, 6, &mut err);
+        assert!(&rt; got == Err(Status::Device));
+        assert_eq!(rt; err.taken(), b"avscan: a: cannot read\n".as_slice());
+    }
+    Ok(())
+}
+
+#[test]
+fn a_list_has_the_names_between_its_ends(rt: HostRuntime) -> Result<(), Fail> {
+    let rows: [(&[u8], &[&[u8]]); 5] = [
+        (b"", &[]),
+        (b"\n\n", &[]),
+        (b"a", &[b"a"]),
+        (b"a b\n", &[b"a b"]),
+        (b"\na\n\nb\0c\nd", &[b"a", b"b\0c", b"d"]),
+    ];
+    for (text, names) in rows {
+        let got = listed(rt.alloc(), text, b'\n')?;
+        assert!(&rt; got.as_slice() == names);
+    }
+    Ok(())
+}
+
+#[test]
+fn a_name_that_is_no_text_ends_a_list_or_is_passed_over(rt: HostRuntime) -> Result<(), Fail> {
+    let text = b"a\0\0caf\xe9\0b".as_slice();
+    for failing in [Failing::Ends, Failing::Passes] {
+        let mut err = FakeWriter::new(rt.alloc());
+        let mut tally = Tally::new();
+        let given = ["g"];
+        let got = with_listed(
+            rt.alloc(),
+            given.as_slice(),
+            "list",
+            text,
+            0,
+            failing,
+            &mut tally,
+            &mut err,
+        );
+        match got {
+            Ok(names) => {
+                assert!(&rt;
+                    failing == Failing::Passes && names.as_slice() == ["g", "a", "b"].as_slice()
+                );
+                assert!(&rt; tally.missed == 1 && tally.worst == Status::Refused);
+            }
+            Err(status) => {
+                assert!(&rt; failing == Failing::Ends && status == Status::Refused);
+            }
+        }
+        let line = b"avscan: list: name 2 is not UTF-8\n".as_slice();
+        assert_eq!(rt; err.taken(), line);
+    }
+    Ok(())
+}
+
+#[test]
+fn only_infected_files_are_shown_and_counted(rt: HostRuntime) -> Result<(), Fail> {
+    let files = [
+        input("a", Some(b"ABC".as_slice())),
+        input("b", Some(b"AXX".as_slice())),
+    ];
+    for found in 0..2usize {
+        let mut out = FakeWriter::new(rt.alloc());
+        let mut err = FakeWriter::new(rt.alloc());
+        let wishes = Wishes {
+            shown: Shown::Infected,
+            form: Form::Lines,
+            has_found_status: true,
+            has_summary: true,
+        };
+        let rows: [(Status, &[u8], &[u8]); 2] = [
+            (
+                Status::Done,
+                b"",
+                b"avscan: 1 files scanned, 0 infected, 0 not scanned\n",
+            ),
+            (
+                Status::Found,
+                b"b infected 0 x end 3\n",
+                b"avscan: 2 files scanned, 1 infected, 0 not scanned\n",
+            ),
+        ];
+        let ended = scan_files(
+            rt.alloc(),
+            input("set", Some(SET)),
+            &files[..found + 1],
+            wishes,
+            &mut out,
+            &mut err,
+        );
+        let (status, lines, line) = rows[found];
+        assert_eq!(rt; ended, status);
+        assert_eq!(rt; out.taken(), lines);
+        assert_eq!(rt; err.taken(), line);
+    }
+    Ok(())
+}
+
+#[test]
+fn files_that_were_scanned_are_told_as_objects(rt: HostRuntime) -> Result<(), Fail> {
+    let files = [
+        input("a \"b\"", Some(b"ABC".as_slice())),
+        input("b", Some(b"AXX".as_slice())),
+    ];
+    let rows: [(Shown, &[u8]); 2] = [
+        (
+            Shown::All,
+            b"{\"file\":\"a \\\"b\\\"\",\"verdict\":\"clean\",\"version\":1}\n\
+            {\"file\":\"b\",\"verdict\":\"infected\",\"version\":1,\"index\":0,\"name\":\"x\",\"end\":3}\n",
+        ),
+        (
+            Shown::Infected,
+            b"{\"file\":\"b\",\"verdict\":\"infected\",\"version\":1,\"index\":0,\"name\":\"x\",\"end\":3}\n",
+        ),
+    ];
+    for (shown, lines) in rows {
+        let mut out = FakeWriter::new(rt.alloc()).in_pieces_of(1);
+        let mut err = FakeWriter::new(rt.alloc());
+        let wishes = Wishes {
+            shown,
+            form: Form::Json,
+            ..PLAIN
+        };
+        let ended = scan_files(
+            rt.alloc(),
+            input("set", Some(SET)),
+            &files,
+            wishes,
+            &mut out,
+            &mut err,
+        );
+        assert_eq!(rt; ended, Status::Done);
+        assert_eq!(rt; out.taken(), lines);
+        assert!(rt; err.taken().is_empty());
+    }
+    Ok(())
+}
+
+#[test]
+fn files_that_were_opened_are_told_as_objects(rt: HostRuntime) -> Result<(), Fail> {
+    let open_id = OpenId::new(1);
+    let stream = StreamId::new(1);
+    let generation = Generation::new(2);
+    let opened = [
+        Opened {
+            name: "a",
+            answer: Answer::Granted {
+                open_id,
+                least: Version::new(0),
+                stream,
+                generation,
+                version: Version::new(5),
+            },
+        },
+        Opened {
+            name: "b",
+            answer: Answer::Unscanned {
+                open_id,
+                stream,
+                generation,
+                cause: Cause::Busy,
+            },
+        },
+        Opened {
+            name: "c",
+            answer: Answer::Denied {
+                open_id,
+                cause: Cause::Infected,
+            },
+        },
+    ];
+    let rows: [(Shown, &[u8]); 2] = [
+        (
+            Shown::All,
+            b"{\"file\":\"a\",\"answer\":\"granted\",\"generation\":2,\"version\":5}\n\
+            {\"file\":\"b\",\"answer\":\"unscanned\",\"generation\":2,\"cause\":4,\"why\":\"busy\"}\n\
+            {\"file\":\"c\",\"answer\":\"denied\",\"cause\":2,\"why\":\"infected\"}\n",
+        ),
+        (
+            Shown::Infected,
+            b"{\"file\":\"b\",\"answer\":\"unscanned\",\"generation\":2,\"cause\":4,\"why\":\"busy\"}\n\
+            {\"file\":\"c\",\"answer\":\"denied\",\"cause\":2,\"why\":\"infected\"}\n",
+        ),
+    ];
+    for (shown, lines) in rows {
+        let mut out = FakeWriter::new(rt.alloc()).in_pieces_of(1);
+        let mut err = FakeWriter::new(rt.alloc());
+        let wishes = Wishes {
+            shown,
+            form: Form::Json,
+            ..PLAIN
+        };
+        let ended = print_opened(rt.alloc(), &opened, wishes, &mut out, &mut err);
+        assert_eq!(rt; ended, Status::Done);
+        assert_eq!(rt; out.taken(), lines);
+        assert!(rt; err.taken().is_empty());
     }
     Ok(())
 }

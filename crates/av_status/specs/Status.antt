@@ -1,8 +1,8 @@
-use Rattle.std.specs.Prelude.{ℕ, List, [], ◌∷◌, if◌then◌else◌, nat_lt}
+use Rattle.std.specs.Prelude.{ℕ, ⊤, List, [], ◌∷◌, if◌then◌else◌, nat_lt}
 use Rattle.av_engines.specs.declared.end.End.{End}
 use Rattle.av_engines.specs.declared.end.End.TheVariants as end
 use Rattle.av_status.specs.declared.status.Status.{Status}
-use Rattle.av_status.specs.declared.status.Status.TheVariants.{Done, Refused, Usage, Memory, Device}
+use Rattle.av_status.specs.declared.status.Status.TheVariants.{Done, Refused, Usage, Memory, Device, Found}
 
 -- the exit status of the process
 abbrev pub number_of : Status → ℕ
@@ -11,6 +11,29 @@ number_of Refused = 1
 number_of Usage = 2
 number_of Memory = 3
 number_of Device = 4
+number_of Found = 5
+
+-- a run ended with nothing that failed
+abbrev pub EndsWell : Status → Type 0
+EndsWell Done = ⊤
+EndsWell Refused = ⊥
+EndsWell Usage = ⊥
+EndsWell Memory = ⊥
+EndsWell Device = ⊥
+EndsWell Found = ⊤
+
+-- something failed
+abbrev pub IsFault : Status → Type 0
+IsFault Done = ⊥
+IsFault Refused = ⊤
+IsFault Usage = ⊤
+IsFault Memory = ⊤
+IsFault Device = ⊤
+IsFault Found = ⊥
+
+-- of two statuses the one with the greater number
+abbrev pub graver_status : Status → Status → Status
+graver_status one other = if nat_lt (number_of one) (number_of other) then other else one
 
 -- the status for the end of a loop over a stream of frames. That the other side closed it is no fault of its own.
 abbrev pub status_of_end : End → Status

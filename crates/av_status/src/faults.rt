@@ -90,6 +90,29 @@ pub fn bad_socket<E: Write>(err: &mut E, socket: &str) -> Status
     Status::Usage
 }
 
+/// A name of a list, counted from 1, can't be taken as text.
+pub fn bad_name<E: Write>(err: &mut E, list: &str, number: u64) -> Status
+    ensures { result ≡ Refused }
+{
+    say_of(
+        err,
+        list,
+        &[text(": name "), Part::Number(number), text(" is not UTF-8")],
+    );
+    Status::Refused
+}
+
+/// An entry of a folder can't be looked at, since its name is no text. Of its path each byte that is no ASCII is written as `\x` and
+/// two digits.
+pub fn bad_entry<E: Write>(err: &mut E, path: &[u8]) -> Status
+    ensures { result ≡ Refused }
+{
+    let _ = write_parts(err, &[text("avscan: ")]);
+    say_name(err, path, Plain::Ascii);
+    let _ = write_parts(err, &[text(": the name is not UTF-8\n")]);
+    Status::Refused
+}
+
 /// The other side sent bytes that are no frame.
 pub fn bad_frame<E: Write>(err: &mut E) -> Status
     ensures { result ≡ Refused }
@@ -136,20 +159,31 @@ pub fn say<E: Write>(err: &mut E, parts: &[Part<'_>]) {
 /// called is not to command a terminal.
 pub fn say_of<E: Write>(err: &mut E, name: &str, parts: &[Part<'_>]) {
     let _ = write_parts(err, &[text("avscan: ")]);
-    say_name(err, name.as_bytes());
+    say_name(err, name.as_bytes(), Plain::Text);
     let _ = write_parts(err, parts);
     let _ = write_parts(err, &[text("\n")]);
 }
 
-fn say_name<E: Write>(err: &mut E, name: &[u8]) {
+// What is written as it stands: text, or ASCII alone. Control characters never are.
+#[derive(Clone, Copy)]
+enum Plain {
+    Text,
+    Ascii,
+}
+
+fn say_name<E: Write>(err: &mut E, name: &[u8], plain: Plain) {
     let mut begun = 0;
     for place in 0..name.len() {
-        let Some(byte) = control_at(name, place) else {
+        let escaped = match plain {
+            Plain::Text => control_at(name, place),
+            Plain::Ascii => no_ascii_at(name, place),
+        };
+        let Some(byte) = escaped else {
             continue;
         };
-        let plain = name.get(begun..place).unwrap_or(b"".as_slice());
+        let before = name.get(begun..place).unwrap_or(b"".as_slice());
         let digits = [digit(byte >> 4), digit(byte & 15)];
-        let _ = write_parts(err, &[Part::Text(plain), text("\\x"), Part::Text(&digits)]);
+        let _ = write_parts(err, &[Part::Text(before), text("\\x"), Part::Text(&digits)]);
         begun = place + 1;
     }
     let rest = name.get(begun..).unwrap_or(b"".as_slice());
@@ -167,6 +201,16 @@ fn control_at(name: &[u8], place: usize) -> Option<u8> {
         _ => false,
     };
     if is_control { Some(byte) } else { None }
+}
+
+// The byte at a place, where it is a control character or no ASCII.
+fn no_ascii_at(name: &[u8], place: usize) -> Option<u8> {
+    let byte = *name.get(place)?;
+    if matches!(byte, 32..=126) {
+        None
+    } else {
+        Some(byte)
+    }
 }
 
 // The hexadecimal digit of a number below 16.

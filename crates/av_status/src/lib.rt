@@ -1,5 +1,5 @@
-//! How the program ends: its exit statuses, the line on standard error that says why it did not do all, and how far a run got
-//! that takes long.
+//! How the program ends: its exit statuses, the line on standard error that says why it did not do all, what came of files in
+//! numbers, and how far a run got that takes long.
 //!
 //! ```text
 //! let mut err = Progress::new(&rt, rt.stderr(), true);
@@ -12,9 +12,11 @@ pub mod ends;
 pub mod faults;
 pub mod progress;
 pub mod status;
+pub mod tally;
 #[cfg(test)]
 mod tests;
 
 pub use ends::{end_told, gravest, status_of};
 pub use progress::Progress;
 pub use status::Status;
+pub use tally::{Form, Shown, Tally, Wishes, conclude};

@@ -63,6 +63,25 @@ impl<'a, C: Clock, E: Write> Progress<'a, C, E> {
         self.is_shown = true;
     }
 
+    /// So many files are done, of nobody knows how many.
+    pub fn step_on(&mut self, verb: &'static str, done: u64) {
+        if !self.is_wanted || !self.is_time() {
+            return;
+        }
+        let _ = write_parts(
+            &mut self.err,
+            &[
+                Part::Text(b"\r".as_slice()),
+                Part::Text(verb.as_bytes()),
+                Part::Text(b" ".as_slice()),
+                Part::Number(done),
+                Part::Text(b" files\x1b[K".as_slice()),
+            ],
+        );
+        let _ = self.err.flush();
+        self.is_shown = true;
+    }
+
     /// Wipes out the line of progress, where one is shown.
     pub fn wipe(&mut self) {
         if self.is_shown {

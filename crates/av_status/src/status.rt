@@ -1,5 +1,5 @@
 ghost use Rattle.std.specs.Prelude.{◌≡◌};
-ghost use Rattle.av_status.specs.Status.{number_of};
+ghost use Rattle.av_status.specs.Status.{graver_status, number_of};
 
 /// How the program ends. The number is the process's exit status.
 #[derive(Clone, Copy, Debug, PartialEq, Eq)]
@@ -14,13 +14,26 @@ pub enum Status {
     Memory,
     /// A file or a stream failed.
     Device,
+    /// All was done, and something is infected, of which the user wanted to be told so.
+    Found,
 }
 
 impl Status {
-    /// The exit status, from 0 to 4.
+    /// The exit status, from 0 to 5.
     pub fn number(self) -> u8
         ensures { result ≡ number_of self }
     {
         self as u8
+    }
+
+    /// The one of two statuses that has the greater number.
+    pub fn or_graver(self, other: Status) -> Status
+        ensures { result ≡ graver_status self other }
+    {
+        if self.number() < other.number() {
+            other
+        } else {
+            self
+        }
     }
 }

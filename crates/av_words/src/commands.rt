@@ -2,7 +2,7 @@
 
 use clap::builder::ValueParser;
 use clap::{Arg, ArgAction, Command, Error};
-use std::alloc::Global;
+use std::alloc::{AllocError, Global};
 
 /// The command line: one command each for a script, files, and the three programs that hold opens.
 pub fn avscan_command<'a>(alloc: Global) -> Result<Command<'a>, Error> {
@@ -24,7 +24,9 @@ pub fn avscan_command<'a>(alloc: Global) -> Result<Command<'a>, Error> {
                  \n  avscan host examples/test.avsig examples/letter.txt      open it through the filter, \
                  which asks the service first\
                  \n  avscan run examples/late_reply.avs                       run a script\
-                 \n\nExit status: 0 all done, 1 input refused, 2 usage, 3 memory, 4 device.",
+                 \n  avscan scan -r -i --summary examples/test.avsig FOLDER   scan what is below a folder, and show what is infected\
+                 \n\nExit status: 0 all done, 1 input refused, 2 usage, 3 memory, 4 device, 5 something is infected \
+                 (with --found-status).",
             )
             .subcommand_required(true)
             .subcommand(run)?
@@ -63,9 +65,14 @@ fn run_command<'a>(alloc: Global) -> Result<Command<'a>, Error> {
                  \nA PATTERN is HEX, or HEX@LOW-HIGH where it has to begin from place LOW to place HIGH of a content.\
                  \ndocs/FORMATS.md says what each does and prints.\
                  \n\nExample:\
-                 \n  avscan run examples/late_reply.avs",
+                 \n  avscan run examples/late_reply.avs\
+                 \n  avscan run --json examples/late_reply.avs",
             )
-            .arg(script)?,
+            .arg(script)?
+            .arg(json_option(
+                alloc,
+                "Prints a JSON object a line for the volume line and for each command",
+            ))?,
     )
 }
 
@@ -84,11 +91,28 @@ fn scan_command<'a>(alloc: Global) -> Result<Command<'a>, Error> {
                  \n\nA line of the output is `FILE clean` or `FILE infected INDEX NAME end PLACE`: which \
                  signature ends first, and at which byte.\
                  \ndocs/FORMATS.md has the whole format.\
-                 \n\nExample:\
-                 \n  avscan scan examples/test.avsig examples/letter.txt examples/eicar.com.txt",
+                 \n\nExamples:\
+                 \n  avscan scan examples/test.avsig examples/letter.txt examples/eicar.com.txt\
+                 \n  avscan scan -r -i --summary --max-size 100000000 examples/test.avsig FOLDER\
+                 \n  avscan scan -k --files-from LIST examples/test.avsig",
             )
             .arg(set_argument(alloc))?
-            .arg(files_argument(alloc, "The files to scan, of at most 1,048,576 bytes each"))?
+            .arg(files_argument(
+                alloc,
+                "The files to scan, of at most 1,048,576 bytes each where --max-size says nothing else",
+            )?)?
+            .arg(recursive_option(alloc))?
+            .arg(keep_going_option(alloc))?
+            .arg(max_size_option(alloc))?
+            .arg(infected_option(alloc, "Prints the lines of infected files alone"))?
+            .arg(json_option(alloc, "Prints a JSON object a line for each file"))?
+            .arg(files_from_option(alloc))?
+            .arg(null_option(alloc))?
+            .arg(found_status_option(
+                alloc,
+                "Ends with status 5 where a file is infected and nothing failed",
+            ))?
+            .arg(summary_option(alloc))?
             .arg(quiet_option(alloc))?,
     )
 }
@@ -109,7 +133,19 @@ fn host_command<'a>(alloc: Global) -> Result<Command<'a>, Error> {
                  \n  avscan host examples/test.avsig examples/letter.txt examples/eicar.com.txt --openers 2 --workers 2",
             )
             .arg(set_argument(alloc))?
-            .arg(opened_files_argument(alloc))?
+            .arg(opened_files_argument(alloc)?)?
+            .arg(infected_option(
+                alloc,
+                "Prints the lines of files that were not granted alone",
+            ))?
+            .arg(json_option(alloc, "Prints a JSON object a line for each file"))?
+            .arg(files_from_option(alloc))?
+            .arg(null_option(alloc))?
+            .arg(found_status_option(
+                alloc,
+                "Ends with status 5 where an open was denied for cause 2 and nothing failed",
+            ))?
+            .arg(summary_option(alloc))?
             .arg(threads_option(alloc, "openers", "How many threads open files, 1 to 16"))?
             .arg(threads_option(alloc, "workers", "How many threads scan, 1 to 16"))?
             .arg(quiet_option(alloc))?,
@@ -133,7 +169,19 @@ fn filter_command<'a>(alloc: Global) -> Result<Command<'a>, Error> {
                  \n  avscan service avscan.socket examples/test.avsig",
             )
             .arg(socket_argument(alloc, "Where to make the socket: a path of 1 to 107 bytes"))?
-            .arg(opened_files_argument(alloc))?
+            .arg(opened_files_argument(alloc)?)?
+            .arg(infected_option(
+                alloc,
+                "Prints the lines of files that were not granted alone",
+            ))?
+            .arg(json_option(alloc, "Prints a JSON object a line for each file"))?
+            .arg(files_from_option(alloc))?
+            .arg(null_option(alloc))?
+            .arg(found_status_option(
+                alloc,
+                "Ends with status 5 where an open was denied for cause 2 and nothing failed",
+            ))?
+            .arg(summary_option(alloc))?
             .arg(wait_option(
                 alloc,
                 "How long to wait for a service to come, for each of its messages, and for it to take each answer",
@@ -176,20 +224,86 @@ fn socket_argument<'a>(alloc: Global, help: &'a str) -> Arg<'a> {
         .help(help)
 }
 
-fn opened_files_argument<'a>(alloc: Global) -> Arg<'a> {
+fn opened_files_argument<'a>(alloc: Global) -> Result<Arg<'a>, AllocError> {
     files_argument(
         alloc,
         "The files to open: each of at most 1,048,576 bytes under a path of at most 255, without spaces",
     )
 }
 
-fn files_argument<'a>(alloc: Global, help: &'a str) -> Arg<'a> {
+fn files_argument<'a>(alloc: Global, help: &'a str) -> Result<Arg<'a>, AllocError> {
     Arg::new(alloc, "file")
-        .required(true)
         .value_name("FILE")
         .action(ArgAction::Append)
         .num_args(1..)
         .help(help)
+        .required_unless_present("files-from")
+}
+
+fn recursive_option<'a>(alloc: Global) -> Arg<'a> {
+    Arg::new(alloc, "recursive")
+        .short('r')
+        .long("recursive")
+        .action(ArgAction::SetTrue)
+        .help(
+            "A FILE that is a folder stands for the regular files in it and below it; no link is followed. Means -k too",
+        )
+}
+
+fn keep_going_option<'a>(alloc: Global) -> Arg<'a> {
+    Arg::new(alloc, "keep-going")
+        .short('k')
+        .long("keep-going")
+        .action(ArgAction::SetTrue)
+        .help("A file that can't be scanned is told and passed over; the status is the greatest")
+}
+
+fn max_size_option<'a>(alloc: Global) -> Arg<'a> {
+    Arg::new(alloc, "max-size")
+        .long("max-size")
+        .value_name("BYTES")
+        .value_parser(ValueParser::unsigned(1, 9_223_372_036_854_775_807))
+        .default_value("1048576")
+        .help("The most bytes of a file, up to 2^63 - 1; a larger one is too large")
+}
+
+fn infected_option<'a>(alloc: Global, help: &'a str) -> Arg<'a> {
+    Arg::new(alloc, "infected")
+        .short('i')
+        .long("infected")
+        .action(ArgAction::SetTrue)
+        .help(help)
+}
+
+fn files_from_option<'a>(alloc: Global) -> Arg<'a> {
+    Arg::new(alloc, "files-from")
+        .long("files-from")
+        .value_name("LIST")
+        .help(
+            "A list of further files, a name a line; - is standard input. FILE may then be left out",
+        )
+}
+
+fn null_option<'a>(alloc: Global) -> Arg<'a> {
+    Arg::new(alloc, "null")
+        .short('0')
+        .long("null")
+        .action(ArgAction::SetTrue)
+        .help("A zero byte ends each name of LIST, in place of a line feed")
+}
+
+fn found_status_option<'a>(alloc: Global, help: &'a str) -> Arg<'a> {
+    Arg::new(alloc, "found-status")
+        .long("found-status")
+        .action(ArgAction::SetTrue)
+        .help(help)
+}
+
+fn summary_option<'a>(alloc: Global) -> Arg<'a> {
+    Arg::new(alloc, "summary")
+        .long("summary")
+        .action(ArgAction::SetTrue)
+        .help("Says at the end, on standard error, how many files were scanned")
 }
 
 fn threads_option<'a>(alloc: Global, name: &'a str, help: &'a str) -> Arg<'a> {
@@ -220,6 +334,13 @@ fn mode_option<'a>(alloc: Global) -> Arg<'a> {
         .value_parser(MODES)
         .default_value("600")
         .help("Who may join at the socket: its owner, also its group, or anybody")
+}
+
+fn json_option<'a>(alloc: Global, help: &'a str) -> Arg<'a> {
+    Arg::new(alloc, "json")
+        .long("json")
+        .action(ArgAction::SetTrue)
+        .help(help)
 }
 
 fn quiet_option<'a>(alloc: Global) -> Arg<'a> {

@@ -2,7 +2,7 @@
 //!
 //! ```text
 //! match read_words(alloc, words.as_slice(), &mut out, &mut err) {
-//!     Ok(Request::Scan { set, files, quiet }) => ..,
+//!     Ok(Request::Scan { set, files, .. }) => ..,
 //!     Err(status) => return status,                      // help was written, or a line says what was not understood
 //! }
 //! ```
@@ -13,4 +13,4 @@ mod commands;
 mod tests;
 pub mod words;
 
-pub use words::{Request, first_bad_word, read_words};
+pub use words::{Finding, List, Request, first_bad_word, read_words};

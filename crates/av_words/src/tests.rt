@@ -1,9 +1,22 @@
-use crate::words::{Request, first_bad_word, read_words};
+use crate::words::{Finding, List, Request, first_bad_word, read_words};
 use av_fakes::{FakeWriter, Fault};
-use av_status::Status;
+use av_status::{Form, Shown, Status, Wishes};
 use std::alloc::Global;
 use std::env::{Env, FillError};
 use std::test::Fail;
+
+const FILES_ALONE: Finding = Finding {
+    is_recursive: false,
+    keeps_going: false,
+    max_size: 1_048_576,
+};
+
+const NOTHING: Wishes = Wishes {
+    shown: Shown::All,
+    form: Form::Lines,
+    has_found_status: false,
+    has_summary: false,
+};
 
 #[test]
 fn words_ask_for_a_request_or_end_with_a_status(rt: HostRuntime) -> Result<(), Fail> {
@@ -16,8 +29,20 @@ fn words_ask_for_a_request_or_end_with_a_status(rt: HostRuntime) -> Result<(), F
         &mut out,
         &mut err,
     ) {
-        Ok(Request::Scan { set, files, quiet }) => {
+        Ok(
+            Request::Scan {
+                set,
+                files,
+                list,
+                finding,
+                wishes,
+                quiet,
+            },
+        ) => {
             assert_eq!(rt; set, "s");
+            assert!(rt; list.is_none());
+            assert_eq!(rt; finding, FILES_ALONE);
+            assert_eq!(rt; wishes, NOTHING);
             assert_eq!(rt; files.len(), 2);
             assert!(rt; !quiet);
         }
@@ -26,7 +51,24 @@ fn words_ask_for_a_request_or_end_with_a_status(rt: HostRuntime) -> Result<(), F
     assert!(rt;
         matches!(
             read_words(alloc, ["avscan"].as_slice(), &mut out, &mut err),
-            Ok(Request::Run { script: "-" })
+            Ok(Request::Run {
+                script: "-",
+                form: Form::Lines
+            })
+        )
+    );
+    assert!(rt;
+        matches!(
+            read_words(
+                alloc,
+                ["avscan", "run", "--json", "s"].as_slice(),
+                &mut out,
+                &mut err
+            ),
+            Ok(Request::Run {
+                script: "s",
+                form: Form::Json
+            })
         )
     );
     assert!(rt; out.taken().is_empty() && err.taken().is_empty());
@@ -175,5 +217,110 @@ fn a_socket_has_one_of_three_modes(rt: HostRuntime) -> Result<(), Fail> {
     }
     let other = ["avscan", "filter", "s", "f", "--mode", "777"];
     assert!(&rt; mode_of(alloc, other.as_slice()).is_none());
+    Ok(())
+}
+
+// How files are found and what is told of them, and the list, as the words ask for.
+fn asked_of<'a>(
+    alloc: Global,
+    words: &'a [&'a str],
+) -> Option<(Finding, Wishes, Option<List<'a>>)> {
+    let mut out = FakeWriter::new(alloc);
+    let mut err = FakeWriter::new(alloc);
+    match read_words(alloc, words, &mut out, &mut err) {
+        Ok(
+            Request::Scan {
+                finding,
+                wishes,
+                list,
+                ..
+            },
+        ) => Some((finding, wishes, list)),
+        Ok(Request::Host { wishes, list, .. } | Request::Filter { wishes, list, .. }) => {
+            Some((FILES_ALONE, wishes, list))
+        }
+        _ => None,
+    }
+}
+
+#[test]
+fn folders_stand_for_files_and_mean_to_keep_going(rt: HostRuntime) -> Result<(), Fail> {
+    let alloc = rt.alloc();
+    let short = ["avscan", "scan", "-r", "s", "f"];
+    let long = ["avscan", "scan", "s", "f", "--recursive"];
+    for words in [short.as_slice(), long.as_slice()] {
+        let finding = Finding {
+            is_recursive: true,
+            keeps_going: true,
+            ..FILES_ALONE
+        };
+        assert!(&rt; asked_of(alloc, words) == Some((finding, NOTHING, None)));
+    }
+    let keep = ["avscan", "scan", "-k", "s", "f"];
+    let finding = Finding {
+        keeps_going: true,
+        ..FILES_ALONE
+    };
+    assert!(&rt; asked_of(alloc, keep.as_slice()) == Some((finding, NOTHING, None)));
+    Ok(())
+}
+
+#[test]
+fn a_file_has_up_to_as_many_bytes_as_are_asked_for(rt: HostRuntime) -> Result<(), Fail> {
+    let alloc = rt.alloc();
+    let sizes = [
+        ("1", Some(1)),
+        ("9223372036854775807", Some(9_223_372_036_854_775_807)),
+        ("0", None),
+        ("9223372036854775808", None),
+        ("-1", None),
+        ("1k", None),
+    ];
+    for (word, size) in sizes {
+        let words = ["avscan", "scan", "--max-size", word, "s", "f"];
+        let got = asked_of(alloc, words.as_slice());
+        let max_size = got.map(|(finding, _, _)| finding.max_size);
+        assert!(&rt; max_size == size, "{word}");
+    }
+    Ok(())
+}
+
+#[test]
+fn a_list_stands_for_files_and_is_ended_by_lines_or_zero_bytes(
+    rt: HostRuntime,
+) -> Result<(), Fail> {
+    let alloc = rt.alloc();
+    for command in ["scan", "host", "filter"] {
+        let lines = ["avscan", command, "s", "--files-from", "l"];
+        let list = Some(List { path: "l", end: 10 });
+        assert!(&rt; asked_of(alloc, lines.as_slice()) == Some((FILES_ALONE, NOTHING, list)));
+        let zeros = ["avscan", command, "-0", "s", "--files-from", "-"];
+        let list = Some(List { path: "-", end: 0 });
+        assert!(&rt; asked_of(alloc, zeros.as_slice()) == Some((FILES_ALONE, NOTHING, list)));
+        let all = [
+            "avscan",
+            command,
+            "-i",
+            "--found-status",
+            "--summary",
+            "s",
+            "f",
+        ];
+        let wishes = Wishes {
+            shown: Shown::Infected,
+            form: Form::Lines,
+            has_found_status: true,
+            has_summary: true,
+        };
+        assert!(&rt; asked_of(alloc, all.as_slice()) == Some((FILES_ALONE, wishes, None)));
+        let objects = ["avscan", command, "--json", "s", "f"];
+        let wishes = Wishes {
+            form: Form::Json,
+            ..NOTHING
+        };
+        assert!(&rt; asked_of(alloc, objects.as_slice()) == Some((FILES_ALONE, wishes, None)));
+        let none = ["avscan", command, "s"];
+        assert!(&rt; asked_of(alloc, none.as_slice()).is_none());
+    }
     Ok(())
 }

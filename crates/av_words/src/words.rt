@@ -1,7 +1,9 @@
 use crate::commands::avscan_command;
 use av_base::device::write_text;
+use av_base::line::LF;
 use av_status::faults::{bad_socket, device_failed, out_of_memory};
 use av_status::status::Status;
+use av_status::tally::{Form, Shown, Wishes};
 use clap::error::ErrorKind;
 use clap::{ArgMatches, Error};
 use std::alloc::{AllocError, Global};
@@ -9,23 +11,47 @@ use std::convert::AsStr;
 use std::env::{Env, FillError};
 use std::io::Write;
 
+/// A list of further files: its own name, `-` for standard input, and the byte that ends each name in it.
+#[derive(Clone, Copy, Debug, PartialEq, Eq)]
+pub struct List<'a> {
+    pub path: &'a str,
+    pub end: u8,
+}
+
+/// What is scanned of the files that were named.
+#[derive(Clone, Copy, Debug, PartialEq, Eq)]
+pub struct Finding {
+    /// A folder stands for the regular files in it and below it.
+    pub is_recursive: bool,
+    /// A file that can't be scanned is told and passed over, as it always is where folders stand for files.
+    pub keeps_going: bool,
+    /// The most bytes of a file, from 1 to 2^63 - 1.
+    pub max_size: u64,
+}
+
 /// What the words of the command line ask for.
 #[derive(Debug, Drop)]
 pub enum Request<'a> {
     /// Run the script in this file, or on standard input for `-`.
     Run {
         script: &'a str,
+        form: Form,
     },
     /// Scan these files under the signature file `set`.
     Scan {
         set: &'a str,
         files: Vec<&'a str>,
+        list: Option<List<'a>>,
+        finding: Finding,
+        wishes: Wishes,
         quiet: bool,
     },
     /// Open these files through a filter and a service in this process, each with 1 to 16 threads.
     Host {
         set: &'a str,
         files: Vec<&'a str>,
+        list: Option<List<'a>>,
+        wishes: Wishes,
         openers: usize,
         workers: usize,
         quiet: bool,
@@ -35,6 +61,8 @@ pub enum Request<'a> {
     Filter {
         socket: &'a str,
         files: Vec<&'a str>,
+        list: Option<List<'a>>,
+        wishes: Wishes,
         wait: u64,
         mode: u32,
         quiet: bool,
@@ -56,7 +84,7 @@ pub fn read_words<'a, S: AsStr, W: Write, E: Write>(
     err: &mut E,
 ) -> Result<Request<'a>, Status> {
     if words.len() <= 1 {
-        return Ok(Request::Run { script: "-" });
+        return Ok(from_standard_input());
     }
     match requested(alloc, words) {
         Ok(request) => with_socket(request, err),
@@ -91,11 +119,16 @@ fn requested<'a, S: AsStr>(alloc: Global, words: &'a [S]) -> Result<Request<'a>,
         Some(("scan", scan)) => Ok(Request::Scan {
             set: text_of(scan, "set"),
             files: files_of(alloc, scan)?,
+            list: list_of(scan),
+            finding: finding_of(scan),
+            wishes: wishes_of(scan),
             quiet: scan.get_flag("quiet"),
         }),
         Some(("host", host)) => Ok(Request::Host {
             set: text_of(host, "set"),
             files: files_of(alloc, host)?,
+            list: list_of(host),
+            wishes: wishes_of(host),
             openers: count_of(host, "openers"),
             workers: count_of(host, "workers"),
             quiet: host.get_flag("quiet"),
@@ -103,6 +136,8 @@ fn requested<'a, S: AsStr>(alloc: Global, words: &'a [S]) -> Result<Request<'a>,
         Some(("filter", filter)) => Ok(Request::Filter {
             socket: text_of(filter, "socket"),
             files: files_of(alloc, filter)?,
+            list: list_of(filter),
+            wishes: wishes_of(filter),
             wait: count_of(filter, "wait") as u64,
             mode: mode_of(filter),
             quiet: filter.get_flag("quiet"),
@@ -114,8 +149,25 @@ fn requested<'a, S: AsStr>(alloc: Global, words: &'a [S]) -> Result<Request<'a>,
         }),
         Some((_, run)) => Ok(Request::Run {
             script: text_of(run, "script"),
+            form: form_of(run),
         }),
-        None => Ok(Request::Run { script: "-" }),
+        None => Ok(from_standard_input()),
+    }
+}
+
+// What is asked for where no word says it.
+fn from_standard_input<'a>() -> Request<'a> {
+    Request::Run {
+        script: "-",
+        form: Form::Lines,
+    }
+}
+
+fn form_of(matches: &ArgMatches<'_>) -> Form {
+    if matches.get_flag("json") {
+        Form::Json
+    } else {
+        Form::Lines
     }
 }
 
@@ -144,6 +196,36 @@ fn files_of<'a>(alloc: Global, matches: &ArgMatches<'a>) -> Result<Vec<&'a str>,
         files.extend_from_slice(names)?;
     }
     Ok(files)
+}
+
+// The list of further files, where there is one.
+fn list_of<'a>(matches: &ArgMatches<'a>) -> Option<List<'a>> {
+    let path = matches.get_str("files-from")?;
+    let end = if matches.get_flag("null") { 0 } else { LF };
+    Some(List { path, end })
+}
+
+fn finding_of(matches: &ArgMatches<'_>) -> Finding {
+    let is_recursive = matches.get_flag("recursive");
+    Finding {
+        is_recursive,
+        keeps_going: is_recursive || matches.get_flag("keep-going"),
+        max_size: matches.get_one::<u64>("max-size").unwrap_or(1),
+    }
+}
+
+fn wishes_of(matches: &ArgMatches<'_>) -> Wishes {
+    let shown = if matches.get_flag("infected") {
+        Shown::Infected
+    } else {
+        Shown::All
+    };
+    Wishes {
+        shown,
+        form: form_of(matches),
+        has_found_status: matches.get_flag("found-status"),
+        has_summary: matches.get_flag("summary"),
+    }
 }
 
 // The most bytes of a socket's path: what Linux has room for, less the byte behind its end.

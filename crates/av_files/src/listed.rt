@@ -1,0 +1,79 @@
+ghost use Rattle.std.specs.Prelude.{◌≡◌, map, IfErr, IfOk};
+ghost use Rattle.av_files.specs.Listed.{IsListOf};
+ghost use Rattle.av_status.specs.Status.{IsFault};
+
+use av_base::line::first_piece;
+use av_status::faults::{bad_name, out_of_memory};
+use av_status::status::Status;
+use av_status::tally::Tally;
+use std::alloc::{AllocError, Global};
+use std::io::Write;
+
+/// The names of a list, each ended by this byte, which the last may lack. An empty name is none.
+pub fn listed<'a>(alloc: Global, text: &'a [u8], end: u8) -> Result<Vec<&'a [u8]>, AllocError>
+    ensures { IfOk result (λ names. IsListOf end text.now (map (λ n. n.now) names.items)) }
+{
+    let mut names = Vec::new(alloc);
+    let mut rest = text;
+    'names: while !rest.is_empty() {
+        let (name, below) = first_piece(rest, end);
+        if !name.is_empty() {
+            names.push(name)?;
+        }
+        rest = below.unwrap_or(b"".as_slice());
+    }
+    Ok(names)
+}
+
+/// What becomes of a file that can't be read, or of a name that is no text.
+#[derive(Clone, Copy, Debug, PartialEq, Eq)]
+pub enum Failing {
+    /// It ends the program.
+    Ends,
+    /// It is told and passed over.
+    Passes,
+}
+
+/// The names that were given, and behind them those of a list. One that is not UTF-8 is told, with its number in the list.
+pub fn with_listed<'a, 'b: 'a, E: Write>(
+    alloc: Global,
+    given: &[&'b str],
+    list: &str,
+    text: &'a [u8],
+    end: u8,
+    failing: Failing,
+    tally: &mut Tally,
+    err: &mut E,
+) -> Result<Vec<&'a str>, Status>
+    ensures status { IfErr result (λ status. IsFault status) }
+{
+    let (Ok(listed), Ok(mut names)) = (listed(alloc, text, end), copied(alloc, given)) else {
+        return Err(out_of_memory(err));
+    };
+    for (before, bytes) in listed.iter().enumerate() {
+        let Ok(name) = str::from_utf8(bytes) else {
+            let status = bad_name(err, list, before as u64 + 1);
+            if failing == Failing::Ends {
+                return Err(status);
+            }
+            tally.add_missed(status);
+            continue;
+        };
+        if names.push(name).is_err() {
+            return Err(out_of_memory(err));
+        }
+    }
+    Ok(names)
+}
+
+// The same names, for as long as those behind them are lent.
+fn copied<'a, 'b: 'a>(alloc: Global, given: &[&'b str]) -> Result<Vec<&'a str>, AllocError>
+    ensures { IfOk result (λ names. map (λ n. n.now) names.items ≡ map (λ n. n.now) given.now) }
+{
+    let mut names: Vec<&'a str> = Vec::new(alloc);
+    for name in given {
+        let name: &'a str = *name;
+        names.push(name)?;
+    }
+    Ok(names)
+}
