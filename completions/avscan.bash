@@ -14,15 +14,20 @@ _avscan() {
         COMPREPLY=($(compgen -W "5 30 60 300" -- "$word"))
         return
         ;;
+    --max-size)
+        COMPREPLY=($(compgen -W "1048576 10000000 100000000 1000000000" -- "$word"))
+        return
+        ;;
     --mode)
         COMPREPLY=($(compgen -W "600 660 666" -- "$word"))
         return
         ;;
     esac
     case $command in
-    scan) options="--quiet --help" ;;
-    host) options="--openers --workers --quiet --help" ;;
-    filter) options="--wait --mode --quiet --help" ;;
+    run) options="--json --help" ;;
+    scan) options="--recursive --keep-going --max-size --infected --json --files-from --null --found-status --summary --quiet --help" ;;
+    host) options="--openers --workers --infected --json --files-from --null --found-status --summary --quiet --help" ;;
+    filter) options="--wait --mode --infected --json --files-from --null --found-status --summary --quiet --help" ;;
     service) options="--wait --help" ;;
     help) options="run scan host filter service" ;;
     *) options="--help" ;;

@@ -1,5 +1,4 @@
 ghost use Rattle.std.specs.Prelude.{◌≡◌, IfOk, map};
-ghost use Rattle.av_filter.specs.Bounds.{AreInBounds};
 ghost use Rattle.av_engines.specs.declared.end.End.TheVariants.{Done};
 ghost use Rattle.av_gate.specs.Seats.{IsSeatOf};
 ghost use Rattle.av_host.specs.Brought.{AreBrought, answer_at, opened_files};
@@ -11,7 +10,7 @@ use crate::opener::{Brought, Openings};
 use av_base::{Limits, Mode, Refusal};
 use av_desk::Desk;
 use av_engines::End;
-use av_files::opened::{Opened, print_opened};
+use av_files::opened::{Opened, conclude_opened, print_opened};
 use av_files::scanner::{Input, read_set};
 use av_files::streams::{VOLUME, add_file, empty_volume};
 use av_gate::{Gate, Seat};
@@ -21,6 +20,7 @@ use av_sigset::{Catalogue, SignatureSet};
 use av_status::faults::out_of_memory;
 use av_status::progress::Progress;
 use av_status::status::Status;
+use av_status::tally::Wishes;
 use av_status::{end_told, gravest};
 use av_store::Volume;
 use std::alloc::{AllocError, Global};
@@ -46,13 +46,15 @@ pub struct Crew {
 }
 
 /// Opens files through a filter and its scanning service, in threads of this process, and writes a line for each, in the
-/// order given. The set and then each file is judged before any is opened; the first fault ends it, with one line to `err`.
+/// order given, as far as it is to be shown. The set and then each file is judged before any is opened; the first fault ends it,
+/// with one line to `err`.
 pub fn host_files<R: Hosting, W: Write, E: Write>(
     rt: &R,
     alloc: Global,
     set: Input<'_>,
     files: &[Input<'_>],
     crew: Crew,
+    wishes: Wishes,
     out: &mut W,
     err: &mut E,
 ) -> Status {
@@ -62,7 +64,7 @@ pub fn host_files<R: Hosting, W: Write, E: Write>(
     };
     let mut volume = empty_volume(alloc);
     let mut names = Vec::new(alloc);
-    'files: for file in files {
+    for file in files {
         if let Err(status) = add_file(alloc, &mut volume, *file, err) {
             return status;
         }
@@ -78,6 +80,7 @@ pub fn host_files<R: Hosting, W: Write, E: Write>(
         volume,
         names.as_slice(),
         crew,
+        wishes,
         out,
         &mut quiet,
     )
@@ -91,13 +94,12 @@ pub fn host_volume<R: Hosting, C: Clock, W: Write, E: Write>(
     volume: Volume,
     names: &[&str],
     crew: Crew,
+    wishes: Wishes,
     out: &mut W,
     err: &mut Progress<'_, C, E>,
-) -> Status
-    requires { AreInBounds volume }
-{
+) -> Status {
     match connected_desk(rt, alloc, set) {
-        Ok(desk) => host_beside(rt, alloc, &desk, volume, names, crew, out, err),
+        Ok(desk) => host_beside(rt, alloc, &desk, volume, names, crew, wishes, out, err),
         Err(_) => out_of_memory(err),
     }
 }
@@ -110,11 +112,10 @@ fn host_beside<R: Hosting, C: Clock, W: Write, E: Write>(
     volume: Volume,
     names: &[&str],
     crew: Crew,
+    wishes: Wishes,
     out: &mut W,
     err: &mut Progress<'_, C, E>,
-) -> Status
-    requires { AreInBounds volume }
-{
+) -> Status {
     let Ok((gate, seat)) = Gate::new(alloc, volume, Mode::FailClosed, Limits::greatest()) else {
         return out_of_memory(err);
     };
@@ -122,20 +123,34 @@ fn host_beside<R: Hosting, C: Clock, W: Write, E: Write>(
     gate.abandon();
     err.wipe();
     match opened {
-        Ok((opened, end)) => print_told(opened.as_slice(), end, out, err),
+        Ok((opened, end)) => print_told(
+            alloc,
+            opened.as_slice(),
+            names.len(),
+            end,
+            wishes,
+            out,
+            err,
+        ),
         Err(end) => end_told(err, end),
     }
 }
 
-// Writes the lines of files that were opened, and then how that ended, where it is a fault.
+// Writes the lines of files that were opened, of so many that were to be, and then how that ended, where it is a fault.
 fn print_told<W: Write, E: Write>(
+    alloc: Global,
     opened: &[Opened<'_>],
+    files: usize,
     end: End,
+    wishes: Wishes,
     out: &mut W,
     err: &mut E,
 ) -> Status {
-    match print_opened(opened, out, err) {
-        Status::Done => end_told(err, end),
+    match print_opened(alloc, opened, wishes, out, err) {
+        Status::Done => {
+            let ended = end_told(err, end);
+            conclude_opened(opened, files, ended, wishes, err)
+        }
         failed => failed,
     }
 }

@@ -1,11 +1,9 @@
 ghost use Rattle.std.specs.Prelude.{◌≡◌, IfOk, map};
 ghost use Rattle.std.specs.List.{zip};
 ghost use Rattle.std.specs.List.Sorted.{IsNonDecreasingBy, IsPermutation};
-ghost use Rattle.av_filter.specs.Bounds.{AreInBounds};
 ghost use Rattle.av_filter.specs.Fit.{Fits};
 ghost use Rattle.av_pend.specs.Pend.{open_of};
 ghost use Rattle.av_sockets.specs.Filter.{PrintsInOrder, opened_as};
-ghost use Rattle.av_status.specs.declared.status.Status.TheVariants.{Done};
 
 use crate::duplex::{Duplex, Hearing, Saying};
 use crate::fault::{SocketFault, socket_failed};
@@ -13,19 +11,18 @@ use crate::sockets::{Meeting, meet_service};
 use av_base::limits::MAX_JOBS;
 use av_base::{Limits, Mode, StreamId, Version};
 use av_engines::{End, Watched, serve_filter};
-use av_files::opened::{Opened, print_opened};
-use av_files::streams::{TURNS, VOLUME};
+use av_files::opened::{Opened, conclude_opened, print_opened};
+use av_files::streams::TURNS;
 use av_filter::Filter;
-use av_frame::Message;
-use av_frame::encode::encode_into;
 use av_pend::Answer;
 use av_status::end_told;
 use av_status::faults::out_of_memory;
 use av_status::status::Status;
+use av_status::tally::Wishes;
 use av_store::Volume;
 use std::alloc::{AllocError, Global};
 use std::fs::Files;
-use std::io::{Read, Write};
+use std::io::Write;
 use std::net::Net;
 use std::time::Clock;
 
@@ -33,7 +30,7 @@ use std::time::Clock;
 const GROUP: usize = MAX_JOBS as usize;
 
 /// Opens the streams of a volume by their names, through a filter that one service may join at a socket with these rights,
-/// and writes a line for each, in the order given. An open that no service has answered is denied.
+/// and writes a line for each, in the order given, as far as it is to be shown. An open that no service has answered is denied.
 pub fn filter_volume<R: Files + Net + Clock, W: Write, E: Write>(
     rt: &R,
     alloc: Global,
@@ -41,11 +38,10 @@ pub fn filter_volume<R: Files + Net + Clock, W: Write, E: Write>(
     mode: u32,
     mut volume: Volume,
     names: &[&str],
+    wishes: Wishes,
     out: &mut W,
     err: &mut E,
-) -> Status
-    requires { AreInBounds volume }
-{
+) -> Status {
     let Ok(streams) = streams_of(alloc, &volume, names) else {
         return out_of_memory(err);
     };
@@ -66,9 +62,12 @@ pub fn filter_volume<R: Files + Net + Clock, W: Write, E: Write>(
     if watched.end == End::Memory || rest.is_err() {
         return out_of_memory(err);
     }
-    match print_answers(alloc, names, watched.answers, out, err) {
-        Status::Done => told(err, meeting.path, met, watched.end),
-        failed => failed,
+    match print_answers(alloc, names, watched.answers, wishes, out, err) {
+        Ok(opened) => {
+            let ended = told(err, meeting.path, met, watched.end);
+            conclude_opened(opened.as_slice(), names.len(), ended, wishes, err)
+        }
+        Err(failed) => failed,
     }
 }
 
@@ -111,9 +110,7 @@ fn open_streams<C: Clock>(
     met: &Result<Duplex<'_, C>, SocketFault>,
 ) -> Watched
     requires fits { Fits filter.old volume.old }
-    requires bounds { AreInBounds volume.old }
     ensures fits { Fits filter.new volume.new }
-    ensures bounds { AreInBounds volume.new }
 {
     let mut answers = Vec::new(alloc);
     let end = match met {
@@ -132,21 +129,15 @@ fn open_groups<C: Clock>(
     answers: &mut Vec<Answer>,
 ) -> End
     requires fits { Fits filter.old volume.old }
-    requires bounds { AreInBounds volume.old }
     ensures fits { Fits filter.new volume.new }
-    ensures bounds { AreInBounds volume.new }
 {
-    let mut before = Vec::new(alloc);
     'groups: for group in streams.chunks(GROUP) {
-        let mut watched = open_group(alloc, volume, filter, group, before.as_slice(), duplex);
+        let mut watched = open_group(alloc, volume, filter, group, duplex);
         if answers.append(&mut watched.answers).is_err() {
             return End::Memory;
         }
         if watched.end != End::Done {
             return watched.end;
-        }
-        if before.is_empty() && greet_again(&mut before).is_err() {
-            return End::Memory;
         }
     }
     match duplex.finish() {
@@ -155,25 +146,16 @@ fn open_groups<C: Clock>(
     }
 }
 
-// The service's greeting as it would come once more. A filter that is connected takes no notice of it; its engine opens
-// nothing before it has heard a message.
-fn greet_again(bytes: &mut Vec<u8>) -> Result<(), AllocError> {
-    encode_into(&Message::hello(VOLUME, Version::new(1)), bytes)
-}
-
-// Opens a group of streams, once these bytes and the first message behind them have come.
+// Opens a group of streams, once the filter is connected.
 fn open_group<C: Clock>(
     alloc: Global,
     volume: &mut Volume,
     filter: &mut Filter,
     group: &[StreamId],
-    before: &[u8],
     duplex: &Duplex<'_, C>,
 ) -> Watched
     requires fits { Fits filter.old volume.old }
-    requires bounds { AreInBounds volume.old }
     ensures fits { Fits filter.new volume.new }
-    ensures bounds { AreInBounds volume.new }
 {
     if volume.opens_left() < group.len() as u64 {
         return Watched {
@@ -181,7 +163,7 @@ fn open_group<C: Clock>(
             answers: Vec::new(alloc),
         };
     }
-    let mut reader = before.chain(Hearing { duplex });
+    let mut reader = Hearing { duplex };
     let mut writer = Saying { duplex };
     serve_filter(
         alloc,
@@ -203,7 +185,6 @@ fn open_rest(
     answers: &mut Vec<Answer>,
 ) -> Result<(), AllocError>
     requires fits { Fits filter.old volume.old }
-    requires bounds { AreInBounds volume.old }
 {
     'streams: for stream in streams.iter().skip(answers.len()) {
         let Ok(opened) = filter.open(alloc, volume, *stream, Version::new(0)) else {
@@ -214,20 +195,24 @@ fn open_rest(
     Ok(())
 }
 
-// Writes the lines, in the order of the files, which is that of the opens' numbers.
-fn print_answers<W: Write, E: Write>(
+// Writes the lines, in the order of the files, which is that of the opens' numbers, and gives the files with their answers.
+fn print_answers<'a, W: Write, E: Write>(
     alloc: Global,
-    names: &[&str],
+    names: &[&'a str],
     answers: Vec<Answer>,
+    wishes: Wishes,
     out: &mut W,
     err: &mut E,
-) -> Status
-    ensures { result ≡ Done → PrintsInOrder names.now answers.items (W.contents out.old) (W.contents out.new) }
+) -> Result<Vec<Opened<'a>>, Status>
+    ensures { IfOk result (λ opened. PrintsInOrder wishes names.now answers.items opened.items (W.contents out.old) (W.contents out.new)) }
 {
     let answers = in_order(answers);
-    match named(alloc, names, answers.as_slice()) {
-        Ok(opened) => print_opened(opened.as_slice(), out, err),
-        Err(_) => out_of_memory(err),
+    let Ok(opened) = named(alloc, names, answers.as_slice()) else {
+        return Err(out_of_memory(err));
+    };
+    match print_opened(alloc, opened.as_slice(), wishes, out, err) {
+        Status::Done => Ok(opened),
+        failed => Err(failed),
     }
 }
 

@@ -1,26 +1,26 @@
 //! The program: it reads the words of its command line, and runs a script or scans files over the proved crates.
 #![tactic(auto)]
 
-ghost use Rattle.std.specs.Prelude.{IfOk};
-ghost use Rattle.av_filter.specs.Bounds.{AreInBounds};
-
+mod list;
+mod reading;
 mod run;
+mod scan;
 #[cfg(test)]
 mod tests;
 
-use av_base::device::read_into;
-use av_files::{
-    Input, MAX_FILE, Scanned, Scanner, TURNS, add_file, empty_volume, print_scanned, read_set,
-};
+use av_files::{Failing, MAX_FILE, add_file, empty_volume, read_set};
 use av_host::{Crew, Hosting, host_volume};
 use av_sockets::{Meeting, filter_volume, serve_at};
 use av_status::faults::{bad_word, out_of_memory, say, text, unreadable};
-use av_status::{Progress, Status};
+use av_status::{Progress, Status, Tally, Wishes};
 use av_store::Volume;
-use av_words::{Request, first_bad_word, read_words};
+use av_words::{List, Request, first_bad_word, read_words};
+use list::{all_names, list_text};
+use reading::read_file;
 use run::run_text;
+use scan::{Scanning, scan_named};
 use std::alloc::Global;
-use std::io::{BufWriter, IsTerminal, Read, Write};
+use std::io::{BufWriter, IsTerminal, Write};
 use std::process::ExitCode;
 use std::time::Duration;
 use std::{env, fs};
@@ -51,7 +51,7 @@ fn asked<R: Hosting>(rt: &HostRuntime, system: &R, alloc: Global, words: &Vec<St
         return out_of_memory(&mut err);
     };
     match read_words(alloc, words.as_slice(), &mut out, &mut err) {
-        Ok(Request::Run { script: "-" }) => {
+        Ok(Request::Run { script: "-", form }) => {
             let mut input = rt.stdin();
             if words.len() <= 1 && input.is_terminal() {
                 say(
@@ -59,16 +59,30 @@ fn asked<R: Hosting>(rt: &HostRuntime, system: &R, alloc: Global, words: &Vec<St
                     &[text("reading a script from the terminal (avscan --help tells more)")],
                 );
             }
-            run_text(alloc, &mut input, &mut out, &mut err)
+            run_text(form, alloc, &mut input, &mut out, &mut err)
         }
-        Ok(Request::Run { script }) => match fs::open(rt, script) {
-            Ok(mut file) => run_text(alloc, &mut file, &mut out, &mut err),
+        Ok(Request::Run { script, form }) => match fs::open(rt, script) {
+            Ok(mut file) => run_text(form, alloc, &mut file, &mut out, &mut err),
             Err(_) => unreadable(&mut err, script),
         },
-        Ok(Request::Scan { set, files, quiet }) => scan_named(
+        Ok(
+            Request::Scan {
+                set,
+                files,
+                list,
+                finding,
+                wishes,
+                quiet,
+            },
+        ) => scan_named(
             rt,
             alloc,
-            set,
+            Scanning {
+                set,
+                list,
+                finding,
+                wishes,
+            },
             files.as_slice(),
             &mut out,
             &mut Progress::new(rt, err, !quiet && rt.stderr().is_terminal()),
@@ -77,6 +91,8 @@ fn asked<R: Hosting>(rt: &HostRuntime, system: &R, alloc: Global, words: &Vec<St
             Request::Host {
                 set,
                 files,
+                list,
+                wishes,
                 openers,
                 workers,
                 quiet,
@@ -87,6 +103,8 @@ fn asked<R: Hosting>(rt: &HostRuntime, system: &R, alloc: Global, words: &Vec<St
             alloc,
             set,
             files.as_slice(),
+            list,
+            wishes,
             Crew { openers, workers },
             &mut out,
             &mut Progress::new(rt, err, !quiet && rt.stderr().is_terminal()),
@@ -106,6 +124,8 @@ fn asked<R: Hosting>(rt: &HostRuntime, system: &R, alloc: Global, words: &Vec<St
             Request::Filter {
                 socket,
                 files,
+                list,
+                wishes,
                 wait,
                 mode,
                 quiet,
@@ -117,45 +137,13 @@ fn asked<R: Hosting>(rt: &HostRuntime, system: &R, alloc: Global, words: &Vec<St
             meeting(socket, wait),
             mode,
             files.as_slice(),
+            list,
+            wishes,
             &mut out,
             &mut Progress::new(rt, err, !quiet && rt.stderr().is_terminal()),
         ),
         Err(status) => status,
     }
-}
-
-// Scans files by their names, as `scan_files` does by their contents. One buffer holds each content in turn.
-fn scan_named<W: Write, E: Write>(
-    rt: &HostRuntime,
-    alloc: Global,
-    set: &str,
-    names: &[&str],
-    out: &mut W,
-    err: &mut Progress<'_, HostRuntime, E>,
-) -> Status {
-    let Ok(mut buffer) = vec![in alloc; 0u8; MAX_FILE + 2] else {
-        return out_of_memory(err);
-    };
-    let scanner = match Scanner::read(alloc, read_file(rt, set, &mut buffer), err) {
-        Ok(scanner) => scanner,
-        Err(status) => return status,
-    };
-    let Ok(mut scanned) = Vec::with_capacity(alloc, names.len()) else {
-        return out_of_memory(err);
-    };
-    for (done, name) in names.iter().enumerate() {
-        err.step("scanned", done, names.len());
-        match scanner.scan(read_file(rt, name, &mut buffer), err) {
-            Ok(verdict) => {
-                if scanned.push(Scanned { name, verdict }).is_err() {
-                    return out_of_memory(err);
-                }
-            }
-            Err(status) => return status,
-        }
-    }
-    err.wipe();
-    print_scanned(&scanner, scanned.as_slice(), out, err)
 }
 
 // Opens files by their names, as `host_files` does by their contents. One buffer holds each content on its way into the volume.
@@ -165,6 +153,8 @@ fn host_named<R: Hosting, W: Write, E: Write>(
     alloc: Global,
     set: &str,
     names: &[&str],
+    list: Option<List<'_>>,
+    wishes: Wishes,
     crew: Crew,
     out: &mut W,
     err: &mut Progress<'_, HostRuntime, E>,
@@ -176,8 +166,22 @@ fn host_named<R: Hosting, W: Write, E: Write>(
         Ok(set) => set,
         Err(status) => return status,
     };
-    match volume_of(rt, alloc, names, &mut buffer, err) {
-        Ok(volume) => host_volume(system, alloc, set, volume, names, crew, out, err),
+    let listed = match list_text(rt, alloc, list, err) {
+        Ok(listed) => listed,
+        Err(status) => return status,
+    };
+    match volume_of(rt, alloc, names, list, listed.as_slice(), &mut buffer, err) {
+        Ok((names, volume)) => host_volume(
+            system,
+            alloc,
+            set,
+            volume,
+            names.as_slice(),
+            crew,
+            wishes,
+            out,
+            err,
+        ),
         Err(status) => status,
     }
 }
@@ -190,14 +194,30 @@ fn filter_named<R: Hosting, W: Write, E: Write>(
     meeting: Meeting<'_>,
     mode: u32,
     names: &[&str],
+    list: Option<List<'_>>,
+    wishes: Wishes,
     out: &mut W,
     err: &mut Progress<'_, HostRuntime, E>,
 ) -> Status {
     let Ok(mut buffer) = vec![in alloc; 0u8; MAX_FILE + 2] else {
         return out_of_memory(err);
     };
-    match volume_of(rt, alloc, names, &mut buffer, err) {
-        Ok(volume) => filter_volume(system, alloc, meeting, mode, volume, names, out, err),
+    let listed = match list_text(rt, alloc, list, err) {
+        Ok(listed) => listed,
+        Err(status) => return status,
+    };
+    match volume_of(rt, alloc, names, list, listed.as_slice(), &mut buffer, err) {
+        Ok((names, volume)) => filter_volume(
+            system,
+            alloc,
+            meeting,
+            mode,
+            volume,
+            names.as_slice(),
+            wishes,
+            out,
+            err,
+        ),
         Err(status) => status,
     }
 }
@@ -229,54 +249,23 @@ fn serve_named<R: Hosting, W: Write, E: Write>(
     }
 }
 
-// A volume with these files.
-fn volume_of<E: Write>(
+// The names that were given, and behind them those of a list, and a volume with these files.
+fn volume_of<'a, 'b: 'a, E: Write>(
     rt: &HostRuntime,
     alloc: Global,
-    names: &[&str],
+    given: &[&'b str],
+    list: Option<List<'_>>,
+    listed: &'a [u8],
     buffer: &mut [u8],
     err: &mut Progress<'_, HostRuntime, E>,
-) -> Result<Volume, Status>
-    ensures { IfOk result (λ volume. AreInBounds volume) }
-{
+) -> Result<(Vec<&'a str>, Volume), Status> {
+    let mut tally = Tally::new();
+    let names = all_names(alloc, given, list, listed, Failing::Ends, &mut tally, err)?;
     let mut volume = empty_volume(alloc);
-    'files: for (done, name) in names.iter().enumerate() {
+    for (done, name) in names.iter().enumerate() {
         err.step("read", done, names.len());
         add_file(alloc, &mut volume, read_file(rt, name, buffer), err)?;
     }
     err.wipe();
-    Ok(volume)
-}
-
-// A file with its content as far as one byte past the limit, where it can be read.
-fn read_file<'a>(rt: &HostRuntime, name: &'a str, buffer: &'a mut [u8]) -> Input<'a> {
-    let unread = Input {
-        name,
-        content: None,
-    };
-    if !may_end(rt, name) {
-        return unread;
-    }
-    let Ok(file) = fs::open(rt, name) else {
-        return unread;
-    };
-    match read_into(&mut file.take(MAX_FILE as u64 + 1), buffer, TURNS) {
-        Ok(count) => Input {
-            name,
-            content: Some(&buffer[..count]),
-        },
-        Err(_) => unread,
-    }
-}
-
-// Whether a file is regular, or one that the program was handed open. Any other is not waited for: a FIFO or a terminal may
-// never end.
-fn may_end(rt: &HostRuntime, name: &str) -> bool {
-    if name == "/dev/stdin" || name.starts_with("/dev/fd/") {
-        return true;
-    }
-    match fs::metadata(rt, name) {
-        Ok(metadata) => metadata.is_file(),
-        Err(_) => false,
-    }
+    Ok((names, volume))
 }

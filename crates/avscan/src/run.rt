@@ -1,31 +1,49 @@
-ghost use Rattle.std.specs.Prelude.{◌≡◌, ◌≢◌, IfSome};
-ghost use Rattle.av_world.specs.Output.{Prints, PrintsFront};
+ghost use Rattle.std.specs.Prelude.{◌≡◌, ◌≢◌, IfSome, OnOk, OnErr};
 ghost use Rattle.av_status.specs.declared.status.Status.TheVariants.{Done, Usage};
-ghost use Rattle.avscan.specs.Run.{status_of};
+ghost use Rattle.avscan.specs.Run.{PrintsIn, PrintsInFront, status_of};
 
 use av_files::TURNS;
+use av_status::Form;
 use av_status::faults::{bad_script, device_failed, out_of_memory, script_too_long};
 use av_status::status::Status;
 use av_world::RunFault;
+use av_world::run_json::run_json;
 use av_world::run_script::run_script;
 use std::alloc::Global;
 use std::io::{Read, Write};
 
-/// Runs the script that a reader gives. The lines that it prints go to `out`; where it does not end well one line to `err`
-/// says why, as far as that can be written.
+/// Runs the script that a reader gives. The lines that it prints in this form go to `out`; where it does not end well one line
+/// to `err` says why, as far as that can be written.
 pub fn run_text<R: Read, W: Write, E: Write>(
+    form: Form,
     alloc: Global,
     reader: &mut R,
     out: &mut W,
     err: &mut E,
 ) -> Status
-    ensures done { result ≡ Done → IfSome (R.remaining reader.old) (Prints (W.contents out.old) (W.contents out.new)) }
-    ensures failed { result ≢ Done → IfSome (R.remaining reader.old) (PrintsFront (W.contents out.old) (W.contents out.new)) }
+    ensures done { result ≡ Done → IfSome (R.remaining reader.old) (PrintsIn form (W.contents out.old) (W.contents out.new)) }
+    ensures failed { result ≢ Done → IfSome (R.remaining reader.old) (PrintsInFront form (W.contents out.old) (W.contents out.new)) }
     ensures words { result ≢ Usage }
 {
-    match run_script(alloc, reader, out, TURNS) {
+    match run_in(form, alloc, reader, out) {
         Ok(()) => Status::Done,
         Err(fault) => failed(err, fault),
+    }
+}
+
+// Runs the script that a reader gives, in this form.
+fn run_in<R: Read, W: Write>(
+    form: Form,
+    alloc: Global,
+    reader: &mut R,
+    out: &mut W,
+) -> Result<(), RunFault>
+    ensures ok { OnOk result (IfSome (R.remaining reader.old) (PrintsIn form (W.contents out.old) (W.contents out.new))) }
+    ensures err { OnErr result (IfSome (R.remaining reader.old) (PrintsInFront form (W.contents out.old) (W.contents out.new))) }
+{
+    match form {
+        Form::Lines => run_script(alloc, reader, out, TURNS),
+        Form::Json => run_json(alloc, reader, out, TURNS),
     }
 }
 

@@ -2,18 +2,29 @@ use crate::run::run_text;
 use av_fakes::{FakeReader, FakeWriter, Fault};
 use av_files::Input;
 use av_host::{Crew, host_files};
-use av_status::Status;
+use av_status::{Form, Shown, Status, Wishes};
 use std::test::Fail;
 
 const SCRIPT: &[u8] = b"volume 1 closed\ncreate a\n";
 
 const LINES: &[u8] = b"boot 1\nstream 1 generation 1\n";
 
+const OBJECTS: &[u8] =
+    b"{\"line\":1,\"command\":\"volume 1 closed\",\"did\":[{\"is\":\"boot\",\"boot\":1}]}\n\
+    {\"line\":2,\"command\":\"create a\",\"did\":[{\"is\":\"stream\",\"stream\":1,\"generation\":1}]}\n";
+
 const SET: &[u8] = b"avsig 1\nversion 1\nx 5858\n";
 
 const CREW: Crew = Crew {
     openers: 2,
     workers: 2,
+};
+
+const PLAIN: Wishes = Wishes {
+    shown: Shown::All,
+    form: Form::Lines,
+    has_found_status: false,
+    has_summary: false,
 };
 
 // What a host with the files `a` and the other tells, with its status.
@@ -51,12 +62,24 @@ fn a_script_ends_with_its_status_and_one_line(rt: HostRuntime) -> Result<(), Fai
         let mut out = FakeWriter::new(rt.alloc()).in_pieces_of(1);
         let mut err = FakeWriter::new(rt.alloc()).in_pieces_of(1);
         assert_eq!(rt;
-            run_text(rt.alloc(), &mut reader, &mut out, &mut err),
+            run_text(Form::Lines, rt.alloc(), &mut reader, &mut out, &mut err),
             status
         );
         assert_eq!(rt; out.taken(), lines);
         assert_eq!(rt; err.taken(), line);
     }
+    Ok(())
+}
+
+#[test]
+fn a_script_is_told_as_json(rt: HostRuntime) -> Result<(), Fail> {
+    let mut reader = FakeReader::new(SCRIPT).in_pieces_of(1);
+    let mut out = FakeWriter::new(rt.alloc()).in_pieces_of(1);
+    let mut err = FakeWriter::new(rt.alloc());
+    let status = run_text(Form::Json, rt.alloc(), &mut reader, &mut out, &mut err);
+    assert_eq!(rt; status, Status::Done);
+    assert_eq!(rt; out.taken(), OBJECTS);
+    assert!(rt; err.taken().is_empty());
     Ok(())
 }
 
@@ -67,7 +90,7 @@ fn a_script_over_a_failing_device_is_told(rt: HostRuntime) -> Result<(), Fail> {
         let mut out = FakeWriter::new(rt.alloc());
         let mut err = FakeWriter::new(rt.alloc());
         assert_eq!(rt;
-            run_text(rt.alloc(), &mut reader, &mut out, &mut err),
+            run_text(Form::Lines, rt.alloc(), &mut reader, &mut out, &mut err),
             Status::Device
         );
         assert!(rt; out.taken().is_empty());
@@ -78,7 +101,7 @@ fn a_script_over_a_failing_device_is_told(rt: HostRuntime) -> Result<(), Fail> {
             .with(Fault::Fails { write: place });
         let mut err = FakeWriter::new(rt.alloc());
         assert_eq!(rt;
-            run_text(rt.alloc(), &mut whole, &mut full, &mut err),
+            run_text(Form::Lines, rt.alloc(), &mut whole, &mut full, &mut err),
             Status::Device
         );
         assert_eq!(rt; err.taken(), b"avscan: device\n".as_slice());
@@ -119,6 +142,7 @@ fn a_host_tells_of_each_file_or_of_the_first_that_can_be_no_stream(
             set_file(),
             &files,
             CREW,
+            PLAIN,
             &mut out,
             &mut err,
         );
@@ -138,6 +162,7 @@ fn lines_of_a_host_that_can_not_be_written_are_told(rt: HostRuntime) -> Result<(
         set_file(),
         &files,
         CREW,
+        PLAIN,
         &mut out,
         &mut err,
     );

@@ -1,7 +1,6 @@
-use Rattle.av_filter.specs.Bounds.{AreInBounds}
 use Rattle.av_filter.specs.Fit.{Fits}
 use Rattle.av_sockets.proofs.filter.open_groups.Given as goal
 
 -- the filter fits the volume
 abbrev pub invariant-groups : goal.invariant-groups
-invariant-groups g l = Fits l.filter l.volume × AreInBounds l.volume
+invariant-groups g l = Fits l.filter l.volume

@@ -1,6 +1,0 @@
-use Rattle.av_filter.specs.Bounds.{AreInBounds}
-use Rattle.avscan.proofs.volume_of.Given as goal
-
--- the volume is in its bounds
-abbrev pub invariant-files : goal.invariant-files
-invariant-files g l = AreInBounds l.volume

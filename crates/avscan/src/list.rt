@@ -1,0 +1,58 @@
+use av_base::ReadFault;
+use av_base::device::read_whole;
+use av_files::{Failing, TURNS, with_listed};
+use av_status::faults::{out_of_memory, unreadable};
+use av_status::{Status, Tally};
+use av_words::List;
+use std::alloc::Global;
+use std::fs;
+use std::io::{Read, Write};
+
+/// The text of a list, where one is asked for.
+pub fn list_text<E: Write>(
+    rt: &HostRuntime,
+    alloc: Global,
+    list: Option<List<'_>>,
+    err: &mut E,
+) -> Result<Vec<u8>, Status> {
+    let Some(list) = list else {
+        return Ok(Vec::new(alloc));
+    };
+    if list.path == "-" {
+        return text_of(alloc, list.path, &mut rt.stdin(), err);
+    }
+    match fs::open(rt, list.path) {
+        Ok(mut file) => text_of(alloc, list.path, &mut file, err),
+        Err(_) => Err(unreadable(err, list.path)),
+    }
+}
+
+fn text_of<R: Read, E: Write>(
+    alloc: Global,
+    path: &str,
+    reader: &mut R,
+    err: &mut E,
+) -> Result<Vec<u8>, Status> {
+    match read_whole(alloc, reader, usize::MAX, TURNS) {
+        Ok(text) => Ok(text),
+        Err(ReadFault::NoMemory) => Err(out_of_memory(err)),
+        Err(_) => Err(unreadable(err, path)),
+    }
+}
+
+/// The names that were given, and behind them those of a list, where there is one.
+pub fn all_names<'a, 'b: 'a, E: Write>(
+    alloc: Global,
+    given: &[&'b str],
+    list: Option<List<'_>>,
+    text: &'a [u8],
+    failing: Failing,
+    tally: &mut Tally,
+    err: &mut E,
+) -> Result<Vec<&'a str>, Status> {
+    let (path, end) = match list {
+        Some(list) => (list.path, list.end),
+        None => ("", 0),
+    };
+    with_listed(alloc, given, path, text, end, failing, tally, err)
+}

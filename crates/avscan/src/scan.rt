@@ -1,0 +1,255 @@
+ghost use Rattle.std.specs.Prelude.{◌≡◌, ◌<◌, length};
+
+use crate::list::{all_names, list_text};
+use crate::reading::{open_file, read_file};
+use av_base::Verdict;
+use av_files::{
+    Failing, MAX_FILE, Met, Scanned, Scanner, Walk, line_failed, print_one, print_scanned,
+};
+use av_status::faults::{bad_entry, device_failed, out_of_memory, unreadable};
+use av_status::{Progress, Status, Tally, Wishes, conclude};
+use av_words::{Finding, List};
+use std::alloc::Global;
+use std::fs;
+use std::fs::File;
+use std::io::{IsTerminal, Write};
+
+/// What is scanned, and what is told of it.
+#[derive(Clone, Copy)]
+pub struct Scanning<'a> {
+    pub set: &'a str,
+    pub list: Option<List<'a>>,
+    pub finding: Finding,
+    pub wishes: Wishes,
+}
+
+/// Scans files by their names, as `scan_files` does by their contents. One buffer holds the pieces of each content in turn.
+pub fn scan_named<W: Write, E: Write>(
+    rt: &HostRuntime,
+    alloc: Global,
+    asked: Scanning<'_>,
+    names: &[&str],
+    out: &mut W,
+    err: &mut Progress<'_, HostRuntime, E>,
+) -> Status {
+    let Ok(mut buffer) = vec![in alloc; 0u8; MAX_FILE + 2] else {
+        return out_of_memory(err);
+    };
+    let scanner = match Scanner::read(alloc, read_file(rt, asked.set, &mut buffer), err) {
+        Ok(scanner) => scanner,
+        Err(status) => return status,
+    };
+    let listed = match list_text(rt, alloc, asked.list, err) {
+        Ok(listed) => listed,
+        Err(status) => return status,
+    };
+    let failing = if asked.finding.keeps_going {
+        Failing::Passes
+    } else {
+        Failing::Ends
+    };
+    let mut tally = Tally::new();
+    let names = match all_names(
+        alloc,
+        names,
+        asked.list,
+        listed.as_slice(),
+        failing,
+        &mut tally,
+        err,
+    ) {
+        Ok(names) => names,
+        Err(status) => return status,
+    };
+    let means = Means {
+        rt,
+        alloc,
+        scanner: &scanner,
+        finding: asked.finding,
+        wishes: asked.wishes,
+        is_live: rt.stdout().is_terminal(),
+    };
+    match failing {
+        Failing::Ends => scan_all(means, names.as_slice(), &mut buffer, out, err),
+        Failing::Passes => scan_on(means, names.as_slice(), &mut buffer, tally, out, err),
+    }
+}
+
+// By what files are scanned.
+#[derive(Clone, Copy)]
+struct Means<'a, 'b> {
+    rt: &'a HostRuntime,
+    alloc: Global,
+    scanner: &'b Scanner,
+    finding: Finding,
+    wishes: Wishes,
+    // Lines are looked at as they come.
+    is_live: bool,
+}
+
+// Scans each file before a line is written. The first fault ends it.
+fn scan_all<W: Write, E: Write>(
+    means: Means<'_, '_>,
+    names: &[&str],
+    buffer: &mut [u8],
+    out: &mut W,
+    err: &mut Progress<'_, HostRuntime, E>,
+) -> Status
+    requires { 0 < length buffer.old }
+{
+    let Ok(mut scanned) = Vec::with_capacity(means.alloc, names.len()) else {
+        return out_of_memory(err);
+    };
+    'files: for (done, name) in names.iter().enumerate() {
+        err.step("scanned", done, names.len());
+        match judged(means, name, open_file(means.rt, name), buffer, err) {
+            Ok(verdict) => {
+                if scanned.push(Scanned { name, verdict }).is_err() {
+                    return out_of_memory(err);
+                }
+            }
+            Err(status) => return status,
+        }
+    }
+    err.wipe();
+    print_scanned(
+        means.alloc,
+        means.scanner,
+        scanned.as_slice(),
+        means.wishes,
+        out,
+        err,
+    )
+}
+
+// Scans files one after the other and writes their lines as they come. What can't be scanned is told and passed over.
+fn scan_on<W: Write, E: Write>(
+    means: Means<'_, '_>,
+    names: &[&str],
+    buffer: &mut [u8],
+    mut tally: Tally,
+    out: &mut W,
+    err: &mut Progress<'_, HostRuntime, E>,
+) -> Status
+    requires { 0 < length buffer.old }
+{
+    let mut room = Vec::new(means.alloc);
+    'files: for name in names {
+        let done = if means.finding.is_recursive && is_folder(means.rt, name) {
+            scan_folder(means, name, buffer, &mut tally, &mut room, out, err)
+        } else {
+            let file = open_file(means.rt, name);
+            scan_one(means, name, file, buffer, &mut tally, &mut room, out, err)
+        };
+        if let Err(status) = done {
+            return tally.worst.or_graver(status);
+        }
+    }
+    err.wipe();
+    if out.flush().is_err() {
+        return tally.worst.or_graver(device_failed(err));
+    }
+    conclude(err, tally, means.wishes)
+}
+
+// Scans the regular files in a folder and below it.
+fn scan_folder<W: Write, E: Write>(
+    means: Means<'_, '_>,
+    folder: &str,
+    buffer: &mut [u8],
+    tally: &mut Tally,
+    room: &mut Vec<u8>,
+    out: &mut W,
+    err: &mut Progress<'_, HostRuntime, E>,
+) -> Result<(), Status>
+    requires { 0 < length buffer.old }
+    ensures { length buffer.new ≡ length buffer.old }
+{
+    let Ok(mut walk) = Walk::new(means.rt, means.alloc, folder) else {
+        return Err(out_of_memory(err));
+    };
+    'entries: for _ in 0..u64::MAX {
+        match walk.next() {
+            Ok(Some(Met::File(path))) => {
+                let path = path.as_str();
+                let file = fs::open(means.rt, path).ok();
+                scan_one(means, path, file, buffer, tally, room, out, err)?;
+            }
+            Ok(Some(Met::Unreadable(path))) => tally.add_missed(unreadable(err, path.as_str())),
+            Ok(Some(Met::NotText(path))) => tally.add_missed(bad_entry(err, path.as_slice())),
+            Ok(None) => return Ok(()),
+            Err(_) => return Err(out_of_memory(err)),
+        }
+    }
+    Ok(())
+}
+
+// Scans a file and writes its line. An error ends the run.
+fn scan_one<W: Write, E: Write>(
+    means: Means<'_, '_>,
+    name: &str,
+    file: Option<File>,
+    buffer: &mut [u8],
+    tally: &mut Tally,
+    room: &mut Vec<u8>,
+    out: &mut W,
+    err: &mut Progress<'_, HostRuntime, E>,
+) -> Result<(), Status>
+    requires { 0 < length buffer.old }
+    ensures { length buffer.new ≡ length buffer.old }
+{
+    err.step_on("scanned", tally.scanned);
+    let verdict = match judged(means, name, file, buffer, err) {
+        Ok(verdict) => verdict,
+        Err(status) => {
+            tally.add_missed(status);
+            return Ok(());
+        }
+    };
+    let scanned = Scanned { name, verdict };
+    let printed = print_one(
+        means.alloc,
+        means.scanner,
+        scanned,
+        means.wishes,
+        tally,
+        room,
+        out,
+    );
+    if let Err(fault) = printed {
+        return Err(line_failed(err, fault));
+    }
+    if means.is_live && out.flush().is_err() {
+        return Err(device_failed(err));
+    }
+    Ok(())
+}
+
+// The verdict of a file, where it could be opened. Where there is none, one line to `err` says why.
+fn judged<E: Write>(
+    means: Means<'_, '_>,
+    name: &str,
+    file: Option<File>,
+    buffer: &mut [u8],
+    err: &mut E,
+) -> Result<Verdict, Status>
+    requires { 0 < length buffer.old }
+    ensures { length buffer.new ≡ length buffer.old }
+{
+    match file {
+        Some(mut file) => {
+            let max_size = means.finding.max_size;
+            means
+                .scanner
+                .scan_pieces(name, &mut file, buffer, max_size, err)
+        }
+        None => Err(unreadable(err, name)),
+    }
+}
+
+fn is_folder(rt: &HostRuntime, name: &str) -> bool {
+    match fs::metadata(rt, name) {
+        Ok(metadata) => metadata.is_dir(),
+        Err(_) => false,
+    }
+}
