@@ -53,17 +53,23 @@ step rt-ci sh -c 'cd "$1" && rt ci' - "$room" 2>&1
 program=$room/crates/avscan/out/avscan
 [ -x "$program" ] || { echo "gate: rt ci built no program"; echo "$passed passed, $((failed + 1)) failed"; exit 1; }
 echo "gate: the cases of tests/ on the built program"
-step cases python3 tests/run.py "$program" tests/scripts tests/words tests/scan
+step cases python3 tests/run.py "$program" tests/scripts tests/conduct tests/words tests/scan
+echo "gate: a case for each row of the conduct"
+step rows python3 tests/rows.py
 echo "gate: the tables of cases"
 step tables python3 tests/tables.py "$program"
 echo "gate: scripts of a world, step by step"
 step steps python3 tests/steps.py "$program"
 echo "gate: random scripts beside the plain model"
 step random-scripts python3 tests/random_scripts.py "$program"
+echo "gate: objects that go back to lines"
+step objects python3 tests/objects.py "$program"
 echo "gate: random scripts that are finished from where they stop"
 step progress python3 tests/progress.py "$program"
 echo "gate: the program over devices that fail, without memory, and in the order of its faults"
 step program python3 tests/program.py "$program"
+echo "gate: folders, lists and large files"
+step files python3 tests/files.py "$program"
 echo "gate: filter and service as processes, and a host"
 step sockets python3 tests/sockets.py "$program"
 echo "gate: what is installed, and where"

@@ -24,8 +24,8 @@ def run(words, given=b"", **options):
 
 def devices(cases, program):
     short = b"volume 1 closed\n"
-    jobs = [("one line", [program, "run", "-"], short), ("3,000 lines", [program, "run", "-"], LONG),
-            ("a file scanned", [program, "scan", SET, LETTER], b""), ("3,000 files scanned", [program, "scan", SET] + [LETTER] * 3000, b""),
+    jobs = [("one line", [program, "run", "-"], short), ("3,000 lines", [program, "run", "-"], LONG), ("3,000 objects", [program, "run", "--json", "-"], LONG),
+            ("a file scanned", [program, "scan", SET, LETTER], b""), ("3,000 files as JSON", [program, "scan", "--json", SET] + [LETTER] * 3000, b""), ("3,000 files scanned", [program, "scan", SET] + [LETTER] * 3000, b""),
             ("a help text", [program, "--help"], b"")]
     for name, words, given in jobs:
         with open("/dev/full", "wb") as full:
@@ -46,7 +46,7 @@ def devices(cases, program):
 def memory(cases, program):
     with tempfile.TemporaryDirectory() as work:
         library = built(work, "fail_nth")
-        for words in (["run", SCRIPT], ["scan", SET, LETTER], ["--help"]):
+        for words in (["run", SCRIPT], ["run", "--json", SCRIPT], ["scan", SET, LETTER], ["scan", "--json", "-k", SET, LETTER], ["--help"]):
             whole = run([program] + words, stdout=subprocess.PIPE).stdout
             refused, in_a_row, number = 0, 0, 0
             while in_a_row < 20:
@@ -124,9 +124,9 @@ def order(cases, program):
 
 
 def helps(cases, program):
-    texts = [(["--help"], [b"avscan run examples/late_reply.avs", b"avscan scan examples/test.avsig", b"Exit status: 0 all done, 1 input refused, 2 usage, 3 memory, 4 device."]),
+    texts = [(["--help"], [b"avscan run examples/late_reply.avs", b"avscan scan examples/test.avsig", b"Exit status: 0 all done, 1 input refused, 2 usage, 3 memory, 4 device, 5 something is infected (with --found-status)."]),
              (["run", "--help"], [b"SCRIPT", b"volume 1 closed", b"open NAME [LEAST]", b"restart filter|service", b"docs/FORMATS.md"]),
-             (["scan", "--help"], [b"SET", b"FILE", b"avsig 1", b"1,048,576 bytes", b"docs/FORMATS.md"])]
+             (["scan", "--help"], [b"SET", b"FILE", b"avsig 1", b"1,048,576 bytes", b"docs/FORMATS.md", b"--recursive", b"--files-from <LIST>", b"--max-size <BYTES>"])]
     for words, wanted in texts:
         done = run([program] + words, stdout=subprocess.PIPE)
         for text in wanted:
@@ -194,6 +194,9 @@ def progress(cases, program):
             told = b"avscan: %s: cannot read\r\n" % os.fsencode(gone)
             fine = (status, out) == (4, b"") and shown.endswith(told) and re.fullmatch(lines_of(words[1] == "scan" and b"scanned" or b"read", b"123"), shown[: -len(told)])
             cases.check(f"{command} on a terminal, with a file that is not there", fine, f"{status} {out!r} {shown!r}")
+        status, out, shown = on_terminal([program, "scan", "-k", SET, *files], environment)
+        fine = status == 0 and out.count(b"\n") == 4 and re.fullmatch(rb"(\rscanned [123] files\x1b\[K)+\r\x1b\[K", shown)
+        cases.check("scan -k on a terminal", fine, f"{status} {out!r} {shown!r}")
         progress_of_filter(cases, program, work, files, environment)
         ends_at_once(cases, program)
 

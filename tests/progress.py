@@ -9,7 +9,9 @@ import os, random, subprocess, sys
 import plain_world, random_scripts
 
 SECONDS = 60
-SCRIPTS = 2000
+SCRIPTS = 2800
+STEPS = 150
+BEGUN = "publish 1 424142", "create a", "write a 0 414141", "create b", "connect", "up 1"
 ENOUGH = 500
 MARK, MARKED = "create " + "x" * 256, "refused BadName"
 CARRYING = ("down ", "up ", "work ", "connect", "disconnect service")
@@ -138,7 +140,7 @@ def check_list(watch, steps):
 def check(program, number):
     """Whether an open waited that could be answered, where all is as it must be."""
     chance = random.Random(SCRIPTS + number)
-    first, commands, world = random_scripts.played(number, chance.randrange(random_scripts.STEPS))
+    first, commands, world = random_scripts.played(number, chance.randrange(STEPS), begun=BEGUN)
     can = world.floor <= world.sets[-1][0]
     appended = foretold(commands, world) if can else []
     before = len(commands)

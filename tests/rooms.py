@@ -141,7 +141,7 @@ class Job:
 
 def in_lanes(tasks, begin, ended_with, count, until=float("inf")):
     """Begins tasks side by side, each once those it waits for have ended well, first those with the most behind them, and none once
-    the clock (seconds since 1970) is past `until`.
+    the clock (seconds since 1970) is past `until`. What the most waits for has half of the processors, though others are at work.
 
     `tasks` has for each key its size and what it waits for, later ones behind; `begin(key, jobs, ended)` begins one and gives its
     Job; `ended_with(key, job)` says whether it ended well. `count` is how many processors there are. Gives the keys that were not begun.
@@ -158,8 +158,10 @@ def in_lanes(tasks, begin, ended_with, count, until=float("inf")):
             room = free() // MEBIBYTES - young
             if running and (idle <= 0 or room <= 0):
                 break
+            is_longest = first[key] >= max(first[it] for it in (*left, *running))
+            fair = max(idle // (len(ready) - at), count // 2 if is_longest else 1)
             left.remove(key)
-            running[key] = begin(key, max(1, min(idle // (len(ready) - at), room, 4)), ended)
+            running[key] = begin(key, max(1, min(fair, room, 4)), ended)
         with ended:
             ended.wait_for(lambda: any(job.is_over for job in running.values()), timeout=20)
         for key in [it for it, job in running.items() if job.is_over]:

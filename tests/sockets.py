@@ -69,6 +69,7 @@ def connected(path):
 
 
 ANSWERED = b"a.bin granted generation 2 version 1\nb.bin denied cause 2\n"
+ANSWERED_JSON = b'{"file":"a.bin","answer":"granted","generation":2,"version":1}\n{"file":"b.bin","answer":"denied","cause":2,"why":"infected"}\n'
 LOST = b"a.bin denied cause 6\nb.bin denied cause 6\n"
 ALONE = b"a.bin denied cause 3\nb.bin denied cause 3\n"
 
@@ -87,6 +88,10 @@ def meetings(cases, programs):
         cases.same(f"filter and service, the {first} first: filter", ended(filter), (0, ANSWERED, b""))
         cases.same(f"filter and service, the {first} first: service", ended(service), (0, b"closed\n", b""))
         cases.check(f"the {first} first: no file is left", not os.path.exists(programs.socket))
+    filter, service = programs.filter(mode=("--json",)), programs.service()
+    cases.same("filter --json", ended(filter), (0, ANSWERED_JSON, b""))
+    cases.same("filter --json: service", ended(service), (0, b"closed\n", b""))
+    cases.same("host --json", ended(programs.start("host", "--json", "set.txt", "a.bin", "b.bin")), (0, ANSWERED_JSON, b""))
     large = [f"large{i}" for i in range(40)]
     for i, name in enumerate(large):
         programs.write(name, b"A" * (1 << 20 if i == 0 else 70000) + (INFECTED if i % 3 == 0 and i else b""))

@@ -1,0 +1,355 @@
+#!/usr/bin/env python3
+"""The built program over files as people have them: folders and links, lists of names, large files, and files that change.
+
+tests/files/expected.txt has commands over a tree that is made here, with what each prints. The rest are rules: the order of names'
+bytes, what is passed over and what is told, lists with either end, a content that comes in pieces with a signature over each cut,
+trees that change while they are walked, many files in little memory, and the statuses. The last line says how many passed and
+how many failed."""
+import os, shutil, socket, subprocess, sys, tempfile, threading, time
+
+from cases import Cases
+
+SECONDS = 60
+HERE = os.path.dirname(os.path.abspath(__file__))
+DATA = os.path.join(HERE, "files")
+EICAR = rb"X5O!P%@AP[4\PZX54(P^)7CC)7}$EICAR-STANDARD-ANTIVIRUS-TEST-FILE!$"
+PIECE = 1048576 + 2
+
+
+def run(words, given=b"", **options):
+    done = subprocess.run(words, input=given, stdout=subprocess.PIPE, stderr=subprocess.PIPE, timeout=SECONDS, **options)
+    return done.returncode, done.stdout, done.stderr
+
+
+def write(path, content):
+    with open(path, "wb") as file:
+        file.write(content)
+    return path
+
+
+def built(work, name):
+    library = os.path.join(work, f"{name}.so")
+    subprocess.run(["cc", "-shared", "-fPIC", "-O1", "-o", library, os.path.join(HERE, f"{name}.c"), "-ldl"], check=True)
+    return library
+
+
+def grow(work):
+    """The tree of expected.txt, with a link and a FIFO, and the signature file beside it."""
+    tree = os.path.join(work, "tree")
+    for folder in ("Z", "b/c"):
+        os.makedirs(os.path.join(tree, folder))
+    shutil.copy(os.path.join(DATA, "set.avsig"), work)
+    write(os.path.join(tree, "Z/zz"), EICAR + b"H+H*\n")
+    write(os.path.join(tree, "b/eicar"), EICAR + b"H+H*\n")
+    write(os.path.join(tree, "b/c/with space"), b"a letter\n")
+    write(os.path.join(tree, "b.txt"), b"a letter that nothing is in\n")
+    write(os.path.join(tree, "large"), b"a" * 1500000 + EICAR + b"H+H*\n")
+    os.symlink("b/eicar", os.path.join(tree, "link"))
+    os.mkfifo(os.path.join(tree, "pipe"))
+    return tree
+
+
+def tables(cases, program):
+    with tempfile.TemporaryDirectory() as work:
+        grow(work)
+        with open(os.path.join(DATA, "expected.txt"), "rb") as file:
+            blocks = file.read().split(b"$ avscan ")[1:]
+        for block in blocks:
+            command, *lines = block.splitlines()
+            status = [int(line[7:]) for line in lines if line.startswith(b"status ")]
+            told = [line for line in lines if line.startswith(b"avscan: ")]
+            out = [line for line in lines if line not in told and not line.startswith(b"status ")]
+            wanted = (sum(status), b"".join(line + b"\n" for line in out), b"".join(line + b"\n" for line in told))
+            got = run([program, *command.decode().split()], cwd=work)
+            cases.check(f"avscan {command.decode()}", got == wanted, f"{got}")
+
+
+def links(cases, program):
+    """Links of every kind stand in a tree, loops among them: each file has one line. A FOLDER that is named may be a link."""
+    with tempfile.TemporaryDirectory() as work:
+        signatures = os.path.join(DATA, "set.avsig")
+        tree, far = os.path.join(work, "tree"), os.path.join(work, "far")
+        os.makedirs(os.path.join(tree, "in/deep"))
+        os.mkdir(far)
+        write(os.path.join(far, "other"), EICAR)
+        write(os.path.join(tree, "in/deep/file"), b"abc")
+        for target, name in ((".", "loop"), ("..", "in/up"), ("../..", "in/deep/top"), (far, "far"), (os.path.join(far, "other"), "other"), ("nowhere", "gone"), ("self", "self")):
+            os.symlink(target, os.path.join(tree, name))
+        os.mkfifo(os.path.join(tree, "pipe"))
+        socket.socket(socket.AF_UNIX).bind(os.path.join(tree, "socket"))
+        wanted = (0, os.fsencode(tree) + b"/in/deep/file clean\n", b"avscan: 1 files scanned, 0 infected, 0 not scanned\n")
+        got = run([program, "scan", "-r", "--summary", signatures, tree])
+        cases.check("no link is followed", got == wanted, f"{got}")
+        alias = os.path.join(work, "alias")
+        os.symlink(tree, alias)
+        got = run([program, "scan", "-r", signatures, alias, os.path.join(tree, "other")])
+        lines = f"{alias}/in/deep/file clean\n{tree}/other infected 0 eicar.test end 64\n".encode()
+        cases.check("a link that is named is followed", got == (0, lines, b""), f"{got}")
+        pipe = os.path.join(tree, "pipe")
+        got = run([program, "scan", "-k", signatures, pipe, os.path.join(tree, "in/deep/file")])
+        cases.check("a FIFO that is named is told", got == (4, wanted[1], f"avscan: {pipe}: cannot read\n".encode()), f"{got}")
+        got = run([program, "scan", signatures, tree])
+        cases.check("a folder without -r", got == (4, b"", f"avscan: {tree}: cannot read\n".encode()), f"{got}")
+
+
+def names(cases, program):
+    """A name of each byte that a name may have: in their order, and those that are no text told."""
+    with tempfile.TemporaryDirectory() as work:
+        signatures = os.path.join(DATA, "set.avsig")
+        root = os.fsencode(os.path.join(work, "tree"))
+        os.mkdir(root)
+        kinds = [bytes([byte]) for byte in range(1, 256) if byte not in b"/."] + ["\u00e9".encode(), "\u20ac".encode(), b"a b", b"a\nb", b".hidden", b"...", b"\xc3(", b"ab", b"a" * 255]
+        for name in kinds:
+            write(os.path.join(root, name), b"abc")
+        lines, told = [], []
+        for name in sorted(kinds):
+            try:
+                name.decode()
+                lines.append(root + b"/" + name + b" clean\n")
+            except UnicodeDecodeError:
+                shown = b"".join(bytes([b]) if 32 <= b < 127 else b"\\x%02x" % b for b in name)
+                told.append(b"avscan: " + root + b"/" + shown + b": the name is not UTF-8\n")
+        got = run([program, "scan", "-r", signatures, root])
+        cases.check("names of every byte", got == (1, b"".join(lines), b"".join(told)), f"{got}")
+        got = run([program, "scan", "-r", signatures, root + b"//"])
+        cases.check("a folder that ends in slashes", got[0] == 1 and got[1] == b"".join(lines).replace(root + b"/", root + b"//"), f"{got}")
+        folders = os.path.join(work, "folders")
+        for name in ("a", "a.b", "a-", "a0", "B", "\u00e9"):
+            os.makedirs(os.path.join(folders, name))
+            write(os.path.join(folders, name, "x"), b"abc")
+        wanted = b"".join(f"{folders}/{name}/x clean\n".encode() for name in ("B", "a", "a-", "a.b", "a0", "\u00e9"))
+        got = run([program, "scan", "-r", signatures, folders])
+        cases.check("a folder stands where its name does", got == (0, wanted, b""), f"{got}")
+
+
+def lists(cases, program):
+    with tempfile.TemporaryDirectory() as work:
+        signatures = os.path.join(DATA, "set.avsig")
+        a, b, n = (write(os.path.join(work, name), b"abc") for name in ("a", "b", "n\nn"))
+        path = os.path.join(work, "list")
+        clean = lambda *names: b"".join(os.fsencode(name) + b" clean\n" for name in names)
+        lines, zeros = ["--files-from", path], ["-0", "--files-from", path]
+        rows = [("lines", lines, f"{a}\n{b}\n", clean(a, b)), ("the last lacks its end", lines, f"{a}\n{b}", clean(a, b)), ("empty ones are none", lines, f"\n\n{a}\n\n{b}\n\n", clean(a, b)),
+                ("an empty list", lines, "", b""), ("a list of ends", lines, "\n\n", b""), ("zeros", zeros, f"{a}\0{n}\0\0{b}", clean(a, n, b)), ("zeros and their end", zeros, f"{n}\0", clean(n)), ("the same twice", lines, f"{a}\n{a}\n", clean(a, a))]
+        for name, words, text, out in rows:
+            write(path, text.encode())
+            got = run([program, "scan", signatures, *words])
+            cases.check(f"a list: {name}", got == (0, out, b""), f"{got}")
+            got = run([program, "scan", signatures, *words[:-1], "-"], text.encode())
+            cases.check(f"a list on standard input: {name}", got == (0, out, b""), f"{got}")
+        write(path, f"{b}\n".encode())
+        got = run([program, "scan", *lines, signatures, n, a])
+        cases.check("a list stands behind the names that were given", got == (0, clean(n, a, b), b""), f"{got}")
+        got = run([program, "scan", "-r", *lines, signatures])
+        cases.check("a list with -r", got == (0, clean(b), b""), f"{got}")
+        write(path, f"{a}\n\ncaf".encode() + b"\xe9\n" + os.fsencode(b) + b"\n")
+        told = f"avscan: {path}: name 2 is not UTF-8\n".encode()
+        got = run([program, "scan", *lines, signatures, os.path.join(work, "missing")])
+        cases.check("a name that is no text ends it", got == (1, b"", told), f"{got}")
+        got = run([program, "scan", "-k", "--summary", *lines, signatures])
+        cases.check("a name that is no text is passed over with -k", got == (1, clean(a, b), told + b"avscan: 2 files scanned, 0 infected, 1 not scanned\n"), f"{got}")
+        got = run([program, "host", *lines, signatures])
+        cases.check("a name that is no text ends a host", got == (1, b"", told), f"{got}")
+        for missing in (os.path.join(work, "missing"), work):
+            told = b"avscan: " + os.fsencode(missing) + b": cannot read\n"
+            for words in (["scan", "-k", signatures], ["host", signatures], ["filter", path + ".s"]):
+                got = run([program, *words, "--files-from", missing, os.path.join(work, "gone")])
+                cases.check(f"{words[0]} with a list that can't be read", got == (4, b"", told), f"{got}")
+        bad = write(os.path.join(work, "bad"), b"avsig 3\n")
+        got = run([program, "scan", bad, "--files-from", os.path.join(work, "missing")])
+        cases.check("a bad set before a missing list", got == (1, b"", b"avscan: set line 1: kind 1\n"), f"{got}")
+        got = run([program, "scan", signatures])
+        cases.check("neither a file nor a list", got[0] == 2, f"{got}")
+
+
+def pieces(cases, program):
+    """A signature over each cut between two pieces, in a file and in a pipe that gives what it has."""
+    with tempfile.TemporaryDirectory() as work:
+        signatures, path = os.path.join(DATA, "set.avsig"), os.path.join(work, "large")
+        for cut in (PIECE, 2 * PIECE):
+            for before in (*range(-64, 2, 6), -63, -1, 0, 1):
+                write(path, b"a" * (cut + before) + EICAR + b"b" * 100000)
+                got = run([program, "scan", "--max-size", "4000000", signatures, path])
+                wanted = os.fsencode(path) + b" infected 0 eicar.test end %d\n" % (cut + before + 64)
+                cases.check(f"a signature {before} bytes from the cut at {cut}", got == (0, wanted, b""), f"{got}")
+        content = b"".join(b"a" * 65500 + EICAR[:63] for _ in range(30)) + EICAR
+        got = run([program, "scan", "--max-size", "4000000", signatures, "/dev/stdin"], content)
+        cases.check("a pipe in pieces", got == (0, b"/dev/stdin infected 0 eicar.test end %d\n" % len(content), b""), f"{got}")
+        for size, most, fits in ((1, 1, True), (2, 1, False), (1048576, 1048576, True), (1048577, 1048576, False), (1048577, 1048577, True), (3000000, 2999999, False), (3000000, 3000000, True), (0, 1, True), (3000000, 2**63 - 1, True)):
+            write(path, b"a" * size)
+            got = run([program, "scan", "--max-size", str(most), signatures, path])
+            wanted = (0, os.fsencode(path) + b" clean\n", b"") if fits else (1, b"", b"avscan: " + os.fsencode(path) + b": TooLarge\n")
+            cases.check(f"{size} bytes of {most}", got == wanted, f"{got}")
+        for most in ("0", "-1", "9223372036854775808", "1M", ""):
+            got = run([program, "scan", f"--max-size={most}", signatures, path])
+            cases.check(f"--max-size={most}", got[:2] == (2, b""), f"{got}")
+        large = write(path, b"a" * 40000000)
+        done = run(["sh", "-c", 'ulimit -v 65536; "$@"', "sh", program, "scan", "--max-size", "50000000", signatures, large])
+        cases.check("40 MB in 64 MiB of memory", done == (0, os.fsencode(path) + b" clean\n", b""), f"{done}")
+
+
+def changes(cases, program):
+    """A folder that goes while the one before it is scanned, and a file that grows or shrinks while it is read."""
+    with tempfile.TemporaryDirectory() as work:
+        signatures = os.path.join(DATA, "set.avsig")
+        tree = os.path.join(work, "tree")
+        for name in ("a", "b/c"):
+            os.makedirs(os.path.join(tree, name))
+        for name in ("a/slow", "b/c/file", "c", "d"):
+            write(os.path.join(tree, name), b"abc")
+        environment = dict(os.environ, LD_PRELOAD=built(work, "slow_open"), SLOW_NAME="/slow", SLOW_MS="700")
+        process = subprocess.Popen([program, "scan", "-r", "--summary", signatures, tree], stdout=subprocess.PIPE, stderr=subprocess.PIPE, env=environment)
+        time.sleep(0.3)
+        shutil.rmtree(os.path.join(tree, "b"))
+        os.remove(os.path.join(tree, "c"))
+        out, err = process.communicate(timeout=SECONDS)
+        told = f"avscan: {tree}/b: cannot read\navscan: {tree}/c: cannot read\navscan: 2 files scanned, 0 infected, 2 not scanned\n".encode()
+        wanted = (4, f"{tree}/a/slow clean\n{tree}/d clean\n".encode(), told)
+        cases.check("what goes while the tree is walked", (process.returncode, out, err) == wanted, f"{process.returncode} {out} {err}")
+        path = write(os.path.join(work, "changing"), b"a" * 3000000)
+        over = threading.Event()
+
+        def change():
+            while not over.is_set():
+                with open(path, "ab") as file:
+                    for _ in range(20):
+                        file.write(b"a" * 100000)
+                os.truncate(path, 100)
+
+        writer = threading.Thread(target=change)
+        writer.start()
+        lines = (os.fsencode(path) + b" clean\n", b"avscan: " + os.fsencode(path) + b": TooLarge\n")
+        for _ in range(30):
+            status, out, err = run([program, "scan", "--max-size", "1500000", signatures, path])
+            fine = (status, out, err) in ((0, lines[0], b""), (1, b"", lines[1]))
+            cases.check("a file that grows and shrinks while it is read", fine, f"{status} {out} {err}")
+        over.set()
+        writer.join()
+
+
+def closed(cases, program):
+    """What a user may not read is told, and the rest is scanned."""
+    with tempfile.TemporaryDirectory() as work:
+        os.chmod(work, 0o755)
+        tree = os.path.join(work, "tree")
+        for name in ("locked", "z"):
+            os.makedirs(os.path.join(tree, name))
+        for name in ("locked/f", "secret", "z/f"):
+            write(os.path.join(tree, name), b"abc")
+        for name in ("locked", "secret"):
+            os.chmod(os.path.join(tree, name), 0)
+        words = [shutil.copy(program, work), "scan", "-r", "--summary", shutil.copy(os.path.join(DATA, "set.avsig"), work), tree]
+        nobody = ["setpriv", "--reuid=65534", "--regid=65534", "--clear-groups"] if os.geteuid() == 0 else []
+        got = run([*nobody, *words])
+        os.chmod(os.path.join(tree, "locked"), 0o755)
+        told = f"avscan: {tree}/locked: cannot read\navscan: {tree}/secret: cannot read\navscan: 1 files scanned, 0 infected, 2 not scanned\n".encode()
+        cases.check("what a user may not read", got == (4, f"{tree}/z/f clean\n".encode(), told), f"{got}")
+
+
+def many(cases, program):
+    """100,000 files in 1,001 folders, and folders 400 deep: in order, in 32 MiB of memory."""
+    with tempfile.TemporaryDirectory() as work:
+        signatures, tree = os.path.join(DATA, "set.avsig"), os.path.join(work, "tree")
+        for folder in range(1000):
+            os.makedirs(os.path.join(tree, "%03d" % folder))
+            for file in range(100):
+                os.close(os.open(os.path.join(tree, "%03d" % folder, "%02d" % file), os.O_CREAT | os.O_WRONLY))
+        words = [program, "scan", "-r", "--summary", signatures, tree]
+        status, out, err = run(["sh", "-c", 'ulimit -v 32768; "$@"', "sh", *words])
+        wanted = b"".join(f"{tree}/{folder:03}/{file:02} clean\n".encode() for folder in range(1000) for file in range(100))
+        fine = (status, out, err) == (0, wanted, b"avscan: 100000 files scanned, 0 infected, 0 not scanned\n")
+        cases.check("100,000 files", fine, f"{status} {len(out)} {err}")
+        deep = os.path.join(work, "deep")
+        place = deep
+        for _ in range(400):
+            os.mkdir(place)
+            place = os.path.join(place, "d")
+        write(os.path.join(os.path.dirname(place), "file"), EICAR)
+        got = run([program, "scan", "-r", "-i", signatures, deep])
+        cases.check("400 folders deep", got == (0, deep.encode() + b"/d" * 399 + b"/file infected 0 eicar.test end 64\n", b""), f"{got[0]} {got[2]}")
+
+
+def statuses(cases, program):
+    with tempfile.TemporaryDirectory() as work:
+        signatures = os.path.join(DATA, "set.avsig")
+        clean, infected, missing = write(os.path.join(work, "clean"), b"abc"), write(os.path.join(work, "infected"), EICAR), os.path.join(work, "missing")
+        large = write(os.path.join(work, "large"), bytes(1048577))
+        unread, too_large = f"avscan: {missing}: cannot read\n".encode(), f"avscan: {large}: TooLarge\n".encode()
+        summary = lambda *counts: b"avscan: %d files scanned, %d infected, %d not scanned\n" % counts
+        yes, no = f"{infected} infected 0 eicar.test end 64\n".encode(), f"{clean} clean\n".encode()
+        scan = [program, "scan", signatures]
+        rows = [(["--found-status", clean], (0, no, b"")), (["--found-status", clean, infected], (5, no + yes, b"")), ([clean, infected], (0, no + yes, b"")), (["-i", clean], (0, b"", b"")), (["-i", clean, infected, clean], (0, yes, b"")),
+                (["-i", "--found-status", "--summary", clean, infected], (5, yes, summary(2, 1, 0))), (["--found-status", infected, missing], (4, b"", unread)), (["--summary", infected, missing], (4, b"", unread)),
+                (["-k", "--found-status", "--summary", infected, missing, clean], (4, yes + no, unread + summary(2, 1, 1))), (["-k", "--found-status", infected, large], (1, yes, too_large)),
+                (["-k", "--summary", missing, large, infected], (4, yes, unread + too_large + summary(1, 1, 2))), (["-k", "--summary", large, missing], (4, b"", too_large + unread + summary(0, 0, 2))), (["--summary", clean, clean], (0, no + no, summary(2, 0, 0)))]
+        for words, wanted in rows:
+            got = run([*scan, *words])
+            cases.check(f"scan {words}", got == wanted, f"{got}")
+        granted, denied = f"{clean} granted generation 2 version 1\n".encode(), f"{infected} denied cause 2\n".encode()
+        rows = [([clean, infected], (0, granted + denied, b"")), (["-i", clean, infected], (0, denied, b"")), (["-i", clean], (0, b"", b"")), (["--found-status", clean, infected], (5, granted + denied, b"")), (["--found-status", clean], (0, granted, b"")),
+                (["-i", "--found-status", "--summary", clean, infected], (5, denied, summary(2, 1, 0))), (["--summary", clean, missing], (4, b"", unread)), (["--found-status", "--summary", clean], (0, granted, summary(1, 0, 0)))]
+        path = os.path.join(work, "socket")
+        for words, wanted in rows:
+            got = run([program, "host", signatures, *words])
+            cases.check(f"host {words}", got == wanted, f"{got}")
+            service = subprocess.Popen([program, "service", "--wait", "2", path, signatures], stdout=subprocess.PIPE, stderr=subprocess.PIPE)
+            got = run([program, "filter", path, *words])
+            service.communicate(timeout=SECONDS)
+            cases.check(f"filter {words}", got == wanted, f"{got}")
+        got = run([program, "filter", "--wait", "1", "-i", "--found-status", "--summary", path, clean, infected])
+        told = f"avscan: {path}: no service came\n".encode()
+        wanted = (4, f"{clean} denied cause 3\n{infected} denied cause 3\n".encode(), told + summary(0, 0, 2))
+        cases.check("a filter that no service came to", got == wanted, f"{got}")
+        listed = write(os.path.join(work, "list"), f"{infected}\n".encode())
+        got = run([program, "host", "--files-from", listed, signatures, clean])
+        cases.check("host with a list", got == (0, granted + denied, b""), f"{got}")
+        got = run([program, "host", "--files-from", "/dev/null", "--summary", signatures])
+        cases.check("host of no file", got == (0, b"", summary(0, 0, 0)), f"{got}")
+
+
+def devices(cases, program):
+    with tempfile.TemporaryDirectory() as work:
+        signatures, tree = os.path.join(DATA, "set.avsig"), os.path.join(work, "tree")
+        os.mkdir(tree)
+        for number in range(500):
+            write(os.path.join(tree, str(number)), b"abc")
+        for words in (["-r", tree], ["-r", "--summary", "--found-status", tree]):
+            with open("/dev/full", "wb") as full:
+                done = subprocess.run([program, "scan", *words[:-1], signatures, tree], stdout=full, stderr=subprocess.PIPE, timeout=SECONDS)
+            cases.check(f"{words} on a full device", (done.returncode, done.stderr) == (4, b"avscan: device\n"), f"{done}")
+        done = run(["sh", "-c", '"$@" >&-', "sh", program, "scan", "-r", signatures, tree])
+        cases.check("-r on a closed output", done == (4, b"", b"avscan: device\n"), f"{done}")
+        library = built(work, "fail_nth")
+        shutil.rmtree(tree)
+        os.makedirs(os.path.join(tree, "in"))
+        for name in ("a", "in/b", "in/c"):
+            write(os.path.join(tree, name), b"abc")
+        names = write(os.path.join(work, "list"), os.fsencode(tree) + b"\n")
+        words = [program, "scan", "-r", signatures, "--files-from", names]
+        whole, refused, in_a_row, number = run(words), 0, 0, 0
+        while in_a_row < 20:
+            number += 1
+            done = run(words, env=dict(os.environ, LD_PRELOAD=library, FAIL_NTH=str(number)))
+            told = done[0] == 3 and done[2] == b"avscan: no memory\n" and whole[1].startswith(done[1])
+            in_a_row = in_a_row + 1 if done == whole else 0
+            refused += told
+            if not told and done != whole:
+                cases.check("-r without memory", False, f"request {number} refused: {done}")
+                break
+        cases.check("-r without memory", refused > 0, "no request was refused")
+
+
+def main():
+    if len(sys.argv) != 2:
+        sys.exit("usage: tests/files.py PROGRAM")
+    cases = Cases()
+    for part in (tables, links, names, lists, pieces, changes, closed, many, statuses, devices):
+        try:
+            part(cases, os.path.abspath(sys.argv[1]))
+        except Exception as fault:
+            cases.check(part.__name__, False, f"{type(fault).__name__}: {fault}")
+    print(f"{cases.passed} passed, {cases.failed} failed")
+    sys.exit(1 if cases.failed else 0)
+
+
+main()

@@ -1,0 +1,154 @@
+#!/usr/bin/env python3
+"""Scripts and files as JSON by the built program: the objects must go back to the very lines that the plain model prints, or of files the program.
+
+Each line is read by Python's reader, which must find no key twice and write the same line again; then each object becomes the line that
+docs/FORMATS.md has for it. The scripts are random ones and those of tests/conduct; the names of files have all that JSON writes in its own way. The last line says how many passed and how many failed."""
+import json, os, re, subprocess, sys, tempfile
+import random_scripts
+from cases import Cases
+
+SECONDS = 60
+SCRIPTS = 100
+STEPS = 300
+CAUSES = {1: "no stream", 2: "infected", 3: "not connected", 4: "busy", 5: "timed out", 6: "service lost", 7: "scan failed", 8: "unsettled", 9: "removed", 10: "filter restarted"}
+FORMS = {
+    "boot": "boot {boot}", "set": "version {version} signatures {signatures}", "removed": "removed {stream}", "note": "note {note}",
+    "judge": "judge {stream} generation {generation} version {version} {verdict}",
+    "granted": "open {open} granted stream {stream} generation {generation} version {version} least {least}",
+    "unscanned": "open {open} unscanned stream {stream} generation {generation} cause {cause}",
+    "denied": "open {open} denied cause {cause}", "pended": "open {open} pended",
+    "work": "work {work} lent {boot}.{seq} offset {offset} length {length}",
+    "hello": "{way} hello volume {volume} version {version}", "updated": "{way} updated {version}",
+    "scan": "{way} scan {boot}.{seq} stream {stream} generation {generation} length {length}",
+    "chunk": "{way} chunk {boot}.{seq} offset {offset} bytes {bytes}", "nochunk": "{way} nochunk {boot}.{seq} offset {offset} cause {cause}",
+    "read": "{way} read {boot}.{seq} offset {offset} count {count}", "abort": "{way} abort {boot}.{seq}",
+}
+
+FILE_FORMS = {
+    "clean": "{file} clean", "infected": "{file} infected {index} {name} end {end}", "granted": "{file} granted generation {generation} version {version}",
+    "denied": "{file} denied cause {cause}",
+}
+FILE_KEYS = {
+    "clean": ["file", "verdict", "version"], "infected": ["file", "verdict", "version", "index", "name", "end"],
+    "granted": ["file", "answer", "generation", "version"], "denied": ["file", "answer", "cause", "why"],
+}
+VERSION = 7
+SET = b"avsig 1\nversion 7\nfirst 5959\ntwo.x 5858\n"
+NAMES = ["plain", "other", "a b", 'q"uote', "back\\slash", "tab\there", "bell\x07", "delete\x7f", "é", "日本", "🦊", '{"file":1}', "line\u2028"]
+
+
+def once(pairs):
+    members = dict(pairs)
+    if len(members) != len(pairs):
+        raise ValueError("a key stands twice")
+    return members
+
+
+def line_of(told):
+    """The line that an object tells."""
+    kind, fields = told["is"], dict(told)
+    fields["way"] = f"down {told['down']}" if "down" in told else f"up {told['up']}" if "up" in told else ""
+    if fields.get("verdict") == "infected":
+        fields["verdict"] = "infected {index} end {end}".format_map(told)
+    if "why" in told and CAUSES[told["cause"]] != told["why"]:
+        raise ValueError(f"{told['why']!r} is no cause {told['cause']}")
+    if kind == "stream":
+        return "stream {stream} generation {generation}".format_map(told) + (f" length {told['length']}" if "length" in told else "")
+    if kind == "reply":
+        how = f"failed {told['cause']}" if told["verdict"] == "failed" else "version {version} {verdict}".format_map(fields)
+        return "{way} reply {boot}.{seq} ".format_map(fields) + how
+    return FORMS[kind].format_map(fields)
+
+
+def read_back(line):
+    """What a line of JSON tells, where it is written as it is read."""
+    told = json.loads(line, object_pairs_hook=once)
+    if json.dumps(told, separators=(",", ":"), ensure_ascii=False) != line:
+        raise ValueError(f"{line} is not written as it is read")
+    return told
+
+
+def lines_back(text):
+    """The number and the text of each command, and the lines that its object tells."""
+    for line in text.decode().splitlines():
+        told = read_back(line)
+        yield told["line"], told["command"], [f"refused {told['refused']}"] if "refused" in told else [line_of(one) for one in told["did"]]
+
+
+def check(cases, program, name, script, lines):
+    done = subprocess.run([program, "run", "--json", "-"], input=script.encode(), stdout=subprocess.PIPE, stderr=subprocess.PIPE, timeout=SECONDS)
+    try:
+        back = list(lines_back(done.stdout))
+    except (ValueError, LookupError) as wrong:
+        cases.check(name, False, repr(wrong))
+        return
+    numbered = [(number, line) for number, line in enumerate(script.splitlines(), 1) if not re.match("#|limit |$", line)]
+    cases.same(name, (done.returncode, done.stderr, [line for *_, told in back for line in told]), (0, b"", lines))
+    cases.same(f"{name}: its commands", [(number, command) for number, command, _ in back], numbered)
+
+
+def file_line(line):
+    """The line of a file that its object tells, and the version in it."""
+    told = read_back(line)
+    kind = told.get("verdict") or told["answer"]
+    if list(told) != FILE_KEYS[kind]:
+        raise ValueError(f"{line} has other keys than {FILE_KEYS[kind]}")
+    if "why" in told and CAUSES[told["cause"]] != told["why"]:
+        raise ValueError(f"{told['why']!r} is no cause {told['cause']}")
+    return FILE_FORMS[kind].format_map(told), told.get("version", VERSION)
+
+
+def check_files(cases, program, work, command, *words):
+    """What a command writes as JSON goes back to what it writes in words, and its faults and status are the same."""
+    def run(*form):
+        done = subprocess.run([program, command, *form, *words], cwd=work, stdout=subprocess.PIPE, stderr=subprocess.PIPE, timeout=SECONDS)
+        return done.returncode, done.stderr, done.stdout.decode()
+
+    status, faults, lines = run()
+    got_status, got_faults, objects = run("--json")
+    name = f"{command} --json {' '.join(words)}"
+    try:
+        back = [file_line(line) for line in objects.split("\n")[:-1]]
+    except (ValueError, LookupError) as wrong:
+        cases.check(name, False, repr(wrong))
+        return
+    cases.same(name, (got_status, got_faults, "".join(f"{line}\n" for line, _ in back)), (status, faults, lines))
+    cases.check(f"{name}: the version", all(version == VERSION for _, version in back), objects)
+
+
+def files(cases, program):
+    """Files of all kinds of names, clean and infected ones."""
+    with tempfile.TemporaryDirectory() as work:
+        contents = [("set.avsig", SET)] + [(name, (b"ABC", b"AXX", b"YY", b"")[i % 4]) for i, name in enumerate(NAMES)]
+        for name, content in contents:
+            with open(os.path.join(work, name), "wb") as file:
+                file.write(content)
+        streams = [name for name in NAMES if all(32 < ord(letter) < 127 for letter in name)]
+        for words in ([], ["-i"], ["-i", "--found-status", "--summary"]):
+            check_files(cases, program, work, "scan", *words, "set.avsig", *NAMES)
+            check_files(cases, program, work, "scan", *words, "set.avsig", "nobody", *NAMES)
+            check_files(cases, program, work, "scan", "-k", *words, "set.avsig", "nobody", *NAMES)
+            check_files(cases, program, work, "scan", "-r", *words, "set.avsig", ".")
+            check_files(cases, program, work, "host", *words, "set.avsig", *streams)
+            check_files(cases, program, work, "filter", *words, "--wait", "1", "s", *streams)
+
+
+def main():
+    if len(sys.argv) != 2:
+        sys.exit("usage: tests/objects.py PROGRAM")
+    program, cases = os.path.abspath(sys.argv[1]), Cases()
+    for number in range(SCRIPTS):
+        first, commands, world = random_scripts.played(number, STEPS)
+        check(cases, program, f"script {number}", "".join(line + "\n" for line in first + [line for line, _ in commands]), world.lines)
+    folder = os.path.join(os.path.dirname(os.path.abspath(__file__)), "conduct")
+    for file in sorted(os.listdir(folder)):
+        with open(os.path.join(folder, file)) as text:
+            script, _, out = text.read().partition("--- out\n")
+        check(cases, program, file, script, out.splitlines())
+    files(cases, program)
+    print(f"{cases.passed} passed, {cases.failed} failed")
+    sys.exit(1 if cases.failed else 0)
+
+
+if __name__ == "__main__":
+    main()
