@@ -9,7 +9,7 @@ SHARE = $(DESTDIR)$(PREFIX)/share
 
 build: kit
 	@echo "building: proving each crate and compiling avscan (some minutes on the first run)"
-	@python3 tests/prove.py avscan || { echo "make: avscan was not built: the lines above say why" >&2; exit 1; }
+	@python3 tests/build.py || { echo "make: avscan was not built: the lines above say why" >&2; exit 1; }
 	@echo "built: $(PROGRAM)"
 
 run: build

@@ -17,12 +17,16 @@ times=$(pwd)/out/gate-times
 passed=0
 failed=0
 part=$begun
-# what was done, whose time is noted
+used_before=0
+# what was done, whose time is noted, with the processor seconds of the commands that have ended since
 done_with() {
     now=$(date +%s)
-    echo "part $1 0 $((now - part)) 0 0" >> "$times"
-    echo "gate: $1 took $((now - part)) s; $((now - begun)) s since the start"
+    times > "$room/used"
+    used=$(awk 'NR == 2 { split($1, own, /[ms]/); split($2, kernel, /[ms]/); printf "%d", (own[1] + kernel[1]) * 60 + own[2] + kernel[2] }' "$room/used")
+    echo "part $1 0 $((now - part)) $((used - used_before)) 0" >> "$times"
+    echo "gate: $1 took $((now - part)) s, $((used - used_before)) of a processor; $((now - begun)) s since the start"
     part=$now
+    used_before=$used
 }
 # a name, and a command whose last line counts what passed and failed
 step() {
@@ -47,10 +51,9 @@ step() {
 echo "gate: the layout of the tests"
 step layout sh tests/layout.sh
 echo "gate: proving every crate from nothing (rt ci)"
-tar -c --exclude=must-fail --exclude=out HANDLES crates.txt crates tests | tar -x -C "$room"
-python3 tests/strip_tests.py "$room" > "$room/log"
-step rt-ci sh -c 'cd "$1" && rt ci' - "$room" 2>&1
-program=$room/crates/avscan/out/avscan
+mkdir "$room/whole"
+step rt-ci sh tests/whole.sh "$room/whole"
+program=$room/whole/crates/avscan/out/avscan
 [ -x "$program" ] || { echo "gate: rt ci built no program"; echo "$passed passed, $((failed + 1)) failed"; exit 1; }
 echo "gate: the cases of tests/ on the built program"
 step cases python3 tests/run.py "$program" tests/scripts tests/conduct tests/words tests/scan

@@ -35,8 +35,8 @@ def number(value):
 
 def tables(found):
     """Two tables: the parts of the gate, and the crates."""
-    rows = ["| Part | Seconds |", "|---|---|"]
-    rows += [f"| {name} | {number(it[1])} |" for (kind, name), it in found.items() if kind == "part"]
+    rows = ["| Part | Seconds | of a processor |", "|---|---|---|"]
+    rows += [f"| {name} | {number(it[1])} | {number(it[2])} |" for (kind, name), it in found.items() if kind == "part"]
     rows += ["", "| Crate | Proof | MiB | Tests run | of these built | Edits | of them tried |", "|---|---|---|---|---|---|---|"]
     kinds = ("proof", "tests-run", "tests-built", "edits")
     sums = dict.fromkeys(kinds, 0)
