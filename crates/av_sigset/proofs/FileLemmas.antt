@@ -11,14 +11,14 @@ use Rattle.hex.specs.declared.error.FromHexError.{FromHexError}
 use Rattle.hex.proofs.HexLemmas.{decode_of-ok}
 use Rattle.av_base.specs.Decimal.{decimal_of, digits_of, is_digit, value_from}
 use Rattle.av_base.specs.Line.{pieces_of}
-use Rattle.av_sigset.specs.File.{IsLineOf, IsSpanOf, SpellsSpan, AreLinesOf, AreDistinct, names_of, MayStand, IsFileOf, JudgesFiles}
+use Rattle.av_sigset.specs.File.{IsLineOf, AreLinesOf, AreDistinct, names_of, MayStand, IsFileOf, JudgesFiles}
 use Rattle.av_sigset.specs.Judge.{is_name, is_name_byte, span_between, span_in, signature_bound, signature_under, signature_in, signature_of, header_of, format_of, set_in, signatures_within, signatures_with, then_line, whole_at, signatures_below, signatures_from, above_zero, version_of, set_under, with_version, set_below, set_of_lines, set_of}
 use Rattle.av_sigset.specs.Set.{NumberedSet, HasRightLength, IsSpan, widest, patterns_of, byte_count}
 use Rattle.av_sigset.specs.declared.format.Format.{Format}
 use Rattle.av_sigset.specs.declared.format.Format.TheVariants.{One, Two}
 use Rattle.av_sigset.specs.declared.fault.SetFault.{SetFault}
 use Rattle.av_sigset.specs.declared.fault.SetFaultKind.{SetFaultKind}
-use Rattle.av_sigset.specs.declared.fault.SetFaultKind.TheVariants.{Header, Name, Hex, Length, Range, Duplicate, TooMany}
+use Rattle.av_sigset.specs.declared.fault.SetFaultKind.TheVariants.{Name, Length, Duplicate, TooMany}
 use Rattle.av_sigset.specs.declared.signature.Pattern.{Pattern}
 use Rattle.av_sigset.specs.declared.signature.Signature.{Signature}
 use Rattle.av_sigset.specs.declared.signature.Span.{Span}
@@ -69,7 +69,7 @@ record AreNumbers (words : List (List ℕ)) (span : Span) : Type 0 where
 abbrev AreSpanWords : Format → List (List ℕ) → Span → Type 0
 AreSpanWords format words span = ((words ≡ []) × (span ≡ widest)) ⊎ ((format ≡ Two) × AreNumbers words span)
 
-widest_span : IsSpan widest
+pub widest_span : IsSpan widest
 widest_span = (omega arith, omega arith)
 
 numbers_between : (first last : List ℕ) (a b : Option ℕ) (span : Span) → decimal_of first ≡ a → decimal_of last ≡ b → span_between a b ≡ Some span → AreNumbers (first ∷ last ∷ []) span × IsSpan span
@@ -162,7 +162,7 @@ signature_spelt format name digits bytes words span good is few many named bound
 
 -- ---- a signature behind others
 
-record IsJoined (before : List Signature) (s : Signature) : Type 0 where
+pub record IsJoined (before : List Signature) (s : Signature) : Type 0 where
   pub new : list_any (λ t. bytes_eq t.name s.name) before ≡ false
   pub few : length before < 1024
   pub short : byte_count (patterns_of before) + length s.pattern.bytes ≤ 16384
@@ -225,7 +225,7 @@ names_push before s = map-append (λ (t : Signature). t.name) before (s ∷ [])
 patterns_push : (before : List Signature) (s : Signature) → patterns_of (before ++ s ∷ []) ≡ patterns_of before ++ s.pattern ∷ []
 patterns_push before s = map-append (λ (t : Signature). t.pattern) before (s ∷ [])
 
-stand_push : (before : List Signature) (s : Signature) → MayStand before → IsTrue (is_name s.name) → HasRightLength s.pattern → IsSpan s.pattern.span → IsJoined before s → MayStand (before ++ s ∷ [])
+pub stand_push : (before : List Signature) (s : Signature) → MayStand before → IsTrue (is_name s.name) → HasRightLength s.pattern → IsSpan s.pattern.span → IsJoined before s → MayStand (before ++ s ∷ [])
 stand_push before s may good right bound j =
     let new : list_any (λ m. bytes_eq m s.name) (names_of before) ≡ false = list_any-map (λ m. bytes_eq m s.name) (λ (t : Signature). t.name) before ∙ j.new in
     record {
@@ -410,7 +410,7 @@ numbered_parts : (format : Format) (o : Option ℕ) (rest : List (List ℕ)) (s 
 numbered_parts format None rest s h = absurd cc
 numbered_parts format (Some v) rest s h = let parts = under_parts v (signatures_from format [] rest) s h in (ap Some parts.1, parts.0)
 
-none_stands : MayStand []
+pub none_stands : MayStand []
 none_stands = record { names = tt; distinct = tt; ranges = record { count = omega arith; lengths = tt; spans = tt; bytes = omega arith } }
 
 -- a header is that of one format
@@ -464,7 +464,7 @@ file_from (header ∷ second ∷ third ∷ rest) file s pieces h =
       signatures = lines.signatures;
     }
 
-file_to : (file : List ℕ) (s : NumberedSet) → IsFileOf file s → set_of file ≡ Ok s
+pub file_to : (file : List ℕ) (s : NumberedSet) → IsFileOf file s → set_of file ≡ Ok s
 file_to file s f =
     let digits_free : (separator : ℕ) → is_digit separator ≡ false → IsFree separator f.digits = λ separator fails. free_decimal separator f.digits s.version fails f.version in
     let second = codes "version" ++ 32 ∷ f.digits in

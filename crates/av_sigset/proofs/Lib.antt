@@ -8,3 +8,4 @@ pub mod MadeLemmas
 pub mod PieceLemmas
 pub mod ReadLemmas
 pub mod RowLemmas
+pub mod SpellingLemmas

@@ -6,3 +6,4 @@ pub mod Line
 pub mod Made
 pub mod Publication
 pub mod Set
+pub mod Spelling

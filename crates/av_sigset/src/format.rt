@@ -1,5 +1,5 @@
 ghost use Rattle.std.specs.Prelude.{◌≡◌};
-ghost use Rattle.av_sigset.specs.Judge.{format_of};
+ghost use Rattle.av_sigset.specs.Judge.{format_of, header_of};
 
 /// The formats of a signature file, which its first line tells.
 #[derive(Clone, Copy, Debug, PartialEq, Eq)]
@@ -21,4 +21,14 @@ pub fn format_of(line: &[u8]) -> Option<Format>
         return Some(Format::Two);
     }
     None
+}
+
+/// The first line of a file of this format.
+pub fn header_of(format: Format) -> &'static [u8]
+    ensures { result.now ≡ header_of format }
+{
+    match format {
+        Format::One => b"avsig 1".as_slice(),
+        Format::Two => b"avsig 2".as_slice(),
+    }
 }

@@ -19,10 +19,13 @@ mod made;
 mod read;
 pub mod set;
 pub mod signature;
+pub mod spelling;
 #[cfg(test)]
 mod tests;
 
 pub use catalogue::Catalogue;
 pub use fault::{CatalogueFault, SetFault, SetFaultKind};
+pub use line::{MAX_NAME, is_name_byte};
 pub use set::SignatureSet;
 pub use signature::{AsPattern, Pattern, Signature, Span};
+pub use spelling::write_signatures;

@@ -140,7 +140,7 @@ pub fn version_of(line: &[u8]) -> Option<u64>
     Some(version)
 }
 
-// The most bytes of a signature's name.
+/// The most bytes of a signature's name.
 pub const MAX_NAME: usize = 32;
 
 // Whether a word is 1 to 32 letters, digits, `.`, `_` or `-`.
@@ -161,7 +161,8 @@ fn are_name_bytes(word: &[u8]) -> bool
     true
 }
 
-fn is_name_byte(byte: u8) -> bool
+/// Whether a name may have this byte: a letter, a digit, `.`, `_` or `-`.
+pub fn is_name_byte(byte: u8) -> bool
     ensures { result ≡ is_name_byte byte }
 {
     byte.is_ascii_lowercase()

@@ -1,17 +1,22 @@
-ghost use Rattle.std.specs.Prelude.{◌≡◌, ◌≤◌, length, slice_get, map};
+ghost use Rattle.std.specs.Prelude.{◌≡◌, ◌≤◌, length, slice_get, map, OnOk, OnErr};
 ghost use Rattle.std.specs.Option.{option_copied, option_map};
+ghost use Rattle.std.specs.Io.KnownBytes.{Appends};
 ghost use Rattle.av_base.specs.Answers.{Reads};
+ghost use Rattle.av_base.specs.Device.{AppendsPrefix};
 ghost use Rattle.av_sigset.specs.Judge.{set_of};
 ghost use Rattle.av_sigset.specs.Made.{ranged, set_made};
 ghost use Rattle.std.specs.Result.{result_err};
 ghost use Rattle.av_sigset.specs.Set.{IsSet, patterns_of, range_at};
+ghost use Rattle.av_sigset.specs.Spelling.{ReadsBack, spelling};
 
 use crate::fault::{SetFault, SetFaultKind, bad_line};
 use crate::made::{fault_in, serial_signatures};
 use crate::read::{body_of, read_signatures};
 use crate::signature::{AsPattern, Pattern, Signature, Span};
-use av_base::{Refusal, Version};
+use crate::spelling::write_signatures;
+use av_base::{Refusal, Version, WriteFault};
 use std::alloc::Global;
+use std::io::Write;
 use std::marker::Model;
 
 /// The most signatures of a set.
@@ -93,6 +98,17 @@ impl SignatureSet {
             return Some(bad_line(2, SetFaultKind::Version));
         }
         fault_in(patterns)
+    }
+
+    /// Writes its signature file. Read back it is this set, where its signatures may stand in a file, as those do that were read
+    /// from one. It takes no memory. Where a write fails, a front of the file was written.
+    pub fn write<W: Write>(&self, writer: &mut W) -> Result<(), WriteFault>
+        ensures ok { OnOk result (Appends (W.contents writer.old) (W.contents writer.new) (spelling self.now)) }
+        ensures err { OnErr result (AppendsPrefix (W.contents writer.old) (W.contents writer.new) (spelling self.now)) }
+        ensures reads_back { OnOk result (ReadsBack self.now) }
+        ensures set { IsSet self.now }
+    {
+        write_signatures(self.version, self.signatures.as_slice(), writer)
     }
 
     /// Its version, 1 or more.

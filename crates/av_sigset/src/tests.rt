@@ -2,7 +2,7 @@ use crate::catalogue::Catalogue;
 use crate::fault::{CatalogueFault, SetFault, SetFaultKind};
 use crate::set::SignatureSet;
 use av_base::{Refusal, Version};
-use av_fakes::{may_refuse, refuse_no_more};
+use av_fakes::{FakeWriter, Fault, may_refuse, refuse_no_more};
 use std::alloc::{AllocError, Global};
 use std::test::Fail;
 
@@ -267,5 +267,47 @@ fn refused_or_not_a_set_is_read_and_published(rt: HostRuntime) -> Result<(), Fai
         assert!(rt; catalogue.publish(refused.value).is_ok());
     }
     assert_eq!(rt; catalogue.latest(), Some(Version::new(9)));
+    Ok(())
+}
+
+#[test]
+fn what_is_written_is_the_file(rt: HostRuntime) -> Result<(), Fail> {
+    let alloc = rt.alloc();
+    let rows: [(&[u8], &[u8]); 3] = [
+        (
+            b"avsig 1\nversion 18446744073709551615\n",
+            b"avsig 1\nversion 18446744073709551615\n",
+        ),
+        (
+            b"avsig 2\nversion 7\nt.a 4142 0 1048575\nb 4a4B\n",
+            b"avsig 1\nversion 7\nt.a 4142\nb 4a4b\n",
+        ),
+        (
+            b"avsig 2\nversion 7\nt.a 4142 0 0\nb 4a4B\nc 00 3 1048575\n",
+            b"avsig 2\nversion 7\nt.a 4142 0 0\nb 4a4b\nc 00 3 1048575\n",
+        ),
+    ];
+    for (file, wanted) in rows {
+        let set = SignatureSet::read(alloc, file)?;
+        let mut out = FakeWriter::new(alloc).in_pieces_of(1);
+        assert!(rt; set.write(&mut out).is_ok());
+        assert_eq!(rt; out.taken(), wanted);
+    }
+    Ok(())
+}
+
+#[test]
+fn a_write_that_fails_is_told_at_each_place(rt: HostRuntime) -> Result<(), Fail> {
+    let alloc = rt.alloc();
+    let file = b"avsig 2\nversion 7\nt.a 4142 0 0\nb 4a4b\n".as_slice();
+    let set = SignatureSet::read(alloc, file)?;
+    for write in 1..39u64 {
+        let mut out = FakeWriter::new(alloc)
+            .in_pieces_of(1)
+            .with(Fault::TakesNothing { write });
+        let failed = set.write(&mut out).is_err();
+        assert!(rt; failed);
+        assert!(rt; file.starts_with(out.taken()));
+    }
     Ok(())
 }
