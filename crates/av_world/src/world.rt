@@ -1,8 +1,10 @@
-ghost use Rattle.std.specs.Prelude.{◌≡◌, ◌∷◌, reverse, IfOk, OnErr, OnOk};
+ghost use Rattle.std.specs.Prelude.{◌≡◌, ◌∷◌, length, reverse, IfOk, OnErr, OnOk};
 ghost use Rattle.std.specs.Io.KnownBytes.{Appends};
 ghost use Rattle.std.specs.Option.{option_copied};
 ghost use Rattle.av_base.specs.Device.{AppendsPrefix};
 ghost use Rattle.av_json.specs.Member.{Puts};
+ghost use Rattle.av_sigset.specs.Catalogue.{newest};
+ghost use Rattle.av_store.specs.Rows.{number_named};
 ghost use Rattle.av_world.specs.Headline.{AnswersOnce, GrantsOnlyClean, HoldsOneVerdict, NeverDiffers};
 ghost use Rattle.av_world.specs.Judge.{judged_of, latest_set};
 ghost use Rattle.av_world.specs.Objects.{report_tokens};
@@ -28,7 +30,7 @@ use crate::given::Given;
 use crate::output::objects::put_report;
 use crate::output::print_report;
 use crate::report::{Judged, Report};
-use av_base::{Limits, Mode, Refused, WriteFault};
+use av_base::{Limits, Mode, Refused, StreamId, Version, WriteFault};
 use av_frame::Message;
 use av_match::plain::plain_verdict;
 use av_sigset::{Catalogue, SignatureSet};
@@ -207,6 +209,41 @@ impl World {
         ensures { result.now ≡ self.now.up }
     {
         self.stage.up.as_slice()
+    }
+
+    /// How many pieces of work were ever lent, those that came back among them. At once.
+    pub fn work_count(&self) -> usize
+        ensures { result ≡ length self.now.works }
+    {
+        self.stage.works.len()
+    }
+
+    /// How many questions of the filter are open. At once.
+    pub fn question_count(&self) -> usize
+        ensures { result ≡ length self.now.table.questions }
+    {
+        self.stage.filter.question_count()
+    }
+
+    /// Whether the service is connected.
+    pub fn connected(&self) -> bool
+        ensures { result ≡ self.now.desk.connected }
+    {
+        self.stage.service.connected()
+    }
+
+    /// The version of the set that was published last, if one was.
+    pub fn latest(&self) -> Option<Version>
+        ensures { result ≡ newest self.now.sets }
+    {
+        self.stage.catalogue.latest()
+    }
+
+    /// The stream that has a name, if one is there.
+    pub fn find(&self, name: &[u8]) -> Option<StreamId>
+        ensures { result ≡ number_named name.now self.now.volume.streams }
+    {
+        self.stage.volume.find(name)
     }
 
     /// Whether what can't be judged is denied or let through.
