@@ -2,7 +2,7 @@
 _avscan() {
     local word=${COMP_WORDS[COMP_CWORD]} before=${COMP_WORDS[COMP_CWORD - 1]} command=${COMP_WORDS[1]-} options
     if [ "$COMP_CWORD" = 1 ]; then
-        COMPREPLY=($(compgen -W "run scan host filter service help --help --version" -- "$word"))
+        COMPREPLY=($(compgen -W "run scan host filter service chart generate import help --help --version" -- "$word"))
         return
     fi
     case $before in
@@ -18,6 +18,10 @@ _avscan() {
         COMPREPLY=($(compgen -W "1048576 10000000 100000000 1000000000" -- "$word"))
         return
         ;;
+    --profile)
+        COMPREPLY=($(compgen -W "deep uniform" -- "$word"))
+        return
+        ;;
     --mode)
         COMPREPLY=($(compgen -W "600 660 666" -- "$word"))
         return
@@ -29,11 +33,14 @@ _avscan() {
     host) options="--openers --workers --infected --json --files-from --null --found-status --summary --quiet --help" ;;
     filter) options="--wait --mode --infected --json --files-from --null --found-status --summary --quiet --help" ;;
     service) options="--wait --help" ;;
-    help) options="run scan host filter service" ;;
+    chart) options="--from --to --help" ;;
+    generate) options="--seed --commands --profile --help" ;;
+    import) options="--set-version --any-target --format-1 --all --help" ;;
+    help) options="run scan host filter service chart generate import" ;;
     *) options="--help" ;;
     esac
     case $command:$word in
-    help:* | *:-*) COMPREPLY=($(compgen -W "$options" -- "$word")) ;;
+    help:* | generate:* | *:-*) COMPREPLY=($(compgen -W "$options" -- "$word")) ;;
     *) mapfile -t COMPREPLY < <(compgen -f -- "$word") ;;
     esac
 }

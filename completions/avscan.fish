@@ -1,11 +1,14 @@
 # Completion of avscan for fish.
-set -l commands run scan host filter service help
+set -l commands run scan host filter service chart generate import help
 complete -c avscan -n "not __fish_seen_subcommand_from $commands" -f
 complete -c avscan -n "not __fish_seen_subcommand_from $commands" -a run -d "Run a script and print what each command did"
 complete -c avscan -n "not __fish_seen_subcommand_from $commands" -a scan -d "Scan files for signatures"
 complete -c avscan -n "not __fish_seen_subcommand_from $commands" -a host -d "Open files through the filter and its service, both in this process"
 complete -c avscan -n "not __fish_seen_subcommand_from $commands" -a filter -d "Open files through the filter, which one service may join over a socket"
 complete -c avscan -n "not __fish_seen_subcommand_from $commands" -a service -d "Scan for a filter that listens on a socket"
+complete -c avscan -n "not __fish_seen_subcommand_from $commands" -a chart -d "Run a script and draw what happened"
+complete -c avscan -n "not __fish_seen_subcommand_from $commands" -a generate -d "Print a random script"
+complete -c avscan -n "not __fish_seen_subcommand_from $commands" -a import -d "Write a signature file of signatures of other products"
 complete -c avscan -n "not __fish_seen_subcommand_from $commands" -a help -d "Print a help text"
 complete -c avscan -n "not __fish_seen_subcommand_from $commands" -s V -l version -d "Print the version"
 complete -c avscan -n "__fish_seen_subcommand_from run scan host filter" -l json -d "Print JSON objects, one a line"
@@ -23,4 +26,14 @@ complete -c avscan -n "__fish_seen_subcommand_from host" -l openers -x -a "(seq 
 complete -c avscan -n "__fish_seen_subcommand_from host" -l workers -x -a "(seq 16)" -d "Threads that scan"
 complete -c avscan -n "__fish_seen_subcommand_from filter service" -l wait -x -a "5 30 60 300" -d "Seconds to wait for the other side"
 complete -c avscan -n "__fish_seen_subcommand_from filter" -l mode -x -a "600 660 666" -d "Who may join at the socket"
+complete -c avscan -n "__fish_seen_subcommand_from chart" -l from -x -d "The first line that is drawn"
+complete -c avscan -n "__fish_seen_subcommand_from chart" -l to -x -d "The last line that is drawn"
+complete -c avscan -n "__fish_seen_subcommand_from generate" -f
+complete -c avscan -n "__fish_seen_subcommand_from generate" -l seed -x -d "From which number the draws begin"
+complete -c avscan -n "__fish_seen_subcommand_from generate" -l commands -x -a "100 1000 10000 100000" -d "How many commands the script has"
+complete -c avscan -n "__fish_seen_subcommand_from generate" -l profile -x -a "deep uniform" -d "Which commands are drawn"
+complete -c avscan -n "__fish_seen_subcommand_from import" -l set-version -x -d "The version of the signature file"
+complete -c avscan -n "__fish_seen_subcommand_from import" -l any-target -d "Take signatures for files of one kind too"
+complete -c avscan -n "__fish_seen_subcommand_from import" -l format-1 -d "Leave out what is bound to a place"
+complete -c avscan -n "__fish_seen_subcommand_from import" -l all -d "Write nothing where anything was left out"
 complete -c avscan -n "__fish_seen_subcommand_from help" -x -a "$commands"

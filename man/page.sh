@@ -3,6 +3,7 @@
 # The formats come from docs/FORMATS.md and the commands from the help of PROGRAM, so that page, document and help say the same.
 set -eu
 here=$(dirname "$0")
+commands="run scan host filter service chart generate import"
 formats=$here/../docs/FORMATS.md
 
 title() { # NAME SECTION WHAT
@@ -29,12 +30,12 @@ command_page() { # PROGRAM
     echo .SH NAME
     echo 'avscan \- hold opens of files until a scanning service has judged their content'
     echo .SH SYNOPSIS
-    for command in run scan host filter service; do
+    for command in $commands; do
         "$1" "$command" --help | sed -n -e 's/-/\\-/g' -e 's/^Usage: \(avscan [a-z]*\) *\(.*\)/.br\n.B \1\n\2/p'
     done
     echo .SH DESCRIPTION
     "$1" --help | words
-    for command in run scan host filter service; do
+    for command in $commands; do
         echo ".SS avscan $command"
         "$1" "$command" --help | words
     done

@@ -4,13 +4,17 @@ use clap::builder::ValueParser;
 use clap::{Arg, ArgAction, Command, Error};
 use std::alloc::{AllocError, Global};
 
-/// The command line: one command each for a script, files, and the three programs that hold opens.
+/// The command line: one command each for files, the three programs that hold opens, a script, what is made of scripts, and signatures
+/// of other products.
 pub fn avscan_command<'a>(alloc: Global) -> Result<Command<'a>, Error> {
     let run = run_command(alloc)?;
     let scan = scan_command(alloc)?;
     let host = host_command(alloc)?;
     let filter = filter_command(alloc)?;
     let service = service_command(alloc)?;
+    let chart = chart_command(alloc)?;
+    let generate = generate_command(alloc)?;
+    let import = import_command(alloc)?;
     Ok(
         Command::new(alloc, "avscan")
             .version("0.1.0")
@@ -33,15 +37,14 @@ pub fn avscan_command<'a>(alloc: Global) -> Result<Command<'a>, Error> {
             .subcommand(scan)?
             .subcommand(host)?
             .subcommand(filter)?
-            .subcommand(service)?,
+            .subcommand(service)?
+            .subcommand(chart)?
+            .subcommand(generate)?
+            .subcommand(import)?,
     )
 }
 
 fn run_command<'a>(alloc: Global) -> Result<Command<'a>, Error> {
-    let script = Arg::new(alloc, "script")
-        .required(true)
-        .value_name("SCRIPT")
-        .help("The script's file, or - for standard input");
     Ok(
         Command::new(alloc, "run")
             .about("Runs a script and prints what each command did")
@@ -68,7 +71,7 @@ fn run_command<'a>(alloc: Global) -> Result<Command<'a>, Error> {
                  \n  avscan run examples/late_reply.avs\
                  \n  avscan run --json examples/late_reply.avs",
             )
-            .arg(script)?
+            .arg(script_argument(alloc))?
             .arg(json_option(
                 alloc,
                 "Prints a JSON object a line for the volume line and for each command",
@@ -210,6 +213,138 @@ fn service_command<'a>(alloc: Global) -> Result<Command<'a>, Error> {
     )
 }
 
+fn chart_command<'a>(alloc: Global) -> Result<Command<'a>, Error> {
+    Ok(
+        Command::new(alloc, "chart")
+            .about("Runs a script and draws what happened, as a picture in SVG")
+            .after_help(
+                "Volume, opener, filter, port and service each have a lane. An arrow is a message, from where it was sent to where it was \
+                 delivered;\
+                 \none that was never delivered ends in a cross. Bars are opens, questions, jobs and works for as long as they live. \
+                 The whole script\
+                 \nis run, whatever part of it is drawn.\
+                 \n\nExample:\
+                 \n  avscan chart examples/late_reply.avs > late_reply.svg\
+                 \n  avscan chart --from 10 --to 20 examples/late_reply.avs > late_reply.svg",
+            )
+            .arg(script_argument(alloc))?
+            .arg(line_option(
+                alloc,
+                "from",
+                "1",
+                "The first line of the script whose command is drawn",
+            ))?
+            .arg(line_option(
+                alloc,
+                "to",
+                "18446744073709551615",
+                "The last line of the script whose command is drawn",
+            ))?,
+    )
+}
+
+fn generate_command<'a>(alloc: Global) -> Result<Command<'a>, Error> {
+    let seed = Arg::new(alloc, "seed")
+        .long("seed")
+        .required(true)
+        .value_name("N")
+        .value_parser(ValueParser::unsigned(0, 18_446_744_073_709_551_615))
+        .help("From which number the draws begin, up to 2^64 - 1");
+    let commands = Arg::new(alloc, "commands")
+        .long("commands")
+        .required(true)
+        .value_name("M")
+        .value_parser(ValueParser::unsigned(1, 100_000))
+        .help("How many commands the script has, 1 to 100,000");
+    let profile = Arg::new(alloc, "profile")
+        .long("profile")
+        .value_name("PROFILE")
+        .value_parser(PROFILES)
+        .default_value("deep")
+        .help("Which commands are drawn: those that lead on, or each as often");
+    Ok(
+        Command::new(alloc, "generate")
+            .about("Prints a random script, led by the world that it builds")
+            .after_help(
+                "The same seed gives the same script.\
+                 \n\nExample:\
+                 \n  avscan generate --seed 1 --commands 100 | avscan run -",
+            )
+            .arg(seed)?
+            .arg(commands)?
+            .arg(profile)?,
+    )
+}
+
+fn import_command<'a>(alloc: Global) -> Result<Command<'a>, Error> {
+    let files = Arg::new(alloc, "file")
+        .required(true)
+        .value_name("FILE")
+        .action(ArgAction::Append)
+        .num_args(1..)
+        .help("Files of signatures: .ndb, .ndu, .db, .yar or .yara");
+    let version = Arg::new(alloc, "set-version")
+        .long("set-version")
+        .value_name("N")
+        .value_parser(ValueParser::unsigned(1, 18_446_744_073_709_551_615))
+        .default_value("1")
+        .help("The version of the signature file that is written, 1 to 2^64 - 1");
+    Ok(
+        Command::new(alloc, "import")
+            .about("Writes a signature file of signatures that ClamAV or YARA reads")
+            .after_help(
+                "What is taken means the same: a file that the other tool finds by it is infected here, and no other. \
+                 What can't be said exactly\
+                 \nis left out, and a line on standard error says why.\
+                 \n\nExample:\
+                 \n  avscan import --set-version 7 examples/other.ndb > set.avsig",
+            )
+            .arg(files)?
+            .arg(version)?
+            .arg(flag_option(
+                alloc,
+                "any-target",
+                "Takes a signature for files of one kind as one for all files",
+            ))?
+            .arg(flag_option(
+                alloc,
+                "format-1",
+                "Leaves out what is bound to a place, and writes format 1",
+            ))?
+            .arg(flag_option(
+                alloc,
+                "all",
+                "Writes nothing, with status 1, where anything was left out",
+            ))?,
+    )
+}
+
+fn script_argument<'a>(alloc: Global) -> Arg<'a> {
+    Arg::new(alloc, "script")
+        .required(true)
+        .value_name("SCRIPT")
+        .help("The script's file, or - for standard input")
+}
+
+fn line_option<'a>(alloc: Global, name: &'a str, default: &'a str, help: &'a str) -> Arg<'a> {
+    Arg::new(alloc, name)
+        .long(name)
+        .value_name("LINE")
+        .value_parser(ValueParser::unsigned(1, 18_446_744_073_709_551_615))
+        .default_value(default)
+        .help(help)
+}
+
+fn flag_option<'a>(alloc: Global, name: &'a str, help: &'a str) -> Arg<'a> {
+    Arg::new(alloc, name)
+        .long(name)
+        .action(ArgAction::SetTrue)
+        .help(help)
+}
+
+// What a random script may be made of.
+const PROFILES: &[&str] = &["deep", "uniform"];
+
 fn set_argument<'a>(alloc: Global) -> Arg<'a> {
     Arg::new(alloc, "set")
         .required(true)
@@ -293,17 +428,15 @@ fn null_option<'a>(alloc: Global) -> Arg<'a> {
 }
 
 fn found_status_option<'a>(alloc: Global, help: &'a str) -> Arg<'a> {
-    Arg::new(alloc, "found-status")
-        .long("found-status")
-        .action(ArgAction::SetTrue)
-        .help(help)
+    flag_option(alloc, "found-status", help)
 }
 
 fn summary_option<'a>(alloc: Global) -> Arg<'a> {
-    Arg::new(alloc, "summary")
-        .long("summary")
-        .action(ArgAction::SetTrue)
-        .help("Says at the end, on standard error, how many files were scanned")
+    flag_option(
+        alloc,
+        "summary",
+        "Says at the end, on standard error, how many files were scanned",
+    )
 }
 
 fn threads_option<'a>(alloc: Global, name: &'a str, help: &'a str) -> Arg<'a> {
@@ -337,10 +470,7 @@ fn mode_option<'a>(alloc: Global) -> Arg<'a> {
 }
 
 fn json_option<'a>(alloc: Global, help: &'a str) -> Arg<'a> {
-    Arg::new(alloc, "json")
-        .long("json")
-        .action(ArgAction::SetTrue)
-        .help(help)
+    flag_option(alloc, "json", help)
 }
 
 fn quiet_option<'a>(alloc: Global) -> Arg<'a> {

@@ -13,4 +13,4 @@ mod commands;
 mod tests;
 pub mod words;
 
-pub use words::{Finding, List, Request, first_bad_word, read_words};
+pub use words::{Finding, List, Request, Taking, first_bad_word, read_words};

@@ -73,6 +73,35 @@ pub enum Request<'a> {
         set: &'a str,
         wait: u64,
     },
+    /// Draw the run of the script in this file, or on standard input for `-`: of its lines `from` to `to`, counted from 1.
+    Chart {
+        script: &'a str,
+        from: u64,
+        to: u64,
+    },
+    /// Print a random script of 1 to 100,000 commands.
+    Generate {
+        seed: u64,
+        commands: u64,
+        is_uniform: bool,
+    },
+    /// Write a signature file of this version with the signatures of these files.
+    Import {
+        files: Vec<&'a str>,
+        version: u64,
+        taking: Taking,
+    },
+}
+
+/// Which signatures of other products are taken.
+#[derive(Clone, Copy, Debug, PartialEq, Eq)]
+pub struct Taking {
+    /// Those for files of one kind stand for all files.
+    pub takes_any_target: bool,
+    /// Those that are bound to a place are left out.
+    pub has_format_1: bool,
+    /// Nothing is written where anything was left out.
+    pub wants_all: bool,
 }
 
 /// Reads the words of the command line, the program's name first. No other word asks for a script on standard input. A
@@ -138,14 +167,29 @@ fn requested<'a, S: AsStr>(alloc: Global, words: &'a [S]) -> Result<Request<'a>,
             files: files_of(alloc, filter)?,
             list: list_of(filter),
             wishes: wishes_of(filter),
-            wait: count_of(filter, "wait") as u64,
+            wait: number_of(filter, "wait"),
             mode: mode_of(filter),
             quiet: filter.get_flag("quiet"),
         }),
         Some(("service", service)) => Ok(Request::Service {
             socket: text_of(service, "socket"),
             set: text_of(service, "set"),
-            wait: count_of(service, "wait") as u64,
+            wait: number_of(service, "wait"),
+        }),
+        Some(("chart", chart)) => Ok(Request::Chart {
+            script: text_of(chart, "script"),
+            from: number_of(chart, "from"),
+            to: number_of(chart, "to"),
+        }),
+        Some(("generate", generate)) => Ok(Request::Generate {
+            seed: number_of(generate, "seed"),
+            commands: number_of(generate, "commands"),
+            is_uniform: generate.get_str("profile") == Some("uniform"),
+        }),
+        Some(("import", import)) => Ok(Request::Import {
+            files: files_of(alloc, import)?,
+            version: number_of(import, "set-version"),
+            taking: taking_of(import),
         }),
         Some((_, run)) => Ok(Request::Run {
             script: text_of(run, "script"),
@@ -181,6 +225,18 @@ fn count_of(matches: &ArgMatches<'_>, name: &str) -> usize {
     matches.get_one::<usize>(name).unwrap_or(1)
 }
 
+fn number_of(matches: &ArgMatches<'_>, name: &str) -> u64 {
+    matches.get_one::<u64>(name).unwrap_or(1)
+}
+
+fn taking_of(matches: &ArgMatches<'_>) -> Taking {
+    Taking {
+        takes_any_target: matches.get_flag("any-target"),
+        has_format_1: matches.get_flag("format-1"),
+        wants_all: matches.get_flag("all"),
+    }
+}
+
 // The rights of a socket, by the three digits that chmod has for them.
 fn mode_of(matches: &ArgMatches<'_>) -> u32 {
     match matches.get_str("mode") {
@@ -210,7 +266,7 @@ fn finding_of(matches: &ArgMatches<'_>) -> Finding {
     Finding {
         is_recursive,
         keeps_going: is_recursive || matches.get_flag("keep-going"),
-        max_size: matches.get_one::<u64>("max-size").unwrap_or(1),
+        max_size: number_of(matches, "max-size"),
     }
 }
 

@@ -15,15 +15,23 @@ pub fn list_text<E: Write>(
     list: Option<List<'_>>,
     err: &mut E,
 ) -> Result<Vec<u8>, Status> {
-    let Some(list) = list else {
-        return Ok(Vec::new(alloc));
-    };
-    if list.path == "-" {
-        return text_of(alloc, list.path, &mut rt.stdin(), err);
+    match list {
+        Some(List { path: "-", .. }) => text_of(alloc, "-", &mut rt.stdin(), err),
+        Some(List { path, .. }) => whole_text(rt, alloc, path, err),
+        None => Ok(Vec::new(alloc)),
     }
-    match fs::open(rt, list.path) {
-        Ok(mut file) => text_of(alloc, list.path, &mut file, err),
-        Err(_) => Err(unreadable(err, list.path)),
+}
+
+/// The whole text of a file, of any length.
+pub fn whole_text<E: Write>(
+    rt: &HostRuntime,
+    alloc: Global,
+    path: &str,
+    err: &mut E,
+) -> Result<Vec<u8>, Status> {
+    match fs::open(rt, path) {
+        Ok(mut file) => text_of(alloc, path, &mut file, err),
+        Err(_) => Err(unreadable(err, path)),
     }
 }
 

@@ -1,6 +1,9 @@
 //! The program: it reads the words of its command line, and runs a script or scans files over the proved crates.
 #![tactic(auto)]
 
+mod chart;
+mod generate;
+mod import;
 mod list;
 mod reading;
 mod run;
@@ -8,6 +11,7 @@ mod scan;
 #[cfg(test)]
 mod tests;
 
+use av_chart::Lines;
 use av_files::{Failing, MAX_FILE, add_file, empty_volume, read_set};
 use av_host::{Crew, Hosting, host_volume};
 use av_sockets::{Meeting, filter_volume, serve_at};
@@ -15,6 +19,9 @@ use av_status::faults::{bad_word, out_of_memory, say, text, unreadable};
 use av_status::{Progress, Status, Tally, Wishes};
 use av_store::Volume;
 use av_words::{List, Request, first_bad_word, read_words};
+use chart::chart_named;
+use generate::generate;
+use import::import_named;
 use list::{all_names, list_text};
 use reading::read_file;
 use run::run_text;
@@ -142,6 +149,23 @@ fn asked<R: Hosting>(rt: &HostRuntime, system: &R, alloc: Global, words: &Vec<St
             &mut out,
             &mut Progress::new(rt, err, !quiet && rt.stderr().is_terminal()),
         ),
+        Ok(Request::Chart { script, from, to }) => {
+            chart_named(rt, alloc, script, Lines { from, to }, &mut out, &mut err)
+        }
+        Ok(
+            Request::Generate {
+                seed,
+                commands,
+                is_uniform,
+            },
+        ) => generate(alloc, seed, commands, is_uniform, &mut out, &mut err),
+        Ok(
+            Request::Import {
+                files,
+                version,
+                taking,
+            },
+        ) => import_named(rt, alloc, files.as_slice(), version, taking, &mut out, &mut err),
         Err(status) => status,
     }
 }
