@@ -35,43 +35,74 @@ pub fn scan_named<W: Write, E: Write>(
     let Ok(mut buffer) = vec![in alloc; 0u8; MAX_FILE + 2] else {
         return out_of_memory(err);
     };
-    let scanner = match Scanner::read(alloc, read_file(rt, asked.set, &mut buffer), err) {
-        Ok(scanner) => scanner,
-        Err(status) => return status,
-    };
-    let listed = match list_text(rt, alloc, asked.list, err) {
-        Ok(listed) => listed,
-        Err(status) => return status,
-    };
-    let failing = if asked.finding.keeps_going {
+    match Scanner::read(alloc, read_file(rt, asked.set, &mut buffer), err) {
+        Ok(scanner) => {
+            let means = Means {
+                rt,
+                alloc,
+                scanner: &scanner,
+                finding: asked.finding,
+                wishes: asked.wishes,
+                is_live: rt.stdout().is_terminal(),
+            };
+            scan_listed(means, names, asked.list, &mut buffer, out, err)
+        }
+        Err(status) => status,
+    }
+}
+
+// Scans the files that were given, and behind them those of a list.
+fn scan_listed<W: Write, E: Write>(
+    means: Means<'_, '_>,
+    given: &[&str],
+    list: Option<List<'_>>,
+    buffer: &mut [u8],
+    out: &mut W,
+    err: &mut Progress<'_, HostRuntime, E>,
+) -> Status
+    requires { 0 < length buffer.old }
+{
+    match list_text(means.rt, means.alloc, list, err) {
+        Ok(listed) => {
+            let listed = listed.as_slice();
+            scan_files_of(means, given, list, listed, buffer, out, err)
+        }
+        Err(status) => status,
+    }
+}
+
+// The same, with the list's text.
+fn scan_files_of<W: Write, E: Write>(
+    means: Means<'_, '_>,
+    given: &[&str],
+    list: Option<List<'_>>,
+    listed: &[u8],
+    buffer: &mut [u8],
+    out: &mut W,
+    err: &mut Progress<'_, HostRuntime, E>,
+) -> Status
+    requires { 0 < length buffer.old }
+{
+    let failing = if means.finding.keeps_going {
         Failing::Passes
     } else {
         Failing::Ends
     };
     let mut tally = Tally::new();
-    let names = match all_names(
-        alloc,
-        names,
-        asked.list,
-        listed.as_slice(),
+    match all_names(
+        means.alloc,
+        given,
+        list,
+        listed,
         failing,
         &mut tally,
         err,
     ) {
-        Ok(names) => names,
-        Err(status) => return status,
-    };
-    let means = Means {
-        rt,
-        alloc,
-        scanner: &scanner,
-        finding: asked.finding,
-        wishes: asked.wishes,
-        is_live: rt.stdout().is_terminal(),
-    };
-    match failing {
-        Failing::Ends => scan_all(means, names.as_slice(), &mut buffer, out, err),
-        Failing::Passes => scan_on(means, names.as_slice(), &mut buffer, tally, out, err),
+        Ok(names) => match failing {
+            Failing::Ends => scan_all(means, names.as_slice(), buffer, out, err),
+            Failing::Passes => scan_on(means, names.as_slice(), buffer, tally, out, err),
+        },
+        Err(status) => status,
     }
 }
 
@@ -165,23 +196,63 @@ fn scan_folder<W: Write, E: Write>(
     requires { 0 < length buffer.old }
     ensures { length buffer.new ≡ length buffer.old }
 {
-    let Ok(mut walk) = Walk::new(means.rt, means.alloc, folder) else {
-        return Err(out_of_memory(err));
-    };
+    match Walk::new(means.rt, means.alloc, folder) {
+        Ok(mut walk) => scan_entries(means, &mut walk, buffer, tally, room, out, err),
+        Err(_) => Err(out_of_memory(err)),
+    }
+}
+
+// Scans what a walk meets from here on.
+fn scan_entries<W: Write, E: Write>(
+    means: Means<'_, '_>,
+    walk: &mut Walk<'_, HostRuntime>,
+    buffer: &mut [u8],
+    tally: &mut Tally,
+    room: &mut Vec<u8>,
+    out: &mut W,
+    err: &mut Progress<'_, HostRuntime, E>,
+) -> Result<(), Status>
+    requires { 0 < length buffer.old }
+    ensures { length buffer.new ≡ length buffer.old }
+{
     'entries: for _ in 0..u64::MAX {
         match walk.next() {
-            Ok(Some(Met::File(path))) => {
-                let path = path.as_str();
-                let file = fs::open(means.rt, path).ok();
-                scan_one(means, path, file, buffer, tally, room, out, err)?;
-            }
-            Ok(Some(Met::Unreadable(path))) => tally.add_missed(unreadable(err, path.as_str())),
-            Ok(Some(Met::NotText(path))) => tally.add_missed(bad_entry(err, path.as_slice())),
+            Ok(Some(met)) => scan_met(means, met, buffer, tally, room, out, err)?,
             Ok(None) => return Ok(()),
             Err(_) => return Err(out_of_memory(err)),
         }
     }
     Ok(())
+}
+
+// Scans a file that was met, or tells why an entry is passed over.
+fn scan_met<W: Write, E: Write>(
+    means: Means<'_, '_>,
+    met: Met,
+    buffer: &mut [u8],
+    tally: &mut Tally,
+    room: &mut Vec<u8>,
+    out: &mut W,
+    err: &mut Progress<'_, HostRuntime, E>,
+) -> Result<(), Status>
+    requires { 0 < length buffer.old }
+    ensures { length buffer.new ≡ length buffer.old }
+{
+    match met {
+        Met::File(path) => {
+            let path = path.as_str();
+            let file = fs::open(means.rt, path).ok();
+            scan_one(means, path, file, buffer, tally, room, out, err)
+        }
+        Met::Unreadable(path) => {
+            tally.add_missed(unreadable(err, path.as_str()));
+            Ok(())
+        }
+        Met::NotText(path) => {
+            tally.add_missed(bad_entry(err, path.as_slice()));
+            Ok(())
+        }
+    }
 }
 
 // Scans a file and writes its line. An error ends the run.
