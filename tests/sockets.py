@@ -30,8 +30,8 @@ class Programs:
         with open(os.path.join(self.folder, name), "wb") as file:
             file.write(content)
 
-    def start(self, *words):
-        return subprocess.Popen([self.program, *words], cwd=self.folder, stdin=subprocess.DEVNULL, stdout=subprocess.PIPE, stderr=subprocess.PIPE)
+    def start(self, *words, out=subprocess.PIPE):
+        return subprocess.Popen([self.program, *words], cwd=self.folder, stdin=subprocess.DEVNULL, stdout=out, stderr=subprocess.PIPE)
 
     def filter(self, *files, wait="20", path=None, mode=()):
         return self.start("filter", "--wait", wait, *mode, path or self.socket, *(files or ("a.bin", "b.bin")))
@@ -71,6 +71,7 @@ def connected(path):
 ANSWERED = b"a.bin granted generation 2 version 1\nb.bin denied cause 2\n"
 ANSWERED_JSON = b'{"file":"a.bin","answer":"granted","generation":2,"version":1}\n{"file":"b.bin","answer":"denied","cause":2,"why":"infected"}\n'
 LOST = b"a.bin denied cause 6\nb.bin denied cause 6\n"
+FULL = (4, None, b"avscan: device\n")
 ALONE = b"a.bin denied cause 3\nb.bin denied cause 3\n"
 
 
@@ -564,8 +565,14 @@ def inputs(cases, programs):
     ways = [f"{one}/{other}/a.bin" for one in steps for other in steps]
     cases.same("one file more than a volume has streams", ended(programs.start("host", "set.txt", *ways, "b.bin")), (1, b"", b"avscan: b.bin: Full\n"))
     with open("/dev/full", "wb") as full:
-        done = subprocess.run([programs.program, "host", "set.txt", "a.bin"], cwd=programs.folder, stdout=full, stderr=subprocess.PIPE, timeout=SECONDS)
-    cases.same("host on a full device", (done.returncode, done.stderr), (4, b"avscan: device\n"))
+        cases.same("host on a full device", ended(programs.start("host", "set.txt", "a.bin", out=full)), FULL)
+        filter = programs.filter()
+        await_socket(programs.socket)
+        service = programs.start("service", programs.socket, "set.txt", out=full)
+        cases.same("service on a full device", (ended(filter), ended(service)), ((0, ANSWERED, b""), FULL))
+        filter = programs.start("filter", programs.socket, "a.bin", out=full)
+        await_socket(programs.socket)
+        cases.same("filter on a full device", (ended(programs.service()), ended(filter)), ((0, b"closed\n", b""), FULL))
 
 
 def told_by_scan(programs, names):
