@@ -6,12 +6,14 @@ Small limits, few names and short contents, so that limits are met and scans are
 out of their order. What comes next is led by the model's world: verbs that have something to do weigh more; for a spell of some
 commands each weight is taken times a temper, so that in some spells nothing is delivered and in others little else happens; and by
 the spell's eagerness what was just sent or lent is carried on at once, so that long chains of deliveries come about. The seed is the
-script's number, so a script that fails can be made again: `tests/random_scripts.py PROGRAM 17`. The last line says how many passed
-and how many failed."""
+script's number, so a script that fails can be made again: `tests/random_scripts.py PROGRAM 17`. It is also written to out/random, its
+picture beside it. The last line says how many passed and how many failed."""
 import collections, os, random, subprocess, sys
 import plain_world, rows
 
 SECONDS = 60
+# Where scripts that fail are written.
+FAILED = os.path.join(os.path.dirname(os.path.dirname(os.path.abspath(__file__))), "out", "random")
 SCRIPTS = 500
 STEPS = 500
 NAMES = ["a", "b", "c"]
@@ -131,6 +133,17 @@ def script_of(number, reached=None):
     return "".join(line + "\n" for line in lines + [line for line, _ in commands]), world.lines
 
 
+def keep(program, number, script):
+    """Writes a script that failed, and its picture beside it."""
+    os.makedirs(FAILED, exist_ok=True)
+    path = os.path.join(FAILED, f"{number}.avs")
+    with open(path, "w", encoding="utf-8") as file:
+        file.write(script)
+    with open(f"{path[:-4]}.svg", "wb") as picture:
+        subprocess.run([program, "chart", path], stdout=picture, stderr=subprocess.DEVNULL, timeout=SECONDS)
+    print(f"  the script is out/random/{number}.avs, its picture out/random/{number}.svg")
+
+
 def holds(program, number, reached):
     """Whether the program prints what the model does; where not, says the first line that differs."""
     script, lines = script_of(number, reached)
@@ -140,6 +153,7 @@ def holds(program, number, reached):
     print(f"script {number}: status {done.returncode}, {done.stderr!r}")
     told = done.stdout.decode().splitlines()
     print(next((f"  wanted {a!r}, got {b!r}" for a, b in zip(lines, told) if a != b), f"  wanted {len(lines)} lines, got {len(told)}"))
+    keep(program, number, script)
     return False
 
 
