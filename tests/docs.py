@@ -169,6 +169,15 @@ def printed(checks, page, text, program):
         checks.check(done.stdout == block, f"{page}: avscan {words} prints other lines")
 
 
+def pictures(checks, program):
+    """Each picture of docs/ is what the program draws of the example of its name."""
+    for path in sorted(glob.glob(os.path.join(ROOT, "docs", "*.svg"))):
+        name = os.path.basename(path)[: -len(".svg")]
+        done = subprocess.run([program, "chart", f"examples/{name}.avs"], cwd=ROOT, stdout=subprocess.PIPE)
+        with open(path, "rb") as file:
+            checks.check(done.stdout == file.read(), f"docs/{name}.svg is not what `avscan chart examples/{name}.avs` draws")
+
+
 def help_of(program, *words):
     return subprocess.run([program, *words, "--help"], stdout=subprocess.PIPE, text=True, timeout=60).stdout
 
@@ -179,7 +188,7 @@ def manual(checks, program):
     options = set(re.findall(r"(?<![\w-])--?[a-zA-Z][a-z]*", "".join(help_of(program, *words) for words in [[]] + [[command] for command in commands if command != "help"])))
     page = subprocess.run(["sh", os.path.join(ROOT, "man/page.sh"), "avscan.1", program], stdout=subprocess.PIPE, text=True).stdout.replace("\\-", "-")
     completions = {path: text_of(path) for path in ("completions/avscan.bash", "completions/_avscan", "completions/avscan.fish")}
-    checks.check(set(commands) == {"run", "scan", "host", "filter", "service", "help"}, f"commands: {commands}")
+    checks.check(set(commands) == {"run", "scan", "host", "filter", "service", "chart", "generate", "import", "help"}, f"commands: {commands}")
     for word in [*commands, *sorted(options)]:
         checks.check(re.search(rf"(?<![\w-]){word}\b", page), f"avscan(1) has no {word}")
         for path, text in completions.items():
@@ -230,6 +239,7 @@ def main():
     fault_lines(checks)
     example(checks, os.path.abspath(sys.argv[1]))
     manual(checks, os.path.abspath(sys.argv[1]))
+    pictures(checks, os.path.abspath(sys.argv[1]))
     print(f"{checks.passed} passed, {checks.failed} failed")
     sys.exit(1 if checks.failed else 0)
 
