@@ -26,6 +26,7 @@ mod tests;
 pub use catalogue::Catalogue;
 pub use fault::{CatalogueFault, SetFault, SetFaultKind};
 pub use line::{MAX_NAME, is_name_byte};
+pub use read::stands_in;
 pub use set::SignatureSet;
 pub use signature::{AsPattern, Pattern, Signature, Span};
 pub use spelling::write_signatures;

@@ -131,8 +131,8 @@ fn words_behind<'a>(
     Ok(words)
 }
 
-// Whether a signature has this name.
-fn stands_in(signatures: &[Signature], name: &[u8]) -> bool
+/// Whether a signature has this name.
+pub fn stands_in(signatures: &[Signature], name: &[u8]) -> bool
     ensures { result ≡ list_any (λ s. bytes_eq s.name name.now) signatures.now }
 {
     for signature in signatures {

@@ -1,7 +1,9 @@
 use av_base::Part;
 use av_chart::{ChartFault, Lines, write_chart};
 use av_files::TURNS;
-use av_status::faults::{bad_script, device_failed, out_of_memory, say, script_too_long, text, unreadable};
+use av_status::faults::{
+    bad_script, device_failed, out_of_memory, say, script_too_long, text, unreadable,
+};
 use av_status::status::Status;
 use std::alloc::Global;
 use std::fs;
@@ -34,7 +36,7 @@ fn chart<R: Read, W: Write, E: Write>(
     out: &mut W,
     err: &mut E,
 ) -> Status {
-    match write_chart(alloc, name_of(path), lines, reader, out, TURNS) {
+    match write_chart(alloc, name_of(path).as_bytes(), lines, reader, out, TURNS) {
         Ok(()) => Status::Done,
         Err(ChartFault::Read | ChartFault::Write) => device_failed(err),
         Err(ChartFault::TooLong) => script_too_long(err),

@@ -17,10 +17,13 @@ pub fn import_named<W: Write, E: Write>(
     out: &mut W,
     err: &mut E,
 ) -> Status {
-    let mut import = Import::new(alloc, Rules {
-        takes_any_target: taking.takes_any_target,
-        has_ranges: !taking.has_format_1,
-    });
+    let mut import = Import::new(
+        alloc,
+        Rules {
+            takes_any_target: taking.takes_any_target,
+            has_ranges: !taking.has_format_1,
+        },
+    );
     match take_all(rt, alloc, names, &mut import, err) {
         Ok(()) => conclude(&import, version, taking, out, err),
         Err(status) => status,
@@ -64,10 +67,13 @@ fn conclude<W: Write, E: Write>(
     if taking.wants_all && import.left() > 0 {
         return Status::Refused;
     }
-    match import.write(version, out) {
-        Ok(()) => Status::Done,
-        Err(fault) => failed(err, fault),
+    if let Err(fault) = import.write(version, out) {
+        return failed(err, fault);
     }
+    if out.flush().is_err() {
+        return device_failed(err);
+    }
+    Status::Done
 }
 
 fn failed<E: Write>(err: &mut E, fault: ImportFault) -> Status {

@@ -165,7 +165,15 @@ fn asked<R: Hosting>(rt: &HostRuntime, system: &R, alloc: Global, words: &Vec<St
                 version,
                 taking,
             },
-        ) => import_named(rt, alloc, files.as_slice(), version, taking, &mut out, &mut err),
+        ) => import_named(
+            rt,
+            alloc,
+            files.as_slice(),
+            version,
+            taking,
+            &mut out,
+            &mut err,
+        ),
         Err(status) => status,
     }
 }

@@ -89,15 +89,7 @@ fn scan_files_of<W: Write, E: Write>(
         Failing::Ends
     };
     let mut tally = Tally::new();
-    match all_names(
-        means.alloc,
-        given,
-        list,
-        listed,
-        failing,
-        &mut tally,
-        err,
-    ) {
+    match all_names(means.alloc, given, list, listed, failing, &mut tally, err) {
         Ok(names) => match failing {
             Failing::Ends => scan_all(means, names.as_slice(), buffer, out, err),
             Failing::Passes => scan_on(means, names.as_slice(), buffer, tally, out, err),

@@ -1,0 +1,10 @@
+pub mod Course
+pub mod Draws
+pub mod Generated
+pub mod Head
+pub mod Language
+pub mod Lent
+pub mod Sight
+pub mod Temper
+pub mod Verb
+pub mod Words
