@@ -94,10 +94,9 @@ bar_text class at height title =
 unfoldable pub band_text : ℕ → List ℕ
 band_text y = spelt (codes "<rect class=\"pill\" x=\"-1\" y=\"" ∷ decimal y ∷ codes "\" width=\"1292\" height=\"20\"/>\n" ∷ [])
 
--- a picture's title and what is told of the run, up to the style
-unfoldable pub told_text : List ℕ → List ℕ → List ℕ
-told_text title told =
-    spelt (escaped title ∷ codes "</title>\n<desc id=\"told\">" ∷ escaped told ∷ codes "</desc>\n<style>\n" ∷ [])
+-- bytes as text, and what ends it
+abbrev pub until_text : List ℕ → List ℕ → List ℕ
+until_text bytes end = escaped bytes ++ end
 
 -- the text of a mark
 abbrev pub mark_text : Mark → List ℕ

@@ -1,7 +1,7 @@
 //! The whole picture: what is drawn, in its order.
 
 ghost use Rattle.std.specs.Prelude.{◌≡◌, ◌++◌, OnOk};
-ghost use Rattle.av_chart.specs.Mark.{told_text};
+ghost use Rattle.av_chart.specs.Mark.{until_text};
 
 use crate::escape::{put_escaped, put_parts};
 use crate::happened::{Happened, Refused, Sent, Step};
@@ -144,14 +144,17 @@ fn put_head(
 }
 
 // Puts the title and what is told of the run, up to the style.
-#[tactic(auto, using(crate::proofs::PutLemmas::put_four), unfolding(crate::specs::Mark::told_text))]
-fn put_told(page: &mut Vec<u8>, title: &[u8], told: &[u8]) -> Result<(), AllocError>
-    ensures { OnOk result (page.new.items ≡ page.old.items ++ told_text title.now told.now) }
+fn put_told(page: &mut Vec<u8>, title: &[u8], told: &[u8]) -> Result<(), AllocError> {
+    put_until(page, title, b"</title>\n<desc id=\"told\">")?;
+    put_until(page, told, b"</desc>\n<style>\n")
+}
+
+// Puts bytes as text, and what ends it.
+fn put_until(page: &mut Vec<u8>, bytes: &[u8], end: &[u8]) -> Result<(), AllocError>
+    ensures { OnOk result (page.new.items ≡ page.old.items ++ until_text bytes.now end.now) }
 {
-    put_escaped(page, title)?;
-    page.extend_from_slice(b"</title>\n<desc id=\"told\">")?;
-    put_escaped(page, told)?;
-    page.extend_from_slice(b"</desc>\n<style>\n")
+    put_escaped(page, bytes)?;
+    page.extend_from_slice(end)
 }
 
 // What is told of the whole run, in words.
