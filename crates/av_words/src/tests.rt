@@ -330,7 +330,13 @@ fn lines_of(alloc: Global, words: &[&str]) -> Option<(u64, u64)> {
     let mut out = FakeWriter::new(alloc);
     let mut err = FakeWriter::new(alloc);
     match read_words(alloc, words, &mut out, &mut err) {
-        Ok(Request::Chart { script: "s", from, to }) => Some((from, to)),
+        Ok(
+            Request::Chart {
+                script: "s",
+                from,
+                to,
+            },
+        ) => Some((from, to)),
         _ => None,
     }
 }
@@ -352,7 +358,13 @@ fn draws_of(alloc: Global, words: &[&str]) -> Option<(u64, u64, bool)> {
     let mut out = FakeWriter::new(alloc);
     let mut err = FakeWriter::new(alloc);
     match read_words(alloc, words, &mut out, &mut err) {
-        Ok(Request::Generate { seed, commands, is_uniform }) => Some((seed, commands, is_uniform)),
+        Ok(
+            Request::Generate {
+                seed,
+                commands,
+                is_uniform,
+            },
+        ) => Some((seed, commands, is_uniform)),
         _ => None,
     }
 }
@@ -362,20 +374,54 @@ fn a_random_script_has_a_seed_and_a_length(rt: HostRuntime) -> Result<(), Fail> 
     let alloc = rt.alloc();
     let rows = [
         ("0", "1", Some((0, 1, false))),
-        ("18446744073709551615", "100000", Some((18_446_744_073_709_551_615, 100_000, false))),
+        (
+            "18446744073709551615",
+            "100000",
+            Some((18_446_744_073_709_551_615, 100_000, false)),
+        ),
         ("18446744073709551616", "1", None),
         ("1", "0", None),
         ("1", "100001", None),
     ];
     for (seed, commands, asked) in rows {
         let words = ["avscan", "generate", "--seed", seed, "--commands", commands];
-        assert!(&rt; draws_of(alloc, words.as_slice()) == asked, "{seed} {commands}");
+        assert!(&rt;
+            draws_of(alloc, words.as_slice()) == asked,
+            "{seed} {commands}"
+        );
     }
-    let uniform = ["avscan", "generate", "--seed", "1", "--commands", "2", "--profile", "uniform"];
+    let uniform = [
+        "avscan",
+        "generate",
+        "--seed",
+        "1",
+        "--commands",
+        "2",
+        "--profile",
+        "uniform",
+    ];
     assert!(&rt; draws_of(alloc, uniform.as_slice()) == Some((1, 2, true)));
-    let deep = ["avscan", "generate", "--seed", "1", "--commands", "2", "--profile", "deep"];
+    let deep = [
+        "avscan",
+        "generate",
+        "--seed",
+        "1",
+        "--commands",
+        "2",
+        "--profile",
+        "deep",
+    ];
     assert!(&rt; draws_of(alloc, deep.as_slice()) == Some((1, 2, false)));
-    let other = ["avscan", "generate", "--seed", "1", "--commands", "2", "--profile", "flat"];
+    let other = [
+        "avscan",
+        "generate",
+        "--seed",
+        "1",
+        "--commands",
+        "2",
+        "--profile",
+        "flat",
+    ];
     assert!(&rt; draws_of(alloc, other.as_slice()).is_none());
     let no_seed = ["avscan", "generate", "--commands", "2"];
     assert!(&rt; draws_of(alloc, no_seed.as_slice()).is_none());
@@ -387,7 +433,13 @@ fn taking_of(alloc: Global, words: &[&str]) -> Option<(u64, usize, Taking)> {
     let mut out = FakeWriter::new(alloc);
     let mut err = FakeWriter::new(alloc);
     match read_words(alloc, words, &mut out, &mut err) {
-        Ok(Request::Import { files, version, taking }) => Some((version, files.len(), taking)),
+        Ok(
+            Request::Import {
+                files,
+                version,
+                taking,
+            },
+        ) => Some((version, files.len(), taking)),
         _ => None,
     }
 }
@@ -403,15 +455,42 @@ fn signatures_are_taken_as_is_asked_for(rt: HostRuntime) -> Result<(), Fail> {
     let none = ["avscan", "import", "a"];
     assert!(&rt; taking_of(alloc, none.as_slice()) == Some((1, 1, plain)));
     let rows = [
-        ("--any-target", Taking { takes_any_target: true, ..plain }),
-        ("--format-1", Taking { has_format_1: true, ..plain }),
-        ("--all", Taking { wants_all: true, ..plain }),
+        (
+            "--any-target",
+            Taking {
+                takes_any_target: true,
+                ..plain
+            },
+        ),
+        (
+            "--format-1",
+            Taking {
+                has_format_1: true,
+                ..plain
+            },
+        ),
+        (
+            "--all",
+            Taking {
+                wants_all: true,
+                ..plain
+            },
+        ),
     ];
     for (word, taking) in rows {
         let words = ["avscan", "import", word, "a", "b"];
-        assert!(&rt; taking_of(alloc, words.as_slice()) == Some((1, 2, taking)), "{word}");
+        assert!(&rt;
+            taking_of(alloc, words.as_slice()) == Some((1, 2, taking)),
+            "{word}"
+        );
     }
-    let most = ["avscan", "import", "--set-version", "18446744073709551615", "a"];
+    let most = [
+        "avscan",
+        "import",
+        "--set-version",
+        "18446744073709551615",
+        "a",
+    ];
     let version = 18_446_744_073_709_551_615;
     assert!(&rt; taking_of(alloc, most.as_slice()) == Some((version, 1, plain)));
     let zero = ["avscan", "import", "--set-version", "0", "a"];
