@@ -15,6 +15,7 @@ EXAMPLES = os.path.join(os.path.dirname(HERE), "examples")
 SET = os.path.join(EXAMPLES, "test.avsig")
 LETTER = os.path.join(EXAMPLES, "letter.txt")
 SCRIPT = os.path.join(EXAMPLES, "late_reply.avs")
+IMPORTED = [os.path.join(HERE, "import", name) for name in ("a.ndb", "b.yar", "d.db")]
 LONG = b"volume 1 closed\n" + b"".join(b"create s%d\n" % i for i in range(3000))
 
 
@@ -26,13 +27,15 @@ def devices(cases, program):
     short = b"volume 1 closed\n"
     jobs = [("one line", [program, "run", "-"], short), ("3,000 lines", [program, "run", "-"], LONG), ("3,000 objects", [program, "run", "--json", "-"], LONG),
             ("a file scanned", [program, "scan", SET, LETTER], b""), ("3,000 files as JSON", [program, "scan", "--json", SET] + [LETTER] * 3000, b""), ("3,000 files scanned", [program, "scan", SET] + [LETTER] * 3000, b""),
-            ("a help text", [program, "--help"], b"")]
+            ("a help text", [program, "--help"], b""), ("a picture", [program, "chart", SCRIPT], b""), ("a random script", [program, "generate", "--seed", "1", "--commands", "9"], b""),
+            ("an import", [program, "import", IMPORTED[2]], b"")]
     for name, words, given in jobs:
+        told = (4, run(words, given, stdout=subprocess.DEVNULL).stderr + b"avscan: device\n")
         with open("/dev/full", "wb") as full:
             done = run(words, given, stdout=full)
-        cases.check(f"{name} on a full device", done.returncode == 4 and done.stderr == b"avscan: device\n", f"status {done.returncode}, {done.stderr!r}")
+        cases.same(f"{name} on a full device", (done.returncode, done.stderr), told)
         done = run(["sh", "-c", '"$@" >&-', "sh"] + words, given)
-        cases.check(f"{name} on a closed output", done.returncode == 4 and done.stderr == b"avscan: device\n", f"status {done.returncode}, {done.stderr!r}")
+        cases.same(f"{name} on a closed output", (done.returncode, done.stderr), told)
         reading, writing = os.pipe()
         os.close(reading)
         done = run(words, given, stdout=writing)
@@ -46,15 +49,17 @@ def devices(cases, program):
 def memory(cases, program):
     with tempfile.TemporaryDirectory() as work:
         library = built(work, "fail_nth")
-        for words in (["run", SCRIPT], ["run", "--json", SCRIPT], ["scan", SET, LETTER], ["scan", "--json", "-k", SET, LETTER], ["--help"]):
-            whole = run([program] + words, stdout=subprocess.PIPE).stdout
+        for words in (["run", SCRIPT], ["run", "--json", SCRIPT], ["scan", SET, LETTER], ["scan", "--json", "-k", SET, LETTER], ["--help"], ["chart", SCRIPT],
+                      ["generate", "--seed", "2", "--commands", "60"], ["import", *IMPORTED]):
+            whole = run([program] + words, stdout=subprocess.PIPE)
             refused, in_a_row, number = 0, 0, 0
             while in_a_row < 20:
                 number += 1
                 environment = dict(os.environ, LD_PRELOAD=library, FAIL_NTH=str(number))
                 done = run([program] + words, stdout=subprocess.PIPE, env=environment)
-                told = done.returncode == 3 and done.stderr == b"avscan: no memory\n" and whole.startswith(done.stdout)
-                spared = done.returncode == 0 and done.stdout == whole and done.stderr == b""
+                before, line, _ = done.stderr.partition(b"avscan: no memory\n")
+                told = done.returncode == 3 and line and whole.stderr.startswith(before) and whole.stdout.startswith(done.stdout)
+                spared = (done.returncode, done.stdout, done.stderr) == (0, whole.stdout, whole.stderr)
                 in_a_row = in_a_row + 1 if spared else 0
                 refused += told
                 if not told and not spared:
