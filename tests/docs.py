@@ -170,12 +170,17 @@ def printed(checks, page, text, program):
 
 
 def pictures(checks, program):
-    """Each picture of docs/ is what the program draws of the example of its name."""
+    """Each picture of docs/ is what the program draws of the example of its name, and what the program made of examples/ is made so."""
     for path in sorted(glob.glob(os.path.join(ROOT, "docs", "*.svg"))):
         name = os.path.basename(path)[: -len(".svg")]
         done = subprocess.run([program, "chart", f"examples/{name}.avs"], cwd=ROOT, stdout=subprocess.PIPE)
         with open(path, "rb") as file:
             checks.check(done.stdout == file.read(), f"docs/{name}.svg is not what `avscan chart examples/{name}.avs` draws")
+    made = {"random.avs": ["generate", "--seed", "17", "--commands", "200"], "random.svg": ["chart", "--from", "60", "--to", "100", "examples/random.avs"]}
+    for name, words in made.items():
+        done = subprocess.run([program, *words], cwd=ROOT, stdout=subprocess.PIPE)
+        with open(os.path.join(ROOT, "examples", name), "rb") as file:
+            checks.check(done.stdout == file.read(), f"examples/{name} is not what `avscan {' '.join(words)}` writes")
 
 
 def help_of(program, *words):
