@@ -4,7 +4,7 @@
 usage: build.py
 
 A first build is `rt ci` in a copy without tests and edits (whole.sh): there a library is loaded by its statements alone, which takes
-about two thirds of the processor time and of the memory, and keeps nothing. Once something has changed, prove.py builds over what it
+about two thirds of the processor time, and keeps nothing. Once something has changed, prove.py builds over what it
 keeps: the first time that takes longer than the first build, and from then on a build proves what has changed.
 """
 import fcntl
