@@ -1,0 +1,5 @@
+pub mod Spelling
+pub mod Head
+pub mod Reading
+pub mod Feed
+pub mod Laws

@@ -1,0 +1,52 @@
+use thiserror::Error;
+
+/// Why bytes are no ask: the first of these that holds. Whoever feeds them closes the connection.
+#[derive(Clone, Copy, Debug, PartialEq, Eq, Error)]
+pub enum AskFault {
+    /// A fault was met before. The feed is of no further use.
+    #[error("Broken")]
+    Broken,
+    /// The body would have fewer than 10 bytes or more than 1,048,841. It is told before the body came.
+    #[error("Length")]
+    Length,
+    /// The body's first byte is not an ask's. It is told as soon as that byte is there.
+    #[error("Kind")]
+    Kind,
+    /// The label goes past the end of the body.
+    #[error("Label")]
+    Label,
+    /// The content has more than 1,048,576 bytes.
+    #[error("Content")]
+    Content,
+}
+
+/// Why bytes are no answer: the first of these that holds.
+#[derive(Clone, Copy, Debug, PartialEq, Eq, Error)]
+pub enum AnswerFault {
+    /// A fault was met before. The feed is of no further use.
+    #[error("Broken")]
+    Broken,
+    /// The body would have fewer than 10 bytes or more than 25. It is told before the body came.
+    #[error("Length")]
+    Length,
+    /// No answer has the body's first byte. It is told as soon as that byte is there.
+    #[error("Kind")]
+    Kind,
+    /// No answer of its kind has as many bytes.
+    #[error("Shape")]
+    Shape,
+    /// No cause has that number.
+    #[error("Cause")]
+    Cause,
+}
+
+/// Why an ask can't be spelled.
+#[derive(Clone, Copy, Debug, PartialEq, Eq, Error)]
+pub enum TooLong {
+    /// The label has more than 255 bytes.
+    #[error("Label")]
+    Label,
+    /// The content has more than 1,048,576 bytes.
+    #[error("Content")]
+    Content,
+}
