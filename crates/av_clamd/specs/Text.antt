@@ -1,0 +1,89 @@
+use Rattle.std.specs.Prelude.{ℕ, ◌≡◌, Vec, ◌+◌, ◌-◌, ◌==◌, ◌&&◌, ◌||◌, Bool, true, false, nat_lt, List, [], ◌∷◌, ◌++◌, length, take, drop, Option, None, Some, codes, decimal, slice_index, if◌then◌else◌}
+use Rattle.std.specs.Str.{bytes_eq}
+use Rattle.std.specs.declared.alloc.Global.{Global}
+use Rattle.av_clamd.specs.declared.reply.Spoken.{Spoken}
+use Rattle.av_clamd.specs.declared.reply.Spoken.TheVariants.{Clean, Found, FoundAt, NoVerdict}
+
+-- a line of the command of a number, which is 0 outside of a session: the number, what is said, and how the command ended
+abbrev pub numbered : ℕ → List ℕ
+numbered number = if number == 0 then [] else decimal number ++ codes ": "
+
+-- the line of a text
+abbrev pub line_of : ℕ → List ℕ → ℕ → List ℕ
+line_of number text end = numbered number ++ text ++ end ∷ []
+
+-- where a signature stands whose name isn't known
+abbrev pub place_text : ℕ → ℕ → List ℕ
+place_text index version = codes "signature-" ++ decimal index ++ codes "-of-version-" ++ decimal version ++ codes " FOUND"
+
+-- that there is no verdict, and why
+abbrev pub cause_text : ℕ → List ℕ
+cause_text cause = codes "no verdict, cause " ++ decimal cause ++ codes ". ERROR"
+
+-- what is said of a verdict: OK of a content that was granted alone
+abbrev pub verdict_text : Spoken → List ℕ
+verdict_text Clean = codes "OK"
+verdict_text (Found name) = name.now ++ codes " FOUND"
+verdict_text (FoundAt index version) = place_text index version
+verdict_text (NoVerdict cause) = cause_text cause
+
+-- the reply to a content
+abbrev pub reply_of : ℕ → ℕ → Spoken → List ℕ
+reply_of number end verdict = line_of number (codes "stream: " ++ verdict_text verdict) end
+
+-- what is told of a client that says nothing
+abbrev pub timed_out : ℕ → List ℕ
+timed_out end = codes "COMMAND READ TIMED OUT" ++ end ∷ []
+
+-- how a command ends that begins with these bytes: NUL behind a z, else LF
+abbrev pub end_of : List ℕ → ℕ
+end_of [] = 10
+end_of (b ∷ bs) = if b == 122 then 0 else 10
+
+-- a command begins with n or z
+abbrev pub is_marked : List ℕ → Bool
+is_marked [] = false
+is_marked (b ∷ bs) = b == 110 || b == 122
+
+-- bytes without a CR at their end
+abbrev pub without_cr : List ℕ → List ℕ
+without_cr bytes = if slice_index bytes (length bytes - 1) == 13 then take (length bytes - 1) bytes else bytes
+
+-- what a command says: all behind its mark, or all but a CR at its end
+abbrev pub word_of : List ℕ → List ℕ
+word_of command = if is_marked command then drop 1 command else without_cr command
+
+-- what stands behind these first bytes, where it is something
+abbrev pub behind : List ℕ → List ℕ → Option (List ℕ)
+behind first word =
+    if nat_lt (length first) (length word) && bytes_eq (take (length first) word) first then Some (drop (length first) word) else None
+
+-- the first of two that is there
+abbrev pub first_some : Option (List ℕ) → Option (List ℕ) → Option (List ℕ)
+first_some (Some x) other = Some x
+first_some None other = other
+
+-- the path of a command that asks about one
+unfoldable pub path_of : List ℕ → Option (List ℕ)
+path_of word =
+    first_some (behind (codes "SCAN ") word) (first_some (behind (codes "CONTSCAN ") word)
+    (first_some (behind (codes "MULTISCAN ") word) (behind (codes "ALLMATCHSCAN ") word)))
+
+-- what is said to a path: no file is opened for anybody
+abbrev pub refused_path : Option (List ℕ) → Option (List ℕ)
+refused_path None = None
+refused_path (Some path) = Some (path ++ codes ": no path is read here, send the content (INSTREAM). ERROR")
+
+-- what is said to a word that is answered by a line, where it is one
+unfoldable pub answered : List ℕ → Option (List ℕ)
+answered word =
+    if bytes_eq word (codes "PING") then Some (codes "PONG")
+    else if bytes_eq word (codes "VERSION") then Some (codes "Vizdroun 1")
+    else if bytes_eq word (codes "VERSIONCOMMANDS")
+    then Some (codes "Vizdroun 1| COMMANDS: PING VERSION VERSIONCOMMANDS INSTREAM IDSESSION END")
+    else refused_path (path_of word)
+
+-- a text, where one is wanted
+abbrev pub IsText : Option (Vec ℕ Global) → Option (List ℕ) → Type 0
+IsText None wanted = wanted ≡ None
+IsText (Some text) wanted = wanted ≡ Some text.items

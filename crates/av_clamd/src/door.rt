@@ -1,0 +1,279 @@
+ghost use Rattle.std.specs.Prelude.{◌≡◌, map, IfOk, OnErr, OnOk};
+ghost use Rattle.av_clamd.specs.declared.door.Reading.TheVariants.{Nothing};
+ghost use Rattle.av_clamd.specs.Text.{answered};
+ghost use Rattle.av_clamd.specs.Laws.{before};
+ghost use Rattle.av_clamd.specs.Door.{Steps, after_reply, answers, commanded, finished, fresh, heard_of, in_command, in_piece, in_size, is_nothing, obeyed, option_told, says, sized, step, told};
+
+use crate::text::{answered, end_of, is_marked, line_of, word_of};
+use std::alloc::{AllocError, Global};
+use std::marker::Model;
+use std::mem;
+
+/// The most bytes of a command, with its end.
+pub const LONGEST: usize = 1_024;
+
+/// The most bytes of a content.
+pub const MAX_CONTENT: usize = 1_048_576;
+
+/// What came of bytes, in the order of the bytes.
+#[derive(Debug, Drop)]
+pub enum Heard {
+    /// This is to be said to the client at once.
+    Say(Vec<u8>),
+    /// This content is asked about. Its reply wants the command's number, which is 0 outside of a session, and its end.
+    Ask {
+        number: u64,
+        end: u8,
+        content: Vec<u8>,
+    },
+}
+
+// What a door reads next.
+#[derive(Clone, Copy, Debug, PartialEq, Eq)]
+pub enum Reading {
+    /// A command.
+    Command,
+    /// The four bytes of a piece's length.
+    Size,
+    /// A piece with so many bytes left.
+    Piece(u32),
+    /// Nothing more: the client is left once it was told what it is owed.
+    Nothing,
+}
+
+/// What one client of clamd's protocol says. It keeps a command of at most 1,024 bytes and a content of at most 1,048,576,
+/// as they come.
+#[derive(Drop)]
+pub struct Door {
+    alloc: Global,
+    reading: Reading,
+    begun: Vec<u8>,
+    content: Vec<u8>,
+    dropped: bool,
+    session: bool,
+    number: u64,
+    end: u8,
+}
+
+impl Model for Door {
+    ghost use Rattle.av_clamd.specs.Door.{Opened};
+
+    ghost Value = { Opened };
+
+    ghost view = { λ d. record { reading = d.reading; begun = d.begun.items; content = d.content.items; dropped = d.dropped; session = d.session; number = d.number; end = d.end } };
+}
+
+impl Door {
+    /// The door of a client that said nothing yet. It takes no memory.
+    pub fn new(alloc: Global) -> Door
+        ensures { result ≡ fresh }
+    {
+        Door {
+            alloc,
+            reading: Reading::Command,
+            begun: Vec::new(alloc),
+            content: Vec::new(alloc),
+            dropped: false,
+            session: false,
+            number: 0,
+            end: b'\n',
+        }
+    }
+
+    /// Takes the next bytes that the client sent, cut anywhere, at a cost of so many steps. Where memory is refused the
+    /// client is to be left: nothing more is read of it, and what these bytes gave is lost.
+    pub fn hear(&mut self, piece: &[u8]) -> Result<Vec<Heard>, AllocError>
+        ensures ok { IfOk result (λ all. (self.new, map told all.items) ≡ heard_of piece.now self.old) }
+        ensures err { OnErr result (self.new.reading ≡ Nothing) }
+    {
+        let mut heard = Vec::new(self.alloc);
+        match hear_all(self, piece, &mut heard) {
+            Ok(()) => Ok(heard),
+            Err(refused) => {
+                self.reading = Reading::Nothing;
+                Err(refused)
+            }
+        }
+    }
+
+    /// Whether nothing more is read. The client is left once each content that it asked about was answered.
+    pub fn is_done(&self) -> bool
+        ensures { result ≡ is_nothing self.now.reading }
+    {
+        matches!(self.reading, Reading::Nothing)
+    }
+
+    /// How the client's last command ended, LF before the first: the end of `put_timed_out`'s line.
+    pub fn end(&self) -> u8
+        ensures { result ≡ self.now.end }
+    {
+        self.end
+    }
+
+    #[tactic(auto, unfolding(crate::specs::Door::step))]
+    fn step(&mut self, byte: u8) -> Result<Option<Heard>, AllocError>
+        ensures { Steps self.new result (step byte self.old) }
+    {
+        match self.reading {
+            Reading::Command => self.command_byte(byte),
+            Reading::Size => self.size_byte(byte),
+            Reading::Piece(left) => self.piece_byte(left, byte),
+            Reading::Nothing => Ok(None),
+        }
+    }
+
+    fn command_byte(&mut self, byte: u8) -> Result<Option<Heard>, AllocError>
+        ensures { Steps self.new result (in_command byte self.old) }
+    {
+        if byte == end_of(&self.begun) {
+            return self.command();
+        }
+        if self.begun.len() + 1 < LONGEST {
+            self.begun.push(byte)?;
+        } else {
+            self.reading = Reading::Nothing;
+        }
+        Ok(None)
+    }
+
+    fn command(&mut self) -> Result<Option<Heard>, AllocError>
+        ensures { Steps self.new result (commanded self.old) }
+    {
+        let command = mem::replace(&mut self.begun, Vec::new(self.alloc));
+        self.end = end_of(&command);
+        if self.session {
+            self.number = self.number.saturating_add(1);
+        }
+        self.obey(is_marked(&command), word_of(&command))
+    }
+
+    fn obey(&mut self, marked: bool, word: &[u8]) -> Result<Option<Heard>, AllocError>
+        ensures { Steps self.new result (obeyed marked word.now self.old) }
+    {
+        if word == b"INSTREAM".as_slice() && marked {
+            self.reading = Reading::Size;
+            self.content.clear();
+            self.dropped = false;
+            return Ok(None);
+        }
+        if word == b"IDSESSION".as_slice() && marked && !self.session {
+            self.reading = Reading::Command;
+            self.session = true;
+            return Ok(None);
+        }
+        if word == b"END".as_slice() && self.session {
+            self.reading = Reading::Nothing;
+            return Ok(None);
+        }
+        self.answer(word)
+    }
+
+    fn answer(&mut self, word: &[u8]) -> Result<Option<Heard>, AllocError>
+        ensures { Steps self.new result (answers (answered word.now) self.old) }
+    {
+        let next = self.after_reply();
+        match answered(self.alloc, word)? {
+            Some(text) => self.say(&text, next),
+            None if self.session => {
+                self.say(b"Command invalid inside IDSESSION. ERROR", Reading::Nothing)
+            }
+            None => self.say(b"UNKNOWN COMMAND", Reading::Nothing),
+        }
+    }
+
+    fn say(&mut self, text: &[u8], next: Reading) -> Result<Option<Heard>, AllocError>
+        ensures { Steps self.new result (says text.now next self.old) }
+    {
+        self.reading = next;
+        let line = line_of(self.alloc, self.number, text, self.end)?;
+        Ok(Some(Heard::Say(line)))
+    }
+
+    fn after_reply(&self) -> Reading
+        ensures { result ≡ after_reply self.now }
+    {
+        if self.session {
+            Reading::Command
+        } else {
+            Reading::Nothing
+        }
+    }
+
+    fn size_byte(&mut self, byte: u8) -> Result<Option<Heard>, AllocError>
+        ensures { Steps self.new result (in_size byte self.old) }
+    {
+        self.begun.push(byte)?;
+        if self.begun.len() < 4 {
+            return Ok(None);
+        }
+        let mut field = [0u8; 4];
+        field.copy_from_slice(&self.begun[..4]);
+        self.begun.clear();
+        self.sized(u32::from_be_bytes(field))
+    }
+
+    fn sized(&mut self, size: u32) -> Result<Option<Heard>, AllocError>
+        ensures { Steps self.new result (sized size self.old) }
+    {
+        if size == 0 {
+            return Ok(self.finished());
+        }
+        if self.dropped {
+            self.reading = Reading::Piece(size);
+            return Ok(None);
+        }
+        if self.content.len() + size as usize > MAX_CONTENT {
+            self.content = Vec::new(self.alloc);
+            self.dropped = true;
+            return self.say(
+                b"stream: INSTREAM size limit exceeded. ERROR",
+                Reading::Piece(size),
+            );
+        }
+        self.reading = Reading::Piece(size);
+        Ok(None)
+    }
+
+    fn finished(&mut self) -> Option<Heard>
+        ensures { (self.new, option_told result) ≡ finished self.old }
+    {
+        self.reading = self.after_reply();
+        let content = mem::replace(&mut self.content, Vec::new(self.alloc));
+        if self.dropped {
+            self.dropped = false;
+            return None;
+        }
+        Some(Heard::Ask {
+            number: self.number,
+            end: self.end,
+            content,
+        })
+    }
+
+    fn piece_byte(&mut self, left: u32, byte: u8) -> Result<Option<Heard>, AllocError>
+        ensures { Steps self.new result (in_piece left byte self.old) }
+    {
+        self.reading = if left > 1 {
+            Reading::Piece(left - 1)
+        } else {
+            Reading::Size
+        };
+        if !self.dropped {
+            self.content.push(byte)?;
+        }
+        Ok(None)
+    }
+}
+
+// Takes bytes one after another, and puts what came of them behind what came before.
+fn hear_all(door: &mut Door, piece: &[u8], heard: &mut Vec<Heard>) -> Result<(), AllocError>
+    ensures { OnOk result ((door.new, map told heard.new.items)
+        ≡ before (map told heard.old.items) (heard_of piece.now door.old)) }
+{
+    'bytes: for byte in piece {
+        if let Some(one) = door.step(*byte)? {
+            heard.push(one)?;
+        }
+    }
+    Ok(())
+}

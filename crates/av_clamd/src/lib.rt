@@ -1,0 +1,19 @@
+//! What a client of clamd's protocol says to a guard and is told (clamd(8), COMMANDS): a `Door` turns the bytes that it
+//! sends into lines that are said at once and contents that are asked about; replies are spelled as clamd spells them.
+//! docs/FORMATS.md has the commands. No socket stands here: bytes go in, bytes come out.
+//!
+//! ```text
+//! let heard = door.hear(b"zPING\0")?;
+//! assert!(matches!(heard.as_slice(), [Heard::Say(line)] if line.as_slice() == b"PONG\0"));
+//! ```
+#![tactic(auto)]
+
+pub mod door;
+pub mod laws;
+pub mod reply;
+#[cfg(test)]
+mod tests;
+mod text;
+
+pub use door::{Door, Heard};
+pub use reply::{Spoken, put_reply, put_timed_out};

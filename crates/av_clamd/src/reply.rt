@@ -1,0 +1,82 @@
+ghost use Rattle.std.specs.Prelude.{◌≡◌, ◌++◌, OnErr, OnOk};
+ghost use Rattle.av_clamd.specs.Text.{cause_text, place_text, reply_of, timed_out, verdict_text};
+
+use crate::text::{numbered, put_number};
+use std::alloc::AllocError;
+
+/// What is said of a content that was asked about.
+#[derive(Clone, Copy)]
+pub enum Spoken<'a> {
+    /// It was granted. No other answer is spelled `OK`.
+    Clean,
+    /// A signature of this name occurs in it.
+    Found(&'a [u8]),
+    /// A signature occurs in it whose name isn't known: where it stands in the set of which version.
+    FoundAt { index: u64, version: u64 },
+    /// It could not be judged, for the cause of this number, whether it is let through or not.
+    NoVerdict { cause: u8 },
+}
+
+/// Appends the reply to a content, under the number and the end of its command. Where memory is refused nothing is appended.
+pub fn put_reply(
+    out: &mut Vec<u8>,
+    number: u64,
+    end: u8,
+    verdict: &Spoken<'_>,
+) -> Result<(), AllocError>
+    ensures ok { OnOk result (out.new.items ≡ out.old.items ++ reply_of number end verdict.now) }
+    ensures err { OnErr result (out.new.items ≡ out.old.items) }
+{
+    let alloc = *out.allocator();
+    let mut line = numbered(alloc, number)?;
+    line.extend_from_slice(b"stream: ")?;
+    put_verdict(&mut line, *verdict)?;
+    line.push(end)?;
+    out.extend_from_slice(&line)
+}
+
+// Appends what is said of a verdict.
+fn put_verdict(line: &mut Vec<u8>, verdict: Spoken<'_>) -> Result<(), AllocError>
+    ensures { OnOk result (line.new.items ≡ line.old.items ++ verdict_text verdict.entry) }
+{
+    match verdict {
+        Spoken::Clean => line.extend_from_slice(b"OK"),
+        Spoken::Found(name) => {
+            line.extend_from_slice(name)?;
+            line.extend_from_slice(b" FOUND")
+        }
+        Spoken::FoundAt { index, version } => put_place(line, index, version),
+        Spoken::NoVerdict { cause } => put_cause(line, cause),
+    }
+}
+
+// Appends where a signature stands whose name isn't known.
+fn put_place(line: &mut Vec<u8>, index: u64, version: u64) -> Result<(), AllocError>
+    ensures { OnOk result (line.new.items ≡ line.old.items ++ place_text index version) }
+{
+    line.extend_from_slice(b"signature-")?;
+    put_number(line, index)?;
+    line.extend_from_slice(b"-of-version-")?;
+    put_number(line, version)?;
+    line.extend_from_slice(b" FOUND")
+}
+
+// Appends that there is no verdict, and why.
+fn put_cause(line: &mut Vec<u8>, cause: u8) -> Result<(), AllocError>
+    ensures { OnOk result (line.new.items ≡ line.old.items ++ cause_text cause) }
+{
+    line.extend_from_slice(b"no verdict, cause ")?;
+    put_number(line, u64::from(cause))?;
+    line.extend_from_slice(b". ERROR")
+}
+
+/// Appends what a client is told that said nothing for too long, with its last command's end (`Door::end`). Where memory is
+/// refused nothing is appended.
+pub fn put_timed_out(out: &mut Vec<u8>, end: u8) -> Result<(), AllocError>
+    ensures ok { OnOk result (out.new.items ≡ out.old.items ++ timed_out end) }
+    ensures err { OnErr result (out.new.items ≡ out.old.items) }
+{
+    let mut line = *b"COMMAND READ TIMED OUT ";
+    line[22] = end;
+    out.extend_from_slice(&line)
+}
