@@ -16,9 +16,13 @@ line_of number text end = numbered number ++ text ++ end ∷ []
 abbrev pub place_text : ℕ → ℕ → List ℕ
 place_text index version = codes "signature-" ++ decimal index ++ codes "-of-version-" ++ decimal version ++ codes " FOUND"
 
+-- why there is no verdict: for the cause of this number
+unfoldable pub why_text : ℕ → List ℕ
+why_text cause = codes "cause " ++ decimal cause ++ codes ". ERROR"
+
 -- that there is no verdict, and why
 abbrev pub cause_text : ℕ → List ℕ
-cause_text cause = codes "no verdict, cause " ++ decimal cause ++ codes ". ERROR"
+cause_text cause = codes "no verdict, " ++ why_text cause
 
 -- what is said of a verdict: OK of a content that was granted alone
 abbrev pub verdict_text : Spoken → List ℕ

@@ -1,5 +1,5 @@
 ghost use Rattle.std.specs.Prelude.{◌≡◌, ◌++◌, OnErr, OnOk};
-ghost use Rattle.av_clamd.specs.Text.{cause_text, place_text, reply_of, timed_out, verdict_text};
+ghost use Rattle.av_clamd.specs.Text.{cause_text, place_text, reply_of, timed_out, verdict_text, why_text};
 
 use crate::text::{numbered, put_number};
 use std::alloc::AllocError;
@@ -46,7 +46,7 @@ fn put_verdict(line: &mut Vec<u8>, verdict: Spoken<'_>) -> Result<(), AllocError
             line.extend_from_slice(b" FOUND")
         }
         Spoken::FoundAt { index, version } => put_place(line, index, version),
-        Spoken::NoVerdict { cause } => put_cause(line, cause),
+        Spoken::NoVerdict { cause } => put_cause(line, u64::from(cause)),
     }
 }
 
@@ -62,11 +62,19 @@ fn put_place(line: &mut Vec<u8>, index: u64, version: u64) -> Result<(), AllocEr
 }
 
 // Appends that there is no verdict, and why.
-fn put_cause(line: &mut Vec<u8>, cause: u8) -> Result<(), AllocError>
+fn put_cause(line: &mut Vec<u8>, cause: u64) -> Result<(), AllocError>
     ensures { OnOk result (line.new.items ≡ line.old.items ++ cause_text cause) }
 {
-    line.extend_from_slice(b"no verdict, cause ")?;
-    put_number(line, u64::from(cause))?;
+    line.extend_from_slice(b"no verdict, ")?;
+    put_why(line, cause)
+}
+
+#[tactic(auto, unfolding(crate::specs::Text::why_text))]
+fn put_why(line: &mut Vec<u8>, cause: u64) -> Result<(), AllocError>
+    ensures { OnOk result (line.new.items ≡ line.old.items ++ why_text cause) }
+{
+    line.extend_from_slice(b"cause ")?;
+    put_number(line, cause)?;
     line.extend_from_slice(b". ERROR")
 }
 

@@ -1,0 +1,232 @@
+mod rows;
+
+use crate::door::{Door, Heard};
+use crate::reply::{Spoken, put_reply, put_timed_out};
+use crate::tests::rows::{REPLIES, ROWS};
+use av_fakes::{may_refuse, refuse_no_more};
+use std::alloc::Global;
+use std::test::Fail;
+
+// Writes what was heard: S and a line, or A, a number, an end and a content, each with a bar behind it.
+fn write_down(all: &[Heard], out: &mut Vec<u8>) -> Result<(), Fail> {
+    for heard in all {
+        match heard {
+            Heard::Say(line) => {
+                out.push(b'S')?;
+                out.extend_from_slice(line)?;
+            }
+            Heard::Ask {
+                number,
+                end,
+                content,
+            } => {
+                out.extend_from_slice(&[b'A', b'0'.wrapping_add(*number as u8), *end])?;
+                out.extend_from_slice(content)?;
+            }
+        }
+        out.push(b'|')?;
+    }
+    Ok(())
+}
+
+// What a new door hears of these bytes, cut at these places, and D where it is done, else O.
+fn heard(alloc: Global, bytes: &[u8], first: usize, second: usize) -> Result<Vec<u8>, Fail> {
+    let mut door = Door::new(alloc);
+    let mut out = Vec::new(alloc);
+    let (front, rest) = bytes.split_at(first.min(bytes.len()));
+    let (middle, back) = rest.split_at(second.min(rest.len()));
+    write_down(&door.hear(front)?, &mut out)?;
+    write_down(&door.hear(middle)?, &mut out)?;
+    write_down(&door.hear(back)?, &mut out)?;
+    out.push(if door.is_done() { b'D' } else { b'O' })?;
+    Ok(out)
+}
+
+#[test]
+fn each_exchange_is_heard_however_it_is_cut(rt: HostRuntime) -> Result<(), Fail> {
+    for (bytes, wanted) in ROWS.as_slice() {
+        for cut in 0..=bytes.len() {
+            let out = heard(rt.alloc(), bytes, cut, 1)?;
+            assert!(rt; out.as_slice() == *wanted, "at {cut}");
+        }
+    }
+    Ok(())
+}
+
+// A number from a seed, which goes on.
+fn draw(seed: &mut u64, below: u64) -> u64 {
+    *seed = seed
+        .wrapping_mul(6_364_136_223_846_793_005)
+        .wrapping_add(1_442_695_040_888_963_407);
+    (*seed >> 33).checked_rem(below).unwrap_or(0)
+}
+
+const BYTES: &[u8] = b"\0\0\x01\x02\x03\n\rznPING SCAN/INSTREAMIDSESSIONEND\xff";
+
+#[test]
+fn mutated_exchanges_are_heard_alike_in_pieces(rt: HostRuntime) -> Result<(), Fail> {
+    let mut seed = 1;
+    for round in 0..20_000u64 {
+        assert!(rt; is_heard_alike(rt.alloc(), &mut seed)?, "in round {round}");
+    }
+    Ok(())
+}
+
+fn is_heard_alike(alloc: Global, seed: &mut u64) -> Result<bool, Fail> {
+    let mut bytes = Vec::new(alloc);
+    for _ in 0..2u8 {
+        let row = draw(seed, ROWS.len() as u64) as usize;
+        let (row, _) = ROWS.as_slice().get(row).ok_or("a row")?;
+        bytes.extend_from_slice(row)?;
+    }
+    for _ in 0..draw(seed, 4) {
+        let at = draw(seed, bytes.len() as u64) as usize;
+        let byte = draw(seed, BYTES.len() as u64) as usize;
+        if at < bytes.len() && byte < BYTES.len() {
+            bytes[at] = BYTES[byte];
+        }
+    }
+    let (first, second) = (draw(seed, 60) as usize, draw(seed, 30) as usize);
+    let whole = heard(alloc, &bytes, 0, 0)?;
+    Ok(whole.as_slice() == heard(alloc, &bytes, first, second)?.as_slice())
+}
+
+#[test]
+fn a_command_has_1024_bytes_with_its_end(rt: HostRuntime) -> Result<(), Fail> {
+    let mut long = vec![in rt.alloc(); b'A'; 1_024]?;
+    assert_eq!(rt;
+        heard(rt.alloc(), &long, 1_023, 1)?.as_slice(),
+        b"D".as_slice()
+    );
+    assert_eq!(rt;
+        heard(rt.alloc(), &long[1..], 9, 9)?.as_slice(),
+        b"O".as_slice()
+    );
+    long[1_023] = b'\n';
+    let out = heard(rt.alloc(), &long, 0, 0)?;
+    assert_eq!(rt; out.as_slice(), b"SUNKNOWN COMMAND\n|D".as_slice());
+    Ok(())
+}
+
+#[test]
+fn a_content_of_1048576_bytes_is_asked_about(rt: HostRuntime) -> Result<(), Fail> {
+    let content = vec![in rt.alloc(); b'x'; 1_048_576]?;
+    let mut door = Door::new(rt.alloc());
+    assert!(rt; door.hear(b"zINSTREAM\0\x00\x10\x00\x00")?.is_empty());
+    assert!(rt; door.hear(&content)?.is_empty() && !door.is_done());
+    let all = door.hear(b"\0\0\0\0zPING\0")?;
+    assert!(rt;
+        matches!(all.as_slice(), [Heard::Ask { content, .. }] if content.len() == 1_048_576)
+    );
+    assert!(rt; door.is_done());
+    Ok(())
+}
+
+const TOO_LONG: &[u8] = b"S1: stream: INSTREAM size limit exceeded. ERROR\0|";
+
+#[test]
+fn what_is_too_long_is_told_and_dropped(rt: HostRuntime) -> Result<(), Fail> {
+    let content = vec![in rt.alloc(); 0u8; 1_048_577]?;
+    let mut door = Door::new(rt.alloc());
+    let mut out = Vec::new(rt.alloc());
+    write_down(
+        &door.hear(b"zIDSESSION\0zINSTREAM\0\x00\x10\x00\x01")?,
+        &mut out,
+    )?;
+    assert_eq!(rt; out.as_slice(), TOO_LONG);
+    assert!(rt; door.hear(&content)?.is_empty());
+    assert!(rt; door.hear(b"\0\0\0\x04more\0\0\0\0")?.is_empty());
+    let all = door.hear(b"zINSTREAM\0\0\0\0\x03one\0\0\0\0")?;
+    assert!(rt;
+        matches!(all.as_slice(), [Heard::Ask { number: 2, end: 0, content }] if content.len() == 3)
+    );
+    assert!(rt; !door.is_done());
+    Ok(())
+}
+
+#[test]
+fn what_grows_too_long_ends_a_connection_once_it_was_read(rt: HostRuntime) -> Result<(), Fail> {
+    let content = vec![in rt.alloc(); 0u8; 1_048_574]?;
+    let mut door = Door::new(rt.alloc());
+    let mut out = Vec::new(rt.alloc());
+    write_down(
+        &door.hear(b"nINSTREAM\n\0\0\0\x03abc\x00\x0f\xff\xfe")?,
+        &mut out,
+    )?;
+    assert_eq!(rt;
+        out.as_slice(),
+        b"Sstream: INSTREAM size limit exceeded. ERROR\n|".as_slice()
+    );
+    assert!(rt; door.hear(&content)?.is_empty() && !door.is_done());
+    assert!(rt; door.hear(b"\0\0\0\0")?.is_empty() && door.is_done());
+    Ok(())
+}
+
+#[test]
+fn each_verdict_is_spoken_as_clamd_speaks_it(rt: HostRuntime) -> Result<(), Fail> {
+    for (number, end, verdict, wanted) in REPLIES.as_slice() {
+        let mut out = Vec::new(rt.alloc());
+        out.push(b'<')?;
+        put_reply(&mut out, *number, *end, verdict)?;
+        assert!(rt; out.as_slice() == *wanted);
+    }
+    Ok(())
+}
+
+#[test]
+fn who_says_nothing_is_told_with_the_last_commands_end(rt: HostRuntime) -> Result<(), Fail> {
+    let mut door = Door::new(rt.alloc());
+    assert_eq!(rt; door.end(), b'\n');
+    assert!(rt; door.hear(b"zIDSESSION\0nPI")?.is_empty());
+    let mut out = Vec::new(rt.alloc());
+    put_timed_out(&mut out, door.end())?;
+    assert_eq!(rt; out.as_slice(), b"COMMAND READ TIMED OUT\0".as_slice());
+    Ok(())
+}
+
+const SPOKEN: &[u8] = b"zIDSESSION\0zPING\0zINSTREAM\0\0\0\0\x03abc\0\0\0\0zSCAN /x\0";
+
+#[test]
+fn refused_or_not_bytes_are_heard(rt: HostRuntime) -> Result<(), Fail> {
+    let mut door = Door::new(rt.alloc());
+    may_refuse(rt.alloc());
+    let first = door.hear(SPOKEN);
+    refuse_no_more(rt.alloc());
+    match first {
+        Ok(all) => assert!(rt; all.len() == 3 && !door.is_done()),
+        Err(_) => assert!(rt; door.is_done() && door.hear(SPOKEN)?.is_empty()),
+    }
+    Ok(())
+}
+
+#[test]
+fn refused_or_not_a_verdict_is_spoken(rt: HostRuntime) -> Result<(), Fail> {
+    let mut out = Vec::new(rt.alloc());
+    let verdict = Spoken::FoundAt {
+        index: 3,
+        version: 7,
+    };
+    may_refuse(rt.alloc());
+    let first = put_reply(&mut out, 5, 0, &verdict);
+    refuse_no_more(rt.alloc());
+    if first.is_err() {
+        assert!(rt; out.is_empty());
+        put_reply(&mut out, 5, 0, &verdict)?;
+    }
+    assert!(rt; out.as_slice() == b"5: stream: signature-3-of-version-7 FOUND\0".as_slice());
+    Ok(())
+}
+
+#[test]
+fn refused_or_not_a_silent_client_is_told(rt: HostRuntime) -> Result<(), Fail> {
+    let mut out = Vec::new(rt.alloc());
+    may_refuse(rt.alloc());
+    let first = put_timed_out(&mut out, b'\n');
+    refuse_no_more(rt.alloc());
+    if first.is_err() {
+        assert!(rt; out.is_empty());
+        put_timed_out(&mut out, b'\n')?;
+    }
+    assert!(rt; out.as_slice() == b"COMMAND READ TIMED OUT\n".as_slice());
+    Ok(())
+}

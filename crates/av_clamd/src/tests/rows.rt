@@ -1,0 +1,114 @@
+//! Exchanges as bytes: what a client sends, and what its door makes of it, as `write_down` has it.
+
+use crate::reply::Spoken;
+
+pub const ROWS: [(&[u8], &[u8]); 35] = [
+    (b"", b"O"),
+    (b"zPIN", b"O"),
+    (b"zIDSESSION\0", b"O"),
+    // A content in two pieces, in one, and none at all.
+    (
+        b"zINSTREAM\0\0\0\0\x03hel\0\0\0\x02lo\0\0\0\0",
+        b"A0\0hello|D",
+    ),
+    (b"zINSTREAM\0\0\0\0\x03ABC\0\0\0\0", b"A0\0ABC|D"),
+    (
+        b"nINSTREAM\n\0\0\0\x03aXX\0\0\0\x03XXX\0\0\0\0",
+        b"A0\naXXXXX|D",
+    ),
+    (b"zINSTREAM\0\0\0\0\0", b"A0\0|D"),
+    (b"zINSTREAM\0\0\0\0\x03ABC\0\0\0", b"O"),
+    // A command ends as its first byte says.
+    (b"PING\n", b"SPONG\n|D"),
+    (b"PING\r\n", b"SPONG\n|D"),
+    (b"nPING\n", b"SPONG\n|D"),
+    (b"zPING\0", b"SPONG\0|D"),
+    (b"VERSION\n", b"SVizdroun 1\n|D"),
+    (
+        b"nVERSIONCOMMANDS\n",
+        b"SVizdroun 1| COMMANDS: PING VERSION VERSIONCOMMANDS INSTREAM IDSESSION END\n|D",
+    ),
+    (b"zVERSION\0", b"SVizdroun 1\0|D"),
+    (b"nPING\r\n", b"SUNKNOWN COMMAND\n|D"),
+    (b"zPING\n\0", b"SUNKNOWN COMMAND\0|D"),
+    (b"nPING\0\n", b"SUNKNOWN COMMAND\n|D"),
+    // A session counts its commands.
+    (
+        b"zIDSESSION\0zPING\0zINSTREAM\0\0\0\0\x03one\0\0\0\0zINSTREAM\0\0\0\0\x03two\0\0\0\0nPING\nzEND\0",
+        b"S1: PONG\0|A2\0one|A3\0two|S4: PONG\n|D",
+    ),
+    (
+        b"nIDSESSION\nnPING\nnFOO\nnPING\n",
+        b"S1: PONG\n|S2: Command invalid inside IDSESSION. ERROR\n|D",
+    ),
+    (
+        b"nIDSESSION\nnIDSESSION\n",
+        b"S1: Command invalid inside IDSESSION. ERROR\n|D",
+    ),
+    (
+        b"nIDSESSION\nINSTREAM\n",
+        b"S1: Command invalid inside IDSESSION. ERROR\n|D",
+    ),
+    // What is not served.
+    (b"nFOO\n", b"SUNKNOWN COMMAND\n|D"),
+    (b"zping\0", b"SUNKNOWN COMMAND\0|D"),
+    (b"\n", b"SUNKNOWN COMMAND\n|D"),
+    (b"z\0", b"SUNKNOWN COMMAND\0|D"),
+    (b"INSTREAM\n", b"SUNKNOWN COMMAND\n|D"),
+    (b"IDSESSION\n", b"SUNKNOWN COMMAND\n|D"),
+    (b"zEND\0", b"SUNKNOWN COMMAND\0|D"),
+    (b"zSHUTDOWN\0", b"SUNKNOWN COMMAND\0|D"),
+    (b"zRELOAD\0", b"SUNKNOWN COMMAND\0|D"),
+    (b"zFILDES\0", b"SUNKNOWN COMMAND\0|D"),
+    // Paths.
+    (
+        b"zSCAN /etc/hostname\0",
+        b"S/etc/hostname: no path is read here, send the content (INSTREAM). ERROR\0|D",
+    ),
+    (
+        b"zIDSESSION\0nCONTSCAN /a b\nzMULTISCAN /c\0zALLMATCHSCAN /d\0",
+        b"S1: /a b: no path is read here, send the content (INSTREAM). ERROR\n|S2: /c: no path is read here, send the content (INSTREAM). ERROR\0|S3: /d: no path is read here, send the content (INSTREAM). ERROR\0|O",
+    ),
+    (b"zSCAN \0", b"SUNKNOWN COMMAND\0|D"),
+];
+
+// A command's number and end, a verdict, and its reply behind a mark.
+pub const REPLIES: [(u64, u8, Spoken<'static>, &[u8]); 9] = [
+    (0, 0, Spoken::Clean, b"<stream: OK\0"),
+    (2, 0, Spoken::Clean, b"<2: stream: OK\0"),
+    (0, 0, Spoken::Found(b"Test.X"), b"<stream: Test.X FOUND\0"),
+    (0, 10, Spoken::Found(b"Test.X"), b"<stream: Test.X FOUND\n"),
+    (
+        3,
+        0,
+        Spoken::Found(b"Test.X"),
+        b"<3: stream: Test.X FOUND\0",
+    ),
+    (
+        0,
+        0,
+        Spoken::FoundAt {
+            index: 0,
+            version: 8,
+        },
+        b"<stream: signature-0-of-version-8 FOUND\0",
+    ),
+    (
+        0,
+        0,
+        Spoken::NoVerdict { cause: 3 },
+        b"<stream: no verdict, cause 3. ERROR\0",
+    ),
+    (
+        0,
+        0,
+        Spoken::NoVerdict { cause: 6 },
+        b"<stream: no verdict, cause 6. ERROR\0",
+    ),
+    (
+        18446744073709551615,
+        10,
+        Spoken::NoVerdict { cause: 10 },
+        b"<18446744073709551615: stream: no verdict, cause 10. ERROR\n",
+    ),
+];
