@@ -1,9 +1,12 @@
 -- Bytes that are heard one after another.
-use Rattle.std.proofs.Common.{ℕ, suc, ◌≡◌, ◌<◌, List, [], ◌∷◌, ◌++◌, length, drop, get_or, map, refl, sym, ◌∙◌, ap, append_assoc, append-nil, drop-cons}
-use Rattle.std.specs.Prelude.{Option, Some, None}
-use Rattle.std.proofs.lemmas.List.{map-append}
+use Rattle.std.proofs.Common.{ℕ, suc, ◌≡◌, ◌-◌, ◌≤◌, List, [], ◌∷◌, ◌++◌, length, take, drop, map, Bool, true, false, cond, nat_lt, inl, inr, refl, sym, ◌∙◌, ap, arith, append_assoc, drop-cons}
+use Rattle.std.specs.Prelude.{Option, Some, None, slice_index}
+use Rattle.std.proofs.lemmas.List.{map-append, take-append-drop, length-take-le}
+use Rattle.std.proofs.lemmas.Bool.{cases_lt, le-ltb, lt-ltb}
+use Rattle.av_clamd.specs.declared.door.Reading.{Reading}
+use Rattle.av_clamd.specs.declared.door.Reading.TheVariants.{Piece, Size}
 use Rattle.av_clamd.specs.declared.door.Heard.{Heard}
-use Rattle.av_clamd.specs.Door.{Opened, Told, heard_of, onto, step, told}
+use Rattle.av_clamd.specs.Door.{Opened, Told, by_reading, heard_of, onto, pieced, step, told}
 use Rattle.av_clamd.specs.Laws.{IsCutAnywhere, before}
 
 onto_before : (o : Option Told) (x : Opened × List Told) (second : List ℕ) → onto o (before x.1 (heard_of second x.0)) ≡ before (onto o x).1 (heard_of second (onto o x).0)
@@ -16,20 +19,69 @@ cut_anywhere (b ∷ first) second d =
     let turn = step b d in
     ap (onto turn.1) (cut_anywhere first second turn.0) ∙ onto_before turn.1 (heard_of first turn.0) second
 
--- the byte at a place is heard before those behind it
-byte_heard : (piece : List ℕ) (i b : ℕ) (old new : Opened) (o : Option Told) → i < length piece → b ≡ get_or piece i b → ◌≡◌ {A = Opened × Option Told} (new, o) (step b old) → heard_of (drop i piece) old ≡ onto o (heard_of (drop (suc i) piece) new)
-byte_heard piece i b old new o lt is turn =
-    let rest = drop (suc i) piece in
-    ap (λ bs. heard_of bs old) (drop-cons piece i b lt ∙ ap (λ x. x ∷ rest) (sym is))
-    ∙ ap (λ t. onto t.1 (heard_of rest t.0)) (sym turn)
+-- the first byte is heard before those behind it
+byte_heard : (rest : List ℕ) (b : ℕ) (old new : Opened) (o : Option Told) → 1 ≤ length rest → b ≡ slice_index rest 0 → ◌≡◌ {A = Opened × Option Told} (new, o) (step b old) → heard_of rest old ≡ onto o (heard_of (drop 1 rest) new)
+byte_heard rest b old new o some is turn =
+    ap (λ bs. heard_of bs old) (drop-cons rest 0 0 (omega (arith, some)) ∙ ap (λ x. x ∷ drop 1 rest) (sym is))
+    ∙ ap (λ t. onto t.1 (heard_of (drop 1 rest) t.0)) (sym turn)
 
-pub nothing_came : (piece : List ℕ) (i b : ℕ) (old new : Opened) (hs : List Told) (wanted : Opened × List Told) → i < length piece → b ≡ get_or piece i b → ◌≡◌ {A = Opened × Option Told} (new, None) (step b old) → before hs (heard_of (drop i piece) old) ≡ wanted → before hs (heard_of (drop (suc i) piece) new) ≡ wanted
-nothing_came piece i b old new hs wanted lt is turn so_far = ap (before hs) (sym (byte_heard piece i b old new None lt is turn)) ∙ so_far
+pub nothing_came : (rest : List ℕ) (b : ℕ) (old new : Opened) (hs : List Told) → 1 ≤ length rest → b ≡ slice_index rest 0 → ◌≡◌ {A = Opened × Option Told} (new, None) (step b old) → before hs (heard_of (drop 1 rest) new) ≡ before hs (heard_of rest old)
+nothing_came rest b old new hs some is turn = ap (before hs) (sym (byte_heard rest b old new None some is turn))
 
-pub something_came : (piece : List ℕ) (i b : ℕ) (old new : Opened) (heard : List Heard) (one : Heard) (wanted : Opened × List Told) → i < length piece → b ≡ get_or piece i b → ◌≡◌ {A = Opened × Option Told} (new, Some (told one)) (step b old) → before (map told heard) (heard_of (drop i piece) old) ≡ wanted → before (map told (heard ++ one ∷ [])) (heard_of (drop (suc i) piece) new) ≡ wanted
-something_came piece i b old new heard one wanted lt is turn so_far =
-    let next = heard_of (drop (suc i) piece) new in
+pub something_came : (rest : List ℕ) (b : ℕ) (old new : Opened) (heard : List Heard) (one : Heard) → 1 ≤ length rest → b ≡ slice_index rest 0 → ◌≡◌ {A = Opened × Option Told} (new, Some (told one)) (step b old) → before (map told (heard ++ one ∷ [])) (heard_of (drop 1 rest) new) ≡ before (map told heard) (heard_of rest old)
+something_came rest b old new heard one some is turn =
+    let next = heard_of (drop 1 rest) new in
     ap (λ ts. (next.0, ts ++ next.1)) (map-append told heard (one ∷ []))
     ∙ ap (λ ts. (next.0, ts)) (append_assoc (map told heard) (told one ∷ []) next.1)
-    ∙ ap (before (map told heard)) (sym (byte_heard piece i b old new (Some (told one)) lt is turn))
-    ∙ so_far
+    ∙ ap (before (map told heard)) (sym (byte_heard rest b old new (Some (told one)) some is turn))
+
+-- ---- a piece at once
+
+abbrev left_after : ℕ → ℕ → Reading
+left_after count left = cond (nat_lt count left) (Piece (left - count)) Size
+
+one_less : (n left : ℕ) → 1 ≤ left → left_after n (left - 1) ≡ left_after (suc n) left
+one_less n left some =
+    elim (cases_lt n (left - 1)) [
+      | inl lt ↦
+          let a : nat_lt n (left - 1) ≡ true = lt-ltb _ _ lt in
+          let b : nat_lt (suc n) left ≡ true = lt-ltb _ _ (omega (arith, lt)) in
+          let c : left - 1 - n ≡ left - suc n = omega arith in
+          ap (λ t. cond t (Piece (left - 1 - n)) Size) a ∙ ap Piece c ∙ ap (λ t. cond t (Piece (left - suc n)) Size) (sym b)
+      | inr le ↦
+          let a : nat_lt n (left - 1) ≡ false = le-ltb _ _ le in
+          let b : nat_lt (suc n) left ≡ false = le-ltb _ _ (omega (arith, le)) in
+          ap (λ t. cond t (Piece (left - 1 - n)) Size) a ∙ ap (λ t. cond t (Piece (left - suc n)) Size) (sym b)
+    ]
+
+kept_after : (dropped : Bool) (content xs : List ℕ) (b : ℕ) → cond dropped (cond dropped content (content ++ b ∷ [])) (cond dropped content (content ++ b ∷ []) ++ xs) ≡ cond dropped content (content ++ b ∷ xs)
+kept_after true content xs b = refl
+kept_after false content xs b = append_assoc content (b ∷ []) xs
+
+piece_step : (b left : ℕ) (d : Opened) → d.reading ≡ Piece left → step b d ≡ (pieced left (b ∷ []) d, None)
+unfolding step
+piece_step b left d is = ap (λ r. by_reading r b d) is
+
+piece_all : (b : ℕ) (xs more : List ℕ) (left : ℕ) (d : Opened) → d.reading ≡ Piece left → length (b ∷ xs) ≤ left → heard_of (b ∷ xs ++ more) d ≡ heard_of more (pieced left (b ∷ xs) d)
+piece_all b [] more left d is few = ap (λ t. onto t.1 (heard_of more t.0)) (piece_step b left d is)
+piece_all b (x ∷ xs) more left d is few =
+    let tail = x ∷ xs in
+    let first = pieced left (b ∷ []) d in
+    let several : nat_lt 1 left ≡ true = lt-ltb _ _ (omega (arith, few)) in
+    let reading : first.reading ≡ Piece (left - 1) = ap (λ t. cond t (Piece (left - 1)) Size) several in
+    let others = piece_all x xs more (left - 1) first reading (omega (arith, few)) in
+    ap (λ t. onto t.1 (heard_of (tail ++ more) t.0)) (piece_step b left d is)
+    ∙ others
+    ∙ ap (λ r. heard_of more (record d { reading = r; content = cond d.dropped first.content (first.content ++ tail) })) (one_less (length tail) left (omega (arith, few)))
+    ∙ ap (λ c. heard_of more (record d { reading = left_after (suc (length tail)) left; content = c })) (kept_after d.dropped d.content tail b)
+
+piece_front : (xs more : List ℕ) (left : ℕ) (d : Opened) → d.reading ≡ Piece left → 1 ≤ length xs → length xs ≤ left → heard_of (xs ++ more) d ≡ heard_of more (pieced left xs d)
+piece_front [] more left d is some few = absurd (omega (arith, some))
+piece_front (b ∷ xs) more left d is some few = piece_all b xs more left d is few
+
+pub piece_heard : (rest : List ℕ) (n left : ℕ) (d new : Opened) (hs : List Told) → d.reading ≡ Piece left → 1 ≤ n → n ≤ left → n ≤ length rest → new ≡ pieced left (take n rest) d → before hs (heard_of (drop n rest) new) ≡ before hs (heard_of rest d)
+piece_heard rest n left d new hs is some few there same =
+    let len : length (take n rest) ≡ n = length-take-le n rest there in
+    ap (λ x. before hs (heard_of (drop n rest) x)) same
+    ∙ ap (before hs) (sym (piece_front (take n rest) (drop n rest) left d is (omega (arith, len, some)) (omega (arith, len, few))))
+    ∙ ap (λ bs. before hs (heard_of bs d)) (take-append-drop n rest)

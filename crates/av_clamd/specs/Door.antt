@@ -1,4 +1,4 @@
-use Rattle.std.specs.Prelude.{ℕ, ◌≡◌, ◌+◌, ◌-◌, ◌==◌, ◌&&◌, ◌||◌, Bool, true, false, not, nat_lt, List, [], ◌∷◌, ◌++◌, length, take, map, Option, None, Some, Result, Ok, Err, codes, min, if◌then◌else◌}
+use Rattle.std.specs.Prelude.{ℕ, ◌≡◌, ◌+◌, ◌-◌, ◌==◌, ◌&&◌, Bool, true, false, not, nat_lt, List, [], ◌∷◌, ◌++◌, length, take, Option, None, Some, Result, Ok, Err, codes, min, if◌then◌else◌}
 use Rattle.std.specs.Int.{w32, from_be_bytes}
 use Rattle.std.specs.declared.alloc.AllocError.{AllocError}
 use Rattle.av_clamd.specs.declared.door.Reading.{Reading}
@@ -95,21 +95,19 @@ in_size b d =
     if nat_lt (length d.begun + 1) 4 then (record d { begun = d.begun ++ b ∷ [] }, None)
     else sized (from_be_bytes w32 (take 4 (d.begun ++ b ∷ []))) (record d { begun = [] })
 
--- a byte of a piece that has so many bytes left
-abbrev pub in_piece : ℕ → ℕ → Opened → Opened × Option Told
-in_piece left b d = (
-  record d {
-    reading = (if nat_lt 1 left then Piece (left - 1) else Size);
-    content = (if d.dropped then d.content else d.content ++ b ∷ []);
-  },
-  None,
-)
+-- bytes of a piece that has so many left: they are content, unless it is dropped
+abbrev pub pieced : ℕ → List ℕ → Opened → Opened
+pieced left bytes d =
+    record d {
+      reading = (if nat_lt (length bytes) left then Piece (left - length bytes) else Size);
+      content = (if d.dropped then d.content else d.content ++ bytes);
+    }
 
 -- what a byte does
 abbrev pub by_reading : Reading → ℕ → Opened → Opened × Option Told
 by_reading Command b d = in_command b d
 by_reading Size b d = in_size b d
-by_reading (Piece left) b d = in_piece left b d
+by_reading (Piece left) b d = (pieced left (b ∷ []) d, None)
 by_reading Nothing b d = (d, None)
 
 -- what a byte does to a door

@@ -1,8 +1,8 @@
-ghost use Rattle.std.specs.Prelude.{◌≡◌, map, IfOk, OnErr, OnOk};
-ghost use Rattle.av_clamd.specs.declared.door.Reading.TheVariants.{Nothing};
+ghost use Rattle.std.specs.Prelude.{◌≡◌, ◌≤◌, drop, length, map, IfOk, IfSome, OnErr, OnOk};
+ghost use Rattle.av_clamd.specs.declared.door.Reading.TheVariants.{Nothing, Piece};
 ghost use Rattle.av_clamd.specs.Text.{answered};
 ghost use Rattle.av_clamd.specs.Laws.{before};
-ghost use Rattle.av_clamd.specs.Door.{Steps, after_reply, answers, commanded, finished, fresh, heard_of, in_command, in_piece, in_size, is_nothing, obeyed, option_told, says, sized, step, told};
+ghost use Rattle.av_clamd.specs.Door.{Steps, after_reply, answers, commanded, finished, fresh, heard_of, in_command, in_size, is_nothing, obeyed, option_told, pieced, says, sized, step, told};
 
 use crate::text::{answered, end_of, is_marked, line_of, word_of};
 use std::alloc::{AllocError, Global};
@@ -117,7 +117,10 @@ impl Door {
         match self.reading {
             Reading::Command => self.command_byte(byte),
             Reading::Size => self.size_byte(byte),
-            Reading::Piece(left) => self.piece_byte(left, byte),
+            Reading::Piece(left) => {
+                self.piece_bytes(left, &[byte])?;
+                Ok(None)
+            }
             Reading::Nothing => Ok(None),
         }
     }
@@ -250,18 +253,30 @@ impl Door {
         })
     }
 
-    fn piece_byte(&mut self, left: u32, byte: u8) -> Result<Option<Heard>, AllocError>
-        ensures { Steps self.new result (in_piece left byte self.old) }
+    // Bytes of a piece that has so many left. They are copied at once.
+    fn piece_bytes(&mut self, left: u32, bytes: &[u8]) -> Result<(), AllocError>
+        ensures { OnOk result (self.new ≡ pieced left bytes.now self.old) }
     {
-        self.reading = if left > 1 {
-            Reading::Piece(left - 1)
+        let left = left as usize;
+        self.reading = if bytes.len() < left {
+            Reading::Piece((left - bytes.len()) as u32)
         } else {
             Reading::Size
         };
         if !self.dropped {
-            self.content.push(byte)?;
+            self.content.extend_from_slice(bytes)?;
         }
-        Ok(None)
+        Ok(())
+    }
+
+    // How many bytes a piece has left, where there are several.
+    fn left(&self) -> Option<u32>
+        ensures { IfSome result (λ n. (2 ≤ n) × (self.now.reading ≡ Piece n)) }
+    {
+        match self.reading {
+            Reading::Piece(left) if left > 1 => Some(left),
+            _ => None,
+        }
     }
 }
 
@@ -270,10 +285,28 @@ fn hear_all(door: &mut Door, piece: &[u8], heard: &mut Vec<Heard>) -> Result<(),
     ensures { OnOk result ((door.new, map told heard.new.items)
         ≡ before (map told heard.old.items) (heard_of piece.now door.old)) }
 {
-    'bytes: for byte in piece {
-        if let Some(one) = door.step(*byte)? {
-            heard.push(one)?;
-        }
+    let mut rest = piece;
+    'bytes: while !rest.is_empty() {
+        let taken = hear_some(door, rest, heard)?;
+        rest = &rest[taken..];
     }
     Ok(())
+}
+
+// Takes what stands at the front: all of a piece that is there, or one byte. It answers how many bytes that were.
+fn hear_some(door: &mut Door, rest: &[u8], heard: &mut Vec<Heard>) -> Result<usize, AllocError>
+    requires { 1 ≤ length rest.now }
+    ensures some { IfOk result (λ n. (1 ≤ n) × (n ≤ length rest.now)) }
+    ensures heard { IfOk result (λ n. before (map told heard.new.items) (heard_of (drop n rest.now) door.new)
+        ≡ before (map told heard.old.items) (heard_of rest.now door.old)) }
+{
+    if let Some(left) = door.left() {
+        let count = rest.len().min(left as usize);
+        door.piece_bytes(left, &rest[..count])?;
+        return Ok(count);
+    }
+    if let Some(one) = door.step(rest[0])? {
+        heard.push(one)?;
+    }
+    Ok(1)
 }
