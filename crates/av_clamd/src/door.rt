@@ -107,7 +107,8 @@ impl Door {
     pub fn end(&self) -> u8
         ensures { result ≡ self.now.end }
     {
-        self.end
+        let Door { end, .. } = self;
+        *end
     }
 
     #[tactic(auto, unfolding(crate::specs::Door::step))]
