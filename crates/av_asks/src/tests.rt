@@ -65,7 +65,7 @@ fn an_ask_comes_once_it_is_whole_however_it_is_cut(rt: HostRuntime) -> Result<()
 }
 
 fn comes_in_two(alloc: Global, cut: usize) -> Result<bool, Fail> {
-    let (front, rest) = ASK.split_at(cut);
+    let (front, rest) = ASK.split_at(cut.min(ASK.len()));
     let mut feed = AskFeed::new(alloc);
     feed.push(front)?;
     if !ask_is(alloc, &mut feed, "nothing")? || feed.is_within() != (cut > 0) {
@@ -195,7 +195,7 @@ fn answers_are_spelled_and_read_however_they_are_cut(rt: HostRuntime) -> Result<
 }
 
 fn are_heard(alloc: Global, bytes: &[u8], cut: usize) -> Result<bool, Fail> {
-    let (front, rest) = bytes.split_at(cut);
+    let (front, rest) = bytes.split_at(cut.min(bytes.len()));
     let mut feed = AnswerFeed::new(alloc);
     let mut heard = Vec::new(alloc);
     feed.push(front)?;
