@@ -20,7 +20,7 @@ fn write_down(all: &[Heard], out: &mut Vec<u8>) -> Result<(), Fail> {
                 end,
                 content,
             } => {
-                out.extend_from_slice(&[b'A', b'0'.wrapping_add(*number as u8), *end])?;
+                out.extend_from_slice(&[b'A', b'0'.wrapping_add((*number % 10) as u8), *end])?;
                 out.extend_from_slice(content)?;
             }
         }
