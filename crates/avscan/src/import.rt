@@ -5,10 +5,7 @@ use av_status::faults::{device_failed, out_of_memory, say, text};
 use av_status::status::Status;
 use av_words::Taking;
 use std::alloc::Global;
-use std::io::{BufWriter, Write};
-
-/// How many bytes of what is told of lines are held at most before they are written.
-const HELD: usize = 65_536;
+use std::io::Write;
 
 /// Writes a signature file of this version, with what can be taken of files of other products.
 pub fn import_named<W: Write, E: Write>(
@@ -27,26 +24,10 @@ pub fn import_named<W: Write, E: Write>(
             has_ranges: !taking.has_format_1,
         },
     );
-    match take_told(rt, alloc, names, &mut import, err) {
+    match take_all(rt, alloc, names, &mut import, err) {
         Ok(()) => conclude(&import, version, taking, out, err),
         Err(status) => status,
     }
-}
-
-// Takes what each file says. What is told of lines is written in pieces, and all of it before this returns.
-fn take_told<E: Write>(
-    rt: &HostRuntime,
-    alloc: Global,
-    names: &[&str],
-    import: &mut Import,
-    err: &mut E,
-) -> Result<(), Status> {
-    let Ok(mut held) = BufWriter::with_capacity(alloc, HELD, &mut *err) else {
-        return Err(out_of_memory(err));
-    };
-    let taken = take_all(rt, alloc, names, import, &mut held);
-    let _ = held.flush();
-    taken
 }
 
 // Takes what each file says, one after the other.
