@@ -1,2 +1,4 @@
+mod ChartLemmas
 mod EscapeLemmas
+mod LoopLemmas
 mod PutLemmas

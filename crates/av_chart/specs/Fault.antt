@@ -4,10 +4,10 @@ use Rattle.av_world.specs.declared.run_script.RunFault.TheVariants.{BadScript, N
 use Rattle.av_chart.specs.declared.fault.ChartFault.{ChartFault}
 use Rattle.av_chart.specs.declared.fault.ChartFault.TheVariants as chart
 
--- the fault of a picture that a fault of reading its script is
+-- the fault of a picture that a fault of reading its script is; nothing is written where it is read
 abbrev pub fault_of : RunFault → ChartFault
 fault_of Read = chart.Read
 fault_of TooLong = chart.TooLong
 fault_of (BadScript line) = chart.BadScript line
 fault_of NoMemory = chart.NoMemory
-fault_of Write = chart.Write
+fault_of Write = chart.Read

@@ -95,7 +95,7 @@ unfoldable pub band_text : ℕ → List ℕ
 band_text y = spelt (codes "<rect class=\"pill\" x=\"-1\" y=\"" ∷ decimal y ∷ codes "\" width=\"1292\" height=\"20\"/>\n" ∷ [])
 
 -- bytes as text, and what ends it
-abbrev pub until_text : List ℕ → List ℕ → List ℕ
+unfoldable pub until_text : List ℕ → List ℕ → List ℕ
 until_text bytes end = escaped bytes ++ end
 
 -- the text of a mark

@@ -17,3 +17,7 @@ left_of s by = record { x = s.x - by; y = s.y }
 
 abbrev pub right_of : Spot → ℕ → Spot
 right_of s by = record { x = within (s.x + by); y = s.y }
+
+-- the spot at these distances from the left edge and the top
+abbrev pub spot : ℕ → ℕ → Spot
+spot x y = record { x = x; y = y }

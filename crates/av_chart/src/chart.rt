@@ -1,12 +1,19 @@
+ghost use Rattle.std.specs.Prelude.{◌≡◌, map, IfErr, IfOk, IfSome, OnErr, OnOk};
+ghost use Rattle.std.specs.Io.KnownBytes.{Appends};
+ghost use Rattle.av_base.specs.Device.{AppendsPrefix};
+ghost use Rattle.av_chart.specs.Chart.{Draws, IsEarly, IsOfDrawing, IsPicture, IsPlaced, IsTrueOf, Leaves};
+ghost use Rattle.av_chart.specs.Place.{StandAt, bottom_of};
+ghost use Rattle.av_chart.specs.Row.{height_of, spanned};
+
 use crate::fault::ChartFault;
-use crate::happened::Happened;
-use crate::happening::run_lines;
+use crate::happened::{Happened, Span, Step};
+use crate::happening::{run_lines, span_of};
 use crate::life::Moment;
 use crate::picture::{Picture, put_picture};
 use crate::place::{Places, height_of};
 use av_base::device::write_text;
-use av_world::World;
 use av_world::run_script::read_script;
+use av_world::{Script, World};
 use std::alloc::{AllocError, Global};
 use std::io::{Read, Write};
 
@@ -17,7 +24,8 @@ pub struct Lines {
     pub to: u64,
 }
 
-/// Reads a script whole, runs it and writes its picture, an SVG, with this title.
+/// Reads a script whole, runs it and writes its picture, an SVG, with this title. Where that fails nothing was written, but
+/// where a write failed: there it was a front of the picture.
 pub fn write_chart<R: Read, W: Write>(
     alloc: Global,
     title: &[u8],
@@ -25,16 +33,61 @@ pub fn write_chart<R: Read, W: Write>(
     reader: &mut R,
     writer: &mut W,
     turns: u64,
-) -> Result<(), ChartFault> {
-    let (text, script) = read_script(alloc, reader, turns)?;
-    let mut world = World::new(alloc, script.number(), script.mode(), script.limits())?;
-    let drawn = draw(alloc, &mut world, title, lines, &text);
-    world.close();
-    let page = drawn?;
-    if write_text(writer, &page).is_err() || writer.flush().is_err() {
+) -> Result<(), ChartFault>
+    ensures ok { OnOk result (IfSome (R.remaining reader.old) (Draws title.now (W.contents writer.old) (W.contents writer.new))) }
+    ensures fault { IfErr result (λ f. IfSome (R.remaining reader.old) (IsTrueOf f)) }
+    ensures err { IfErr result (λ f. IfSome (R.remaining reader.old) (Leaves title.now (W.contents writer.old) (W.contents writer.new) f)) }
+{
+    let page = read_page(alloc, title, lines, reader, turns)?;
+    write_page(writer, &page)
+}
+
+// Reads a script whole, runs it and gives its picture.
+fn read_page<R: Read>(
+    alloc: Global,
+    title: &[u8],
+    lines: Lines,
+    reader: &mut R,
+    turns: u64,
+) -> Result<Vec<u8>, ChartFault>
+    ensures ok { IfOk result (λ page. IfSome (R.remaining reader.old) (λ text. IsPicture title.now text page.items)) }
+    ensures fault { IfErr result (λ f. IfSome (R.remaining reader.old) (IsTrueOf f)) }
+    ensures early { IfErr result IsEarly }
+{
+    let (text, script) = match read_script(alloc, reader, turns) {
+        Ok(read) => read,
+        Err(fault) => return Err(ChartFault::from(fault)),
+    };
+    page_of(alloc, &script, title, lines, &text)
+}
+
+// Writes a page.
+fn write_page<W: Write>(writer: &mut W, page: &[u8]) -> Result<(), ChartFault>
+    ensures ok { OnOk result (Appends (W.contents writer.old) (W.contents writer.new) page.now) }
+    ensures err { OnErr result (AppendsPrefix (W.contents writer.old) (W.contents writer.new) page.now) }
+    ensures fault { IfErr result (λ f. f ≡ ChartFault.Write) }
+{
+    if write_text(writer, page).is_err() || writer.flush().is_err() {
         return Err(ChartFault::Write);
     }
     Ok(())
+}
+
+// Runs a script in a new world and gives its picture.
+fn page_of(
+    alloc: Global,
+    script: &Script,
+    title: &[u8],
+    lines: Lines,
+    text: &[u8],
+) -> Result<Vec<u8>, ChartFault>
+    ensures ok { IfOk result (λ page. IsPicture title.now text.now page.items) }
+    ensures fault { IfErr result IsOfDrawing }
+{
+    let mut world = World::new(alloc, script.number(), script.mode(), script.limits())?;
+    let drawn = draw(alloc, &mut world, title, lines, text);
+    world.close();
+    drawn
 }
 
 // Runs a script's text and gives its picture.
@@ -44,7 +97,10 @@ fn draw(
     title: &[u8],
     lines: Lines,
     text: &[u8],
-) -> Result<Vec<u8>, ChartFault> {
+) -> Result<Vec<u8>, ChartFault>
+    ensures ok { IfOk result (λ page. IsPicture title.now text.now page.items) }
+    ensures fault { IfErr result IsOfDrawing }
+{
     let mut happened = Happened::new(alloc);
     run_lines(alloc, world, text, &mut happened)?;
     draw_lines(alloc, world, title, lines, text, &mut happened)
@@ -58,13 +114,19 @@ fn draw_lines(
     lines: Lines,
     text: &[u8],
     happened: &mut Happened<'_>,
-) -> Result<Vec<u8>, ChartFault> {
+) -> Result<Vec<u8>, ChartFault>
+    ensures ok { IfOk result (λ page. IsPicture title.now text.now page.items) }
+    ensures fault { IfErr result IsOfDrawing }
+{
     let Some((first, count)) = shown(happened, lines) else {
         return Err(ChartFault::NoLines);
     };
     take_slots(happened, (first as u64).saturating_add(count as u64));
-    let places = places_of(alloc, happened, first, count)?;
-    let mut page = Vec::new(alloc);
+    let span = Span {
+        from: first as u64,
+        to: (first as u64).saturating_add(count as u64),
+    };
+    let places = places_of(alloc, first, span_of(&happened.steps, span))?;
     let picture = Picture {
         text,
         happened,
@@ -73,7 +135,16 @@ fn draw_lines(
         first,
         count,
     };
-    put_picture(alloc, &mut page, &picture, title)?;
+    Ok(page_with(alloc, &picture, title)?)
+}
+
+// The page of a picture.
+fn page_with(alloc: Global, picture: &Picture<'_, '_>, title: &[u8]) -> Result<Vec<u8>, AllocError>
+    requires { IsPlaced picture.now }
+    ensures { IfOk result (λ page. IsPicture title.now picture.now.text.now page.items) }
+{
+    let mut page = Vec::new(alloc);
+    put_picture(alloc, &mut page, picture, title)?;
     Ok(page)
 }
 
@@ -108,15 +179,14 @@ fn shown(happened: &Happened<'_>, lines: Lines) -> Option<(usize, usize)> {
     }
 }
 
-// Where the rows of so many steps stand, from the first one on.
-fn places_of(
-    alloc: Global,
-    happened: &Happened<'_>,
-    first: usize,
-    count: usize,
-) -> Result<Places, AllocError> {
+// Where the rows of steps stand, the first of which has this number.
+fn places_of(alloc: Global, first: usize, steps: &[Step]) -> Result<Places, AllocError>
+    ensures first { IfOk result (λ p. p.first ≡ first) }
+    ensures tops { IfOk result (λ p. StandAt p.tops.items (map height_of steps.now)) }
+    ensures bottom { IfOk result (λ p. p.bottom ≡ bottom_of (map height_of steps.now)) }
+{
     let mut heights = Vec::new(alloc);
-    for step in happened.steps.iter().skip(first).take(count) {
+    for step in steps {
         heights.push(height_of(step))?;
     }
     Places::of(alloc, first as u64, &heights)

@@ -44,11 +44,10 @@ impl From<RunFault> for ChartFault {
 
     fn from(fault: RunFault) -> ChartFault {
         match fault {
-            RunFault::Read => ChartFault::Read,
+            RunFault::Read | RunFault::Write => ChartFault::Read,
             RunFault::TooLong => ChartFault::TooLong,
             RunFault::BadScript { line } => ChartFault::BadScript { line },
             RunFault::NoMemory => ChartFault::NoMemory,
-            RunFault::Write => ChartFault::Write,
         }
     }
 }

@@ -1,6 +1,9 @@
 //! What happened in a script's run: who sent what, where it arrived, how long each open, question, job and work lived, and what
 //! each step told.
 
+ghost use Rattle.std.specs.Prelude.{◌≡◌};
+ghost use Rattle.av_chart.specs.Row.{asked_lines, count, is_noted, late_of, note_of, sent_by};
+
 use crate::life::{Lives, Moment};
 use av_base::Verdict;
 use av_filter::Note as FilterNote;
@@ -25,7 +28,9 @@ impl Span {
     }
 
     /// How many places.
-    pub fn count(self) -> u64 {
+    pub fn count(self) -> u64
+        ensures { result ≡ count self }
+    {
         self.to.saturating_sub(self.from)
     }
 }
@@ -96,7 +101,9 @@ pub enum Said {
 
 impl Said {
     /// The note that has this word.
-    pub fn note(self) -> Note {
+    pub fn note(self) -> Note
+        ensures { result ≡ note_of self }
+    {
         match self {
             Said::Quiet => Note::Filter(FilterNote::Quiet),
             Said::Welcome => Note::Filter(FilterNote::Welcome),
@@ -175,12 +182,16 @@ impl Step {
     }
 
     /// Whether its note has a word.
-    pub fn is_noted(&self) -> bool {
+    pub fn is_noted(&self) -> bool
+        ensures { result ≡ is_noted self.now.note }
+    {
         !matches!(self.note, Said::Quiet)
     }
 
     /// On how many lines it has stood between opener and filter before its answers.
-    pub fn asked_lines(&self) -> u64 {
+    pub fn asked_lines(&self) -> u64
+        ensures { result ≡ asked_lines self.now }
+    {
         if self.asks.is_some() || self.filter.is_some() {
             1
         } else {
@@ -189,12 +200,16 @@ impl Step {
     }
 
     /// How many messages it sent.
-    pub fn sent(&self) -> u64 {
+    pub fn sent(&self) -> u64
+        ensures { result ≡ sent_by self.now }
+    {
         self.down.count().saturating_add(self.up.count())
     }
 
     /// How much lower what is sent stands than what arrives, so that its words are clear of the arriving line.
-    pub fn late(&self) -> u32 {
+    pub fn late(&self) -> u32
+        ensures { result ≡ late_of self.now }
+    {
         match self.arrival {
             Some(arrival) if self.sent() > 0 => { if arrival.is_far { 17 } else { 11 } }
             _ => 0,

@@ -1,6 +1,8 @@
 //! How a script's run becomes what happened.
 
 ghost use Rattle.std.specs.Prelude.{◌≡◌, ◌++◌, ◌∷◌, [], OnOk};
+ghost use Rattle.av_chart.specs.Row.{spanned};
+ghost use Rattle.av_chart.specs.Words.{word_at};
 
 use crate::happened::{
     Arrival, Asks, Counts, FilterMark, Happened, REACH, Refused, Said, Sent, ServiceMark, Span,
@@ -232,7 +234,9 @@ fn span(from: u64, to: u64) -> Span {
 }
 
 /// What stands in a list at these places, as far as it is there.
-pub fn span_of<T>(items: &[T], span: Span) -> &[T] {
+pub fn span_of<T>(items: &[T], span: Span) -> &[T]
+    ensures { result.now ≡ spanned span items.now }
+{
     let end = span.to.min(items.len() as u64);
     if span.from >= end {
         return &items[..0];
@@ -241,13 +245,18 @@ pub fn span_of<T>(items: &[T], span: Span) -> &[T] {
 }
 
 /// The word of a line at this place, counted from 0; nothing where there are fewer.
-pub fn word(line: &[u8], place: usize) -> &[u8] {
+#[tactic(auto, using(crate::proofs::LoopLemmas::get_behind))]
+pub fn word(line: &[u8], place: usize) -> &[u8]
+    ensures { result.now ≡ word_at place line.now }
+{
     let mut rest = Some(line);
-    for _ in 0..place {
+    let mut before = place;
+    'words: while before > 0 {
         rest = match rest {
             Some(words) => first_piece(words, b' ').1,
             None => None,
         };
+        before -= 1;
     }
     match rest {
         Some(words) => first_piece(words, b' ').0,

@@ -1,7 +1,8 @@
 //! The words of messages, answers, work and notes in a picture.
 
-ghost use Rattle.std.specs.Prelude.{◌≡◌, map, IfOk};
+ghost use Rattle.std.specs.Prelude.{◌≡◌, ◌++◌, map, IfOk, OnOk};
 ghost use Rattle.av_base.specs.Part.{part_text, spelt};
+ghost use Rattle.av_chart.specs.Words.{about_text, answer_label, body_text, message_label, message_title, nowhere, outcome_text, told_message, told_note, told_of, told_work, verdict_word, way_word};
 
 use crate::escape::{put_parts, shorten};
 use crate::happened::Way;
@@ -24,7 +25,9 @@ pub fn label(alloc: Global, parts: &[Part<'_>]) -> Result<Vec<u8>, AllocError>
 }
 
 /// The line that tells the work at a place, counted from 0, while it is lent.
-pub fn told_work(alloc: Global, world: &World, index: u64) -> Result<Vec<u8>, AllocError> {
+pub fn told_work(alloc: Global, world: &World, index: u64) -> Result<Vec<u8>, AllocError>
+    ensures { IfOk result (λ text. text.items ≡ told_work world.now index) }
+{
     let before = Places {
         works: index,
         ..nowhere()
@@ -42,7 +45,9 @@ pub fn told_message(
     world: &World,
     way: Way,
     index: u64,
-) -> Result<Vec<u8>, AllocError> {
+) -> Result<Vec<u8>, AllocError>
+    ensures { IfOk result (λ text. text.items ≡ told_message world.now way index) }
+{
     let next = index.saturating_add(1);
     let (before, after) = match way {
         Way::Down => (
@@ -70,11 +75,15 @@ pub fn told_message(
 }
 
 /// The word of a note.
-pub fn told_note(alloc: Global, world: &World, note: Note) -> Result<Vec<u8>, AllocError> {
+pub fn told_note(alloc: Global, world: &World, note: Note) -> Result<Vec<u8>, AllocError>
+    ensures { IfOk result (λ text. text.items ≡ told_note world.now note) }
+{
     told(alloc, world, nowhere(), nowhere(), note)
 }
 
-fn nowhere() -> Places {
+fn nowhere() -> Places
+    ensures { result ≡ nowhere }
+{
     Places {
         answers: 0,
         down: 0,
@@ -84,13 +93,16 @@ fn nowhere() -> Places {
 }
 
 // What a world tells of these places and a note, without the end of the line.
+#[tactic(auto, unfolding(crate::specs::Words::told_of))]
 fn told(
     alloc: Global,
     world: &World,
     before: Places,
     after: Places,
     note: Note,
-) -> Result<Vec<u8>, AllocError> {
+) -> Result<Vec<u8>, AllocError>
+    ensures { IfOk result (λ text. text.items ≡ told_of world.now before after note) }
+{
     let report = Report {
         line: Line::Silent,
         before,
@@ -106,7 +118,9 @@ fn told(
 }
 
 /// The word of a way.
-pub fn way_word(way: Way) -> &'static [u8] {
+pub fn way_word(way: Way) -> &'static [u8]
+    ensures { result.now ≡ way_word way }
+{
     match way {
         Way::Down => b"down ".as_slice(),
         Way::Up => b"up ".as_slice(),
@@ -114,12 +128,15 @@ pub fn way_word(way: Way) -> &'static [u8] {
 }
 
 /// The words of a message, and its whole line, of at most 200 characters behind its number.
+#[tactic(auto, unfolding(crate::specs::Words::message_title, crate::specs::Words::numbered_text))]
 pub fn message_title(
     alloc: Global,
     world: &World,
     way: Way,
     index: u64,
-) -> Result<Vec<u8>, AllocError> {
+) -> Result<Vec<u8>, AllocError>
+    ensures { IfOk result (λ text. text.items ≡ message_title world.now way index) }
+{
     let number = index.saturating_add(1);
     let head = label(
         alloc,
@@ -135,12 +152,15 @@ pub fn message_title(
 }
 
 /// The words of a message on its arrow.
+#[tactic(auto, unfolding(crate::specs::Words::message_label, crate::specs::Words::numbered_text))]
 pub fn message_label(
     alloc: Global,
     way: Way,
     number: u64,
     body: &Body,
-) -> Result<Vec<u8>, AllocError> {
+) -> Result<Vec<u8>, AllocError>
+    ensures { IfOk result (λ text. text.items ≡ message_label way number body.now) }
+{
     let mut text = label(
         alloc,
         &[
@@ -153,7 +173,10 @@ pub fn message_label(
     Ok(text)
 }
 
-fn put_body(text: &mut Vec<u8>, body: &Body) -> Result<(), AllocError> {
+#[tactic(auto, using(std::proofs::Common::append_assoc), unfolding(crate::specs::Words::body_text, crate::specs::Words::number_text))]
+fn put_body(text: &mut Vec<u8>, body: &Body) -> Result<(), AllocError>
+    ensures { OnOk result (text.new.items ≡ text.old.items ++ body_text body.now) }
+{
     match body {
         Body::Scan { id, generation, .. } => {
             put_of(text, b"scan ", *id)?;
@@ -191,7 +214,10 @@ fn put_body(text: &mut Vec<u8>, body: &Body) -> Result<(), AllocError> {
 }
 
 // Puts a word and the question that it is about.
-fn put_of(text: &mut Vec<u8>, word: &[u8], id: MessageId) -> Result<(), AllocError> {
+#[tactic(auto, unfolding(crate::specs::Words::about_text))]
+fn put_of(text: &mut Vec<u8>, word: &[u8], id: MessageId) -> Result<(), AllocError>
+    ensures { OnOk result (text.new.items ≡ text.old.items ++ about_text word.now id) }
+{
     put_parts(
         text,
         &[
@@ -203,7 +229,10 @@ fn put_of(text: &mut Vec<u8>, word: &[u8], id: MessageId) -> Result<(), AllocErr
     )
 }
 
-fn put_outcome(text: &mut Vec<u8>, outcome: Outcome) -> Result<(), AllocError> {
+#[tactic(auto, unfolding(crate::specs::Words::outcome_text))]
+fn put_outcome(text: &mut Vec<u8>, outcome: Outcome) -> Result<(), AllocError>
+    ensures { OnOk result (text.new.items ≡ text.old.items ++ outcome_text outcome) }
+{
     match outcome {
         Outcome::Judged { version, verdict } => put_parts(
             text,
@@ -224,7 +253,9 @@ fn put_outcome(text: &mut Vec<u8>, outcome: Outcome) -> Result<(), AllocError> {
 }
 
 /// A verdict in a word, behind a blank.
-pub fn verdict_word(verdict: Verdict) -> &'static [u8] {
+pub fn verdict_word(verdict: Verdict) -> &'static [u8]
+    ensures { result.now ≡ verdict_word verdict }
+{
     match verdict {
         Verdict::Clean => b" clean".as_slice(),
         Verdict::Infected { .. } => b" infected".as_slice(),
@@ -232,7 +263,10 @@ pub fn verdict_word(verdict: Verdict) -> &'static [u8] {
 }
 
 /// The words of an answer.
-pub fn answer_label(alloc: Global, answer: &Answer) -> Result<Vec<u8>, AllocError> {
+#[tactic(auto, unfolding(crate::specs::Words::answer_label))]
+pub fn answer_label(alloc: Global, answer: &Answer) -> Result<Vec<u8>, AllocError>
+    ensures { IfOk result (λ text. text.items ≡ answer_label answer.now) }
+{
     match *answer {
         Answer::Granted {
             open_id,

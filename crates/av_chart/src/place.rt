@@ -2,6 +2,7 @@
 
 ghost use Rattle.std.specs.Prelude.{◌≡◌, ◌+◌, IfOk};
 ghost use Rattle.av_chart.specs.Place.{StandAt, bottom_of, shows, top_of, y_of};
+ghost use Rattle.av_chart.specs.Row.{height_of, lines_high};
 
 use crate::happened::Step;
 use crate::life::Moment;
@@ -19,13 +20,17 @@ pub const HEADS: usize = 40;
 pub const BAND: u32 = 26;
 
 /// The height of a row: at least a line, its lines between opener and filter, and its messages.
-pub fn height_of(step: &Step) -> u32 {
+pub fn height_of(step: &Step) -> u32
+    ensures { result ≡ height_of step.now }
+{
     let left = step.asked_lines().saturating_add(step.answers.count());
     let lines = lines_high(left).max(LINE);
     lines.max(lines_high(step.sent()).saturating_add(step.late()))
 }
 
-fn lines_high(lines: u64) -> u32 {
+fn lines_high(lines: u64) -> u32
+    ensures { result ≡ lines_high lines }
+{
     match u32::try_from(lines) {
         Ok(lines) => lines.saturating_mul(LINE),
         Err(_) => u32::MAX,

@@ -1,12 +1,13 @@
 //! The bars of what lives, beside their lanes.
 
-ghost use Rattle.std.specs.Prelude.{◌≡◌, ◌-◌, max};
+ghost use Rattle.std.specs.Prelude.{◌≡◌, ◌-◌, ◌++◌, max, IfOk, OnOk};
+ghost use Rattle.av_chart.specs.Bars.{all_bars_text, bar_shown, bar_title, bars_text, class_of, edge_of, end_at, ended_text, how_text, life_bar, life_text, reaches, told_by};
 ghost use Rattle.av_chart.specs.Place.{y_of};
 
 use super::{FILTER, OPENER, Picture, SERVICE};
 use crate::escape::put_parts;
 use crate::label::label;
-use crate::life::{Bar, How, Moment};
+use crate::life::{Bar, End, How, Moment};
 use crate::mark::{Mark, put_mark};
 use crate::place::Places;
 use crate::spot::Spot;
@@ -18,7 +19,7 @@ pub const SLOT: u32 = 8;
 
 /// What lives beside a lane.
 #[derive(Clone, Copy)]
-enum Kind {
+pub enum Kind {
     Open,
     Question,
     Job,
@@ -26,11 +27,14 @@ enum Kind {
 }
 
 /// Puts the bars of opens, questions, jobs and works.
+#[tactic(auto, using(crate::proofs::PutLemmas::put_four), unfolding(crate::specs::Bars::all_bars_text))]
 pub fn put_all_bars(
     alloc: Global,
     page: &mut Vec<u8>,
     picture: &Picture<'_, '_>,
-) -> Result<(), AllocError> {
+) -> Result<(), AllocError>
+    ensures { OnOk result (page.new.items ≡ page.old.items ++ all_bars_text picture.now) }
+{
     put_bars(
         alloc,
         page,
@@ -68,31 +72,61 @@ fn put_bars(
     picture: &Picture<'_, '_>,
     kind: Kind,
     bars: &[Bar<'_>],
-) -> Result<(), AllocError> {
-    let behind = (picture.first as u64).saturating_add(picture.count as u64);
+) -> Result<(), AllocError>
+    ensures { OnOk result (page.new.items ≡ page.old.items ++ bars_text picture.now kind bars.now) }
+{
     for bar in bars {
-        let end = match bar.end {
-            Some(end) => end.at,
-            None => Moment {
-                step: behind,
-                line: 0,
-            },
-        };
-        if end.step >= picture.first as u64 && bar.begin.step < behind {
-            put_bar(alloc, page, picture, kind, bar, end)?;
-        }
+        put_shown(alloc, page, picture, kind, bar)?;
     }
     Ok(())
 }
 
+// Puts a bar, where it reaches into the picture.
+fn put_shown(
+    alloc: Global,
+    page: &mut Vec<u8>,
+    picture: &Picture<'_, '_>,
+    kind: Kind,
+    bar: &Bar<'_>,
+) -> Result<(), AllocError>
+    ensures { OnOk result (page.new.items ≡ page.old.items ++ bar_shown picture.now kind bar.now) }
+{
+    if reaches(picture, bar) {
+        put_bar(alloc, page, picture, kind, bar)?;
+    }
+    Ok(())
+}
+
+// When a life ends; what never ended ends behind the picture.
+fn end_at(picture: &Picture<'_, '_>, end: Option<End>) -> Moment
+    ensures { result ≡ end_at picture.now end }
+{
+    match end {
+        Some(end) => end.at,
+        None => Moment {
+            step: picture.behind(),
+            line: 0,
+        },
+    }
+}
+
+// Whether a life reaches into the picture.
+fn reaches(picture: &Picture<'_, '_>, bar: &Bar<'_>) -> bool
+    ensures { result ≡ reaches picture.now bar.now }
+{
+    end_at(picture, bar.end).step >= picture.first as u64 && bar.begin.step < picture.behind()
+}
+
+#[tactic(auto, unfolding(crate::specs::Bars::life_bar))]
 fn put_bar(
     alloc: Global,
     page: &mut Vec<u8>,
     picture: &Picture<'_, '_>,
     kind: Kind,
     bar: &Bar<'_>,
-    end: Moment,
-) -> Result<(), AllocError> {
+) -> Result<(), AllocError>
+    ensures { OnOk result (page.new.items ≡ page.old.items ++ life_bar picture.now kind bar.now) }
+{
     let title = title_of(alloc, picture, kind, bar)?;
     put_mark(
         page,
@@ -102,7 +136,7 @@ fn put_bar(
                 x: left_of(kind, bar.slot),
                 y: picture.places.y(bar.begin),
             },
-            height: height_between(picture.places, bar.begin, end),
+            height: height_between(picture.places, bar.begin, end_at(picture, bar.end)),
             title: &title,
         },
     )
@@ -115,7 +149,9 @@ fn height_between(places: &Places, begin: Moment, end: Moment) -> u32
     places.y(end).saturating_sub(places.y(begin)).max(4)
 }
 
-fn class_of(kind: Kind) -> &'static [u8] {
+fn class_of(kind: Kind) -> &'static [u8]
+    ensures { result.now ≡ class_of kind }
+{
     match kind {
         Kind::Open => b"bo".as_slice(),
         Kind::Question => b"bq".as_slice(),
@@ -125,7 +161,9 @@ fn class_of(kind: Kind) -> &'static [u8] {
 }
 
 // The left edge of a bar at a place beside its lane.
-fn left_of(kind: Kind, slot: u32) -> u32 {
+fn left_of(kind: Kind, slot: u32) -> u32
+    ensures { result ≡ edge_of kind slot }
+{
     let far = slot.saturating_mul(SLOT).saturating_add(4);
     match kind {
         Kind::Open => OPENER.saturating_sub(far).saturating_sub(SLOT - 2),
@@ -136,21 +174,35 @@ fn left_of(kind: Kind, slot: u32) -> u32 {
 }
 
 // What lives, and how it ended.
+#[tactic(auto, unfolding(crate::specs::Bars::bar_title))]
 fn title_of(
     alloc: Global,
     picture: &Picture<'_, '_>,
     kind: Kind,
     bar: &Bar<'_>,
-) -> Result<Vec<u8>, AllocError> {
+) -> Result<Vec<u8>, AllocError>
+    ensures { IfOk result (λ title. title.items ≡ bar_title picture.now kind bar.now) }
+{
     let mut title = life_of(alloc, picture, kind, bar)?;
-    match bar.end {
-        None => title.extend_from_slice(b", not ended")?,
-        Some(end) => put_how(&mut title, end.how)?,
-    }
+    put_ended(&mut title, bar.end)?;
     Ok(title)
 }
 
-fn put_how(title: &mut Vec<u8>, how: How) -> Result<(), AllocError> {
+// Puts whether a life ended, and how.
+#[tactic(auto, unfolding(crate::specs::Bars::ended_text))]
+fn put_ended(title: &mut Vec<u8>, end: Option<End>) -> Result<(), AllocError>
+    ensures { OnOk result (title.new.items ≡ title.old.items ++ ended_text end) }
+{
+    match end {
+        None => title.extend_from_slice(b", not ended"),
+        Some(end) => put_how(title, end.how),
+    }
+}
+
+#[tactic(auto, unfolding(crate::specs::Bars::how_text))]
+fn put_how(title: &mut Vec<u8>, how: How) -> Result<(), AllocError>
+    ensures { OnOk result (title.new.items ≡ title.old.items ++ how_text how) }
+{
     match how {
         How::Granted => title.extend_from_slice(b", granted"),
         How::Unscanned => title.extend_from_slice(b", unscanned"),
@@ -166,12 +218,15 @@ fn put_how(title: &mut Vec<u8>, how: How) -> Result<(), AllocError> {
     }
 }
 
+#[tactic(auto, unfolding(crate::specs::Bars::life_text))]
 fn life_of(
     alloc: Global,
     picture: &Picture<'_, '_>,
     kind: Kind,
     bar: &Bar<'_>,
-) -> Result<Vec<u8>, AllocError> {
+) -> Result<Vec<u8>, AllocError>
+    ensures { IfOk result (λ title. title.items ≡ life_text picture.now kind bar.now) }
+{
     match kind {
         Kind::Open => label(
             alloc,
@@ -209,13 +264,15 @@ fn life_of(
 }
 
 // The line that told a piece of work.
-fn work_of(alloc: Global, picture: &Picture<'_, '_>, number: u64) -> Result<Vec<u8>, AllocError> {
+fn work_of(alloc: Global, picture: &Picture<'_, '_>, number: u64) -> Result<Vec<u8>, AllocError>
+    ensures { IfOk result (λ title. title.items ≡ told_by picture.now number) }
+{
     match picture
         .happened
         .works_told
         .get(number.saturating_sub(1) as usize)
     {
-        Some(line) => label(alloc, &[Part::Text(line)]),
+        Some(line) => Vec::from_slice(alloc, line),
         None => Ok(Vec::new(alloc)),
     }
 }

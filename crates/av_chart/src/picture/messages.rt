@@ -1,82 +1,94 @@
 //! The arrows of messages.
 
-ghost use Rattle.std.specs.Prelude.{◌≡◌, ◌++◌, OnOk};
-ghost use Rattle.av_chart.specs.Arrow.{arrives_at, arrival_text, back, class_of, cut_text, leaves_at, look_of, lost_text, manner_of, near_text, towards};
+ghost use Rattle.std.specs.Prelude.{◌≡◌, ◌++◌, map, slice_get, vec_len, IfOk, OnOk};
+ghost use Rattle.std.specs.List.{list_any};
+ghost use Rattle.av_base.specs.Part.{spelt};
+ghost use Rattle.av_world.specs.Text.Messages.{placed};
+ghost use Rattle.av_chart.specs.Arrow.{arrival_text, arrival_words, arrives_at, back, class_of, crossed_text, cut_text, goal_of, head_of, leaves_at, leaving_text, look_of, look_of_departure, lost_text, manner_of, near_text, side_of, start_of, towards};
+ghost use Rattle.av_chart.specs.Messages.{arrival_at, arrival_shown, arrivals_text, bodies_on, departure_shown, departure_text, is_shown, leaving_line, manner_at, message_at, message_shown, message_text, messages_text, near_arrival, sent_by_step, sent_on, sent_text, step_late, step_messages, step_spent};
+ghost use Rattle.av_chart.specs.Place.{shows};
 
 use super::lanes::{put_cross, wide};
 use super::{FILTER, PORT, Picture, SERVICE};
-use crate::happened::{REACH, Sent, Span, Way};
+use crate::happened::{Happened, REACH, Sent, Span, Step, Way};
 use crate::happening::span_of;
-use crate::label::{label, message_label, message_title};
+use crate::label::{message_label, message_title};
 use crate::life::Moment;
 use crate::mark::{Mark, Side, put_mark, put_marks};
 use crate::place::Places;
 use crate::spot::Spot;
-use av_base::Part;
 use std::alloc::{AllocError, Global};
 
-// How the messages of one way are drawn.
-#[derive(Clone, Copy)]
-pub struct Drawn {
-    way: Way,
-    start: u32,
-    goal: u32,
-    side: Side,
-    head: &'static [u8],
+// The lane on which the messages of a way leave.
+fn start(way: Way) -> u32
+    ensures { result ≡ start_of way }
+{
+    match way {
+        Way::Down => FILTER,
+        Way::Up => SERVICE,
+    }
 }
 
-impl Drawn {
-    fn of(way: Way) -> Drawn {
-        match way {
-            Way::Down => Drawn {
-                way,
-                start: FILTER,
-                goal: SERVICE,
-                side: Side::Right,
-                head: b"hd".as_slice(),
-            },
-            Way::Up => Drawn {
-                way,
-                start: SERVICE,
-                goal: FILTER,
-                side: Side::Left,
-                head: b"hu".as_slice(),
-            },
-        }
+// The lane on which they arrive.
+fn goal(way: Way) -> u32
+    ensures { result ≡ goal_of way }
+{
+    match way {
+        Way::Down => SERVICE,
+        Way::Up => FILTER,
     }
+}
 
-    // The class of a line, by what the arrival brings.
-    fn class(self, manner: Manner) -> &'static [u8]
-        ensures { result.now ≡ class_of self.way manner }
-    {
-        match (self.way, manner) {
-            (Way::Down, Manner::Plain) => b"d".as_slice(),
-            (Way::Down, Manner::Again) => b"d again".as_slice(),
-            (Way::Down, Manner::Spent) => b"d spent".as_slice(),
-            (Way::Up, Manner::Plain) => b"u".as_slice(),
-            (Way::Up, Manner::Again) => b"u again".as_slice(),
-            (Way::Up, Manner::Spent) => b"u spent".as_slice(),
-        }
+fn side(way: Way) -> Side
+    ensures { result ≡ side_of way }
+{
+    match way {
+        Way::Down => Side::Right,
+        Way::Up => Side::Left,
     }
+}
 
-    // So far from a spot towards the goal.
-    fn towards(self, spot: Spot, by: u32) -> Spot
-        ensures { result ≡ towards self.side spot by }
-    {
-        match self.side {
-            Side::Right => spot.right_of(by),
-            Side::Left => spot.left_of(by),
-        }
+// The class of the heads of their arrows.
+fn head(way: Way) -> &'static [u8]
+    ensures { result.now ≡ head_of way }
+{
+    match way {
+        Way::Down => b"hd".as_slice(),
+        Way::Up => b"hu".as_slice(),
     }
+}
 
-    // So far from a spot away from the goal.
-    fn back(self, spot: Spot, by: u32) -> Spot
-        ensures { result ≡ back self.side spot by }
-    {
-        match self.side {
-            Side::Right => spot.left_of(by),
-            Side::Left => spot.right_of(by),
-        }
+// The class of a line, by what the arrival brings.
+fn class(way: Way, manner: Manner) -> &'static [u8]
+    ensures { result.now ≡ class_of way manner }
+{
+    match (way, manner) {
+        (Way::Down, Manner::Plain) => b"d".as_slice(),
+        (Way::Down, Manner::Again) => b"d again".as_slice(),
+        (Way::Down, Manner::Spent) => b"d spent".as_slice(),
+        (Way::Up, Manner::Plain) => b"u".as_slice(),
+        (Way::Up, Manner::Again) => b"u again".as_slice(),
+        (Way::Up, Manner::Spent) => b"u spent".as_slice(),
+    }
+}
+
+// So far from a spot towards the goal.
+fn towards(way: Way, spot: Spot, by: u32) -> Spot
+    ensures { result ≡ towards way spot by }
+{
+    match way {
+        Way::Down => spot.right_of(by),
+        Way::Up => spot.left_of(by),
+    }
+}
+
+// So far from a spot away from the goal.
+fn back(way: Way, spot: Spot, by: u32) -> Spot
+    ensures { result ≡ back way spot by }
+{
+    match way {
+        Way::Down => spot.left_of(by),
+        Way::Up => spot.right_of(by),
     }
 }
 
@@ -88,53 +100,146 @@ pub enum Manner {
     Spent,
 }
 
-// A message that is drawn: its place in its list, from 0, and its words.
+// A message that is drawn, with its words.
 #[derive(Clone, Copy)]
 struct Shown<'m> {
-    drawn: Drawn,
+    way: Way,
     sent: &'m Sent,
     words: &'m [u8],
     title: &'m [u8],
 }
 
 /// Puts the messages, as they were sent.
+#[tactic(auto, unfolding(crate::specs::Messages::messages_text))]
 pub fn put_messages(
     alloc: Global,
     page: &mut Vec<u8>,
     picture: &Picture<'_, '_>,
-) -> Result<(), AllocError> {
-    for step in picture.happened.steps.iter() {
-        put_sent(alloc, page, picture, Way::Down, step.down)?;
-        put_sent(alloc, page, picture, Way::Up, step.up)?;
+) -> Result<(), AllocError>
+    ensures { OnOk result (page.new.items ≡ page.old.items ++ messages_text picture.now) }
+{
+    put_by_steps(alloc, page, picture, &picture.happened.steps)
+}
+
+fn put_by_steps(
+    alloc: Global,
+    page: &mut Vec<u8>,
+    picture: &Picture<'_, '_>,
+    steps: &[Step],
+) -> Result<(), AllocError>
+    ensures { OnOk result (page.new.items ≡ page.old.items ++ spelt (map (sent_by_step picture.now) steps.now)) }
+{
+    for step in steps {
+        put_by_step(alloc, page, picture, step)?;
     }
     Ok(())
 }
 
+// Puts the messages that a step sent.
+#[tactic(auto, using(std::proofs::Common::append_assoc), unfolding(crate::specs::Messages::sent_by_step))]
+fn put_by_step(
+    alloc: Global,
+    page: &mut Vec<u8>,
+    picture: &Picture<'_, '_>,
+    step: &Step,
+) -> Result<(), AllocError>
+    ensures { OnOk result (page.new.items ≡ page.old.items ++ sent_by_step picture.now step.now) }
+{
+    put_sent(alloc, page, picture, Way::Down, step.down)?;
+    put_sent(alloc, page, picture, Way::Up, step.up)
+}
+
+// The messages of a way.
+fn sent_on<'h>(happened: &'h Happened<'_>, way: Way) -> &'h [Sent]
+    ensures { result.now ≡ sent_on happened.now way }
+{
+    match way {
+        Way::Down => happened.down.as_slice(),
+        Way::Up => happened.up.as_slice(),
+    }
+}
+
 // Puts the messages of one way that a step sent.
+#[tactic(auto, unfolding(crate::specs::Messages::step_messages))]
 fn put_sent(
     alloc: Global,
     page: &mut Vec<u8>,
     picture: &Picture<'_, '_>,
     way: Way,
     span: Span,
-) -> Result<(), AllocError> {
-    let all = match way {
-        Way::Down => picture.happened.down.as_slice(),
-        Way::Up => picture.happened.up.as_slice(),
-    };
-    let mut index = span.from;
-    for sent in span_of(all, span) {
-        if is_shown(picture, sent) {
-            put_message(alloc, page, picture, way, index, sent)?;
-        }
-        index = index.saturating_add(1);
+) -> Result<(), AllocError>
+    ensures { OnOk result (page.new.items ≡ page.old.items ++ step_messages picture.now way span) }
+{
+    let messages = span_of(sent_on(picture.happened, way), span);
+    put_each(alloc, page, picture, way, span, messages)
+}
+
+fn put_each(
+    alloc: Global,
+    page: &mut Vec<u8>,
+    picture: &Picture<'_, '_>,
+    way: Way,
+    span: Span,
+    messages: &[Sent],
+) -> Result<(), AllocError>
+    ensures { OnOk result (page.new.items ≡ page.old.items ++ placed (message_at picture.now way span) 0 messages.now) }
+{
+    for (order, sent) in messages.iter().enumerate() {
+        put_at(alloc, page, picture, way, span, order, sent)?;
+    }
+    Ok(())
+}
+
+// Puts the message that is so many behind the first of a span.
+fn put_at(
+    alloc: Global,
+    page: &mut Vec<u8>,
+    picture: &Picture<'_, '_>,
+    way: Way,
+    span: Span,
+    order: usize,
+    sent: &Sent,
+) -> Result<(), AllocError>
+    ensures { OnOk result (page.new.items ≡ page.old.items ++ message_at picture.now way span order sent.now) }
+{
+    let index = span.from.saturating_add(order as u64);
+    put_if_shown(alloc, page, picture, way, index, sent)
+}
+
+// Puts the message at a place, where it is shown.
+fn put_if_shown(
+    alloc: Global,
+    page: &mut Vec<u8>,
+    picture: &Picture<'_, '_>,
+    way: Way,
+    index: u64,
+    sent: &Sent,
+) -> Result<(), AllocError>
+    ensures { OnOk result (page.new.items ≡ page.old.items ++ message_shown picture.now way index sent.now) }
+{
+    if is_shown(picture, sent) {
+        put_message(alloc, page, picture, way, index, sent)?;
     }
     Ok(())
 }
 
 // Whether a message is sent or arrives in the picture.
-fn is_shown(picture: &Picture<'_, '_>, sent: &Sent) -> bool {
-    picture.places.shows(sent.at.step) || sent.arrivals.iter().any(|at| picture.places.shows(*at))
+fn is_shown(picture: &Picture<'_, '_>, sent: &Sent) -> bool
+    ensures { result ≡ is_shown picture.now sent.now }
+{
+    picture.places.shows(sent.at.step) || any_shown(picture.places, &sent.arrivals)
+}
+
+// Whether one of these steps is shown.
+fn any_shown(places: &Places, steps: &[u64]) -> bool
+    ensures { result ≡ list_any (shows places.now) steps.now }
+{
+    for step in steps {
+        if places.shows(*step) {
+            return true;
+        }
+    }
+    false
 }
 
 fn put_message(
@@ -144,7 +249,10 @@ fn put_message(
     way: Way,
     index: u64,
     sent: &Sent,
-) -> Result<(), AllocError> {
+) -> Result<(), AllocError>
+    ensures { OnOk result
+        (page.new.items ≡ page.old.items ++ message_text picture.now way sent.now index (slice_get (bodies_on picture.now.world.now way) index)) }
+{
     let all = match way {
         Way::Down => picture.world.down(),
         Way::Up => picture.world.up(),
@@ -155,7 +263,7 @@ fn put_message(
     let words = message_label(alloc, way, index.saturating_add(1), message.body())?;
     let title = message_title(alloc, picture.world, way, index)?;
     let shown = Shown {
-        drawn: Drawn::of(way),
+        way,
         sent,
         words: &words,
         title: &title,
@@ -164,27 +272,87 @@ fn put_message(
 }
 
 // Puts the departure of a message and its arrivals.
+#[tactic(auto, using(std::proofs::Common::append_assoc), unfolding(crate::specs::Messages::sent_text))]
 fn put_shown(
     alloc: Global,
     page: &mut Vec<u8>,
     picture: &Picture<'_, '_>,
     shown: Shown<'_>,
-) -> Result<(), AllocError> {
-    let near = near_arrival(picture, shown.sent);
+) -> Result<(), AllocError>
+    ensures { OnOk result
+        (page.new.items ≡ page.old.items ++ sent_text picture.now shown.entry.way shown.entry.sent.now shown.entry.words.now shown.entry.title.now) }
+{
+    put_if_left(page, picture, shown)?;
+    put_arrivals(alloc, page, picture, shown)
+}
+
+// Puts the departure of a message, where it is shown.
+fn put_if_left(
+    page: &mut Vec<u8>,
+    picture: &Picture<'_, '_>,
+    shown: Shown<'_>,
+) -> Result<(), AllocError>
+    ensures { OnOk result
+        (page.new.items ≡ page.old.items ++ departure_shown picture.now shown.entry.way shown.entry.sent.now shown.entry.words.now shown.entry.title.now) }
+{
     if picture.places.shows(shown.sent.at.step) {
-        put_departure(page, picture, shown, near)?;
+        put_departure(page, picture, shown)?;
     }
-    for (order, at) in shown.sent.arrivals.iter().enumerate() {
-        if picture.places.shows(*at) && !(order == 0 && near.is_some()) {
-            put_arrival(alloc, page, picture, shown, *at, order > 0)?;
-        }
+    Ok(())
+}
+
+// Puts the arrivals of a message that have arrows of their own.
+fn put_arrivals(
+    alloc: Global,
+    page: &mut Vec<u8>,
+    picture: &Picture<'_, '_>,
+    shown: Shown<'_>,
+) -> Result<(), AllocError>
+    ensures { OnOk result
+        (page.new.items ≡ page.old.items ++ arrivals_text picture.now shown.entry.way shown.entry.sent.now shown.entry.words.now) }
+{
+    put_each_arrival(alloc, page, picture, shown, &shown.sent.arrivals)
+}
+
+fn put_each_arrival(
+    alloc: Global,
+    page: &mut Vec<u8>,
+    picture: &Picture<'_, '_>,
+    shown: Shown<'_>,
+    arrivals: &[u64],
+) -> Result<(), AllocError>
+    ensures { OnOk result (page.new.items ≡ page.old.items
+        ++ placed (arrival_shown picture.now shown.entry.way shown.entry.sent.now shown.entry.words.now) 0 arrivals.now) }
+{
+    for (order, at) in arrivals.iter().enumerate() {
+        put_if_own(alloc, page, picture, shown, order, *at)?;
+    }
+    Ok(())
+}
+
+// Puts the arrival of such an order, unless it is not shown, or its arrow stands already.
+fn put_if_own(
+    alloc: Global,
+    page: &mut Vec<u8>,
+    picture: &Picture<'_, '_>,
+    shown: Shown<'_>,
+    order: usize,
+    at: u64,
+) -> Result<(), AllocError>
+    ensures { OnOk result
+        (page.new.items ≡ page.old.items ++ arrival_shown picture.now shown.entry.way shown.entry.sent.now shown.entry.words.now order at) }
+{
+    if picture.places.shows(at) && (order > 0 || near_arrival(picture, shown.sent).is_none()) {
+        put_arrival(alloc, page, picture, shown, at, order > 0)?;
     }
     Ok(())
 }
 
 // The first arrival of a message, where one arrow shows it.
-fn near_arrival(picture: &Picture<'_, '_>, sent: &Sent) -> Option<u64> {
-    let first = *sent.arrivals.first()?;
+fn near_arrival(picture: &Picture<'_, '_>, sent: &Sent) -> Option<u64>
+    ensures { result ≡ near_arrival picture.now sent.now }
+{
+    let first = *sent.arrivals.as_slice().first()?;
     let spans = first.saturating_sub(sent.at.step);
     if picture.places.shows(sent.at.step) && picture.places.shows(first) && spans <= REACH {
         Some(first)
@@ -194,12 +362,16 @@ fn near_arrival(picture: &Picture<'_, '_>, sent: &Sent) -> Option<u64> {
 }
 
 // How the arrival in a step is drawn.
-fn arrival_manner(picture: &Picture<'_, '_>, at: u64, is_again: bool) -> Manner {
+fn arrival_manner(picture: &Picture<'_, '_>, at: u64, is_again: bool) -> Manner
+    ensures { result ≡ manner_at picture.now at is_again }
+{
     make_manner(is_spent(picture, at), is_again)
 }
 
 // Whether the message that arrives in a step brings nothing any more.
-fn is_spent(picture: &Picture<'_, '_>, at: u64) -> bool {
+fn is_spent(picture: &Picture<'_, '_>, at: u64) -> bool
+    ensures { result ≡ step_spent (slice_get picture.now.happened.now.steps.items at) }
+{
     let Some(step) = picture.happened.steps.get(at as usize) else {
         return false;
     };
@@ -222,7 +394,9 @@ fn make_manner(is_spent: bool, is_again: bool) -> Manner
 }
 
 // How much lower than its line a message leaves its lane.
-fn late(picture: &Picture<'_, '_>, sent: &Sent) -> u32 {
+fn late(picture: &Picture<'_, '_>, sent: &Sent) -> u32
+    ensures { result ≡ step_late (slice_get picture.now.happened.now.steps.items sent.now.at.step) }
+{
     match picture.happened.steps.get(sent.at.step as usize) {
         Some(step) => step.late(),
         None => 0,
@@ -230,113 +404,140 @@ fn late(picture: &Picture<'_, '_>, sent: &Sent) -> u32 {
 }
 
 // Where a message leaves its lane, so much lower than its line.
-fn departure(places: &Places, drawn: Drawn, sent: Moment, late: u32) -> Spot
-    ensures { result ≡ leaves_at places.now drawn sent late }
+fn departure(places: &Places, way: Way, sent: Moment, late: u32) -> Spot
+    ensures { result ≡ leaves_at places.now way sent late }
 {
     Spot {
-        x: drawn.start,
+        x: start(way),
         y: places.y(sent),
     }
     .below(late)
 }
 
 // Where a message arrives in a step.
-fn goal(places: &Places, drawn: Drawn, at: u64) -> Spot
-    ensures { result ≡ arrives_at places.now drawn at }
+fn arrival(places: &Places, way: Way, at: u64) -> Spot
+    ensures { result ≡ arrives_at places.now way at }
 {
     Spot {
-        x: drawn.goal,
+        x: goal(way),
         y: places.y(Moment { step: at, line: 0 }),
     }
 }
 
-// Puts the line on which a message leaves, and its words.
+// Puts a message that leaves, with its words.
+#[tactic(auto, using(std::proofs::Common::append_assoc), unfolding(crate::specs::Messages::departure_text))]
 fn put_departure(
     page: &mut Vec<u8>,
     picture: &Picture<'_, '_>,
     shown: Shown<'_>,
+) -> Result<(), AllocError>
+    ensures { OnOk result
+        (page.new.items ≡ page.old.items ++ departure_text picture.now shown.entry.way shown.entry.sent.now shown.entry.words.now shown.entry.title.now) }
+{
+    let low = late(picture, shown.sent);
+    let from = departure(picture.places, shown.way, shown.sent.at, low);
+    let near = near_arrival(picture, shown.sent);
+    put_leaving_line(page, picture, shown, from, near)?;
+    put_leaving_words(page, shown.way, from, shown.title, shown.words)
+}
+
+// Puts the line on which a message leaves.
+fn put_leaving_line(
+    page: &mut Vec<u8>,
+    picture: &Picture<'_, '_>,
+    shown: Shown<'_>,
+    from: Spot,
     near: Option<u64>,
-) -> Result<(), AllocError> {
-    let drawn = shown.drawn;
-    let from = departure(
-        picture.places,
-        drawn,
-        shown.sent.at,
-        late(picture, shown.sent),
-    );
+) -> Result<(), AllocError>
+    ensures { OnOk result
+        (page.new.items ≡ page.old.items ++ leaving_line picture.now shown.entry.way shown.entry.words.now from near (vec_len shown.entry.sent.now.arrivals)) }
+{
     match near {
         Some(at) => {
             let manner = arrival_manner(picture, at, false);
-            put_near(page, picture.places, drawn, manner, from, at)?;
+            put_near(page, picture.places, shown.way, manner, from, at)
         }
         None => {
             if shown.sent.arrivals.is_empty() {
-                put_lost(page, drawn, shown.words, from)?;
+                put_lost(page, shown.way, shown.words, from)
             } else {
-                put_cut(page, drawn, from)?;
+                put_cut(page, shown.way, from)
             }
         }
     }
+}
+
+// Puts the words of a message where it leaves.
+#[tactic(auto, unfolding(crate::specs::Arrow::leaving_text))]
+fn put_leaving_words(
+    page: &mut Vec<u8>,
+    way: Way,
+    from: Spot,
+    title: &[u8],
+    words: &[u8],
+) -> Result<(), AllocError>
+    ensures { OnOk result (page.new.items ≡ page.old.items ++ leaving_text way from title.now words.now) }
+{
     put_mark(
         page,
         &Mark::Titled {
-            at: shown.drawn.towards(from, 28).above(3),
-            look: match shown.drawn.way {
-                Way::Down => b" class=\"td halo\"".as_slice(),
-                Way::Up => b" class=\"tu halo\" text-anchor=\"end\"".as_slice(),
-            },
-            title: shown.title,
-            words: shown.words,
+            at: towards(way, from, 28).above(3),
+            look: look_of_departure(way),
+            title,
+            words,
         },
     )
 }
 
 // Puts one arrow from where a message leaves to where it arrives.
+#[tactic(auto, unfolding(crate::specs::Arrow::near_text))]
 fn put_near(
     page: &mut Vec<u8>,
     places: &Places,
-    drawn: Drawn,
+    way: Way,
     manner: Manner,
     from: Spot,
     at: u64,
 ) -> Result<(), AllocError>
-    ensures { OnOk result (page.new.items ≡ page.old.items ++ near_text drawn manner from (arrives_at places.now drawn at)) }
+    ensures { OnOk result (page.new.items ≡ page.old.items ++ near_text way manner from (arrives_at places.now way at)) }
 {
-    let to = goal(places, drawn, at);
+    let to = arrival(places, way, at);
     put_marks(
         page,
         &[
             Mark::Bent {
-                class: drawn.class(manner),
+                class: class(way, manner),
                 from,
-                leaves: drawn.towards(from, 24),
-                arrives: drawn.back(to, 18),
+                leaves: towards(way, from, 24),
+                arrives: back(way, to, 18),
                 to,
             },
             Mark::Head {
-                class: drawn.head,
+                class: head(way),
                 tip: to,
-                side: drawn.side,
+                side: side(way),
             },
         ],
     )
 }
 
 // Puts the line of a message that never arrives: it ends in a cross, clear of its words.
-fn put_lost(page: &mut Vec<u8>, drawn: Drawn, words: &[u8], from: Spot) -> Result<(), AllocError> {
+fn put_lost(page: &mut Vec<u8>, way: Way, words: &[u8], from: Spot) -> Result<(), AllocError>
+    ensures { OnOk result (page.new.items ≡ page.old.items ++ lost_text way words.now from) }
+{
     let reach = wide(words).saturating_add(36).max(SERVICE - PORT);
-    put_crossed(page, drawn, from, drawn.towards(from, reach))
+    put_crossed(page, way, from, towards(way, from, reach))
 }
 
 // Puts a line that ends in a cross.
-#[tactic(auto, using(crate::proofs::PutLemmas::put_two))]
-fn put_crossed(page: &mut Vec<u8>, drawn: Drawn, from: Spot, end: Spot) -> Result<(), AllocError>
-    ensures { OnOk result (page.new.items ≡ page.old.items ++ lost_text drawn from end) }
+#[tactic(auto, using(crate::proofs::PutLemmas::put_two), unfolding(crate::specs::Arrow::crossed_text))]
+fn put_crossed(page: &mut Vec<u8>, way: Way, from: Spot, end: Spot) -> Result<(), AllocError>
+    ensures { OnOk result (page.new.items ≡ page.old.items ++ crossed_text way from end) }
 {
     put_mark(
         page,
         &Mark::Line {
-            class: drawn.class(Manner::Plain),
+            class: class(way, Manner::Plain),
             from,
             to: end,
         },
@@ -345,20 +546,21 @@ fn put_crossed(page: &mut Vec<u8>, drawn: Drawn, from: Spot, end: Spot) -> Resul
 }
 
 // Puts the line of a message that arrives elsewhere: it ends in a dot at the port.
-fn put_cut(page: &mut Vec<u8>, drawn: Drawn, from: Spot) -> Result<(), AllocError>
-    ensures { OnOk result (page.new.items ≡ page.old.items ++ cut_text drawn from) }
+#[tactic(auto, unfolding(crate::specs::Arrow::cut_text))]
+fn put_cut(page: &mut Vec<u8>, way: Way, from: Spot) -> Result<(), AllocError>
+    ensures { OnOk result (page.new.items ≡ page.old.items ++ cut_text way from) }
 {
     let to = Spot { x: PORT, y: from.y };
     put_marks(
         page,
         &[
             Mark::Line {
-                class: drawn.class(Manner::Plain),
+                class: class(way, Manner::Plain),
                 from,
                 to,
             },
             Mark::Dot {
-                class: drawn.head,
+                class: head(way),
                 at: to,
             },
         ],
@@ -366,6 +568,7 @@ fn put_cut(page: &mut Vec<u8>, drawn: Drawn, from: Spot) -> Result<(), AllocErro
 }
 
 // Puts an arrival that begins at a dot at the port, with its words.
+#[tactic(auto, unfolding(crate::specs::Messages::arrival_at))]
 fn put_arrival(
     alloc: Global,
     page: &mut Vec<u8>,
@@ -373,57 +576,78 @@ fn put_arrival(
     shown: Shown<'_>,
     at: u64,
     is_again: bool,
-) -> Result<(), AllocError> {
-    let before = if is_again {
-        b"again ".as_slice()
-    } else {
-        b"late ".as_slice()
-    };
-    let mut words = label(alloc, &[Part::Text(before)])?;
-    words.extend_from_slice(shown.words)?;
+) -> Result<(), AllocError>
+    ensures { OnOk result
+        (page.new.items ≡ page.old.items ++ arrival_at picture.now shown.entry.way shown.entry.words.now at is_again) }
+{
+    let words = arrival_words(alloc, is_again, shown.words)?;
     let manner = arrival_manner(picture, at, is_again);
-    put_arrow_from_port(page, picture.places, shown.drawn, manner, at, &words)
+    put_arrow_from_port(page, picture.places, shown.way, manner, at, &words)
 }
 
+// The words of an arrival: whether it comes late or again, and those of its message.
+fn arrival_words(alloc: Global, is_again: bool, words: &[u8]) -> Result<Vec<u8>, AllocError>
+    ensures { IfOk result (λ text. text.items ≡ arrival_words is_again words.now) }
+{
+    let mut text = Vec::new(alloc);
+    if is_again {
+        text.extend_from_slice(b"again ")?;
+    } else {
+        text.extend_from_slice(b"late ")?;
+    }
+    text.extend_from_slice(words)?;
+    Ok(text)
+}
+
+#[tactic(auto, unfolding(crate::specs::Arrow::arrival_text))]
 fn put_arrow_from_port(
     page: &mut Vec<u8>,
     places: &Places,
-    drawn: Drawn,
+    way: Way,
     manner: Manner,
     at: u64,
     words: &[u8],
 ) -> Result<(), AllocError>
-    ensures { OnOk result (page.new.items ≡ page.old.items ++ arrival_text drawn manner (arrives_at places.now drawn at) words.now) }
+    ensures { OnOk result (page.new.items ≡ page.old.items ++ arrival_text way manner (arrives_at places.now way at) words.now) }
 {
-    let to = goal(places, drawn, at);
+    let to = arrival(places, way, at);
     let from = Spot { x: PORT, y: to.y };
     put_marks(
         page,
         &[
             Mark::Dot {
-                class: drawn.head,
+                class: head(way),
                 at: from,
             },
             Mark::Line {
-                class: drawn.class(manner),
+                class: class(way, manner),
                 from,
                 to,
             },
             Mark::Head {
-                class: drawn.head,
+                class: head(way),
                 tip: to,
-                side: drawn.side,
+                side: side(way),
             },
             Mark::Words {
-                at: drawn.back(to, 22).above(3),
-                look: look_of_arrival(drawn.way),
+                at: back(way, to, 22).above(3),
+                look: look_of_arrival(way),
                 words,
             },
         ],
     )
 }
 
-// The look of an arrival's words.
+// The look of a message's words where it leaves, and where it arrives.
+fn look_of_departure(way: Way) -> &'static [u8]
+    ensures { result.now ≡ look_of_departure way }
+{
+    match way {
+        Way::Down => b" class=\"td halo\"".as_slice(),
+        Way::Up => b" class=\"tu halo\" text-anchor=\"end\"".as_slice(),
+    }
+}
+
 fn look_of_arrival(way: Way) -> &'static [u8]
     ensures { result.now ≡ look_of way }
 {

@@ -1,12 +1,16 @@
 //! What a step did on the right of the port: to the service and its works.
 
+ghost use Rattle.std.specs.Prelude.{◌≡◌, ◌++◌, IfOk, OnOk};
+ghost use Rattle.av_chart.specs.Right.{back_text, back_words, lent_label, lent_text, noted_right, ran_text, right_text, service_label, service_pill, service_text, told_text};
+ghost use Rattle.av_chart.specs.Row.{is_noted};
+
 use super::bars::SLOT;
 use super::lanes::{put_arrow, put_pill, wide};
 use super::{Picture, SERVICE};
 use crate::happened::{ServiceMark, Step};
 use crate::happening::word;
 use crate::label::{label, told_note};
-use crate::life::Moment;
+use crate::life::{Bar, Moment};
 use crate::mark::{Mark, Side, put_mark};
 use crate::spot::Spot;
 use av_base::Part;
@@ -17,49 +21,73 @@ use std::alloc::{AllocError, Global};
 const TOLD: u32 = SERVICE + 96;
 
 /// Puts what a step did on the right.
+#[tactic(auto, using(crate::proofs::PutLemmas::put_four), unfolding(crate::specs::Right::right_text))]
 pub fn put_right(
     alloc: Global,
     page: &mut Vec<u8>,
     picture: &Picture<'_, '_>,
     number: u64,
     step: &Step,
-) -> Result<(), AllocError> {
+) -> Result<(), AllocError>
+    ensures { OnOk result (page.new.items ≡ page.old.items ++ right_text picture.now number step.now) }
+{
     let y = picture.places.y(Moment {
         step: number,
         line: 0,
     });
-    if let Some(mark) = step.service {
-        let words = service_label(alloc, mark)?;
-        put_pill(page, Spot { x: TOLD, y }.right_of(wide(&words) / 2), &words)?;
-    }
-    if step.is_noted() {
-        put_note(alloc, page, picture, step.note.note(), y)?;
-    }
-    if let Some(index) = step.lent {
-        put_lent(alloc, page, picture, index, y)?;
-    }
-    match step.ran {
-        Some(index) => put_ran(alloc, page, picture, index, !step.is_noted(), y),
-        None => Ok(()),
-    }
+    put_service(alloc, page, step.service, y)?;
+    put_noted(alloc, page, picture, step, y)?;
+    put_lent(alloc, page, picture, step.lent, y)?;
+    put_ran(alloc, page, picture, step, y)
 }
 
-// Puts the note of the service.
-fn put_note(
+// Puts what befalls the service.
+fn put_service(
+    alloc: Global,
+    page: &mut Vec<u8>,
+    mark: Option<ServiceMark>,
+    y: u32,
+) -> Result<(), AllocError>
+    ensures { OnOk result (page.new.items ≡ page.old.items ++ service_text mark y) }
+{
+    let Some(mark) = mark else {
+        return Ok(());
+    };
+    let words = service_label(alloc, mark)?;
+    put_service_pill(page, &words, y)
+}
+
+#[tactic(auto, unfolding(crate::specs::Right::service_pill))]
+fn put_service_pill(page: &mut Vec<u8>, words: &[u8], y: u32) -> Result<(), AllocError>
+    ensures { OnOk result (page.new.items ≡ page.old.items ++ service_pill words.now y) }
+{
+    put_pill(page, Spot { x: TOLD, y }.right_of(wide(words) / 2), words)
+}
+
+// Puts the service's note of a step.
+fn put_noted(
     alloc: Global,
     page: &mut Vec<u8>,
     picture: &Picture<'_, '_>,
-    note: Note,
+    step: &Step,
     y: u32,
-) -> Result<(), AllocError> {
-    let Note::Service(note) = note else {
+) -> Result<(), AllocError>
+    ensures { OnOk result (page.new.items ≡ page.old.items ++ noted_right picture.now.world.now step.now y) }
+{
+    if !step.is_noted() {
+        return Ok(());
+    }
+    let Note::Service(note) = step.note.note() else {
         return Ok(());
     };
     let line = told_note(alloc, picture.world, Note::Service(note))?;
     put_told(page, b" class=\"tw halo\"", word(&line, 1), y)
 }
 
-fn service_label(alloc: Global, mark: ServiceMark) -> Result<Vec<u8>, AllocError> {
+#[tactic(auto, unfolding(crate::specs::Right::service_label))]
+fn service_label(alloc: Global, mark: ServiceMark) -> Result<Vec<u8>, AllocError>
+    ensures { IfOk result (λ text. text.items ≡ service_label mark) }
+{
     match mark {
         ServiceMark::FilterLost => label(alloc, &[Part::Text(b"filter is lost")]),
         ServiceMark::Restart => label(alloc, &[Part::Text(b"restart")]),
@@ -84,7 +112,10 @@ fn service_label(alloc: Global, mark: ServiceMark) -> Result<Vec<u8>, AllocError
 }
 
 // Puts words right of the works.
-fn put_told(page: &mut Vec<u8>, look: &[u8], words: &[u8], y: u32) -> Result<(), AllocError> {
+#[tactic(auto, unfolding(crate::specs::Right::told_text))]
+fn put_told(page: &mut Vec<u8>, look: &[u8], words: &[u8], y: u32) -> Result<(), AllocError>
+    ensures { OnOk result (page.new.items ≡ page.old.items ++ told_text look.now words.now y) }
+{
     put_mark(
         page,
         &Mark::Words {
@@ -95,18 +126,32 @@ fn put_told(page: &mut Vec<u8>, look: &[u8], words: &[u8], y: u32) -> Result<(),
     )
 }
 
-// Puts that a piece of work was lent.
+// Puts the piece of work that was lent.
 fn put_lent(
     alloc: Global,
     page: &mut Vec<u8>,
     picture: &Picture<'_, '_>,
-    index: usize,
+    index: Option<usize>,
     y: u32,
-) -> Result<(), AllocError> {
+) -> Result<(), AllocError>
+    ensures { OnOk result (page.new.items ≡ page.old.items ++ lent_text picture.now.happened.now.works_told.items index y) }
+{
+    let Some(index) = index else {
+        return Ok(());
+    };
     let Some(line) = picture.happened.works_told.get(index) else {
         return Ok(());
     };
-    let words = label(
+    let words = lent_label(alloc, line)?;
+    put_told(page, b" class=\"halo\"", &words, y)
+}
+
+// The words of work that was lent, of the line that told it.
+#[tactic(auto, unfolding(crate::specs::Right::lent_label))]
+fn lent_label(alloc: Global, line: &[u8]) -> Result<Vec<u8>, AllocError>
+    ensures { IfOk result (λ text. text.items ≡ lent_label line.now) }
+{
+    label(
         alloc,
         &[
             Part::Text(b"work "),
@@ -116,25 +161,56 @@ fn put_lent(
             Part::Text(b" B from "),
             Part::Text(word(line, 5)),
         ],
-    )?;
-    put_told(page, b" class=\"halo\"", &words, y)
+    )
 }
 
-// Puts that a piece of work comes back.
+// Puts the piece of work that comes back.
 fn put_ran(
     alloc: Global,
     page: &mut Vec<u8>,
     picture: &Picture<'_, '_>,
-    index: usize,
-    is_told: bool,
+    step: &Step,
     y: u32,
-) -> Result<(), AllocError> {
+) -> Result<(), AllocError>
+    ensures { OnOk result
+        (page.new.items ≡ page.old.items ++ ran_text picture.now.happened.now.works.bars.items step.now.ran (is_noted step.now.note) y) }
+{
+    let Some(index) = step.ran else {
+        return Ok(());
+    };
     let Some(bar) = picture.happened.works.bars.as_slice().get(index) else {
         return Ok(());
     };
+    put_back(alloc, page, bar, step.is_noted(), y)
+}
+
+// Puts that a piece of work comes back: an arrow from its bar, and words unless a note stands there.
+#[tactic(auto, using(std::proofs::Common::append_assoc), unfolding(crate::specs::Right::back_text))]
+fn put_back(
+    alloc: Global,
+    page: &mut Vec<u8>,
+    bar: &Bar<'_>,
+    is_noted: bool,
+    y: u32,
+) -> Result<(), AllocError>
+    ensures { OnOk result (page.new.items ≡ page.old.items ++ back_text bar.now is_noted y) }
+{
     let from = Spot { x: SERVICE + 50, y }.right_of(bar.slot.saturating_mul(SLOT));
     put_arrow(page, b"o", b"ho", from, Spot { x: SERVICE, y }, Side::Left)?;
-    if !is_told {
+    put_back_words(alloc, page, bar, is_noted, y)
+}
+
+#[tactic(auto, unfolding(crate::specs::Right::back_words))]
+fn put_back_words(
+    alloc: Global,
+    page: &mut Vec<u8>,
+    bar: &Bar<'_>,
+    is_noted: bool,
+    y: u32,
+) -> Result<(), AllocError>
+    ensures { OnOk result (page.new.items ≡ page.old.items ++ back_words bar.now is_noted y) }
+{
+    if is_noted {
         return Ok(());
     }
     let words = label(
