@@ -5,7 +5,7 @@
 
 ghost use Rattle.std.specs.Prelude.{◌≤◌, length, IfOk};
 
-use crate::place::Place;
+use crate::place::Arriving;
 use std::alloc::Global;
 use std::cell::RefCell;
 use std::io;
@@ -52,8 +52,7 @@ struct Inside {
     // What waits to go out.
     waiting: Vec<u8>,
     // Where what came ends, and since when a frame is waited for that is not whole.
-    place: Place,
-    since: Option<Duration>,
+    arriving: Arriving,
 }
 
 impl<'a, C: Clock> Duplex<'a, C> {
@@ -77,8 +76,7 @@ impl<'a, C: Clock> Duplex<'a, C> {
                 kept: Vec::new(alloc),
                 given: 0,
                 waiting: Vec::new(alloc),
-                place: Place::start(),
-                since: Some(since),
+                arriving: Arriving::since(since),
             }),
         })
     }
@@ -143,7 +141,7 @@ impl Inside {
     fn hear<C: Clock>(&mut self, line: &Line<'_, C>, buf: &mut [u8]) -> io::Result<usize>
         ensures { IfOk result (λ count. count ≤ length buf.new) }
     {
-        let since = match self.since {
+        let since = match self.arriving.begun() {
             Some(since) => since,
             None => line.clock.monotonic()?,
         };
@@ -166,12 +164,8 @@ impl Inside {
 
     // Goes on over bytes that came.
     fn pass<C: Clock>(&mut self, line: &Line<'_, C>, bytes: &[u8]) -> io::Result<()> {
-        let is_whole = self.place.pass(bytes);
-        if !self.place.is_within() {
-            self.since = if is_whole { None } else { self.since };
-        } else if is_whole || self.since.is_none() {
-            self.since = Some(line.clock.monotonic()?);
-        }
+        let now = line.clock.monotonic()?;
+        self.arriving.pass(bytes, now);
         Ok(())
     }
 

@@ -26,6 +26,10 @@ pub enum SocketFault {
     ServiceLost,
     /// The connection to the filter failed, or the filter neither spoke nor listened for too long.
     FilterLost,
+    /// No guard came to listen in time.
+    NoGuard,
+    /// The guard went away, or answered nothing for too long, or said what is no answer.
+    GuardLost,
 }
 
 /// Two programs do not meet at a socket, or not to the end.
@@ -43,6 +47,8 @@ pub fn socket_failed<E: Write>(err: &mut E, socket: &str, fault: SocketFault) ->
         SocketFault::NoFilter => ": no filter listens",
         SocketFault::ServiceLost => ": the service was lost",
         SocketFault::FilterLost => ": the filter was lost",
+        SocketFault::NoGuard => ": no guard listens",
+        SocketFault::GuardLost => ": the guard was lost",
     });
     say_of(err, socket, &[why]);
     Status::Device

@@ -14,7 +14,9 @@ mod place;
 pub mod service;
 pub mod sockets;
 
+pub use duplex::{Duplex, Hearing, Saying};
 pub use fault::SocketFault;
 pub use filter::filter_volume;
+pub use place::Arriving;
 pub use service::serve_at;
-pub use sockets::Meeting;
+pub use sockets::{Meeting, Node, connect, listen, remove_own};

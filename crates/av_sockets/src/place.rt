@@ -1,6 +1,8 @@
-/// Where in a stream of frames one stands: a frame is its body's length in four bytes, and then its body.
+use std::time::Duration;
+
+// Where in a stream of frames one stands: a frame is its body's length in four bytes, and then its body.
 #[derive(Clone, Copy, Debug, Drop)]
-pub struct Place {
+struct Place {
     // The bytes of a length that came so far, and how many they are.
     length: [u8; LENGTH],
     known: usize,
@@ -12,8 +14,8 @@ pub struct Place {
 const LENGTH: usize = 4;
 
 impl Place {
-    /// In front of the first frame.
-    pub fn start() -> Place {
+    // In front of the first frame.
+    fn start() -> Place {
         Place {
             length: [0u8; LENGTH],
             known: 0,
@@ -21,13 +23,13 @@ impl Place {
         }
     }
 
-    /// Whether a frame has begun that is not whole.
-    pub fn is_within(&self) -> bool {
+    // Whether a frame has begun that is not whole.
+    fn is_within(&self) -> bool {
         self.known > 0 || self.left > 0
     }
 
-    /// Goes on over bytes that came, and says whether a frame became whole.
-    pub fn pass(&mut self, bytes: &[u8]) -> bool {
+    // Goes on over bytes that came, and says whether a frame became whole.
+    fn pass(&mut self, bytes: &[u8]) -> bool {
         let mut rest = bytes;
         let mut is_whole = false;
         for _ in 0..bytes.len() {
@@ -59,5 +61,37 @@ impl Place {
         self.known = 0;
         self.left = u32::from_be_bytes(self.length) as usize;
         self.left == 0
+    }
+}
+
+/// A stream of frames that comes in pieces, and since when a frame of it is waited for.
+#[derive(Clone, Copy, Debug, Drop)]
+pub struct Arriving {
+    place: Place,
+    since: Option<Duration>,
+}
+
+impl Arriving {
+    /// Nothing has come yet, and a first frame is waited for since then.
+    pub fn since(begun: Duration) -> Arriving {
+        Arriving {
+            place: Place::start(),
+            since: Some(begun),
+        }
+    }
+
+    /// Since when a frame is waited for: the first one, or one that has begun.
+    pub fn begun(&self) -> Option<Duration> {
+        self.since
+    }
+
+    /// Goes on over bytes that came just now.
+    pub fn pass(&mut self, bytes: &[u8], now: Duration) {
+        let is_whole = self.place.pass(bytes);
+        if !self.place.is_within() {
+            self.since = if is_whole { None } else { self.since };
+        } else if is_whole || self.since.is_none() {
+            self.since = Some(now);
+        }
     }
 }

@@ -25,9 +25,9 @@ pub struct Meeting<'a> {
     pub wait: Duration,
 }
 
-// A socket's file, told from any other that later has its path.
+/// A socket's file, told from any other that later has its path.
 #[derive(Clone, Copy, PartialEq, Eq)]
-struct Node {
+pub struct Node {
     device: u64,
     number: u64,
 }
@@ -45,9 +45,10 @@ pub fn meet_service<'a, R: Files + Net + Clock>(
     met
 }
 
-// Makes the socket's file beside its place, listens there, and only then puts it in its place, so that nobody finds a socket
-// that is not ready. A file that is there is not replaced, unless an earlier filter left it and nobody listens at it.
-fn listen<R: Files + Net + Clock>(
+/// Makes the socket's file with these rights beside its place, listens there without waiting, and only then puts it in its place, so
+/// that nobody finds a socket that is not ready. A file that is there is not replaced, unless it is a socket that an earlier program
+/// left and nobody listens at.
+pub fn listen<R: Files + Net + Clock>(
     rt: &R,
     alloc: Global,
     path: &str,
@@ -177,8 +178,8 @@ fn take_away<R: Files>(
     }
 }
 
-// Removes the socket's file, where it is still the one that was made.
-fn remove_own<R: Files>(rt: &R, path: &str, node: Node) {
+/// Removes the socket's file, where it is still the one that was made.
+pub fn remove_own<R: Files>(rt: &R, path: &str, node: Node) {
     if node_of(rt, path) == Some(node) {
         let _ = fs::remove_file(rt, path);
     }
