@@ -2,7 +2,7 @@
 _avscan() {
     local word=${COMP_WORDS[COMP_CWORD]} before=${COMP_WORDS[COMP_CWORD - 1]} command=${COMP_WORDS[1]-} options
     if [ "$COMP_CWORD" = 1 ]; then
-        COMPREPLY=($(compgen -W "run scan host filter service chart generate import help --help --version" -- "$word"))
+        COMPREPLY=($(compgen -W "run scan host filter service guard ask chart generate import help --help --version" -- "$word"))
         return
     fi
     case $before in
@@ -16,6 +16,14 @@ _avscan() {
         ;;
     --max-size)
         COMPREPLY=($(compgen -W "1048576 10000000 100000000 1000000000" -- "$word"))
+        return
+        ;;
+    --keep)
+        COMPREPLY=($(compgen -W "0 67108864 1073741824" -- "$word"))
+        return
+        ;;
+    --questions)
+        COMPREPLY=($(compgen -W "1 64 256" -- "$word"))
         return
         ;;
     --profile)
@@ -33,10 +41,12 @@ _avscan() {
     host) options="--openers --workers --infected --json --files-from --null --found-status --summary --quiet --help" ;;
     filter) options="--wait --mode --infected --json --files-from --null --found-status --summary --quiet --help" ;;
     service) options="--wait --help" ;;
+    guard) options="--open --wait --keep --questions --clamd --names --mode --help" ;;
+    ask) options="--recursive --keep-going --infected --json --files-from --null --found-status --summary --wait --quiet --help" ;;
     chart) options="--from --to --help" ;;
     generate) options="--seed --commands --profile --help" ;;
     import) options="--set-version --any-target --format-1 --all --help" ;;
-    help) options="run scan host filter service chart generate import" ;;
+    help) options="run scan host filter service guard ask chart generate import" ;;
     *) options="--help" ;;
     esac
     case $command:$word in

@@ -3,7 +3,7 @@
 # The formats come from docs/FORMATS.md and the commands from the help of PROGRAM, so that page, document and help say the same.
 set -eu
 here=$(dirname "$0")
-commands="run scan host filter service chart generate import"
+commands="run scan host filter service guard ask chart generate import"
 formats=$here/../docs/FORMATS.md
 
 title() { # NAME SECTION WHAT

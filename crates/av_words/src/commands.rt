@@ -4,40 +4,62 @@ use clap::builder::ValueParser;
 use clap::{Arg, ArgAction, Command, Error};
 use std::alloc::{AllocError, Global};
 
-/// The command line: one command each for files, the three programs that hold opens, a script, what is made of scripts, and signatures
+/// The command line: one command each for files, the programs that hold opens, a script, what is made of scripts, and signatures
 /// of other products.
 pub fn avscan_command<'a>(alloc: Global) -> Result<Command<'a>, Error> {
     let run = run_command(alloc)?;
+    let command = program(alloc).subcommand(run)?;
+    let command = with_opening(alloc, command)?;
+    with_making(alloc, command)
+}
+
+// The program without its commands.
+fn program<'a>(alloc: Global) -> Command<'a> {
+    Command::new(alloc, "avscan")
+        .version("0.1.0")
+        .about(
+            "A scan-on-open antivirus filter and its scanning service, over a volume in memory.\
+             \nWithout a command it runs the script on its standard input.",
+        )
+        .after_help(
+            "Examples:\
+             \n  avscan scan examples/test.avsig examples/letter.txt      scan a file\
+             \n  avscan host examples/test.avsig examples/letter.txt      open it through the filter, \
+             which asks the service first\
+             \n  avscan run examples/late_reply.avs                       run a script\
+             \n  avscan scan -r -i --summary examples/test.avsig FOLDER   scan what is below a folder, and show what is infected\
+             \n\nExit status: 0 all done, 1 input refused, 2 usage, 3 memory, 4 device, 5 something is infected \
+             (with --found-status).",
+        )
+        .subcommand_required(true)
+}
+
+// Adds the commands that scan, open or ask about files.
+fn with_opening<'a>(alloc: Global, command: Command<'a>) -> Result<Command<'a>, Error> {
     let scan = scan_command(alloc)?;
     let host = host_command(alloc)?;
     let filter = filter_command(alloc)?;
     let service = service_command(alloc)?;
-    let chart = chart_command(alloc)?;
-    let generate = generate_command(alloc)?;
-    let import = import_command(alloc)?;
+    let guard = guard_command(alloc)?;
+    let ask = ask_command(alloc)?;
     Ok(
-        Command::new(alloc, "avscan")
-            .version("0.1.0")
-            .about(
-                "A scan-on-open antivirus filter and its scanning service, over a volume in memory.\
-                 \nWithout a command it runs the script on its standard input.",
-            )
-            .after_help(
-                "Examples:\
-                 \n  avscan scan examples/test.avsig examples/letter.txt      scan a file\
-                 \n  avscan host examples/test.avsig examples/letter.txt      open it through the filter, \
-                 which asks the service first\
-                 \n  avscan run examples/late_reply.avs                       run a script\
-                 \n  avscan scan -r -i --summary examples/test.avsig FOLDER   scan what is below a folder, and show what is infected\
-                 \n\nExit status: 0 all done, 1 input refused, 2 usage, 3 memory, 4 device, 5 something is infected \
-                 (with --found-status).",
-            )
-            .subcommand_required(true)
-            .subcommand(run)?
+        command
             .subcommand(scan)?
             .subcommand(host)?
             .subcommand(filter)?
             .subcommand(service)?
+            .subcommand(guard)?
+            .subcommand(ask)?,
+    )
+}
+
+// Adds the commands that draw a script, make one, or make a signature file.
+fn with_making<'a>(alloc: Global, command: Command<'a>) -> Result<Command<'a>, Error> {
+    let chart = chart_command(alloc)?;
+    let generate = generate_command(alloc)?;
+    let import = import_command(alloc)?;
+    Ok(
+        command
             .subcommand(chart)?
             .subcommand(generate)?
             .subcommand(import)?,
@@ -187,6 +209,7 @@ fn filter_command<'a>(alloc: Global) -> Result<Command<'a>, Error> {
             .arg(summary_option(alloc))?
             .arg(wait_option(
                 alloc,
+                "30",
                 "How long to wait for a service to come, for each of its messages, and for it to take each answer",
             ))?
             .arg(mode_option(alloc))?
@@ -208,8 +231,119 @@ fn service_command<'a>(alloc: Global) -> Result<Command<'a>, Error> {
             .arg(set_argument(alloc))?
             .arg(wait_option(
                 alloc,
+                "30",
                 "How long to wait for the socket to be there, for each message, and for the filter to take each reply",
             ))?,
+    )
+}
+
+fn guard_command<'a>(alloc: Global) -> Result<Command<'a>, Error> {
+    Ok(
+        Command::new(alloc, "guard")
+            .about("Answers opens that other programs ask about, until it is ended")
+            .after_help(
+                "Any number of programs ask at OPENS whether a content may be opened; one `avscan service` at a time scans for them, at \
+                 SERVICE.\
+                 \nA grant is of exactly the bytes that were asked about, under the newest signatures. What was scanned once is answered \
+                 at once.\
+                 \nWhere no service is there opens are denied (cause 3 or 6), or let through with --open. It runs until it is ended by a \
+                 signal.\
+                 \n\nAt CLAMD programs may ask that speak to clamd, as `clamdscan --stream` does. `OK` is said of a grant alone.\
+                 \n\nExample, in three terminals:\
+                 \n  avscan guard opens.socket service.socket\
+                 \n  avscan service service.socket examples/test.avsig\
+                 \n  avscan ask opens.socket examples/letter.txt examples/eicar.com.txt",
+            )
+            .arg(path_argument(
+                alloc,
+                "opens",
+                "OPENS",
+                "Where to make the socket for opens: a path of 1 to 107 bytes",
+            ))?
+            .arg(path_argument(
+                alloc,
+                "service",
+                "SERVICE",
+                "Where to make the socket for the scanning service",
+            ))?
+            .arg(flag_option(
+                alloc,
+                "open",
+                "Lets opens through that can't be judged, in place of denying them",
+            ))?
+            .arg(wait_option(
+                alloc,
+                "30",
+                "How long a question may take, and a client or the service may take nothing that it is sent",
+            ))?
+            .arg(
+                Arg::new(alloc, "keep")
+                    .long("keep")
+                    .value_name("BYTES")
+                    .value_parser(ValueParser::unsigned(0, 1_099_511_627_776))
+                    .default_value("67108864")
+                    .help("How many bytes of contents are kept for later asks, up to 2^40"),
+            )?
+            .arg(
+                Arg::new(alloc, "questions")
+                    .long("questions")
+                    .value_name("N")
+                    .value_parser(ValueParser::unsigned(1, 256))
+                    .default_value("256")
+                    .help("How many contents are scanned at a time, 1 to 256; further asks stand in line"),
+            )?
+            .arg(
+                Arg::new(alloc, "clamd")
+                    .long("clamd")
+                    .value_name("CLAMD")
+                    .help("Where to make a socket for clients of clamd"),
+            )?
+            .arg(
+                Arg::new(alloc, "names")
+                    .long("names")
+                    .value_name("SET")
+                    .help("The service's signature file, whose names clients of clamd are told"),
+            )?
+            .arg(mode_option(alloc))?,
+    )
+}
+
+fn ask_command<'a>(alloc: Global) -> Result<Command<'a>, Error> {
+    Ok(
+        Command::new(alloc, "ask")
+            .about("Asks a guard whether files may be opened")
+            .after_help(
+                "It prints what each open is told, in the order of the files, as `host` does.\
+                 \n\nExample, beside `avscan guard opens.socket service.socket`:\
+                 \n  avscan ask opens.socket examples/letter.txt examples/eicar.com.txt",
+            )
+            .arg(path_argument(
+                alloc,
+                "opens",
+                "OPENS",
+                "The guard's socket for opens: a path of 1 to 107 bytes",
+            ))?
+            .arg(files_argument(alloc, "The files to ask about, of at most 1,048,576 bytes each")?)?
+            .arg(recursive_option(alloc))?
+            .arg(keep_going_option(alloc))?
+            .arg(infected_option(
+                alloc,
+                "Prints the lines of files that were not granted alone",
+            ))?
+            .arg(json_option(alloc, "Prints a JSON object a line for each file"))?
+            .arg(files_from_option(alloc))?
+            .arg(null_option(alloc))?
+            .arg(found_status_option(
+                alloc,
+                "Ends with status 5 where an open was denied for cause 2 and nothing failed",
+            ))?
+            .arg(summary_option(alloc))?
+            .arg(wait_option(
+                alloc,
+                "60",
+                "How long to wait for the guard to be there, and for each of its answers",
+            ))?
+            .arg(quiet_option(alloc))?,
     )
 }
 
@@ -353,9 +487,13 @@ fn set_argument<'a>(alloc: Global) -> Arg<'a> {
 }
 
 fn socket_argument<'a>(alloc: Global, help: &'a str) -> Arg<'a> {
-    Arg::new(alloc, "socket")
+    path_argument(alloc, "socket", "SOCKET", help)
+}
+
+fn path_argument<'a>(alloc: Global, name: &'a str, shown: &'a str, help: &'a str) -> Arg<'a> {
+    Arg::new(alloc, name)
         .required(true)
-        .value_name("SOCKET")
+        .value_name(shown)
         .help(help)
 }
 
@@ -448,12 +586,12 @@ fn threads_option<'a>(alloc: Global, name: &'a str, help: &'a str) -> Arg<'a> {
         .help(help)
 }
 
-fn wait_option<'a>(alloc: Global, help: &'a str) -> Arg<'a> {
+fn wait_option<'a>(alloc: Global, seconds: &'a str, help: &'a str) -> Arg<'a> {
     Arg::new(alloc, "wait")
         .long("wait")
         .value_name("SECONDS")
         .value_parser(ValueParser::unsigned(1, 86_400))
-        .default_value("30")
+        .default_value(seconds)
         .help(help)
 }
 

@@ -73,6 +73,28 @@ pub enum Request<'a> {
         set: &'a str,
         wait: u64,
     },
+    /// Answer opens that are asked about at a socket, by what the service at another one says, until the program is ended.
+    Guard {
+        opens: &'a str,
+        service: &'a str,
+        clamd: Option<&'a str>,
+        names: Option<&'a str>,
+        is_open: bool,
+        wait: u64,
+        keep: u64,
+        questions: u64,
+        mode: u32,
+    },
+    /// Ask the guard at this socket about these files. It may take `wait` seconds to be there, and each answer so long.
+    Ask {
+        opens: &'a str,
+        files: Vec<&'a str>,
+        list: Option<List<'a>>,
+        finding: Finding,
+        wishes: Wishes,
+        wait: u64,
+        quiet: bool,
+    },
     /// Draw the run of the script in this file, or on standard input for `-`: of its lines `from` to `to`, counted from 1.
     Chart {
         script: &'a str,
@@ -149,7 +171,7 @@ fn requested<'a, S: AsStr>(alloc: Global, words: &'a [S]) -> Result<Request<'a>,
             set: text_of(scan, "set"),
             files: files_of(alloc, scan)?,
             list: list_of(scan),
-            finding: finding_of(scan),
+            finding: finding_of(scan, number_of(scan, "max-size")),
             wishes: wishes_of(scan),
             quiet: scan.get_flag("quiet"),
         }),
@@ -175,6 +197,16 @@ fn requested<'a, S: AsStr>(alloc: Global, words: &'a [S]) -> Result<Request<'a>,
             socket: text_of(service, "socket"),
             set: text_of(service, "set"),
             wait: number_of(service, "wait"),
+        }),
+        Some(("guard", guard)) => Ok(guard_of(guard)),
+        Some(("ask", ask)) => Ok(Request::Ask {
+            opens: text_of(ask, "opens"),
+            files: files_of(alloc, ask)?,
+            list: list_of(ask),
+            finding: finding_of(ask, MAX_ASKED),
+            wishes: wishes_of(ask),
+            wait: number_of(ask, "wait"),
+            quiet: ask.get_flag("quiet"),
         }),
         Some(("chart", chart)) => Ok(Request::Chart {
             script: text_of(chart, "script"),
@@ -229,6 +261,20 @@ fn number_of(matches: &ArgMatches<'_>, name: &str) -> u64 {
     matches.get_one::<u64>(name).unwrap_or(1)
 }
 
+fn guard_of<'a>(matches: &ArgMatches<'a>) -> Request<'a> {
+    Request::Guard {
+        opens: text_of(matches, "opens"),
+        service: text_of(matches, "service"),
+        clamd: matches.get_str("clamd"),
+        names: matches.get_str("names"),
+        is_open: matches.get_flag("open"),
+        wait: number_of(matches, "wait"),
+        keep: number_of(matches, "keep"),
+        questions: number_of(matches, "questions"),
+        mode: mode_of(matches),
+    }
+}
+
 fn taking_of(matches: &ArgMatches<'_>) -> Taking {
     Taking {
         takes_any_target: matches.get_flag("any-target"),
@@ -261,12 +307,15 @@ fn list_of<'a>(matches: &ArgMatches<'a>) -> Option<List<'a>> {
     Some(List { path, end })
 }
 
-fn finding_of(matches: &ArgMatches<'_>) -> Finding {
+// The most bytes of a content that can be asked about.
+const MAX_ASKED: u64 = 1_048_576;
+
+fn finding_of(matches: &ArgMatches<'_>, max_size: u64) -> Finding {
     let is_recursive = matches.get_flag("recursive");
     Finding {
         is_recursive,
         keeps_going: is_recursive || matches.get_flag("keep-going"),
-        max_size: number_of(matches, "max-size"),
+        max_size,
     }
 }
 
@@ -287,16 +336,32 @@ fn wishes_of(matches: &ArgMatches<'_>) -> Wishes {
 // The most bytes of a socket's path: what Linux has room for, less the byte behind its end.
 const MAX_SOCKET: usize = 107;
 
-// The request, where the path of its socket can be one.
+// The request, where the paths of its sockets can be ones.
 fn with_socket<'a, E: Write>(request: Request<'a>, err: &mut E) -> Result<Request<'a>, Status> {
-    let socket = match &request {
-        Request::Filter { socket, .. } | Request::Service { socket, .. } => *socket,
-        _ => return Ok(request),
-    };
-    if socket.is_empty() || socket.len() > MAX_SOCKET {
-        return Err(bad_socket(err, socket));
+    'sockets: for socket in sockets_of(&request) {
+        if let Some(socket) = socket {
+            if socket.is_empty() || socket.len() > MAX_SOCKET {
+                return Err(bad_socket(err, socket));
+            }
+        }
     }
     Ok(request)
+}
+
+fn sockets_of<'a>(request: &Request<'a>) -> [Option<&'a str>; 3] {
+    match request {
+        Request::Filter { socket, .. } | Request::Service { socket, .. } => {
+            [Some(*socket), None, None]
+        }
+        Request::Guard {
+            opens,
+            service,
+            clamd,
+            ..
+        } => [Some(*opens), Some(*service), *clamd],
+        Request::Ask { opens, .. } => [Some(*opens), None, None],
+        _ => [None, None, None],
+    }
 }
 
 // Writes the help or the fault, and gives the status.
