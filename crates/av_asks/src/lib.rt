@@ -1,6 +1,6 @@
 //! The open protocol: a client asks about a content under a tag of its own, and is told once that it is granted, denied,
 //! or let through unscanned. Asks and answers come as frames over a byte stream, a length in four bytes and then a body;
-//! docs/FORMATS.md has the table of bodies. No socket stands here: bytes go in, bytes come out.
+//! README.md has the table of bodies. No socket stands here: bytes go in, bytes come out.
 //!
 //! ```text
 //! put_ask(&mut out, 7, b"a", b"ABC")?;

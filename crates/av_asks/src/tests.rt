@@ -8,7 +8,7 @@ use av_fakes::{may_refuse, refuse_no_more};
 use std::alloc::{AllocError, Global};
 use std::test::Fail;
 
-// Ask 7 about "ABC" under the label "a", as docs/FORMATS.md has it.
+// Ask 7 about "ABC" under the label "a".
 const ASK: [u8; 18] = [
     0, 0, 0, 14, 1, 0, 0, 0, 0, 0, 0, 0, 7, 1, b'a', b'A', b'B', b'C',
 ];

@@ -1,6 +1,6 @@
 //! What a client of clamd's protocol says to a guard and is told (clamd(8), COMMANDS): a `Door` turns the bytes that it
 //! sends into lines that are said at once and contents that are asked about; replies are spelled as clamd spells them.
-//! docs/FORMATS.md has the commands. No socket stands here: bytes go in, bytes come out.
+//! README.md has the commands. No socket stands here: bytes go in, bytes come out.
 //!
 //! ```text
 //! let heard = door.hear(b"zPING\0")?;
