@@ -1,0 +1,3 @@
+pub mod NameLemmas
+pub mod CountLemmas
+pub mod RoomLemmas

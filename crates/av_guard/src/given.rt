@@ -1,0 +1,18 @@
+use crate::answered::Answered;
+use av_frame::Message;
+
+/// An answer to an ask, under the numbers of the ask: the client's, and the tag that the client gave it.
+#[derive(Clone, Copy, Debug, PartialEq, Eq)]
+pub struct Told {
+    pub client: u64,
+    pub tag: u64,
+    pub answer: Answered,
+}
+
+/// What an event gives out: answers in the order in which they came about, and messages for the service in the order in which
+/// they are to be sent.
+#[derive(Debug, Drop)]
+pub struct Given {
+    pub told: Vec<Told>,
+    pub messages: Vec<Message>,
+}
