@@ -1,3 +1,4 @@
 pub mod NameLemmas
 pub mod CountLemmas
 pub mod RoomLemmas
+pub mod KeepLemmas

@@ -1,8 +1,9 @@
 -- How much an event of the filter answers: no more than opens wait, and one.
 use Rattle.std.proofs.Common.{ℕ, ◌≡◌, ◌+◌, ◌≤◌, length, arith, ap}
 use Rattle.av_filter.proofs.RoomLemmas.{small_reaction}
-use Rattle.av_filter.specs.Call.{Reacts}
-use Rattle.av_filter.specs.Conduct.{FilterEvent, Disconnects, Receives, TimesOut, disconnects, filter_step}
+use Rattle.std.specs.Prelude.{Result, Ok, Err, IfOk}
+use Rattle.av_filter.specs.Call.{MeetsAlways, Reacts}
+use Rattle.av_filter.specs.Conduct.{FilterEvent, Disconnects, Receives, disconnects, filter_step}
 use Rattle.av_filter.specs.Receiving.{receives}
 use Rattle.av_filter.specs.declared.out.Out.{Out}
 use Rattle.av_filter_table.specs.Table.{Table}
@@ -12,13 +13,16 @@ use Rattle.av_store.specs.Store.{Store}
 few : (out : Out) (t t' : Table) (v v' : Store) (e : FilterEvent) → Reacts out t' v' (filter_step t v e) → length out.answers.items ≤ length t.pended + 1
 few out t t' v v' e reacts = let small = small_reaction t v e in let same = ap length reacts.answers in omega (arith, small.answers, same)
 
-pub few_received : (out : Out) (t t' : Table) (v v' : Store) (m : Body) → Reacts out t' v' (receives t v m) → length out.answers.items ≤ length t.pended + 1
-unfolding filter_step
-few_received out t t' v v' m reacts = few out t t' v v' (Receives m) reacts
+-- the same of what a call answers
+pub few_given : {E : Type 0} (r : Result Out E) (t t' : Table) (v v' : Store) (e : FilterEvent) → MeetsAlways t v t' v' r (filter_step t v e) → IfOk r (λ out. length out.answers.items ≤ length t.pended + 1)
+few_given (Ok out) t t' v v' e reacts = few out t t' v v' e reacts
+few_given (Err why) t t' v v' e reacts = tt
 
-pub few_timed_out : (out : Out) (t t' : Table) (v v' : Store) (seq : ℕ) → Reacts out t' v' (filter_step t v (TimesOut seq)) → length out.answers.items ≤ length t.pended + 1
-few_timed_out out t t' v v' seq reacts = few out t t' v v' (TimesOut seq) reacts
-
-pub few_disconnected : (out : Out) (t t' : Table) (v v' : Store) → Reacts out t' v' (disconnects t v) → length out.answers.items ≤ length t.pended + 1
+-- the same of the events by their own names
+pub few_received : {E : Type 0} (r : Result Out E) (t t' : Table) (v v' : Store) (m : Body) → MeetsAlways t v t' v' r (receives t v m) → IfOk r (λ out. length out.answers.items ≤ length t.pended + 1)
 unfolding filter_step
-few_disconnected out t t' v v' reacts = few out t t' v v' Disconnects reacts
+few_received r t t' v v' m meets = few_given r t t' v v' (Receives m) meets
+
+pub few_disconnected : {E : Type 0} (r : Result Out E) (t t' : Table) (v v' : Store) → MeetsAlways t v t' v' r (disconnects t v) → IfOk r (λ out. length out.answers.items ≤ length t.pended + 1)
+unfolding filter_step
+few_disconnected r t t' v v' meets = few_given r t t' v v' Disconnects meets

@@ -5,3 +5,4 @@ pub mod Shelf
 pub mod Place
 pub mod Counts
 pub mod Sound
+pub mod Asking

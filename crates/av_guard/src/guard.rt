@@ -1,8 +1,11 @@
-ghost use Rattle.std.specs.Prelude.{◌≡◌, ◌+◌, ◌∷◌, [], length, None, Some, IfOk, IfErr, IfSome, IfNone, OnErr, OnOk, OnNone};
+ghost use Rattle.std.specs.Prelude.{◌≡◌, ◌+◌, ◌∷◌, [], length, None, Some, IfOk, IfErr, IfSome, IfNone, OnErr, OnOk, ◌<◌, ◌≤◌, ◌&&◌, nat_le, IsOk, IsTrue};
 ghost use Rattle.av_filter.specs.Conduct.{Disconnects, Receives, TimesOut};
+ghost use Rattle.av_guard.specs.Asking.{AskedNow, ask_fault, bytes_kept, is_crowded, kept, may_ask, opens, place_of, spent, still_here};
 ghost use Rattle.av_guard.specs.State.{Turns, happens, opening};
+ghost use Rattle.av_store.specs.Store.{greatest};
 
 use crate::ask::Ask;
+use crate::events::{disconnect, receive, room_for_answers, time_out};
 use crate::fault::{AskFault, QuestionsFault};
 use crate::given::{Given, Told};
 use crate::settling::settle;
@@ -52,19 +55,33 @@ impl Model for Guard {
 impl Guard {
     /// A message of the service, which it may connect. It costs a logarithm for each answer, and the bytes of the content that
     /// it reads.
-    #[tactic(auto, using(crate::proofs::RoomLemmas::few_received), unfolding(av_filter::specs::Conduct::filter_step))]
     pub fn message(&mut self, alloc: Global, message: &Message) -> Result<Given, AllocError>
         ensures event { Turns self.old self.new result (happens self.old (Receives message.now)) }
     {
-        let told = Vec::with_capacity(alloc, self.filter.pended_count() + 1)?;
-        let out = self.filter.message(alloc, &self.volume, message)?;
-        Ok(settle(
-            &self.filter,
-            &self.clients,
-            &mut self.waiting,
-            &mut self.shelf,
-            told,
-            out,
-        ))
+        let told = room_for_answers(alloc, &self.filter)?;
+        let out = receive(alloc, &self.volume, &mut self.filter, message)?;
+        let (clients, waiting) = (&self.clients, &mut self.waiting);
+        Ok(settle(&self.filter, clients, waiting, &mut self.shelf, told, out))
+    }
+
+    /// The service is lost: every question ends, and every open is answered by the mode. It costs a logarithm for each.
+    pub fn service_lost(&mut self, alloc: Global) -> Result<Given, AllocError>
+        ensures event { Turns self.old self.new result (happens self.old Disconnects) }
+    {
+        let told = room_for_answers(alloc, &self.filter)?;
+        let out = disconnect(alloc, &self.volume, &mut self.filter)?;
+        let (clients, waiting) = (&self.clients, &mut self.waiting);
+        Ok(settle(&self.filter, clients, waiting, &mut self.shelf, told, out))
+    }
+
+    /// The time of the question of this number is up: its opens are answered by the mode, and the service is told to let it
+    /// be. It costs a logarithm for each answer.
+    pub fn time_up(&mut self, alloc: Global, seq: u64) -> Result<Given, AllocError>
+        ensures event { Turns self.old self.new result (happens self.old (TimesOut seq)) }
+    {
+        let told = room_for_answers(alloc, &self.filter)?;
+        let out = time_out(alloc, &self.volume, &mut self.filter, seq)?;
+        let (clients, waiting) = (&self.clients, &mut self.waiting);
+        Ok(settle(&self.filter, clients, waiting, &mut self.shelf, told, out))
     }
 }

@@ -10,6 +10,7 @@
 
 pub mod answered;
 pub mod ask;
+mod events;
 pub mod fault;
 pub mod given;
 pub mod guard;

@@ -25,7 +25,8 @@ pub(crate) struct Shelf {
     queue: BinaryHeap<(u64, u64)>,
     // The next turn.
     turn: u64,
-    // The bytes of all contents.
+    // How many contents there are, and their bytes.
+    count: u64,
     bytes: u64,
 }
 
@@ -41,11 +42,10 @@ pub(crate) enum Oldest {
 
 impl Model for Shelf {
     ghost use Rattle.av_guard.specs.Shelf.{Kept};
-    ghost use Rattle.std.specs.Prelude.{length};
 
     ghost Value = { Kept };
 
-    ghost view = { λ s. record { waits = s.waits.entries; count = length s.turns.entries; bytes = s.bytes } };
+    ghost view = { λ s. record { waits = s.waits.entries; count = s.count; bytes = s.bytes } };
 }
 
 impl Shelf {
@@ -57,14 +57,15 @@ impl Shelf {
             turns: BTreeMap::new(alloc),
             queue: BinaryHeap::new(alloc),
             turn: u64::MAX,
+            count: 0,
             bytes: 0,
         }
     }
 
-    pub(crate) fn count(&self) -> usize
+    pub(crate) fn count(&self) -> u64
         ensures { result ≡ self.now.count }
     {
-        self.turns.len()
+        self.count
     }
 
     pub(crate) fn bytes(&self) -> u64
@@ -82,6 +83,9 @@ impl Shelf {
         let Some(sum) = self.bytes.checked_add(bytes) else {
             return Err(AllocError);
         };
+        let Some(count) = self.count.checked_add(1) else {
+            return Err(AllocError);
+        };
         if self.turns.contains_key(&stream.get()) {
             return Err(AllocError);
         }
@@ -97,6 +101,7 @@ impl Shelf {
         }
         let _ = self.queue.push((self.turn, stream.get()));
         self.turn = self.turn.saturating_sub(1);
+        self.count = count;
         self.bytes = sum;
         Ok(())
     }
@@ -194,9 +199,10 @@ impl Shelf {
 
     /// A content of this many bytes is kept no more.
     pub(crate) fn remove(&mut self, stream: StreamId, bytes: u64)
-        ensures { self.new ≡ record self.old { count = self.new.count; bytes = self.old.bytes - bytes } }
+        ensures { self.new ≡ record self.old { count = self.old.count - 1; bytes = self.old.bytes - bytes } }
     {
         let _ = self.turns.remove(&stream.get());
+        self.count = self.count.saturating_sub(1);
         self.bytes = self.bytes.saturating_sub(bytes);
     }
 }
