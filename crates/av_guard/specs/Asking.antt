@@ -1,24 +1,34 @@
 -- Asks: one is asked at once or stands in line, and contents are kept for later asks.
-use Rattle.std.specs.Prelude.{◌≡◌, ◌<◌, ℕ, zero, ◌+◌, Bool, true, false, not, ◌&&◌, ◌||◌, ◌==◌, nat_lt, nat_le, List, [], ◌∷◌, ◌++◌, length, sum_by, Option, Some, None, Result, Ok, Err, is_some, if◌then◌else◌}
+use Rattle.std.specs.Prelude.{◌≡◌, ◌<◌, ℕ, zero, ◌+◌, Bool, true, false, not, ◌&&◌, ◌||◌, ◌==◌, nat_lt, nat_le, List, [], ◌∷◌, ◌++◌, length, map, MatchBool, ◌⊎◌, Option, Some, None, Result, Ok, Err, is_some, if◌then◌else◌}
 use Rattle.std.specs.Result.{result_err}
 use Rattle.av_base.specs.declared.refusal.Refusal.{Refusal}
 use Rattle.av_base.specs.declared.refusal.Refusal.TheVariants.{Fault, NoMemory}
 use Rattle.av_context.specs.Contexts.{with}
-use Rattle.av_filter.specs.Conduct.{Changes, Opens}
+use Rattle.av_filter.specs.Conduct.{Changes, Opens, filter_refusal, filter_step}
+use Rattle.av_filter.specs.Once.{times}
+use Rattle.av_filter.specs.Reaction.{Reaction}
+use Rattle.av_filter_table.specs.Table.{Table}
 use Rattle.av_guard.specs.declared.ask.Ask.{Ask}
 use Rattle.av_guard.specs.declared.fault.AskFault.{AskFault}
-use Rattle.av_guard.specs.declared.fault.AskFault.TheVariants.{Full, OpensSpent}
+use Rattle.av_guard.specs.declared.fault.AskFault.TheVariants.{Full, NoClient, OpensSpent, TooLarge}
 use Rattle.av_guard.specs.declared.given.Given.{Given}
 use Rattle.av_guard.specs.declared.waiter.Waiter.{Waiter}
 use Rattle.av_guard.specs.Place.{Spot, Held, Missing, Unused, place_from}
 use Rattle.av_guard.specs.State.{Gives, State, Turn, happens}
 use Rattle.av_guard.specs.Telling.{is_here}
 use Rattle.av_store.specs.Files.{Create, Remove, Write}
+use Rattle.av_store.specs.Rows.{Streams}
 use Rattle.av_store.specs.Store.{Store, create_of, greatest}
+use Rattle.av_store.specs.declared.stream.Stream.{Stream}
+
+-- the bytes of all contents
+abbrev pub bytes_in : Streams → ℕ
+bytes_in [] = 0
+bytes_in (s ∷ ss) = length s.1.bytes + bytes_in ss
 
 -- the bytes of all contents of a volume
 abbrev pub bytes_kept : Store → ℕ
-bytes_kept v = sum_by (λ s. length s.1.bytes) v.streams
+bytes_kept v = bytes_in v.streams
 
 -- a question is free, an open more can be held, and the volume takes a stream more
 abbrev pub may_ask : State → Bool
@@ -40,9 +50,20 @@ opens g s client tag =
     happens (record g { waiting = with g.waiting (g.volume.opens + 1) (record { client = client; tag = tag; stream = s }) })
     (Opens s 0)
 
--- a content comes to be kept: a stream is created, and written once
+-- what the filter does as a stream is created, and written once
+abbrev pub created : Table → Store → List ℕ → Reaction
+created t v name = filter_step t v (Changes (Create name))
+
+abbrev pub stored : Table → Store → List ℕ → List ℕ → Reaction
+stored t v name c = filter_step (created t v name).table (created t v name).volume (Changes (Write (v.last + 1) 0 c))
+
+-- the stream that has a content: it was written once
+abbrev pub stream_with : List ℕ → List ℕ → Stream
+stream_with name c = record { name = name; generation = 2; bytes = c }
+
+-- a content comes to be kept
 abbrev pub kept : State → List ℕ → List ℕ → State
-kept g name c = (happens (happens g (Changes (Create name))).state (Changes (Write (g.volume.last + 1) 0 c))).state
+kept g name c = record g { table = (stored g.table g.volume name c).table; volume = (stored g.table g.volume name c).volume }
 
 -- the number of a stream is spent, and nothing else is changed
 abbrev pub spent : State → State
@@ -79,9 +100,63 @@ pub data IsRefused (old new : State) (c : List ℕ) : Type 0 where
 abbrev pub AskedNow : State → State → ℕ → ℕ → List ℕ → Result Given (Refusal AskFault) → Type 0
 AskedNow old new client tag c (Ok given) = (ask_fault old c ≡ None) × Gives given new (asked old client tag c (place_of old c))
 AskedNow old new client tag c (Err (Fault f)) = (ask_fault old c ≡ Some f) × (new ≡ old)
-AskedNow old new client tag c (Err NoMemory) = (ask_fault old c ≡ None) × IsRefused old new c
+AskedNow old new client tag c (Err NoMemory) = IsRefused old new c
+
+-- an ask has to stand in line
+abbrev pub must_stand : State → Bool
+must_stand g = not (may_ask g) || nat_lt 0 (length g.line)
+
+-- why an ask is refused, the first reason
+abbrev pub refusal_of : State → ℕ → List ℕ → Option AskFault
+refusal_of g client c =
+    if not (is_here g.clients client) then Some NoClient
+    else (if nat_lt 1048576 (length c) then Some TooLarge
+    else (if must_stand g then None
+    else ask_fault g c))
+
+-- nothing is given out
+pub record GivesNothing (given : Given) : Type 0 where
+  pub told : given.told.items ≡ []
+  pub messages : given.messages.items ≡ []
+
+-- an ask that is not refused stands in line, or is asked
+abbrev pub Takes : State → State → Given → ℕ → ℕ → List ℕ → Type 0
+Takes old new given client tag c =
+    MatchBool (must_stand old)
+    (GivesNothing given × (new ≡ in_line old (record { client = client; tag = tag; content = c })))
+    (Gives given new (asked old client tag c (place_of old c)))
+
+-- an ask that is refused
+abbrev pub Refuses : State → State → ℕ → List ℕ → Refusal AskFault → Type 0
+Refuses old new client c (Fault f) = (refusal_of old client c ≡ Some f) × (new ≡ old)
+Refuses old new client c NoMemory = IsRefused old new c
 
 -- the line behind those asks whose clients have left
 abbrev pub still_here : List ℕ → List Ask → List Ask
 still_here clients [] = []
 still_here clients (a ∷ line) = if is_here clients a.client then a ∷ line else still_here clients line
+
+-- without those asks
+abbrev pub skipped : State → State
+skipped g = record g { line = still_here g.clients g.line }
+
+-- the first in line, and the guard with the line behind it
+abbrev pub behind : State → List Ask → State
+behind g line = record g { line = line }
+
+-- A content that nobody waits for was let go; or the order in which they are to go was seen to, which takes no event; or the
+-- first in line was asked.
+pub data Nexts (old new : State) (given : Given) : Type 0 where
+  LetGo : (stream : ℕ) → is_crowded old ≡ true → times stream (map (λ e. e.1.stream) old.waiting) ≡ 0
+      → filter_refusal old.table old.volume (Changes (Remove stream)) ≡ None
+      → Gives given new (happens old (Changes (Remove stream))) → Nexts old new given
+  Ordered : is_crowded old ≡ true → GivesNothing given → new ≡ old → Nexts old new given
+  Asked : (a : Ask) (line : List Ask) → may_ask old ≡ true → (skipped old).line ≡ a ∷ line
+      → AskedNow (behind old line) new a.client a.tag a.content (Ok given) → Nexts old new given
+
+-- what the next step in line answers: where none can be asked, no ask of a client that has left stands in front
+abbrev pub NextOf : State → State → Result (Option Given) (Refusal AskFault) → Type 0
+NextOf old new (Ok (Some given)) = Nexts old new given
+NextOf old new (Ok None) = (new ≡ skipped old) × ((may_ask old ≡ false) ⊎ ((skipped old).line ≡ []))
+NextOf old new (Err (Fault f)) = new ≡ skipped old
+NextOf old new (Err NoMemory) = (c : List ℕ) × (new.waiting ≡ old.waiting) × (new.clients ≡ old.clients)

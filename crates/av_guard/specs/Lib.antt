@@ -6,3 +6,5 @@ pub mod Place
 pub mod Counts
 pub mod Sound
 pub mod Asking
+pub mod Keeping
+pub mod Kept

@@ -14,6 +14,7 @@ mod events;
 pub mod fault;
 pub mod given;
 pub mod guard;
+mod keeping;
 mod naming;
 mod place;
 mod settling;

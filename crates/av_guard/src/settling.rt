@@ -1,8 +1,8 @@
-ghost use Rattle.std.specs.Prelude.{◌≡◌, ◌≤◌, ◌+◌, ◌++◌, length, vec_len};
+ghost use Rattle.std.specs.Prelude.{◌≡◌, ◌≤◌, ◌+◌, ◌++◌, length, vec_len, None, OnErr, OnOk};
 ghost use Rattle.std.specs.Vec.{vec_capacity};
 ghost use Rattle.av_guard.specs.Counts.{AreCounted};
 ghost use Rattle.av_guard.specs.Telling.{left_by, told_by, told_one};
-ghost use Rattle.av_context.specs.Contexts.{at, without};
+ghost use Rattle.av_context.specs.Contexts.{at, with, without};
 ghost use Rattle.av_pend.specs.Pend.{open_of};
 
 use crate::answered::Answered;
@@ -12,6 +12,7 @@ use crate::waiter::Waiter;
 use av_filter::{Filter, Out};
 use av_base::OpenId;
 use av_pend::Answer;
+use std::alloc::AllocError;
 use std::collections::{BTreeMap, BTreeSet};
 
 /// What the filter has given out, told to those who wait, for which there is room.
@@ -45,7 +46,6 @@ pub(crate) fn settle(
 }
 
 // An answer is told to the one who waits for it, where the client is still there.
-#[tactic(auto, using(crate::proofs::CountLemmas::without_none, crate::proofs::CountLemmas::woken))]
 fn tell(
     filter: &Filter,
     clients: &BTreeSet<u64>,
@@ -64,16 +64,68 @@ fn tell(
     ensures counted { AreCounted shelf.new.waits waiting.new.entries }
     ensures shelf { (shelf.new.count ≡ shelf.old.count) × (shelf.new.bytes ≡ shelf.old.bytes) }
 {
-    let Some(waiter) = waiting.remove(&open_of(answer).get()) else {
+    let Some(waiter) = leave(waiting, shelf, open_of(answer).get()) else {
         return;
     };
-    shelf.wake(waiter.stream);
     if clients.contains(&waiter.client) {
         told.push_reserved(Told {
             client: waiter.client,
             tag: waiter.tag,
             answer: Answered::of(filter, waiter.stream, answer),
         });
+    }
+}
+
+/// One comes to wait for the open of this number.
+pub(crate) fn enter(
+    waiting: &mut BTreeMap<u64, Waiter>,
+    shelf: &mut Shelf,
+    number: u64,
+    waiter: Waiter,
+) -> Result<(), AllocError>
+    requires counted { AreCounted shelf.old.waits waiting.old.entries }
+    ensures ok { OnOk result (waiting.new.entries ≡ with waiting.old.entries number waiter) }
+    ensures free { OnOk result (at waiting.old.entries number ≡ None) }
+    ensures err { OnErr result (waiting.new.entries ≡ waiting.old.entries) }
+    ensures counted { AreCounted shelf.new.waits waiting.new.entries }
+    ensures shelf { (shelf.new.count ≡ shelf.old.count) × (shelf.new.bytes ≡ shelf.old.bytes) }
+{
+    match waiting.get(&number) {
+        Some(_) => return Err(AllocError),
+        None => {}
+    }
+    let stream = waiter.stream;
+    match shelf.wait(stream) {
+        Ok(()) => {}
+        Err(refused) => return Err(refused),
+    }
+    match waiting.insert(number, waiter) {
+        Ok(_) => Ok(()),
+        Err(_) => {
+            shelf.wake(stream);
+            Err(AllocError)
+        }
+    }
+}
+
+/// Nobody waits for the open of this number any more; who did.
+pub(crate) fn leave(
+    waiting: &mut BTreeMap<u64, Waiter>,
+    shelf: &mut Shelf,
+    number: u64,
+) -> Option<Waiter>
+    requires counted { AreCounted shelf.old.waits waiting.old.entries }
+    ensures value { result ≡ at waiting.old.entries number }
+    ensures waiting { waiting.new.entries ≡ without waiting.old.entries number }
+    ensures counted { AreCounted shelf.new.waits waiting.new.entries }
+    ensures shelf { (shelf.new.count ≡ shelf.old.count) × (shelf.new.bytes ≡ shelf.old.bytes) }
+{
+    match waiting.remove(&number) {
+        Some(waiter) => {
+            shelf.wake(waiter.stream);
+            Some(waiter)
+        }
+        None => None,
     }
 }
 
