@@ -106,3 +106,6 @@ counted_again old more new m s counted adds wakes u = ⊎_elim here apart (cases
     apart e =
         let other : u ≢ s = λ same. true≢false (sym (eq-eqb s u (sym same)) ∙ e) in
         omega (arith, adds.others u other, wakes.others u other, counted u)
+
+pub restored : (m entered gone : Waiters) (n : ℕ) (w : Waiter) → gone ≡ without entered n → entered ≡ with m n w → at m n ≡ None → gone ≡ m
+restored m entered gone n w left came away = left ∙ ap (λ k. without k n) came ∙ without_with m n w away

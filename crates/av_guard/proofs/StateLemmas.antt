@@ -1,10 +1,80 @@
--- A guard that is as it was.
-use Rattle.std.proofs.Common.{◌≡◌, ap, ◌∙◌}
+-- A guard that is as it was, one whose contents are fewer, and one that asks.
+use Rattle.std.proofs.Common.{◌≡◌, ℕ, ◌+◌, ◌-◌, ◌==◌, Bool, true, false, cond, List, [], ◌∷◌, length, Option, Some, None, Result, Ok, Err, refl, arith, ap, sym, subst, eqb-true, eq-eqb, true≢false, ◌∙◌}
+use Rattle.std.specs.Prelude.{is_some, if◌then◌else◌}
+use Rattle.std.specs.Option.{option_map}
+use Rattle.std.specs.Result.{result_err}
+use Rattle.std.proofs.lemmas.Bool.{cases_eq}
+use Rattle.av_base.specs.declared.refusal.Refusal.{Refusal}
+use Rattle.av_base.specs.declared.refusal.Refusal.TheVariants.{Fault, NoMemory}
+use Rattle.av_filter.proofs.BoundLemmas.{leads_to}
+use Rattle.av_filter.specs.Conduct.{Changes, filter_step}
 use Rattle.av_filter_table.specs.Table.{Table}
-use Rattle.av_guard.specs.State.{State}
+use Rattle.av_guard.proofs.SumLemmas.{count_less, sum_less}
+use Rattle.av_guard.specs.Asking.{AskedNow, IsRefused, ask_fault, asked, behind, bytes_in, bytes_kept, kept, opens, place_fault, place_of}
+use Rattle.av_guard.specs.Asking as refused_so
+use Rattle.av_guard.specs.Kept.{AsksNew, IsLeft, IsNotIn, Never, Stays}
+use Rattle.av_guard.specs.Kept as kept_so
+use Rattle.av_guard.specs.Place.{Held, Missing, Spot, Unused}
+use Rattle.av_guard.specs.State.{Gives, State, Turn}
 use Rattle.av_guard.specs.Telling.{Waiters}
-use Rattle.av_store.specs.Store.{Store}
+use Rattle.av_guard.specs.declared.ask.Ask.{Ask}
+use Rattle.av_guard.specs.declared.fault.AskFault.{AskFault}
+use Rattle.av_guard.specs.declared.fault.AskFault.TheVariants.{Full, OpensSpent}
+use Rattle.av_guard.specs.declared.given.Given.{Given}
+use Rattle.av_store.specs.Files.{Remove}
+use Rattle.av_store.specs.Rows.{stream_at, without}
+use Rattle.av_store.specs.Seen.{change_of, kept_or}
+use Rattle.av_store.specs.Store.{Store, create_of, greatest, with_streams}
+use Rattle.av_store.specs.declared.fault.StoreFault.TheVariants.{NoStream}
+use Rattle.av_store.specs.declared.stream.Stream.{Stream}
 
 pub back : (g : State) (t : Table) (v : Store) (w : Waiters) → t ≡ g.table → v ≡ g.volume → w ≡ g.waiting → ◌≡◌ {A = State} (record g { table = t; volume = v; waiting = w }) g
 back g t v w table volume waiting =
     ap (λ x. record g { table = x; volume = v; waiting = w }) table ∙ ap (λ x. record g { volume = x; waiting = w }) volume ∙ ap (λ x. record g { waiting = x }) waiting
+
+-- one content less
+pub record IsLess (v u : Store) (size : ℕ) : Type 0 where
+  pub count : length v.streams ≡ length u.streams + 1
+  pub bytes : bytes_kept v ≡ bytes_kept u + size
+
+pub let_go_counts : (t : Table) (v u : Store) (s bytes : ℕ) → u ≡ (filter_step t v (Changes (Remove s))).volume → Some bytes ≡ option_map (λ (x : Stream). length x.bytes) (stream_at s v.streams) → IsLess v u bytes
+unfolding change_of
+let_go_counts t v u s bytes is size = go (stream_at s v.streams) refl size
+  where
+    go : (o : Option Stream) → stream_at s v.streams ≡ o → Some bytes ≡ option_map (λ (x : Stream). length x.bytes) o → IsLess v u bytes
+    go None e bad = absurd cc
+    go (Some x) e same =
+        let length_is : bytes ≡ length x.bytes = cc in
+        let gone : u.streams ≡ without s v.streams =
+        ap (λ (w : Store). w.streams) (is ∙ leads_to t v (Changes (Remove s)))
+        ∙ ap (λ b. (kept_or v (with_streams v (if b then Ok (without s v.streams) else Err NoStream))).streams) (ap is_some e) in
+        record {
+          count = count_less v.streams s x e ∙ ap (λ ss. length ss + 1) (sym gone);
+          bytes = sum_less v.streams s x e ∙ ap (λ ss. bytes_in ss + length x.bytes) (sym gone) ∙ ap (λ n. bytes_kept u + n) (sym length_is);
+        }
+
+pub left_over : (opens left : ℕ) → left ≡ greatest - opens → (left == 0) ≡ false → (opens == greatest) ≡ false
+left_over opens left is some = go (opens == greatest) refl
+  where
+    go : (b : Bool) → (opens == greatest) ≡ b → (opens == greatest) ≡ false
+    go false e = e
+    go true e =
+        let all : opens ≡ greatest = eqb-true opens greatest e in
+        let none : left ≡ 0 = omega (arith, is, all) in
+        absurd (true≢false (sym (eq-eqb left 0 none) ∙ some))
+
+-- why a content can't be asked about, by its place
+fault_at : (g : State) (c : List ℕ) (spot : Spot) → (g.volume.opens == greatest) ≡ false → place_of g c ≡ spot → ask_fault g c ≡ place_fault g spot
+fault_at g c spot left is = ap (λ b. if b then Some OpensSpent else place_fault g (place_of g c)) left ∙ ap (λ p. place_fault g p) is
+
+pub asked_new : (old new : State) (client tag : ℕ) (name c : List ℕ) (r : Result Given (Refusal AskFault)) → (old.volume.opens == greatest) ≡ false → place_of old c ≡ Unused name → AsksNew old new client tag name c r → AskedNow old new client tag c r
+asked_new old new client tag name c (Ok given) left is (creates, gives) =
+    (
+      fault_at old c (Unused name) left is ∙ ap (λ o. if is_some o then Some Full else None) creates,
+      subst (λ p. Gives given new (asked old client tag c p)) (sym is) gives,
+    )
+asked_new old new client tag name c (Err (Fault f)) left is (full, refused, same) =
+    (fault_at old c (Unused name) left is ∙ ap (λ b. if b then Some Full else None) refused ∙ ap (λ k. Some k) (sym full), same)
+asked_new old new client tag name c (Err NoMemory) left is (Never (kept_so.Same same)) = refused_so.Same same
+asked_new old new client tag name c (Err NoMemory) left is (Never (kept_so.Spent spent)) = refused_so.Spent spent
+asked_new old new client tag name c (Err NoMemory) left is (Stays creates stays) = refused_so.Kept name is stays

@@ -144,6 +144,13 @@ skipped g = record g { line = still_here g.clients g.line }
 abbrev pub behind : State → List Ask → State
 behind g line = record g { line = line }
 
+-- a content is let go; nothing where the volume has no such stream
+abbrev pub LetsGo : {E : Type 0} → State → State → ℕ → Result (Option Given) E → Type 0
+LetsGo old new s (Ok (Some given)) =
+    (filter_refusal old.table old.volume (Changes (Remove s)) ≡ None) × Gives given new (happens old (Changes (Remove s)))
+LetsGo old new s (Ok None) = new ≡ old
+LetsGo old new s (Err e) = new ≡ old
+
 -- A content that nobody waits for was let go; or the order in which they are to go was seen to, which takes no event; or the
 -- first in line was asked.
 pub data Nexts (old new : State) (given : Given) : Type 0 where

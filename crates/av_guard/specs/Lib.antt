@@ -8,3 +8,4 @@ pub mod Sound
 pub mod Asking
 pub mod Keeping
 pub mod Kept
+pub mod Beginning

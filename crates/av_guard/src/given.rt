@@ -1,5 +1,9 @@
+ghost use Rattle.std.specs.Prelude.{◌≡◌, []};
+ghost use Rattle.av_guard.specs.Asking.{GivesNothing};
+
 use crate::answered::Answered;
 use av_frame::Message;
+use std::alloc::Global;
 
 /// An answer to an ask, under the numbers of the ask: the client's, and the tag that the client gave it.
 #[derive(Clone, Copy, Debug, PartialEq, Eq)]
@@ -15,4 +19,16 @@ pub struct Told {
 pub struct Given {
     pub told: Vec<Told>,
     pub messages: Vec<Message>,
+}
+
+impl Given {
+    // Nothing. It takes no memory.
+    pub(crate) fn nothing(alloc: Global) -> Given
+        ensures { GivesNothing result }
+    {
+        Given {
+            told: Vec::new(alloc),
+            messages: Vec::new(alloc),
+        }
+    }
 }

@@ -2,7 +2,7 @@ use Rattle.std.proofs.Common.{refl, sym, ap, subst, ◌∙◌, arith, length}
 use Rattle.av_context.specs.Contexts.{without}
 use Rattle.av_filter.proofs.BoundLemmas.{leads_to}
 use Rattle.av_filter.specs.Conduct.{Opens}
-use Rattle.av_guard.proofs.CountLemmas.{without_with}
+use Rattle.av_guard.proofs.CountLemmas.{restored}
 use Rattle.av_guard.proofs.StateLemmas.{back}
 use Rattle.av_guard.specs.Asking.{bytes_in}
 use Rattle.av_guard.specs.Shelf.{Kept}
@@ -23,4 +23,4 @@ invariant_of-self-in-Ok-open c =
 pub returns-in-Err-open : goal.returns-in-Err-open
 returns-in-Err-open c = rw (← c.self.view_is)
     (back _ _ _ _ c.in-Err-open.ensures.event.0 c.in-Err-open.ensures.event.1
-    (c.leave.ensures.waiting ∙ ap (λ m. without m _) c.in-Ok-enter.ensures.ok ∙ without_with c.self.inside.waiting.entries _ _ c.in-Ok-enter.ensures.free))
+    (restored _ _ _ _ _ c.leave.ensures.waiting c.in-Ok-enter.ensures.ok c.in-Ok-enter.ensures.free))
