@@ -10,11 +10,14 @@ use Rattle.av_filter.proofs.BoundLemmas.{leads_to}
 use Rattle.av_filter.specs.Conduct.{Changes, filter_step}
 use Rattle.av_filter_table.specs.Table.{Table}
 use Rattle.av_guard.proofs.SumLemmas.{count_less, sum_less}
-use Rattle.av_guard.specs.Asking.{AskedNow, IsRefused, ask_fault, asked, behind, bytes_in, bytes_kept, kept, opens, place_fault, place_of}
+use Rattle.av_guard.specs.Asking.{Asked, AskedNow, IsRefused, ask_fault, may_ask, skipped, asked, behind, bytes_in, bytes_kept, kept, opens, place_fault, place_of}
 use Rattle.av_guard.specs.Asking as refused_so
 use Rattle.av_guard.specs.Kept.{AsksNew, IsLeft, IsNotIn, Never, Stays}
 use Rattle.av_guard.specs.Kept as kept_so
 use Rattle.av_guard.specs.Place.{Held, Missing, Spot, Unused}
+use Rattle.std.specs.Slice.{IsItemAt}
+use Rattle.std.proofs.Common.{Bor, drop, inl, inr}
+use Rattle.av_guard.specs.Line.{FirstOf, FrontOf, IsFirst, IsHeldUp, NextOf}
 use Rattle.av_guard.specs.State.{Gives, State, Turn}
 use Rattle.av_guard.specs.Telling.{Waiters}
 use Rattle.av_guard.specs.declared.ask.Ask.{Ask}
@@ -53,15 +56,14 @@ let_go_counts t v u s bytes is size = go (stream_at s v.streams) refl size
           bytes = sum_less v.streams s x e ∙ ap (λ ss. bytes_in ss + length x.bytes) (sym gone) ∙ ap (λ n. bytes_kept u + n) (sym length_is);
         }
 
-pub left_over : (opens left : ℕ) → left ≡ greatest - opens → (left == 0) ≡ false → (opens == greatest) ≡ false
+pub left_over : (opens left : ℕ) → left ≡ greatest - opens → (left ≡ 0 → ⊥) → (opens == greatest) ≡ false
 left_over opens left is some = go (opens == greatest) refl
   where
     go : (b : Bool) → (opens == greatest) ≡ b → (opens == greatest) ≡ false
     go false e = e
     go true e =
         let all : opens ≡ greatest = eqb-true opens greatest e in
-        let none : left ≡ 0 = omega (arith, is, all) in
-        absurd (true≢false (sym (eq-eqb left 0 none) ∙ some))
+        absurd (some (omega (arith, is, all)))
 
 -- why a content can't be asked about, by its place
 fault_at : (g : State) (c : List ℕ) (spot : Spot) → (g.volume.opens == greatest) ≡ false → place_of g c ≡ spot → ask_fault g c ≡ place_fault g spot
@@ -78,3 +80,45 @@ asked_new old new client tag name c (Err (Fault f)) left is (full, refused, same
 asked_new old new client tag name c (Err NoMemory) left is (Never (kept_so.Same same)) = refused_so.Same same
 asked_new old new client tag name c (Err NoMemory) left is (Never (kept_so.Spent spent)) = refused_so.Spent spent
 asked_new old new client tag name c (Err NoMemory) left is (Stays creates stays) = refused_so.Kept name is stays
+
+-- what an ask gives, whatever the line behind it
+gives_behind : (old mid : State) (given : Given) (client tag : ℕ) (c : List ℕ) (line : List Ask) (spot : Spot) → Gives given mid (asked (behind old []) client tag c spot) → Gives given (behind mid line) (asked (behind old line) client tag c spot)
+gives_behind old mid given client tag c line (Held s) g = record { told = g.told; messages = g.messages; state = ap (λ x. behind x line) g.state }
+gives_behind old mid given client tag c line (Unused name) g = record { told = g.told; messages = g.messages; state = ap (λ x. behind x line) g.state }
+gives_behind old mid given client tag c line Missing g = record { told = g.told; messages = g.messages; state = ap (λ x. behind x line) g.state }
+
+-- the first in line was asked
+pub first_asked : (old mid : State) (line : List Ask) (given : Given) → old.line ≡ line → FrontOf (behind old []) mid line (Ok (Some given)) → FirstOf old (behind mid (drop 1 line)) (Ok (Some given))
+first_asked old mid line given is f =
+    subst (λ l. (x : Ask) → old.line ≡ x ∷ drop 1 l → AskedNow (behind old (drop 1 l)) (behind mid (drop 1 line)) x.client x.tag x.content (Ok given) → IsFirst old (behind mid (drop 1 line)) given) is
+    (λ x first asked_so. record { ask = x; first = first; asked = asked_so }) f.ask (is ∙ f.first)
+    (f.asked.0, gives_behind old mid given f.ask.client f.ask.tag f.ask.content (drop 1 line) _ f.asked.1)
+
+refused_behind : (old mid : State) (c : List ℕ) → IsRefused (behind old []) mid c → IsRefused old (behind mid old.line) c
+refused_behind old mid c (refused_so.Same e) = refused_so.Same (ap (λ x. behind x old.line) e)
+refused_behind old mid c (refused_so.Spent e) = refused_so.Spent (ap (λ x. behind x old.line) e)
+refused_behind old mid c (refused_so.Kept name is e) = refused_so.Kept name is (ap (λ x. behind x old.line) e)
+
+pub first_refused : (old mid : State) (line : List Ask) (why : Refusal AskFault) → old.line ≡ line → FrontOf (behind old []) mid line (Err why) → FirstOf old (behind mid line) (Err why)
+first_refused old mid line (Fault f) is front = ap (λ x. behind x line) front.asked.1 ∙ ap (λ l. behind old l) (sym is)
+first_refused old mid line NoMemory is front = record {
+  ask = front.ask;
+  rest = drop 1 line;
+  first = is ∙ front.first;
+  left = subst (λ l. IsRefused old (behind mid l) front.ask.content) is (refused_behind old mid front.ask.content front.asked);
+}
+
+pub first_none : (old mid : State) (line : List Ask) → old.line ≡ line → FrontOf (behind old []) mid line (Ok None) → FirstOf old (behind mid line) (Ok None)
+first_none old mid line is (empty, same) = (is ∙ empty, ap (λ x. behind x line) same ∙ ap (λ l. behind old l) (sym is))
+
+-- the first of a line
+pub front_of : (xs : List Ask) (b : Bor Ask) → IsItemAt xs 0 (Some b) → xs ≡ b.now ∷ drop 1 xs
+front_of [] b is = absurd (true≢false is.0)
+front_of (x ∷ xs) b is = ap (λ y. y ∷ xs) (sym is.1)
+
+-- the first in line, once those that have left are gone, is what comes next
+pub next_first : (old new : State) (r : Result (Option Given) (Refusal AskFault)) → may_ask old ≡ true → FirstOf (skipped old) new r → NextOf old new r
+next_first old new (Ok (Some given)) may f = Asked f.ask (drop 1 (skipped old).line) may f.first f.asked
+next_first old new (Ok None) may (empty, same) = (same, inr empty)
+next_first old new (Err (Fault f)) may same = same
+next_first old new (Err NoMemory) may held = inr held

@@ -160,10 +160,3 @@ pub data Nexts (old new : State) (given : Given) : Type 0 where
   Ordered : is_crowded old ≡ true → GivesNothing given → new ≡ old → Nexts old new given
   Asked : (a : Ask) (line : List Ask) → may_ask old ≡ true → (skipped old).line ≡ a ∷ line
       → AskedNow (behind old line) new a.client a.tag a.content (Ok given) → Nexts old new given
-
--- what the next step in line answers: where none can be asked, no ask of a client that has left stands in front
-abbrev pub NextOf : State → State → Result (Option Given) (Refusal AskFault) → Type 0
-NextOf old new (Ok (Some given)) = Nexts old new given
-NextOf old new (Ok None) = (new ≡ skipped old) × ((may_ask old ≡ false) ⊎ ((skipped old).line ≡ []))
-NextOf old new (Err (Fault f)) = new ≡ skipped old
-NextOf old new (Err NoMemory) = (c : List ℕ) × (new.waiting ≡ old.waiting) × (new.clients ≡ old.clients)

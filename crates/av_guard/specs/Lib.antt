@@ -9,3 +9,4 @@ pub mod Asking
 pub mod Keeping
 pub mod Kept
 pub mod Beginning
+pub mod Line

@@ -5,7 +5,8 @@ ghost use Rattle.std.specs.Ordering.{nat_cmp};
 ghost use Rattle.av_base.specs.declared.refusal.Refusal.TheVariants.{NoMemory};
 ghost use Rattle.av_filter.specs.Once.{times};
 ghost use Rattle.av_filter.specs.Conduct.{Disconnects, Receives, TimesOut};
-ghost use Rattle.av_guard.specs.Asking.{AskedNow, GivesNothing, LetsGo, Refuses, Takes, bytes_kept, in_line, is_crowded, may_ask, must_stand, opens, refusal_of};
+ghost use Rattle.av_guard.specs.Asking.{AskedNow, GivesNothing, LetsGo, Refuses, Takes, bytes_kept, in_line, is_crowded, may_ask, must_stand, opens, refusal_of, skipped, still_here};
+ghost use Rattle.av_guard.specs.Line.{FirstOf, FrontOf, IsFree, NextOf};
 ghost use Rattle.av_guard.specs.Kept.{AsksNew, IsKeptBy};
 ghost use Rattle.av_guard.specs.Beginning.{Joins, NotBegun, begun};
 ghost use Rattle.av_guard.specs.State.{Turns, happens};
@@ -18,7 +19,7 @@ use crate::given::{Given, Told};
 use crate::keeping::store;
 use crate::place::{Place, place_of as find_place};
 use crate::settling::{enter, leave, settle};
-use crate::shelf::Shelf;
+use crate::shelf::{Oldest, Shelf};
 use crate::waiter::Waiter;
 use av_base::limits::MAX_QUESTIONS;
 use av_base::{ByteList, LimitField, LimitValues, Limits, Mode, OpenId, Refusal, Refused, StreamId, Version};
@@ -28,6 +29,7 @@ use av_store::Volume;
 use std::alloc::{AllocError, Global};
 use std::collections::{BTreeMap, BTreeSet, VecDeque};
 use std::marker::Model;
+use std::mem;
 
 /// Filter and volume of a daemon, who waits for which open, and the asks that stand in line. It holds opens that are owed an
 /// answer, so it can't be let go: `abandon` ends it.
@@ -148,6 +150,32 @@ impl Guard {
             Ok(given) => Ok(given),
             Err(why) => refuse(content, why),
         }
+    }
+
+    /// What is due, one step: a content above those that are to be kept is let go, which nobody waits for, the least lately
+    /// asked for first; or the first in line is asked, where it may be. None where nothing is due: to be called until then
+    /// after each other event. OpensSpent, Full, NoMemory: the line is as before but for those whose clients have left. It
+    /// costs what an ask does, and a look at each of these.
+    #[tactic(auto, using(crate::proofs::StateLemmas::next_first))]
+    pub fn next_in_line(&mut self, alloc: Global) -> Result<Option<Given>, Refusal<AskFault>>
+        ensures { NextOf self.old self.new result }
+    {
+        if self.is_crowded() {
+            match self.next_to_go() {
+                Oldest::Idle(stream) => match self.let_go(alloc, stream) {
+                    Ok(Some(given)) => return Ok(Some(given)),
+                    Ok(None) => {}
+                    Err(_) => return Err(Refusal::NoMemory),
+                },
+                Oldest::Later => return Ok(Some(Given::nothing(alloc))),
+                Oldest::Nothing => {}
+            }
+        }
+        self.skip_gone();
+        if !self.may_ask() {
+            return Ok(None);
+        }
+        self.ask_first(alloc)
     }
 
     /// Ends it: opens that wait are denied, and nobody hears of it.
@@ -439,6 +467,64 @@ impl Guard {
             }
         }
     }
+    // The content to let go.
+    fn next_to_go(&mut self) -> Oldest
+        ensures same { self.new ≡ self.old }
+        ensures idle { IsFree self.old.waiting result }
+    {
+        self.shelf.oldest()
+    }
+
+    // The asks in front whose clients have left are let go.
+    fn skip_gone(&mut self)
+        ensures { self.new ≡ skipped self.old }
+    {
+        skip_gone(&self.clients, &mut self.line);
+    }
+
+    // The first in line is asked.
+    fn ask_first(&mut self, alloc: Global) -> Result<Option<Given>, Refusal<AskFault>>
+        ensures { FirstOf self.old self.new result }
+    {
+        let mut line = mem::replace(&mut self.line, VecDeque::new(alloc));
+        match self.ask_front(alloc, &line) {
+            Ok(Some(given)) => {
+                let _ = line.pop_front();
+                self.line = line;
+                Ok(Some(given))
+            }
+            Ok(None) => {
+                self.line = line;
+                Ok(None)
+            }
+            Err(Refusal::Fault(fault)) => {
+                self.line = line;
+                Err(Refusal::Fault(fault))
+            }
+            Err(Refusal::NoMemory) => {
+                self.line = line;
+                Err(Refusal::NoMemory)
+            }
+        }
+    }
+
+    // The first of a line that is held apart is asked.
+    fn ask_front(
+        &mut self,
+        alloc: Global,
+        line: &VecDeque<Ask>,
+    ) -> Result<Option<Given>, Refusal<AskFault>>
+        ensures { FrontOf self.old self.new line.now.items result }
+    {
+        let Some(ask) = line.front() else {
+            return Ok(None);
+        };
+        let _small = ask.content.len();
+        match self.ask_now(alloc, ask.client, ask.tag, ask.content.as_slice()) {
+            Ok(given) => Ok(Some(given)),
+            Err(why) => Err(why),
+        }
+    }
 }
 
 // A refused ask, with its content.
@@ -450,4 +536,16 @@ fn refuse(content: Vec<u8>, why: Refusal<AskFault>) -> Result<Given, Refused<Vec
         value: content,
         why,
     })
+}
+
+// The asks in front whose clients have left are let go.
+fn skip_gone(clients: &BTreeSet<u64>, line: &mut VecDeque<Ask>)
+    ensures { line.new.items ≡ still_here clients.now.keys line.old.items }
+{
+    while let Some(ask) = line.front() {
+        if clients.contains(&ask.client) {
+            return;
+        }
+        let _ = line.pop_front();
+    }
 }
