@@ -1,5 +1,5 @@
 -- A guard that is as it was, one whose contents are fewer, and one that asks.
-use Rattle.std.proofs.Common.{◌≡◌, ℕ, ◌+◌, ◌-◌, ◌==◌, Bool, true, false, cond, List, [], ◌∷◌, length, Option, Some, None, Result, Ok, Err, refl, arith, ap, sym, subst, eqb-true, eq-eqb, true≢false, ◌∙◌}
+use Rattle.std.proofs.Common.{◌≡◌, ℕ, ◌+◌, ◌-◌, ◌==◌, Bool, true, false, cond, List, [], ◌∷◌, length, map, Option, Some, None, Result, Ok, Err, refl, arith, ap, sym, subst, eqb-true, eq-eqb, true≢false, ◌∙◌}
 use Rattle.std.specs.Prelude.{is_some, if◌then◌else◌}
 use Rattle.std.specs.Option.{option_map}
 use Rattle.std.specs.Result.{result_err}
@@ -7,10 +7,12 @@ use Rattle.std.proofs.lemmas.Bool.{cases_eq}
 use Rattle.av_base.specs.declared.refusal.Refusal.{Refusal}
 use Rattle.av_base.specs.declared.refusal.Refusal.TheVariants.{Fault, NoMemory}
 use Rattle.av_filter.proofs.BoundLemmas.{leads_to}
-use Rattle.av_filter.specs.Conduct.{Changes, filter_step}
+use Rattle.av_filter.specs.Conduct.{Changes, filter_refusal, filter_step}
+use Rattle.av_filter.specs.Once.{times}
+use Rattle.av_guard.specs.declared.waiter.Waiter.{Waiter}
 use Rattle.av_filter_table.specs.Table.{Table}
 use Rattle.av_guard.proofs.SumLemmas.{count_less, sum_less}
-use Rattle.av_guard.specs.Asking.{Asked, AskedNow, IsRefused, ask_fault, may_ask, skipped, asked, behind, bytes_in, bytes_kept, kept, opens, place_fault, place_of}
+use Rattle.av_guard.specs.Asking.{Asked, AskedNow, IsRefused, LetGo, LetsGo, Nexts, is_crowded, ask_fault, may_ask, skipped, asked, behind, bytes_in, bytes_kept, kept, opens, place_fault, place_of}
 use Rattle.av_guard.specs.Asking as refused_so
 use Rattle.av_guard.specs.Kept.{AsksNew, IsLeft, IsNotIn, Never, Stays}
 use Rattle.av_guard.specs.Kept as kept_so
@@ -18,7 +20,7 @@ use Rattle.av_guard.specs.Place.{Held, Missing, Spot, Unused}
 use Rattle.std.specs.Slice.{IsItemAt}
 use Rattle.std.proofs.Common.{Bor, drop, inl, inr}
 use Rattle.av_guard.specs.Line.{FirstOf, FrontOf, IsFirst, IsHeldUp, NextOf}
-use Rattle.av_guard.specs.State.{Gives, State, Turn}
+use Rattle.av_guard.specs.State.{Gives, State, Turn, happens}
 use Rattle.av_guard.specs.Telling.{Waiters}
 use Rattle.av_guard.specs.declared.ask.Ask.{Ask}
 use Rattle.av_guard.specs.declared.fault.AskFault.{AskFault}
@@ -122,3 +124,16 @@ next_first old new (Ok (Some given)) may f = Asked f.ask (drop 1 (skipped old).l
 next_first old new (Ok None) may (empty, same) = (same, inr empty)
 next_first old new (Err (Fault f)) may same = same
 next_first old new (Err NoMemory) may held = inr held
+
+pub held_up : (old mid now : State) (line ls : List Ask) (why : Refusal AskFault) → now ≡ mid → line ≡ old.line → ls ≡ [] → why ≡ NoMemory → FrontOf (behind old ls) mid line (Err why) → IsHeldUp old (behind now line)
+held_up old mid now line ls why same is none memory front =
+    subst (λ m. IsHeldUp old (behind m line)) (sym same) (first_refused old mid line NoMemory (sym is) (subst (λ w. FrontOf (behind old []) mid line (Err w)) memory (subst (λ k. FrontOf (behind old k) mid line (Err why)) none front)))
+
+-- a content was let go
+pub let_go_next : (old same new : State) (given : Given) (s : ℕ) → same ≡ old → is_crowded old ≡ true → times s (map (λ (e : ℕ × Waiter). e.1.stream) old.waiting) ≡ 0 → (E : Type 0) (o : Option Given) → o ≡ Some given → LetsGo {E = E} same new s (Ok o) → Nexts old new given
+let_go_next old same new given s is crowded idle E o some lets =
+    let went : (filter_refusal same.table same.volume (Changes (Remove s)) ≡ None) × Gives given new (happens same (Changes (Remove s))) =
+    subst (λ p. LetsGo {E = E} same new s (Ok p)) some lets in
+    let there : (filter_refusal old.table old.volume (Changes (Remove s)) ≡ None) × Gives given new (happens old (Changes (Remove s))) =
+    subst (λ g. (filter_refusal g.table g.volume (Changes (Remove s)) ≡ None) × Gives given new (happens g (Changes (Remove s)))) is went in
+    LetGo s crowded idle there.0 there.1

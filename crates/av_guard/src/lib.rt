@@ -19,6 +19,8 @@ mod naming;
 mod place;
 mod settling;
 mod shelf;
+#[cfg(test)]
+mod tests;
 pub mod waiter;
 
 pub use answered::Answered;
