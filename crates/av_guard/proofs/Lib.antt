@@ -4,3 +4,4 @@ pub mod RoomLemmas
 pub mod SumLemmas
 pub mod KeepLemmas
 pub mod StateLemmas
+pub mod LawLemmas

@@ -10,3 +10,4 @@ pub mod Keeping
 pub mod Kept
 pub mod Beginning
 pub mod Line
+pub mod Laws

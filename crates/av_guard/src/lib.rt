@@ -15,6 +15,7 @@ pub mod fault;
 pub mod given;
 pub mod guard;
 mod keeping;
+pub mod laws;
 mod naming;
 mod place;
 mod settling;
