@@ -1,5 +1,5 @@
 -- One who waits no more, and one who comes to wait.
-use Rattle.std.proofs.Common.{◌≡◌, ◌≢◌, ◌<◌, ℕ, ◌+◌, ◌-◌, ◌==◌, Bool, true, false, cond, List, [], ◌∷◌, Option, Some, None, if◌then◌else◌, map, refl, arith, ap, ◌∙◌, sym, subst, eq-eqb, eqb-true, true≢false, ⊎_elim}
+use Rattle.std.proofs.Common.{◌≡◌, ◌≢◌, ℕ, ◌+◌, ◌-◌, ◌==◌, Bool, true, false, cond, List, [], ◌∷◌, Some, None, if◌then◌else◌, map, refl, arith, ap, ◌∙◌, sym, subst, eq-eqb, eqb-true, true≢false, ⊎_elim}
 use Rattle.std.proofs.lemmas.Bool.{cases_Bool}
 use Rattle.std.specs.Ordering.{nat_cmp, is_eq, match_ordering}
 use Rattle.std.specs.declared.cmp.Ordering.TheVariants.{Less, Equal, Greater}
@@ -47,11 +47,13 @@ woken old new m n w counted found wakes u = ⊎_elim here away (cases_Bool (w.st
   where
     rest : times u (map stream_of m) ≡ (if w.stream == u then 1 else 0) + times u (map stream_of (without m n))
     rest = times_without m n w u found
+
     here : (w.stream == u) ≡ true → waits_of new u ≡ times u (map stream_of (without m n))
     here e =
         let same : w.stream ≡ u = eqb-true w.stream u e in
         let now : waits_of new u ≡ waits_of old u - 1 = subst (λ k. waits_of new k ≡ waits_of old k - 1) same wakes.here in
         omega (arith, now, counted u, one_of (w.stream == u) _ _ e rest)
+
     away : (w.stream == u) ≡ false → waits_of new u ≡ times u (map stream_of (without m n))
     away e =
         let apart : u ≢ w.stream = λ same. true≢false (sym (eq-eqb w.stream u (sym same)) ∙ e) in
@@ -82,11 +84,13 @@ counted_more old new m n w counted away adds u = ⊎_elim here apart (cases_Bool
   where
     rest : times u (map stream_of (with m n w)) ≡ (if w.stream == u then 1 else 0) + times u (map stream_of m)
     rest = times_with m n w u away
+
     here : (w.stream == u) ≡ true → waits_of new u ≡ times u (map stream_of (with m n w))
     here e =
         let same : w.stream ≡ u = eqb-true w.stream u e in
         let now : waits_of new u ≡ waits_of old u + 1 = subst (λ k. waits_of new k ≡ waits_of old k + 1) same adds.here in
         omega (arith, now, counted u, one_of (w.stream == u) _ _ e rest)
+
     apart : (w.stream == u) ≡ false → waits_of new u ≡ times u (map stream_of (with m n w))
     apart e =
         let other : u ≢ w.stream = λ same. true≢false (sym (eq-eqb w.stream u (sym same)) ∙ e) in
@@ -102,6 +106,7 @@ counted_again old more new m s counted adds wakes u = ⊎_elim here apart (cases
         let up : waits_of more u ≡ waits_of old u + 1 = subst (λ k. waits_of more k ≡ waits_of old k + 1) same adds.here in
         let down : waits_of new u ≡ waits_of more u - 1 = subst (λ k. waits_of new k ≡ waits_of more k - 1) same wakes.here in
         omega (arith, up, down, counted u)
+
     apart : (s == u) ≡ false → waits_of new u ≡ times u (map stream_of m)
     apart e =
         let other : u ≢ s = λ same. true≢false (sym (eq-eqb s u (sym same)) ∙ e) in

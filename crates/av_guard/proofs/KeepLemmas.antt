@@ -1,8 +1,7 @@
 -- A content comes to be kept, and one is let go.
-use Rattle.std.proofs.Common.{◌≡◌, ◌≢◌, ◌<◌, ◌≤◌, ℕ, zero, suc, ◌+◌, ◌-◌, Bool, true, false, cond, List, [], ◌∷◌, ◌++◌, length, map, take, drop, Option, Some, None, Result, Ok, Err, refl, arith, ap, ◌∙◌, sym, subst}
-use Rattle.std.proofs.lemmas.List.{append-nil, length-append}
+use Rattle.std.proofs.Common.{◌≡◌, ◌<◌, ℕ, zero, suc, ◌+◌, true, false, cond, List, [], ◌∷◌, ◌++◌, length, drop, Option, Some, None, Result, Ok, Err, refl, arith, ap, ◌∙◌, sym, subst}
+use Rattle.std.proofs.lemmas.List.{append-nil}
 use Rattle.std.proofs.lemmas.Bool.Decides.{nat_tests}
-use Rattle.std.specs.Prelude.{sum_by}
 use Rattle.std.specs.Option.{option_map}
 use Rattle.std.specs.Prelude.{is_some, not, ◌||◌, nat_le, if◌then◌else◌}
 use Rattle.std.specs.Result.{result_err}
@@ -40,9 +39,9 @@ use Rattle.av_store.specs.Files.{Create, Write}
 use Rattle.av_store.specs.declared.fault.StoreFault.{StoreFault}
 use Rattle.av_store.specs.declared.fault.StoreFault.TheVariants.{NoStream}
 use Rattle.av_store.proofs.SeenLemmas.{stream_seen}
-use Rattle.av_store.specs.Files.{File, file_of, if_here, numbered}
+use Rattle.av_store.specs.Files.{if_here, numbered}
 use Rattle.av_store.specs.Rows.{Streams, is_number, number_named, replaced, stream_at, without}
-use Rattle.av_store.specs.Seen.{Keeps, change_of, kept_or, stream_of, volume_of}
+use Rattle.av_store.specs.Seen.{change_of, kept_or, stream_of, volume_of}
 use Rattle.av_store.specs.Sound.{IsOfFiles}
 use Rattle.av_store.specs.Store.{Store, create_of, greatest, is_name, remove_of, with_streams}
 use Rattle.av_store.specs.declared.stream.Stream.{Stream}
@@ -116,8 +115,17 @@ creation_fits t v w name id fits ok = subst (λ (r : Reaction). Fits r.table r.v
 -- a volume whose last number alone is another
 pub spent_fits : (t : Table) (v : Store) (n : ℕ) → Fits t v → Fits t (record v { last = n })
 spent_fits t v n f = record {
-  boots = f.boots; rises = f.rises; given = f.given; order = f.order; apart = f.apart; scanned = f.scanned;
-  there = f.there; present = f.present; asked = f.asked; leasts = f.leasts; taken = f.taken;
+  boots = f.boots;
+  rises = f.rises;
+  given = f.given;
+  order = f.order;
+  apart = f.apart;
+  scanned = f.scanned;
+  there = f.there;
+  present = f.present;
+  asked = f.asked;
+  leasts = f.leasts;
+  taken = f.taken;
 }
 
 -- a stream that was created is taken away

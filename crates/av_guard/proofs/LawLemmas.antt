@@ -1,11 +1,11 @@
 -- The stream of a content that is kept has its bytes.
-use Rattle.std.proofs.Common.{◌≡◌, ℕ, zero, suc, ◌+◌, Bool, true, false, List, Option, Some, None, refl, ap, sym, subst, ◌∙◌}
+use Rattle.std.proofs.Common.{◌≡◌, ℕ, zero, suc, ◌+◌, Bool, true, false, List, Option, Some, None, refl, ap, subst}
 use Rattle.std.proofs.lemmas.Slice.Eq.{bytes_eq-Decides}
 use Rattle.std.specs.Option.{option_map}
 use Rattle.std.specs.Prelude.{if◌then◌else◌}
 use Rattle.av_guard.specs.Laws.{OpensItsBytes}
 use Rattle.av_guard.specs.Naming.{name_of}
-use Rattle.av_guard.specs.Place.{Held, Missing, Spot, Unused, bytes_are, has_bytes, place_from, spot_at}
+use Rattle.av_guard.specs.Place.{Held, Spot, bytes_are, has_bytes, place_from, spot_at}
 use Rattle.av_store.specs.Rows.{number_named, stream_at}
 use Rattle.av_store.specs.Store.{Store}
 use Rattle.av_store.specs.declared.stream.Stream.{Stream}

@@ -1,9 +1,9 @@
 -- Letters, one after the other, and names, one after the other.
-use Rattle.std.proofs.Common.{◌≡◌, ◌<◌, ℕ, zero, suc, ◌+◌, ◌-◌, ◌%◌, ◌/◌, Bool, true, false, cond, List, [], ◌∷◌, ◌++◌, Option, Some, None, refl, arith, ap, ◌∙◌, take, length, ◌≤◌, sym}
+use Rattle.std.proofs.Common.{◌≡◌, ◌<◌, ℕ, zero, suc, ◌+◌, ◌-◌, ◌%◌, ◌/◌, false, cond, List, [], ◌∷◌, ◌++◌, Some, refl, arith, ap, ◌∙◌, take, length, ◌≤◌, sym}
 use Rattle.std.proofs.Math.Seq.{take-append_seam, take-length}
 use Rattle.std.proofs.lemmas.List.{length-append, length-take-le}
 use Rattle.av_guard.specs.Naming.{hash_of, letters, name_of, stem_of}
-use Rattle.av_guard.specs.Place.{Spot, Held, Missing, Unused, has_bytes, place_from, spot_at}
+use Rattle.av_guard.specs.Place.{Spot, Held, Missing, has_bytes, place_from, spot_at}
 use Rattle.av_store.specs.Rows.{number_named}
 use Rattle.av_store.specs.Store.{Store}
 

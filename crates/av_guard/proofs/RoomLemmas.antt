@@ -1,5 +1,5 @@
 -- How much an event of the filter answers: no more than opens wait, and one.
-use Rattle.std.proofs.Common.{ℕ, ◌≡◌, ◌+◌, ◌≤◌, length, arith, ap}
+use Rattle.std.proofs.Common.{ℕ, ◌+◌, ◌≤◌, length, arith, ap}
 use Rattle.av_filter.proofs.RoomLemmas.{small_reaction}
 use Rattle.std.specs.Prelude.{Result, Ok, Err, IfOk}
 use Rattle.av_filter.specs.Call.{MeetsAlways, Reacts}

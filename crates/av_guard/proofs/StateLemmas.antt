@@ -1,9 +1,7 @@
 -- A guard that is as it was, one whose contents are fewer, and one that asks.
-use Rattle.std.proofs.Common.{◌≡◌, ℕ, ◌+◌, ◌-◌, ◌==◌, Bool, true, false, cond, List, [], ◌∷◌, length, map, Option, Some, None, Result, Ok, Err, refl, arith, ap, sym, subst, eqb-true, eq-eqb, true≢false, ◌∙◌}
+use Rattle.std.proofs.Common.{◌≡◌, ℕ, ◌+◌, ◌-◌, ◌==◌, Bool, true, false, List, [], ◌∷◌, length, map, Option, Some, None, Result, Ok, Err, refl, arith, ap, sym, subst, eqb-true, true≢false, ◌∙◌}
 use Rattle.std.specs.Prelude.{is_some, if◌then◌else◌}
 use Rattle.std.specs.Option.{option_map}
-use Rattle.std.specs.Result.{result_err}
-use Rattle.std.proofs.lemmas.Bool.{cases_eq}
 use Rattle.av_base.specs.declared.refusal.Refusal.{Refusal}
 use Rattle.av_base.specs.declared.refusal.Refusal.TheVariants.{Fault, NoMemory}
 use Rattle.av_filter.proofs.BoundLemmas.{leads_to}
@@ -18,9 +16,9 @@ use Rattle.av_guard.specs.Kept.{AsksNew, IsLeft, IsNotIn, Never, Stays}
 use Rattle.av_guard.specs.Kept as kept_so
 use Rattle.av_guard.specs.Place.{Held, Missing, Spot, Unused}
 use Rattle.std.specs.Slice.{IsItemAt}
-use Rattle.std.proofs.Common.{Bor, drop, inl, inr}
+use Rattle.std.proofs.Common.{Bor, drop, inr}
 use Rattle.av_guard.specs.Line.{FirstOf, FrontOf, IsFirst, IsHeldUp, NextOf}
-use Rattle.av_guard.specs.State.{Gives, State, Turn, happens}
+use Rattle.av_guard.specs.State.{Gives, State, happens}
 use Rattle.av_guard.specs.Telling.{Waiters}
 use Rattle.av_guard.specs.declared.ask.Ask.{Ask}
 use Rattle.av_guard.specs.declared.fault.AskFault.{AskFault}
@@ -29,7 +27,7 @@ use Rattle.av_guard.specs.declared.given.Given.{Given}
 use Rattle.av_store.specs.Files.{Remove}
 use Rattle.av_store.specs.Rows.{stream_at, without}
 use Rattle.av_store.specs.Seen.{change_of, kept_or}
-use Rattle.av_store.specs.Store.{Store, create_of, greatest, with_streams}
+use Rattle.av_store.specs.Store.{Store, greatest, with_streams}
 use Rattle.av_store.specs.declared.fault.StoreFault.TheVariants.{NoStream}
 use Rattle.av_store.specs.declared.stream.Stream.{Stream}
 
@@ -72,11 +70,10 @@ fault_at : (g : State) (c : List ℕ) (spot : Spot) → (g.volume.opens == great
 fault_at g c spot left is = ap (λ b. if b then Some OpensSpent else place_fault g (place_of g c)) left ∙ ap (λ p. place_fault g p) is
 
 pub asked_new : (old new : State) (client tag : ℕ) (name c : List ℕ) (r : Result Given (Refusal AskFault)) → (old.volume.opens == greatest) ≡ false → place_of old c ≡ Unused name → AsksNew old new client tag name c r → AskedNow old new client tag c r
-asked_new old new client tag name c (Ok given) left is (creates, gives) =
-    (
-      fault_at old c (Unused name) left is ∙ ap (λ o. if is_some o then Some Full else None) creates,
-      subst (λ p. Gives given new (asked old client tag c p)) (sym is) gives,
-    )
+asked_new old new client tag name c (Ok given) left is (creates, gives) = (
+  fault_at old c (Unused name) left is ∙ ap (λ o. if is_some o then Some Full else None) creates,
+  subst (λ p. Gives given new (asked old client tag c p)) (sym is) gives,
+)
 asked_new old new client tag name c (Err (Fault f)) left is (full, refused, same) =
     (fault_at old c (Unused name) left is ∙ ap (λ b. if b then Some Full else None) refused ∙ ap (λ k. Some k) (sym full), same)
 asked_new old new client tag name c (Err NoMemory) left is (Never (kept_so.Same same)) = refused_so.Same same

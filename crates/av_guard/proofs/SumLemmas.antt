@@ -1,5 +1,5 @@
 -- The counts of a volume's streams and of their bytes, as one comes and one goes.
-use Rattle.std.proofs.Common.{◌≡◌, ℕ, ◌+◌, ◌-◌, Bool, true, false, cond, List, [], ◌∷◌, ◌++◌, length, Option, Some, None, refl, arith, ap, ◌∙◌}
+use Rattle.std.proofs.Common.{◌≡◌, ℕ, ◌+◌, true, false, cond, [], ◌∷◌, ◌++◌, length, Some, arith, ap}
 use Rattle.av_guard.specs.Asking.{bytes_in}
 use Rattle.av_store.specs.Rows.{Streams, is_number, stream_at, without}
 use Rattle.av_store.specs.declared.stream.Stream.{Stream}

@@ -1,5 +1,5 @@
 -- Asks: one is asked at once or stands in line, and contents are kept for later asks.
-use Rattle.std.specs.Prelude.{◌≡◌, ◌<◌, ℕ, zero, ◌+◌, Bool, true, false, not, ◌&&◌, ◌||◌, ◌==◌, nat_lt, nat_le, List, [], ◌∷◌, ◌++◌, length, map, MatchBool, ◌⊎◌, Option, Some, None, Result, Ok, Err, is_some, if◌then◌else◌}
+use Rattle.std.specs.Prelude.{◌≡◌, ℕ, ◌+◌, Bool, true, not, ◌&&◌, ◌||◌, ◌==◌, nat_lt, nat_le, List, [], ◌∷◌, ◌++◌, length, map, MatchBool, Option, Some, None, Result, Ok, Err, is_some, if◌then◌else◌}
 use Rattle.std.specs.Result.{result_err}
 use Rattle.av_base.specs.declared.refusal.Refusal.{Refusal}
 use Rattle.av_base.specs.declared.refusal.Refusal.TheVariants.{Fault, NoMemory}
@@ -12,7 +12,6 @@ use Rattle.av_guard.specs.declared.ask.Ask.{Ask}
 use Rattle.av_guard.specs.declared.fault.AskFault.{AskFault}
 use Rattle.av_guard.specs.declared.fault.AskFault.TheVariants.{Full, NoClient, OpensSpent, TooLarge}
 use Rattle.av_guard.specs.declared.given.Given.{Given}
-use Rattle.av_guard.specs.declared.waiter.Waiter.{Waiter}
 use Rattle.av_guard.specs.Place.{Spot, Held, Missing, Unused, place_from}
 use Rattle.av_guard.specs.State.{Gives, State, Turn, happens}
 use Rattle.av_guard.specs.Telling.{is_here}

@@ -1,9 +1,5 @@
 -- The name of the stream that a content is kept in: its length, a hash of it, and a number, each in sixteen letters.
-use Rattle.std.specs.Prelude.{ℕ, suc, zero, ◌+◌, ◌*◌, ◌^◌, ◌%◌, ◌/◌, ◌==◌, List, [], ◌∷◌, ◌++◌, length, Option, Some, None, if◌then◌else◌}
-use Rattle.av_filter_table.specs.Answering.{present_bytes}
-use Rattle.av_store.specs.Files.{same_bytes}
-use Rattle.av_store.specs.Rows.{number_named}
-use Rattle.av_store.specs.Store.{Store}
+use Rattle.std.specs.Prelude.{ℕ, suc, zero, ◌+◌, ◌*◌, ◌^◌, ◌%◌, ◌/◌, List, [], ◌∷◌, ◌++◌, length}
 
 -- so many letters, from a to p, that stand for a number, the least digit first
 unfoldable pub letters : ℕ → ℕ → List ℕ

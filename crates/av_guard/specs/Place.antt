@@ -1,6 +1,5 @@
 -- Where a content is in a volume.
-use Rattle.std.specs.Prelude.{◌≡◌, ℕ, zero, suc, ◌+◌, Bool, true, false, List, Option, Some, None, if◌then◌else◌}
-
+use Rattle.std.specs.Prelude.{◌≡◌, ℕ, zero, suc, ◌+◌, Bool, false, List, Option, Some, None, if◌then◌else◌}
 use Rattle.std.specs.Str.{bytes_eq}
 use Rattle.av_guard.specs.Naming.{name_of}
 use Rattle.av_guard.specs.declared.place.Place.{Place}

@@ -1,5 +1,5 @@
 -- What is known of the contents that are kept.
-use Rattle.std.specs.Prelude.{◌≡◌, ◌≢◌, ℕ, ◌+◌, ◌-◌, List, Option, Some, None}
+use Rattle.std.specs.Prelude.{◌≡◌, ◌≢◌, ℕ, ◌+◌, ◌-◌, List}
 use Rattle.std.specs.Option.{unwrap_or}
 use Rattle.av_context.specs.Contexts.{at}
 use Rattle.av_guard.specs.declared.shelf.Oldest.{Oldest}

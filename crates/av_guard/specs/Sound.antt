@@ -1,5 +1,5 @@
 -- What holds of a guard between calls.
-use Rattle.std.specs.Prelude.{◌≡◌, ℕ, length}
+use Rattle.std.specs.Prelude.{◌≡◌, length}
 use Rattle.av_filter.specs.Fit.{Fits}
 use Rattle.av_filter_table.specs.Table.{Table}
 use Rattle.av_guard.specs.Asking.{bytes_kept}

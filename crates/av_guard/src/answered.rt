@@ -23,7 +23,9 @@ pub enum Answered {
         end: u64,
     },
     /// It could not be judged, and is kept out.
-    Denied { cause: Cause },
+    Denied {
+        cause: Cause,
+    },
     /// It could not be judged, and is let through.
     Unscanned {
         generation: Generation,
@@ -46,7 +48,9 @@ impl Answered {
                 version: *version,
             },
             Answer::Unscanned {
-                generation, cause, ..
+                generation,
+                cause,
+                ..
             } => Answered::Unscanned {
                 generation: *generation,
                 cause: *cause,

@@ -22,7 +22,9 @@ use crate::settling::{enter, leave, settle};
 use crate::shelf::{Oldest, Shelf};
 use crate::waiter::Waiter;
 use av_base::limits::MAX_QUESTIONS;
-use av_base::{ByteList, LimitField, LimitValues, Limits, Mode, OpenId, Refusal, Refused, StreamId, Version};
+use av_base::{
+    ByteList, LimitField, LimitValues, Limits, Mode, OpenId, Refusal, Refused, StreamId, Version,
+};
 use av_filter::{Filter, Out};
 use av_frame::Message;
 use av_store::Volume;

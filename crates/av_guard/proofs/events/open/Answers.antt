@@ -1,5 +1,4 @@
-use Rattle.av_guard.proofs.RoomLemmas.{few_changed, few_opened}
-use Rattle.av_store.specs.Files.{Remove}
+use Rattle.av_guard.proofs.RoomLemmas.{few_opened}
 use Rattle.av_guard.proofs.events.open.Goals as goal
 
 pub returns-in-Ok-clause-few : goal.returns-in-Ok-clause-few

@@ -1,4 +1,4 @@
-use Rattle.av_guard.proofs.RoomLemmas.{few_changed, few_opened}
+use Rattle.av_guard.proofs.RoomLemmas.{few_changed}
 use Rattle.av_store.specs.Files.{Remove}
 use Rattle.av_guard.proofs.events.remove.Goals as goal
 

@@ -1,4 +1,4 @@
-use Rattle.std.proofs.Common.{sym, subst, ◌∙◌}
+use Rattle.std.proofs.Common.{sym, subst}
 use Rattle.std.specs.Prelude.{IsOk}
 use Rattle.av_store.specs.Store.{remove_of}
 use Rattle.av_guard.proofs.KeepLemmas.{removable, stored_by, unkept, unkept_fits}

@@ -1,7 +1,6 @@
-use Rattle.std.proofs.Common.{◌≡◌, ◌+◌, ◌-◌, ◌≤◌, ◌++◌, take, vec_len, length, ap, sym, ◌∙◌, arith, refl, subst, Some}
+use Rattle.std.proofs.Common.{◌≡◌, ◌≤◌, ◌++◌, take, ap, sym, ◌∙◌, arith, refl, subst, Some}
 use Rattle.av_store.specs.Rows.{number_named}
-use Rattle.av_guard.specs.Naming.{letters, name_of, stem_of}
-use Rattle.av_guard.specs.Place.{place_from}
+use Rattle.av_guard.specs.Naming.{letters, name_of}
 use Rattle.av_guard.proofs.NameLemmas.{named, passed, stem_cut, stem_whole}
 use Rattle.av_guard.proofs.place.place_of.Goals as goal
 

@@ -1,5 +1,5 @@
-use Rattle.std.proofs.Common.{sym, subst, ◌∙◌}
-use Rattle.av_guard.proofs.CountLemmas.{counted_again, counted_more}
+use Rattle.std.proofs.Common.{sym, subst}
+use Rattle.av_guard.proofs.CountLemmas.{counted_more}
 use Rattle.av_guard.specs.Counts.{AreCounted}
 use Rattle.av_guard.proofs.settling.enter.Goals as goal
 

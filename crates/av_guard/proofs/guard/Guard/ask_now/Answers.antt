@@ -1,4 +1,4 @@
-use Rattle.std.proofs.Common.{sym, ap, subst, ◌∙◌}
+use Rattle.std.proofs.Common.{subst}
 use Rattle.av_guard.proofs.StateLemmas.{asked_new, left_over}
 use Rattle.av_guard.specs.Kept.{AsksNew}
 use Rattle.av_guard.specs.Place.{IsPlace, place_from}

@@ -1,8 +1,7 @@
-use Rattle.std.proofs.Common.{refl, sym, ap, subst, ◌∙◌, arith}
+use Rattle.std.proofs.Common.{refl, sym, ap, ◌∙◌, arith}
 use Rattle.av_guard.specs.Shelf.{Kept, waits_of}
 use Rattle.std.specs.Prelude.{is_some}
-use Rattle.av_guard.specs.Kept.{Same}
-use Rattle.av_guard.proofs.KeepLemmas.{is_in, is_not_in, more_bytes, more_count}
+use Rattle.av_guard.proofs.KeepLemmas.{more_bytes, more_count}
 use Rattle.av_guard.proofs.guard.Guard.keep_content.Goals as goal
 
 pub returns-in-Some : goal.returns-in-Some

@@ -1,5 +1,4 @@
-use Rattle.std.proofs.Common.{refl, sym, ap, subst, ◌∙◌, arith, length}
-use Rattle.av_context.specs.Contexts.{without}
+use Rattle.std.proofs.Common.{sym, ap, ◌∙◌, length}
 use Rattle.av_filter.proofs.BoundLemmas.{leads_to}
 use Rattle.av_filter.specs.Conduct.{Opens}
 use Rattle.av_guard.proofs.CountLemmas.{restored}
