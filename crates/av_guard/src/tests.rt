@@ -3,6 +3,7 @@ mod say;
 use self::say::{given_is, hello, reply};
 use crate::{AskFault, Guard};
 use av_base::{Mode, Refusal, Refused};
+use av_fakes::{may_refuse, refuse_no_more};
 use std::alloc::Global;
 use std::test::Fail;
 
@@ -245,5 +246,67 @@ fn every_case_is_answered_as_written(rt: HostRuntime) -> Result<(), Fail> {
         let name = case.name;
         assert_eq!(rt; said.as_str(), case.said, "{name}");
     }
+    Ok(())
+}
+
+// An ask that memory refuses is told to nobody and leaves who waits and stands in line; with memory it is asked.
+fn ask_again(alloc: Global, guard: &mut Guard) -> Result<bool, Fail> {
+    let content = b"ABC".as_slice().to_vec(alloc)?;
+    may_refuse(alloc);
+    let first = guard.ask(alloc, 1, 1, content);
+    refuse_no_more(alloc);
+    match first {
+        Ok(given) => Ok(given.messages.len() == 1),
+        Err(refused) => {
+            let Refused { value, why } = refused;
+            let same = guard.waiting_count() == 0 && guard.line_count() == 0;
+            let memory = why == Refusal::NoMemory;
+            match guard.ask(alloc, 1, 1, value) {
+                Ok(given) => Ok(same && memory && given.messages.len() == 1),
+                Err(_) => Ok(false),
+            }
+        }
+    }
+}
+
+#[test]
+fn refused_or_not_an_ask_is_asked_once(rt: HostRuntime) -> Result<(), Fail> {
+    let alloc = rt.alloc();
+    let mut guard = guard_of(alloc, Mode::FailClosed, MANY, 16)?;
+    let greeted = guard.message(alloc, &hello(1)).is_ok();
+    let asked = ask_again(alloc, &mut guard);
+    let waits = guard.waiting_count();
+    guard.abandon();
+    assert!(rt; greeted);
+    assert!(rt; asked?);
+    assert_eq!(rt; waits, 1);
+    Ok(())
+}
+
+#[test]
+fn an_ask_is_refused_for_its_first_fault(rt: HostRuntime) -> Result<(), Fail> {
+    let alloc = rt.alloc();
+    let mut guard = guard_of(alloc, Mode::FailClosed, MANY, 16)?;
+    let mut long: Vec<u8> = Vec::new(alloc);
+    let filled = long.resize(1_048_577, 7).is_ok();
+    let unknown = guard.ask(alloc, 3, 1, long);
+    let back = match unknown {
+        Ok(_) => None,
+        Err(Refused { value, why }) => Some((value, why)),
+    };
+    let Some((long, no_client)) = back else {
+        guard.abandon();
+        return Err(Fail::new("an unknown client was answered"));
+    };
+    let size = long.len();
+    let too_large = match guard.ask(alloc, 1, 1, long) {
+        Ok(_) => None,
+        Err(refused) => Some(refused.why),
+    };
+    guard.abandon();
+    assert!(rt; filled);
+    assert_eq!(rt; size, 1_048_577);
+    assert_eq!(rt; no_client, Refusal::Fault(AskFault::NoClient));
+    assert_eq!(rt; too_large, Some(Refusal::Fault(AskFault::TooLarge)));
     Ok(())
 }
