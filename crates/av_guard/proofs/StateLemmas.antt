@@ -1,0 +1,136 @@
+-- A guard that is as it was, one whose contents are fewer, and one that asks.
+use Rattle.std.proofs.Common.{◌≡◌, ℕ, ◌+◌, ◌-◌, ◌==◌, Bool, true, false, List, [], ◌∷◌, length, map, Option, Some, None, Result, Ok, Err, refl, arith, ap, sym, subst, eqb-true, true≢false, ◌∙◌}
+use Rattle.std.specs.Prelude.{is_some, if◌then◌else◌}
+use Rattle.std.specs.Option.{option_map}
+use Rattle.av_base.specs.declared.refusal.Refusal.{Refusal}
+use Rattle.av_base.specs.declared.refusal.Refusal.TheVariants.{Fault, NoMemory}
+use Rattle.av_filter.proofs.BoundLemmas.{leads_to}
+use Rattle.av_filter.specs.Conduct.{Changes, filter_refusal, filter_step}
+use Rattle.av_filter.specs.Once.{times}
+use Rattle.av_guard.specs.declared.waiter.Waiter.{Waiter}
+use Rattle.av_filter_table.specs.Table.{Table}
+use Rattle.av_guard.proofs.SumLemmas.{count_less, sum_less}
+use Rattle.av_guard.specs.Asking.{Asked, AskedNow, IsRefused, LetGo, LetsGo, Nexts, is_crowded, ask_fault, may_ask, skipped, asked, behind, bytes_in, bytes_kept, kept, opens, place_fault, place_of}
+use Rattle.av_guard.specs.Asking as refused_so
+use Rattle.av_guard.specs.Kept.{AsksNew, IsLeft, IsNotIn, Never, Stays}
+use Rattle.av_guard.specs.Kept as kept_so
+use Rattle.av_guard.specs.Place.{Held, Missing, Spot, Unused}
+use Rattle.std.specs.Slice.{IsItemAt}
+use Rattle.std.proofs.Common.{Bor, drop, inr}
+use Rattle.av_guard.specs.Line.{FirstOf, FrontOf, IsFirst, IsHeldUp, NextOf}
+use Rattle.av_guard.specs.State.{Gives, State, happens}
+use Rattle.av_guard.specs.Telling.{Waiters}
+use Rattle.av_guard.specs.declared.ask.Ask.{Ask}
+use Rattle.av_guard.specs.declared.fault.AskFault.{AskFault}
+use Rattle.av_guard.specs.declared.fault.AskFault.TheVariants.{Full, OpensSpent}
+use Rattle.av_guard.specs.declared.given.Given.{Given}
+use Rattle.av_store.specs.Files.{Remove}
+use Rattle.av_store.specs.Rows.{stream_at, without}
+use Rattle.av_store.specs.Seen.{change_of, kept_or}
+use Rattle.av_store.specs.Store.{Store, greatest, with_streams}
+use Rattle.av_store.specs.declared.fault.StoreFault.TheVariants.{NoStream}
+use Rattle.av_store.specs.declared.stream.Stream.{Stream}
+
+pub back : (g : State) (t : Table) (v : Store) (w : Waiters) → t ≡ g.table → v ≡ g.volume → w ≡ g.waiting → ◌≡◌ {A = State} (record g { table = t; volume = v; waiting = w }) g
+back g t v w table volume waiting =
+    ap (λ x. record g { table = x; volume = v; waiting = w }) table ∙ ap (λ x. record g { volume = x; waiting = w }) volume ∙ ap (λ x. record g { waiting = x }) waiting
+
+-- one content less
+pub record IsLess (v u : Store) (size : ℕ) : Type 0 where
+  pub count : length v.streams ≡ length u.streams + 1
+  pub bytes : bytes_kept v ≡ bytes_kept u + size
+
+pub let_go_counts : (t : Table) (v u : Store) (s bytes : ℕ) → u ≡ (filter_step t v (Changes (Remove s))).volume → Some bytes ≡ option_map (λ (x : Stream). length x.bytes) (stream_at s v.streams) → IsLess v u bytes
+unfolding change_of
+let_go_counts t v u s bytes is size = go (stream_at s v.streams) refl size
+  where
+    go : (o : Option Stream) → stream_at s v.streams ≡ o → Some bytes ≡ option_map (λ (x : Stream). length x.bytes) o → IsLess v u bytes
+    go None e bad = absurd cc
+    go (Some x) e same =
+        let length_is : bytes ≡ length x.bytes = cc in
+        let gone : u.streams ≡ without s v.streams =
+        ap (λ (w : Store). w.streams) (is ∙ leads_to t v (Changes (Remove s)))
+        ∙ ap (λ b. (kept_or v (with_streams v (if b then Ok (without s v.streams) else Err NoStream))).streams) (ap is_some e) in
+        record {
+          count = count_less v.streams s x e ∙ ap (λ ss. length ss + 1) (sym gone);
+          bytes = sum_less v.streams s x e ∙ ap (λ ss. bytes_in ss + length x.bytes) (sym gone) ∙ ap (λ n. bytes_kept u + n) (sym length_is);
+        }
+
+pub left_over : (opens left : ℕ) → left ≡ greatest - opens → (left ≡ 0 → ⊥) → (opens == greatest) ≡ false
+left_over opens left is some = go (opens == greatest) refl
+  where
+    go : (b : Bool) → (opens == greatest) ≡ b → (opens == greatest) ≡ false
+    go false e = e
+    go true e =
+        let all : opens ≡ greatest = eqb-true opens greatest e in
+        absurd (some (omega (arith, is, all)))
+
+-- why a content can't be asked about, by its place
+fault_at : (g : State) (c : List ℕ) (spot : Spot) → (g.volume.opens == greatest) ≡ false → place_of g c ≡ spot → ask_fault g c ≡ place_fault g spot
+fault_at g c spot left is = ap (λ b. if b then Some OpensSpent else place_fault g (place_of g c)) left ∙ ap (λ p. place_fault g p) is
+
+pub asked_new : (old new : State) (client tag : ℕ) (name c : List ℕ) (r : Result Given (Refusal AskFault)) → (old.volume.opens == greatest) ≡ false → place_of old c ≡ Unused name → AsksNew old new client tag name c r → AskedNow old new client tag c r
+asked_new old new client tag name c (Ok given) left is (creates, gives) = (
+  fault_at old c (Unused name) left is ∙ ap (λ o. if is_some o then Some Full else None) creates,
+  subst (λ p. Gives given new (asked old client tag c p)) (sym is) gives,
+)
+asked_new old new client tag name c (Err (Fault f)) left is (full, refused, same) =
+    (fault_at old c (Unused name) left is ∙ ap (λ b. if b then Some Full else None) refused ∙ ap (λ k. Some k) (sym full), same)
+asked_new old new client tag name c (Err NoMemory) left is (Never (kept_so.Same same)) = refused_so.Same same
+asked_new old new client tag name c (Err NoMemory) left is (Never (kept_so.Spent spent)) = refused_so.Spent spent
+asked_new old new client tag name c (Err NoMemory) left is (Stays creates stays) = refused_so.Kept name is stays
+
+-- what an ask gives, whatever the line behind it
+gives_behind : (old mid : State) (given : Given) (client tag : ℕ) (c : List ℕ) (line : List Ask) (spot : Spot) → Gives given mid (asked (behind old []) client tag c spot) → Gives given (behind mid line) (asked (behind old line) client tag c spot)
+gives_behind old mid given client tag c line (Held s) g = record { told = g.told; messages = g.messages; state = ap (λ x. behind x line) g.state }
+gives_behind old mid given client tag c line (Unused name) g = record { told = g.told; messages = g.messages; state = ap (λ x. behind x line) g.state }
+gives_behind old mid given client tag c line Missing g = record { told = g.told; messages = g.messages; state = ap (λ x. behind x line) g.state }
+
+-- the first in line was asked
+pub first_asked : (old mid : State) (line : List Ask) (given : Given) → old.line ≡ line → FrontOf (behind old []) mid line (Ok (Some given)) → FirstOf old (behind mid (drop 1 line)) (Ok (Some given))
+first_asked old mid line given is f =
+    subst (λ l. (x : Ask) → old.line ≡ x ∷ drop 1 l → AskedNow (behind old (drop 1 l)) (behind mid (drop 1 line)) x.client x.tag x.content (Ok given) → IsFirst old (behind mid (drop 1 line)) given) is
+    (λ x first asked_so. record { ask = x; first = first; asked = asked_so }) f.ask (is ∙ f.first)
+    (f.asked.0, gives_behind old mid given f.ask.client f.ask.tag f.ask.content (drop 1 line) _ f.asked.1)
+
+refused_behind : (old mid : State) (c : List ℕ) → IsRefused (behind old []) mid c → IsRefused old (behind mid old.line) c
+refused_behind old mid c (refused_so.Same e) = refused_so.Same (ap (λ x. behind x old.line) e)
+refused_behind old mid c (refused_so.Spent e) = refused_so.Spent (ap (λ x. behind x old.line) e)
+refused_behind old mid c (refused_so.Kept name is e) = refused_so.Kept name is (ap (λ x. behind x old.line) e)
+
+pub first_refused : (old mid : State) (line : List Ask) (why : Refusal AskFault) → old.line ≡ line → FrontOf (behind old []) mid line (Err why) → FirstOf old (behind mid line) (Err why)
+first_refused old mid line (Fault f) is front = ap (λ x. behind x line) front.asked.1 ∙ ap (λ l. behind old l) (sym is)
+first_refused old mid line NoMemory is front = record {
+  ask = front.ask;
+  rest = drop 1 line;
+  first = is ∙ front.first;
+  left = subst (λ l. IsRefused old (behind mid l) front.ask.content) is (refused_behind old mid front.ask.content front.asked);
+}
+
+pub first_none : (old mid : State) (line : List Ask) → old.line ≡ line → FrontOf (behind old []) mid line (Ok None) → FirstOf old (behind mid line) (Ok None)
+first_none old mid line is (empty, same) = (is ∙ empty, ap (λ x. behind x line) same ∙ ap (λ l. behind old l) (sym is))
+
+-- the first of a line
+pub front_of : (xs : List Ask) (b : Bor Ask) → IsItemAt xs 0 (Some b) → xs ≡ b.now ∷ drop 1 xs
+front_of [] b is = absurd (true≢false is.0)
+front_of (x ∷ xs) b is = ap (λ y. y ∷ xs) (sym is.1)
+
+-- the first in line, once those that have left are gone, is what comes next
+pub next_first : (old new : State) (r : Result (Option Given) (Refusal AskFault)) → may_ask old ≡ true → FirstOf (skipped old) new r → NextOf old new r
+next_first old new (Ok (Some given)) may f = Asked f.ask (drop 1 (skipped old).line) may f.first f.asked
+next_first old new (Ok None) may (empty, same) = (same, inr empty)
+next_first old new (Err (Fault f)) may same = same
+next_first old new (Err NoMemory) may held = inr held
+
+pub held_up : (old mid now : State) (line ls : List Ask) (why : Refusal AskFault) → now ≡ mid → line ≡ old.line → ls ≡ [] → why ≡ NoMemory → FrontOf (behind old ls) mid line (Err why) → IsHeldUp old (behind now line)
+held_up old mid now line ls why same is none memory front =
+    subst (λ m. IsHeldUp old (behind m line)) (sym same) (first_refused old mid line NoMemory (sym is) (subst (λ w. FrontOf (behind old []) mid line (Err w)) memory (subst (λ k. FrontOf (behind old k) mid line (Err why)) none front)))
+
+-- a content was let go
+pub let_go_next : (old same new : State) (given : Given) (s : ℕ) → same ≡ old → is_crowded old ≡ true → times s (map (λ (e : ℕ × Waiter). e.1.stream) old.waiting) ≡ 0 → (E : Type 0) (o : Option Given) → o ≡ Some given → LetsGo {E = E} same new s (Ok o) → Nexts old new given
+let_go_next old same new given s is crowded idle E o some lets =
+    let went : (filter_refusal same.table same.volume (Changes (Remove s)) ≡ None) × Gives given new (happens same (Changes (Remove s))) =
+    subst (λ p. LetsGo {E = E} same new s (Ok p)) some lets in
+    let there : (filter_refusal old.table old.volume (Changes (Remove s)) ≡ None) × Gives given new (happens old (Changes (Remove s))) =
+    subst (λ g. (filter_refusal g.table g.volume (Changes (Remove s)) ≡ None) × Gives given new (happens g (Changes (Remove s)))) is went in
+    LetGo s crowded idle there.0 there.1

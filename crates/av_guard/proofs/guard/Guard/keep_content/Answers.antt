@@ -1,0 +1,19 @@
+use Rattle.std.proofs.Common.{refl, sym, ap, ◌∙◌, arith}
+use Rattle.av_guard.specs.Shelf.{Kept, waits_of}
+use Rattle.std.specs.Prelude.{is_some}
+use Rattle.av_guard.proofs.KeepLemmas.{more_bytes, more_count}
+use Rattle.av_guard.proofs.guard.Guard.keep_content.Goals as goal
+
+pub returns-in-Some : goal.returns-in-Some
+returns-in-Some c = rw (← c.self.view_is) (record { kept = (refl, sym (ap is_some c.create_refusal.ensures.fault) ∙ ap is_some c.in-Some.is, refl) })
+
+pub invariant_of-self-in-Ok-store : goal.invariant_of-self-in-Ok-store
+invariant_of-self-in-Ok-store c =
+    let stored = c.in-Ok-store.ensures.stored in
+    let added = c.in-Ok.ensures.ok in
+    record {
+      fits = c.store.ensures.fits;
+      counted = λ s. ap (λ (k : Kept). waits_of k.waits s) added ∙ c.self.invariant.counted s;
+      count = omega (arith, ap (λ (k : Kept). k.count) added, c.self.invariant.count, more_count _ _ _ _ _ _ stored);
+      bytes = omega (arith, ap (λ (k : Kept). k.bytes) added, c.self.invariant.bytes, more_bytes _ _ _ _ _ _ stored);
+    }

@@ -1,0 +1,15 @@
+use Rattle.std.proofs.Common.{sym, ap, ◌∙◌, arith}
+use Rattle.av_guard.proofs.StateLemmas.{let_go_counts}
+use Rattle.av_guard.specs.Shelf.{Kept}
+use Rattle.av_guard.proofs.guard.Guard.let_go.Goals as goal
+
+pub invariant_of-self : goal.invariant_of-self
+invariant_of-self c =
+    let less = let_go_counts c.self.inside.filter c.self.inside.volume c.remove.new.volume c.args.stream c.in-Some.bytes c.in-Ok-remove.ensures.event.volume (sym c.in-Some.is ∙ c.length.ensures) in
+    let gone = c.remove-in-Ok-remove.ensures in
+    record {
+      fits = c.remove.ensures.fits;
+      counted = c.settle.ensures.counted;
+      count = omega (arith, c.settle.ensures.shelf.0, ap (λ (k : Kept). k.count) gone, c.self.invariant.count, less.count);
+      bytes = omega (arith, c.settle.ensures.shelf.1, ap (λ (k : Kept). k.bytes) gone, c.self.invariant.bytes, less.bytes);
+    }

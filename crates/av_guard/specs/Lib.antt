@@ -1,0 +1,13 @@
+pub mod Naming
+pub mod Telling
+pub mod State
+pub mod Shelf
+pub mod Place
+pub mod Counts
+pub mod Sound
+pub mod Asking
+pub mod Keeping
+pub mod Kept
+pub mod Beginning
+pub mod Line
+pub mod Laws

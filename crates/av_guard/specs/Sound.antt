@@ -1,0 +1,17 @@
+-- What holds of a guard between calls.
+use Rattle.std.specs.Prelude.{◌≡◌, length}
+use Rattle.av_filter.specs.Fit.{Fits}
+use Rattle.av_filter_table.specs.Table.{Table}
+use Rattle.av_guard.specs.Asking.{bytes_kept}
+use Rattle.av_guard.specs.Counts.{AreCounted}
+use Rattle.av_guard.specs.Shelf.{Kept}
+use Rattle.av_guard.specs.Telling.{Waiters}
+use Rattle.av_store.specs.Store.{Store}
+
+-- The filter fits its volume. As many opens wait for each stream as the shelf says; and as many contents are kept, of as
+-- many bytes.
+pub record IsSound (t : Table) (v : Store) (waiting : Waiters) (shelf : Kept) : Type 0 where
+  pub fits : Fits t v
+  pub counted : AreCounted shelf.waits waiting
+  pub count : shelf.count ≡ length v.streams
+  pub bytes : shelf.bytes ≡ bytes_kept v

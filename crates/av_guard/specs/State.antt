@@ -1,0 +1,56 @@
+-- What a guard knows, and what an event of its filter does to it.
+use Rattle.std.specs.Prelude.{◌≡◌, ℕ, List, [], Result, Ok, Err}
+use Rattle.av_filter.specs.Conduct.{FilterEvent, filter_step}
+use Rattle.av_filter.specs.Reaction.{Reaction}
+use Rattle.av_filter_table.specs.Table.{Table}
+use Rattle.av_frame.specs.declared.message.Body.{Body}
+use Rattle.av_guard.specs.declared.ask.Ask.{Ask}
+use Rattle.av_guard.specs.declared.given.Given.{Given}
+use Rattle.av_guard.specs.declared.given.Told.{Told}
+use Rattle.av_guard.specs.Telling.{Waiters, left_by, told_by}
+use Rattle.av_store.specs.Store.{Store}
+
+-- the filter and its volume, the bytes of contents that are kept, the clients that are there and the number of the last one,
+-- who waits for which open, and the asks that stand in line
+pub record State : Type 0 where
+  pub table : Table
+  pub volume : Store
+  pub keep : ℕ
+  pub clients : List ℕ
+  pub last : ℕ
+  pub waiting : Waiters
+  pub line : List Ask
+
+-- a state, and what was given out on the way to it
+pub record Turn : Type 0 where
+  pub state : State
+  pub told : List Told
+  pub messages : List Body
+
+-- the filter reacted: its answers are told, and its messages are sent
+abbrev pub reacted : State → Reaction → Turn
+reacted g r =
+    record {
+      state = record g { table = r.table; volume = r.volume; waiting = left_by g.waiting r.answers };
+      told = told_by g.clients r.table g.waiting r.answers;
+      messages = r.messages;
+    }
+
+-- an event of the filter
+abbrev pub happens : State → FilterEvent → Turn
+happens g e = reacted g (filter_step g.table g.volume e)
+
+-- what was given and left is the turn's
+pub record Gives (given : Given) (new : State) (turn : Turn) : Type 0 where
+  pub told : given.told.items ≡ turn.told
+  pub messages : given.messages.items ≡ turn.messages
+  pub state : new ≡ turn.state
+
+-- a call that memory alone refuses, and that changes nothing then
+abbrev pub Turns : {E : Type 0} → State → State → Result Given E → Turn → Type 0
+Turns old new (Ok given) turn = Gives given new turn
+Turns old new (Err e) turn = new ≡ old
+
+-- no content, nobody there
+abbrev pub opening : Table → Store → ℕ → State
+opening t v keep = record { table = t; volume = v; keep = keep; clients = []; last = 0; waiting = []; line = [] }

@@ -1,0 +1,553 @@
+ghost use Rattle.std.specs.Prelude.{◌≡◌, ◌+◌, ◌^◌, ◌∷◌, [], length, None, Some, IfOk, IfErr, IfSome, IfNone, OnErr, OnOk, ◌<◌, IsErr, map};
+ghost use Rattle.std.specs.BTreeMap.{is_at};
+ghost use Rattle.std.specs.Set.{remove_key};
+ghost use Rattle.std.specs.Ordering.{nat_cmp};
+ghost use Rattle.av_base.specs.declared.refusal.Refusal.TheVariants.{NoMemory};
+ghost use Rattle.av_filter.specs.Once.{times};
+ghost use Rattle.av_filter.specs.Conduct.{Disconnects, Receives, TimesOut};
+ghost use Rattle.av_guard.specs.Asking.{AskedNow, GivesNothing, LetsGo, Refuses, Takes, bytes_kept, in_line, is_crowded, may_ask, must_stand, opens, refusal_of, skipped, still_here};
+ghost use Rattle.av_guard.specs.Line.{FirstOf, FrontOf, IsFree, NextOf};
+ghost use Rattle.av_guard.specs.Kept.{AsksNew, IsKeptBy};
+ghost use Rattle.av_guard.specs.Beginning.{Joins, NotBegun, begun};
+ghost use Rattle.av_guard.specs.State.{Turns, happens};
+ghost use Rattle.av_store.specs.Store.{greatest};
+
+use crate::ask::Ask;
+use crate::events::{disconnect, open, receive, remove, room_for_answers, time_out};
+use crate::fault::{AskFault, QuestionsFault};
+use crate::given::{Given, Told};
+use crate::keeping::store;
+use crate::place::{Place, place_of as find_place};
+use crate::settling::{enter, leave, settle};
+use crate::shelf::{Oldest, Shelf};
+use crate::waiter::Waiter;
+use av_base::limits::MAX_QUESTIONS;
+use av_base::{
+    ByteList, LimitField, LimitValues, Limits, Mode, OpenId, Refusal, Refused, StreamId, Version,
+};
+use av_filter::{Filter, Out};
+use av_frame::Message;
+use av_store::Volume;
+use std::alloc::{AllocError, Global};
+use std::collections::{BTreeMap, BTreeSet, VecDeque};
+use std::marker::Model;
+use std::mem;
+
+/// Filter and volume of a daemon, who waits for which open, and the asks that stand in line. It holds opens that are owed an
+/// answer, so it can't be let go: `abandon` ends it.
+pub struct Guard {
+    filter: Filter,
+    volume: Volume,
+    keep: u64,
+    clients: BTreeSet<u64>,
+    last: u64,
+    waiting: BTreeMap<u64, Waiter>,
+    shelf: Shelf,
+    line: VecDeque<Ask>,
+}
+
+impl Model for Guard {
+    ghost use Rattle.av_guard.specs.State.{State};
+    ghost use Rattle.av_guard.specs.Sound.{IsSound};
+
+    ghost Value = { State };
+
+    ghost view = { λ g. record {
+      table = g.filter;
+      volume = g.volume;
+      keep = g.keep;
+      clients = g.clients.keys;
+      last = g.last;
+      waiting = g.waiting.entries;
+      line = g.line.items;
+    } };
+
+    ghost invariant = { λ g. IsSound g.filter g.volume g.waiting.entries g.shelf };
+}
+
+impl Guard {
+    /// A guard that keeps contents of so many bytes for later asks, and asks so many questions at once, 1 to 1,024:
+    /// QuestionsFault, NoMemory. Nobody is there, and no service is connected. Most of its memory, that of the filter's cache,
+    /// is taken here.
+    pub fn new(
+        alloc: Global,
+        mode: Mode,
+        keep: u64,
+        questions: u64,
+    ) -> Result<Guard, Refusal<QuestionsFault>>
+        ensures ok { IfOk result (λ g. g ≡ begun mode keep questions) }
+        ensures fault { IfErr result (λ e. NotBegun questions e) }
+    {
+        let values = LimitValues::greatest().with(LimitField::Questions, questions);
+        let limits = match Limits::check(values) {
+            Ok(limits) => limits,
+            Err(_) => return Err(Refusal::Fault(QuestionsFault)),
+        };
+        let mut volume = Volume::new(alloc, 1, limits);
+        let filter = match Filter::mount(alloc, &mut volume, mode, limits) {
+            Ok(filter) => filter,
+            Err(_) => return Err(Refusal::NoMemory),
+        };
+        Ok(Guard {
+            filter,
+            volume,
+            keep,
+            clients: BTreeSet::new(alloc),
+            last: 0,
+            waiting: BTreeMap::new(alloc),
+            shelf: Shelf::new(alloc),
+            line: VecDeque::new(alloc),
+        })
+    }
+
+    /// A client comes: its number, which no other had or will have; None where memory is refused, or 2^64 - 1 came. It costs
+    /// the logarithm of their count.
+    pub fn client(&mut self) -> Option<u64>
+        ensures { Joins self.old self.new result }
+    {
+        let number = self.last.checked_add(1)?;
+        match self.clients.insert(number) {
+            Ok(_) => {
+                self.last = number;
+                Some(number)
+            }
+            Err(_) => None,
+        }
+    }
+
+    /// A client leaves: it is told nothing more. Its questions go on, and their verdicts are kept; its asks in line are never
+    /// asked. It takes no memory, and costs the logarithm of the count of clients.
+    pub fn client_lost(&mut self, client: u64)
+        ensures { self.new ≡ record self.old { clients = remove_key (is_at (nat_cmp client)) self.old.clients } }
+    {
+        let _ = self.clients.remove(&client);
+    }
+
+    /// An ask about a content: NoClient, TooLarge above 1,048,576 bytes, OpensSpent, Full, NoMemory, the content handed back.
+    /// It is answered, or waits, or stands in line, where others stand, as many questions run or opens wait as may, or no room
+    /// is left in the volume. It costs two looks at each byte of a content that is kept, and one copy of one that is not; and
+    /// the logarithm of the counts of contents and of opens that wait.
+    pub fn ask(
+        &mut self,
+        alloc: Global,
+        client: u64,
+        tag: u64,
+        content: Vec<u8>,
+    ) -> Result<Given, Refused<Vec<u8>, AskFault>>
+        ensures ok { IfOk result (λ given. (refusal_of self.old client content.items ≡ None)
+            × Takes self.old self.new given client tag content.items) }
+        ensures err { IfErr result (λ e. Refuses self.old self.new client content.items e.why) }
+        ensures back { IfErr result (λ e. e.value.items ≡ content.items) }
+    {
+        if !self.clients.contains(&client) {
+            return refuse(content, Refusal::Fault(AskFault::NoClient));
+        }
+        if content.len() > 1_048_576 {
+            return refuse(content, Refusal::Fault(AskFault::TooLarge));
+        }
+        if self.must_stand() {
+            return self.stand(alloc, client, tag, content);
+        }
+        match self.ask_now(alloc, client, tag, content.as_slice()) {
+            Ok(given) => Ok(given),
+            Err(why) => refuse(content, why),
+        }
+    }
+
+    /// What is due, one step: a content above those that are to be kept is let go, which nobody waits for, the least lately
+    /// asked for first; or the first in line is asked, where it may be. None where nothing is due: to be called until then
+    /// after each other event. OpensSpent, Full, NoMemory: the line is as before but for those whose clients have left. It
+    /// costs what an ask does, and a look at each of these.
+    #[tactic(auto, using(crate::proofs::StateLemmas::next_first))]
+    pub fn next_in_line(&mut self, alloc: Global) -> Result<Option<Given>, Refusal<AskFault>>
+        ensures { NextOf self.old self.new result }
+    {
+        if self.is_crowded() {
+            match self.next_to_go() {
+                Oldest::Idle(stream) => match self.let_go(alloc, stream) {
+                    Ok(Some(given)) => return Ok(Some(given)),
+                    Ok(None) => {}
+                    Err(_) => return Err(Refusal::NoMemory),
+                },
+                Oldest::Later => return Ok(Some(Given::nothing(alloc))),
+                Oldest::Nothing => {}
+            }
+        }
+        self.skip_gone();
+        if !self.may_ask() {
+            return Ok(None);
+        }
+        self.ask_first(alloc)
+    }
+
+    /// Ends it: opens that wait are denied, and nobody hears of it.
+    pub fn abandon(self) {
+        let Guard {
+            filter,
+            volume: _,
+            keep: _,
+            clients: _,
+            last: _,
+            waiting: _,
+            shelf: _,
+            line: _,
+        } = self;
+        filter.abandon();
+    }
+
+    /// The floor: no version below it grants an ask.
+    pub fn floor(&self) -> Version
+        ensures { result ≡ self.now.table.floor }
+    {
+        self.filter.floor()
+    }
+
+    /// Whether a service is connected.
+    pub fn connected(&self) -> bool
+        ensures { result ≡ self.now.table.connected }
+    {
+        self.filter.connected()
+    }
+
+    /// How many questions run.
+    pub fn question_count(&self) -> usize
+        ensures { result ≡ length self.now.table.questions }
+    {
+        self.filter.question_count()
+    }
+
+    /// How many asks wait for a verdict, those of clients that have left among them.
+    pub fn waiting_count(&self) -> usize
+        ensures { result ≡ length self.now.waiting }
+    {
+        self.waiting.len()
+    }
+
+    /// How many asks stand in line, those of clients that have left among them.
+    pub fn line_count(&self) -> usize
+        ensures { result ≡ length self.now.line }
+    {
+        self.line.len()
+    }
+
+    /// How many contents are kept.
+    pub fn kept_count(&self) -> u64
+        ensures { result ≡ length self.now.volume.streams }
+    {
+        self.shelf.count()
+    }
+
+    /// How many bytes these contents have.
+    pub fn kept_bytes(&self) -> u64
+        ensures { result ≡ bytes_kept self.now.volume }
+    {
+        self.shelf.bytes()
+    }
+
+    /// A message of the service, which it may connect. It costs a logarithm for each answer, and the bytes of the content that
+    /// it reads.
+    pub fn message(&mut self, alloc: Global, message: &Message) -> Result<Given, AllocError>
+        ensures event { Turns self.old self.new result (happens self.old (Receives message.now)) }
+    {
+        let told = room_for_answers(alloc, &self.filter)?;
+        let out = receive(alloc, &self.volume, &mut self.filter, message)?;
+        let (clients, waiting) = (&self.clients, &mut self.waiting);
+        Ok(settle(&self.filter, clients, waiting, &mut self.shelf, told, out))
+    }
+
+    /// The service is lost: every question ends, and every open is answered by the mode. It costs a logarithm for each.
+    pub fn service_lost(&mut self, alloc: Global) -> Result<Given, AllocError>
+        ensures event { Turns self.old self.new result (happens self.old Disconnects) }
+    {
+        let told = room_for_answers(alloc, &self.filter)?;
+        let out = disconnect(alloc, &self.volume, &mut self.filter)?;
+        let (clients, waiting) = (&self.clients, &mut self.waiting);
+        Ok(settle(&self.filter, clients, waiting, &mut self.shelf, told, out))
+    }
+
+    /// The time of the question of this number is up: its opens are answered by the mode, and the service is told to let it
+    /// be. It costs a logarithm for each answer.
+    pub fn time_up(&mut self, alloc: Global, seq: u64) -> Result<Given, AllocError>
+        ensures event { Turns self.old self.new result (happens self.old (TimesOut seq)) }
+    {
+        let told = room_for_answers(alloc, &self.filter)?;
+        let out = time_out(alloc, &self.volume, &mut self.filter, seq)?;
+        let (clients, waiting) = (&self.clients, &mut self.waiting);
+        Ok(settle(&self.filter, clients, waiting, &mut self.shelf, told, out))
+    }
+
+    // A content comes to be kept under this name, which is free.
+    fn keep_content(
+        &mut self,
+        alloc: Global,
+        name: &[u8],
+        content: &[u8],
+    ) -> Result<StreamId, Refusal<AskFault>>
+        requires small { length content.now < 2 ^ 63 }
+        ensures kept { IsKeptBy self.old self.new name.now content.now result }
+    {
+        match self.volume.create_refusal(name) {
+            Some(_) => return Err(Refusal::Fault(AskFault::Full)),
+            None => {}
+        }
+        let bytes = content.len() as u64;
+        let stream = StreamId::new(self.volume.last_created().get() + 1);
+        match self.shelf.add(stream, bytes) {
+            Ok(()) => {}
+            Err(_) => return Err(Refusal::NoMemory),
+        }
+        match store(alloc, &mut self.filter, &mut self.volume, name, content) {
+            Ok(stream) => Ok(stream),
+            Err(_) => {
+                self.shelf.remove(stream, bytes);
+                Err(Refusal::NoMemory)
+            }
+        }
+    }
+
+    // A stream is opened for an ask.
+    fn submit(
+        &mut self,
+        alloc: Global,
+        stream: StreamId,
+        client: u64,
+        tag: u64,
+    ) -> Result<Given, AllocError>
+        requires left { self.old.volume.opens < greatest }
+        ensures { Turns self.old self.new result (opens self.old stream client tag) }
+    {
+        let told = match room_for_answers(alloc, &self.filter) {
+            Ok(told) => told,
+            Err(refused) => return Err(refused),
+        };
+        let number = u64::MAX - self.volume.opens_left() + 1;
+        let waiter = Waiter {
+            client,
+            tag,
+            stream,
+        };
+        match enter(&mut self.waiting, &mut self.shelf, number, waiter) {
+            Ok(()) => {}
+            Err(refused) => return Err(refused),
+        }
+        match open(alloc, &mut self.volume, &mut self.filter, stream) {
+            Ok(out) => {
+                self.shelf.touch(stream);
+                let (clients, waiting) = (&self.clients, &mut self.waiting);
+                Ok(settle(&self.filter, clients, waiting, &mut self.shelf, told, out))
+            }
+            Err(refused) => {
+                let _ = leave(&mut self.waiting, &mut self.shelf, number);
+                Err(refused)
+            }
+        }
+    }
+
+    // A content is asked about, for which a name is free.
+    fn ask_new(
+        &mut self,
+        alloc: Global,
+        client: u64,
+        tag: u64,
+        name: &[u8],
+        content: &[u8],
+    ) -> Result<Given, Refusal<AskFault>>
+        requires small { length content.now < 2 ^ 63 }
+        requires left { self.old.volume.opens < greatest }
+        ensures { AsksNew self.old self.new client tag name.now content.now result }
+    {
+        let stream = match self.keep_content(alloc, name, content) {
+            Ok(stream) => stream,
+            Err(why) => return Err(why),
+        };
+        match self.submit(alloc, stream, client, tag) {
+            Ok(given) => Ok(given),
+            Err(_) => Err(Refusal::NoMemory),
+        }
+    }
+
+    // A content is asked about: OpensSpent, Full, NoMemory.
+    fn ask_now(
+        &mut self,
+        alloc: Global,
+        client: u64,
+        tag: u64,
+        content: &[u8],
+    ) -> Result<Given, Refusal<AskFault>>
+        requires small { length content.now < 2 ^ 63 }
+        ensures { AskedNow self.old self.new client tag content.now result }
+    {
+        if self.volume.opens_left() == 0 {
+            return Err(Refusal::Fault(AskFault::OpensSpent));
+        }
+        let place = match find_place(alloc, &self.volume, content) {
+            Ok(place) => place,
+            Err(_) => return Err(Refusal::NoMemory),
+        };
+        match place {
+            Place::Nowhere => Err(Refusal::Fault(AskFault::Full)),
+            Place::Kept { stream } => match self.submit(alloc, stream, client, tag) {
+                Ok(given) => Ok(given),
+                Err(_) => Err(Refusal::NoMemory),
+            },
+            Place::Free { name } => self.ask_new(alloc, client, tag, name.as_slice(), content),
+        }
+    }
+
+    // Whether a question is free, an open more can be held, and the volume takes a stream more.
+    fn may_ask(&self) -> bool
+        ensures { result ≡ may_ask self.now }
+    {
+        let limits = self.filter.limits().values();
+        let asking = (self.filter.question_count() as u64) < limits.questions;
+        let holding = (self.filter.pended_count() as u64) < limits.pended;
+        asking && holding && self.shelf.count() < self.volume.limits().values().streams
+    }
+
+    // Whether more is kept than is to be, or the volume takes no stream more.
+    fn is_crowded(&self) -> bool
+        ensures { result ≡ is_crowded self.now }
+    {
+        self.keep < self.shelf.bytes()
+            || self.volume.limits().values().streams <= self.shelf.count()
+    }
+
+    // A content is let go that nobody waits for.
+    fn let_go(&mut self, alloc: Global, stream: StreamId) -> Result<Option<Given>, AllocError>
+        requires idle { times stream (map (λ e. e.1.stream) self.old.waiting) ≡ 0 }
+        ensures { LetsGo self.old self.new stream result }
+    {
+        let told = match room_for_answers(alloc, &self.filter) {
+            Ok(told) => told,
+            Err(refused) => return Err(refused),
+        };
+        let Some(bytes) = self.volume.length(stream) else {
+            return Ok(None);
+        };
+        match remove(alloc, &mut self.volume, &mut self.filter, stream) {
+            Ok(out) => {
+                self.shelf.remove(stream, bytes);
+                let (clients, waiting) = (&self.clients, &mut self.waiting);
+                let shelf = &mut self.shelf;
+                Ok(Some(settle(&self.filter, clients, waiting, shelf, told, out)))
+            }
+            Err(refused) => Err(refused),
+        }
+    }
+
+    // Whether an ask has to stand in line.
+    fn must_stand(&self) -> bool
+        ensures { result ≡ must_stand self.now }
+    {
+        !self.may_ask() || self.line.len() > 0
+    }
+
+    // An ask stands behind the others.
+    fn stand(
+        &mut self,
+        alloc: Global,
+        client: u64,
+        tag: u64,
+        content: Vec<u8>,
+    ) -> Result<Given, Refused<Vec<u8>, AskFault>>
+        ensures ok { IfOk result (λ given. GivesNothing given) }
+        ensures line { OnOk result
+            (self.new ≡ in_line self.old (record { client = client; tag = tag; content = content.items })) }
+        ensures err { OnErr result (self.new ≡ self.old) }
+        ensures back { IfErr result (λ e. (e.value.items ≡ content.items) × (e.why ≡ NoMemory)) }
+    {
+        let ask = Ask {
+            client,
+            tag,
+            content: ByteList::from_vec(content),
+        };
+        match self.line.push_back(ask) {
+            Ok(()) => Ok(Given::nothing(alloc)),
+            Err(failed) => {
+                let Ask { content, .. } = failed.value;
+                refuse(content.into_vec(), Refusal::NoMemory)
+            }
+        }
+    }
+    // The content to let go.
+    fn next_to_go(&mut self) -> Oldest
+        ensures same { self.new ≡ self.old }
+        ensures idle { IsFree self.old.waiting result }
+    {
+        self.shelf.oldest()
+    }
+
+    // The asks in front whose clients have left are let go.
+    fn skip_gone(&mut self)
+        ensures { self.new ≡ skipped self.old }
+    {
+        skip_gone(&self.clients, &mut self.line);
+    }
+
+    // The first in line is asked.
+    fn ask_first(&mut self, alloc: Global) -> Result<Option<Given>, Refusal<AskFault>>
+        ensures { FirstOf self.old self.new result }
+    {
+        let mut line = mem::replace(&mut self.line, VecDeque::new(alloc));
+        match self.ask_front(alloc, &line) {
+            Ok(Some(given)) => {
+                let _ = line.pop_front();
+                self.line = line;
+                Ok(Some(given))
+            }
+            Ok(None) => {
+                self.line = line;
+                Ok(None)
+            }
+            Err(Refusal::Fault(fault)) => {
+                self.line = line;
+                Err(Refusal::Fault(fault))
+            }
+            Err(Refusal::NoMemory) => {
+                self.line = line;
+                Err(Refusal::NoMemory)
+            }
+        }
+    }
+
+    // The first of a line that is held apart is asked.
+    fn ask_front(
+        &mut self,
+        alloc: Global,
+        line: &VecDeque<Ask>,
+    ) -> Result<Option<Given>, Refusal<AskFault>>
+        ensures { FrontOf self.old self.new line.now.items result }
+    {
+        let Some(ask) = line.front() else {
+            return Ok(None);
+        };
+        let _small = ask.content.len();
+        match self.ask_now(alloc, ask.client, ask.tag, ask.content.as_slice()) {
+            Ok(given) => Ok(Some(given)),
+            Err(why) => Err(why),
+        }
+    }
+}
+
+// A refused ask, with its content.
+fn refuse(content: Vec<u8>, why: Refusal<AskFault>) -> Result<Given, Refused<Vec<u8>, AskFault>>
+    ensures back { IfErr result (λ e. (e.value.items ≡ content.items) × (e.why ≡ why)) }
+    ensures refused { IsErr result }
+{
+    Err(Refused {
+        value: content,
+        why,
+    })
+}
+
+// The asks in front whose clients have left are let go.
+fn skip_gone(clients: &BTreeSet<u64>, line: &mut VecDeque<Ask>)
+    ensures { line.new.items ≡ still_here clients.now.keys line.old.items }
+{
+    while let Some(ask) = line.front() {
+        if clients.contains(&ask.client) {
+            return;
+        }
+        let _ = line.pop_front();
+    }
+}

@@ -1,0 +1,30 @@
+//! The state of a daemon that takes opens of contents from any number of clients, and asks one scanning service. A content is
+//! kept as a stream that is written once, and an ask is an open of it. One function an event; no socket, no lock, no audit.
+//!
+//! ```text
+//! let mut guard = Guard::new(rt.alloc(), Mode::FailClosed, 67_108_864, 256)?;
+//! let client = guard.client()?;
+//! let given = guard.ask(rt.alloc(), client, 7, content)?;      // told what is known at once, and what the service is asked
+//! ```
+#![tactic(auto)]
+
+pub mod answered;
+pub mod ask;
+mod events;
+pub mod fault;
+pub mod given;
+pub mod guard;
+mod keeping;
+pub mod laws;
+mod naming;
+mod place;
+mod settling;
+mod shelf;
+#[cfg(test)]
+mod tests;
+pub mod waiter;
+
+pub use answered::Answered;
+pub use fault::{AskFault, QuestionsFault};
+pub use given::{Given, Told};
+pub use guard::Guard;

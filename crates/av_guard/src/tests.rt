@@ -1,0 +1,312 @@
+mod say;
+
+use self::say::{given_is, hello, reply};
+use crate::{AskFault, Guard};
+use av_base::{Mode, Refusal, Refused};
+use av_fakes::{may_refuse, refuse_no_more};
+use std::alloc::Global;
+use std::test::Fail;
+
+// A guard with clients 1 and 2.
+fn guard_of(alloc: Global, mode: Mode, keep: u64, questions: u64) -> Result<Guard, Fail> {
+    match Guard::new(alloc, mode, keep, questions) {
+        Ok(mut guard) => {
+            let _ = guard.client();
+            let _ = guard.client();
+            Ok(guard)
+        }
+        Err(_) => Err(Fail::new("no guard")),
+    }
+}
+
+// A step of a case.
+enum Step<'a> {
+    Hello(u64),
+    Updated(u64),
+    // The clean reply to the question of this number, under this version, and one with the signature 0 that ends at 2.
+    Clean(u64, u64),
+    Infected(u64, u64),
+    Ask(u64, u64, &'a [u8]),
+    Lost,
+    TimeUp(u64),
+    Leaves(u64),
+}
+
+// What is given out after it, all that comes next in line with it.
+fn run(alloc: Global, guard: &mut Guard, step: &Step<'_>, said: &mut String) -> Result<(), Fail> {
+    let first = match step {
+        Step::Hello(version) => guard.message(alloc, &hello(*version))?,
+        Step::Updated(version) => guard.message(alloc, &say::updated(*version))?,
+        Step::Clean(seq, version) => guard.message(alloc, &reply(*seq, *version, false))?,
+        Step::Infected(seq, version) => guard.message(alloc, &reply(*seq, *version, true))?,
+        Step::Ask(client, tag, content) => {
+            match guard.ask(alloc, *client, *tag, content.to_vec(alloc)?) {
+                Ok(given) => given,
+                Err(_) => return Err(Fail::new("refused")),
+            }
+        }
+        Step::Lost => guard.service_lost(alloc)?,
+        Step::TimeUp(seq) => guard.time_up(alloc, *seq)?,
+        Step::Leaves(client) => {
+            guard.client_lost(*client);
+            return Ok(());
+        }
+    };
+    given_is(said, &first)?;
+    for _ in 0..1_000 {
+        match guard.next_in_line(alloc) {
+            Ok(Some(given)) => given_is(said, &given)?,
+            Ok(None) => return Ok(()),
+            Err(_) => return Err(Fail::new("next")),
+        }
+    }
+    Err(Fail::new("no end"))
+}
+
+struct Case<'a> {
+    name: &'a str,
+    mode: Mode,
+    keep: u64,
+    questions: u64,
+    steps: &'a [Step<'a>],
+    // Answers as client.tag=.., and scans as scan question stream generation length, each followed by a semicolon.
+    said: &'a str,
+}
+
+const MANY: u64 = 67_108_864;
+
+const CASES: [Case<'_>; 12] = [
+    Case {
+        name: "a client that left is told nothing",
+        mode: Mode::FailClosed,
+        keep: MANY,
+        questions: 1_024,
+        steps: &[
+            Step::Hello(1),
+            Step::Ask(1, 1, b"ABC"),
+            Step::Leaves(1),
+            Step::Clean(1, 1),
+            Step::Ask(2, 2, b"ABC"),
+        ],
+        said: "scan 1 1 2 3;2.2=granted 2 1;",
+    },
+    Case {
+        name: "a content is scanned once",
+        mode: Mode::FailClosed,
+        keep: MANY,
+        questions: 1_024,
+        steps: &[
+            Step::Hello(1),
+            Step::Ask(1, 1, b"ABC"),
+            Step::Clean(1, 1),
+            Step::Ask(2, 7, b"ABC"),
+        ],
+        said: "scan 1 1 2 3;1.1=granted 2 1;2.7=granted 2 1;",
+    },
+    Case {
+        name: "a lost service denies what waits",
+        mode: Mode::FailClosed,
+        keep: MANY,
+        questions: 1_024,
+        steps: &[Step::Hello(1), Step::Ask(1, 1, b"ABC"), Step::Lost],
+        said: "scan 1 1 2 3;1.1=denied 6;",
+    },
+    Case {
+        name: "a newer set is asked again",
+        mode: Mode::FailClosed,
+        keep: MANY,
+        questions: 1_024,
+        steps: &[
+            Step::Hello(1),
+            Step::Ask(1, 1, b"ABC"),
+            Step::Clean(1, 1),
+            Step::Updated(2),
+            Step::Ask(1, 2, b"ABC"),
+            Step::Infected(2, 2),
+            Step::Ask(1, 3, b"ABC"),
+        ],
+        said: "scan 1 1 2 3;1.1=granted 2 1;scan 2 1 2 3;1.2=infected 2 0 2;1.3=infected 2 0 2;",
+    },
+    Case {
+        name: "a question times out",
+        mode: Mode::FailClosed,
+        keep: MANY,
+        questions: 1_024,
+        steps: &[Step::Hello(1), Step::Ask(1, 1, b"ABC"), Step::TimeUp(1)],
+        said: "scan 1 1 2 3;1.1=denied 5;abort 1;",
+    },
+    Case {
+        name: "an empty content",
+        mode: Mode::FailClosed,
+        keep: MANY,
+        questions: 1_024,
+        steps: &[Step::Hello(1), Step::Ask(1, 1, b""), Step::Clean(1, 1)],
+        said: "scan 1 1 2 0;1.1=granted 2 1;",
+    },
+    Case {
+        name: "asks stand in line",
+        mode: Mode::FailClosed,
+        keep: MANY,
+        questions: 1,
+        steps: &[
+            Step::Hello(1),
+            Step::Ask(1, 1, b"A"),
+            Step::Ask(1, 2, b"B"),
+            Step::Ask(2, 3, b"A"),
+            Step::Clean(1, 1),
+            Step::Clean(2, 1),
+        ],
+        said: "scan 1 1 2 1;1.1=granted 2 1;scan 2 2 2 1;1.2=granted 2 1;2.3=granted 2 1;",
+    },
+    Case {
+        name: "no service denies",
+        mode: Mode::FailClosed,
+        keep: MANY,
+        questions: 1_024,
+        steps: &[Step::Ask(1, 1, b"ABC")],
+        said: "1.1=denied 3;",
+    },
+    Case {
+        name: "no service lets through",
+        mode: Mode::FailOpen,
+        keep: MANY,
+        questions: 1_024,
+        steps: &[Step::Ask(1, 1, b"ABC")],
+        said: "1.1=unscanned 2 3;",
+    },
+    Case {
+        name: "one tag two contents",
+        mode: Mode::FailClosed,
+        keep: MANY,
+        questions: 1_024,
+        steps: &[
+            Step::Hello(1),
+            Step::Ask(1, 1, b"ABC"),
+            Step::Ask(2, 1, b"XYZ"),
+            Step::Infected(2, 1),
+            Step::Clean(1, 1),
+        ],
+        said: "scan 1 1 2 3;scan 2 2 2 3;2.1=infected 1 0 2;1.1=granted 2 1;",
+    },
+    Case {
+        name: "room is made of the oldest",
+        mode: Mode::FailClosed,
+        keep: 4,
+        questions: 1_024,
+        steps: &[
+            Step::Hello(1),
+            Step::Ask(1, 1, b"ABC"),
+            Step::Clean(1, 1),
+            Step::Ask(1, 2, b"XYZ"),
+            Step::Clean(2, 1),
+            Step::Ask(1, 3, b"ABC"),
+        ],
+        said: "scan 1 1 2 3;1.1=granted 2 1;scan 2 2 2 3;1.2=granted 2 1;scan 3 3 2 3;",
+    },
+    Case {
+        name: "two ask for one content",
+        mode: Mode::FailClosed,
+        keep: MANY,
+        questions: 1_024,
+        steps: &[
+            Step::Hello(1),
+            Step::Ask(1, 1, b"ABC"),
+            Step::Ask(2, 1, b"ABC"),
+            Step::Clean(1, 1),
+        ],
+        said: "scan 1 1 2 3;1.1=granted 2 1;2.1=granted 2 1;",
+    },
+];
+
+fn run_all(
+    alloc: Global,
+    guard: &mut Guard,
+    steps: &[Step<'_>],
+    said: &mut String,
+) -> Result<(), Fail> {
+    for step in steps {
+        run(alloc, guard, step, said)?;
+    }
+    Ok(())
+}
+
+fn run_case(alloc: Global, case: &Case<'_>) -> Result<String, Fail> {
+    let mut guard = guard_of(alloc, case.mode, case.keep, case.questions)?;
+    let mut said = String::new(alloc);
+    let result = run_all(alloc, &mut guard, case.steps, &mut said);
+    guard.abandon();
+    result?;
+    Ok(said)
+}
+
+#[test]
+fn every_case_is_answered_as_written(rt: HostRuntime) -> Result<(), Fail> {
+    for case in &CASES {
+        let said = run_case(rt.alloc(), case)?;
+        let name = case.name;
+        assert_eq!(rt; said.as_str(), case.said, "{name}");
+    }
+    Ok(())
+}
+
+// An ask that memory refuses is told to nobody and leaves who waits and stands in line; with memory it is asked.
+fn ask_again(alloc: Global, guard: &mut Guard) -> Result<bool, Fail> {
+    let content = b"ABC".as_slice().to_vec(alloc)?;
+    may_refuse(alloc);
+    let first = guard.ask(alloc, 1, 1, content);
+    refuse_no_more(alloc);
+    match first {
+        Ok(given) => Ok(given.messages.len() == 1),
+        Err(refused) => {
+            let Refused { value, why } = refused;
+            let same = guard.waiting_count() == 0 && guard.line_count() == 0;
+            let memory = why == Refusal::NoMemory;
+            match guard.ask(alloc, 1, 1, value) {
+                Ok(given) => Ok(same && memory && given.messages.len() == 1),
+                Err(_) => Ok(false),
+            }
+        }
+    }
+}
+
+#[test]
+fn refused_or_not_an_ask_is_asked_once(rt: HostRuntime) -> Result<(), Fail> {
+    let alloc = rt.alloc();
+    let mut guard = guard_of(alloc, Mode::FailClosed, MANY, 16)?;
+    let greeted = guard.message(alloc, &hello(1)).is_ok();
+    let asked = ask_again(alloc, &mut guard);
+    let waits = guard.waiting_count();
+    guard.abandon();
+    assert!(rt; greeted);
+    assert!(rt; asked?);
+    assert_eq!(rt; waits, 1);
+    Ok(())
+}
+
+#[test]
+fn an_ask_is_refused_for_its_first_fault(rt: HostRuntime) -> Result<(), Fail> {
+    let alloc = rt.alloc();
+    let mut guard = guard_of(alloc, Mode::FailClosed, MANY, 16)?;
+    let mut long: Vec<u8> = Vec::new(alloc);
+    let filled = long.resize(1_048_577, 7).is_ok();
+    let unknown = guard.ask(alloc, 3, 1, long);
+    let back = match unknown {
+        Ok(_) => None,
+        Err(Refused { value, why }) => Some((value, why)),
+    };
+    let Some((long, no_client)) = back else {
+        guard.abandon();
+        return Err(Fail::new("an unknown client was answered"));
+    };
+    let size = long.len();
+    let too_large = match guard.ask(alloc, 1, 1, long) {
+        Ok(_) => None,
+        Err(refused) => Some(refused.why),
+    };
+    guard.abandon();
+    assert!(rt; filled);
+    assert_eq!(rt; size, 1_048_577);
+    assert_eq!(rt; no_client, Refusal::Fault(AskFault::NoClient));
+    assert_eq!(rt; too_large, Some(Refusal::Fault(AskFault::TooLarge)));
+    Ok(())
+}

@@ -1,0 +1,72 @@
+use crate::{Answered, Given};
+use av_base::{MessageId, Verdict, Version};
+use av_frame::{Body, Message, Outcome};
+use std::fmt::Write;
+use std::test::Fail;
+
+/// A service of this version greets.
+pub(crate) fn hello(version: u64) -> Message {
+    Message::hello(1, Version::new(version))
+}
+
+pub(crate) fn updated(version: u64) -> Message {
+    Message::updated(Version::new(version))
+}
+
+/// The reply to a question of boot 1.
+pub(crate) fn reply(seq: u64, version: u64, infected: bool) -> Message {
+    let verdict = if infected {
+        Verdict::Infected {
+            index: 0,
+            end_at: 2,
+        }
+    } else {
+        Verdict::Clean
+    };
+    let outcome = Outcome::Judged {
+        version: Version::new(version),
+        verdict,
+    };
+    Message::reply(MessageId { boot: 1, seq }, outcome)
+}
+
+/// Adds what was given out.
+pub(crate) fn given_is(said: &mut String, given: &Given) -> Result<(), Fail> {
+    for told in given.told.as_slice() {
+        write!(said, "{}.{}=", told.client, told.tag)?;
+        match told.answer {
+            Answered::Granted {
+                generation,
+                version,
+            } => write!(said, "granted {} {};", generation.get(), version.get())?,
+            Answered::Infected {
+                version,
+                signature,
+                end,
+            } => write!(said, "infected {} {signature} {end};", version.get())?,
+            Answered::Denied { cause } => write!(said, "denied {};", cause.number())?,
+            Answered::Unscanned { generation, cause } => {
+                write!(said, "unscanned {} {};", generation.get(), cause.number())?
+            }
+        }
+    }
+    for message in given.messages.as_slice() {
+        match message.body() {
+            Body::Scan {
+                id,
+                stream,
+                generation,
+                length,
+            } => write!(
+                said,
+                "scan {} {} {} {length};",
+                id.seq,
+                stream.get(),
+                generation.get()
+            )?,
+            Body::Abort { id } => write!(said, "abort {};", id.seq)?,
+            _ => write!(said, "other;")?,
+        }
+    }
+    Ok(())
+}
