@@ -290,7 +290,9 @@ fn guard_command<'a>(alloc: Global) -> Result<Command<'a>, Error> {
                     .value_name("N")
                     .value_parser(ValueParser::unsigned(1, 256))
                     .default_value("256")
-                    .help("How many contents are scanned at a time, 1 to 256; further asks stand in line"),
+                    .help(
+                        "How many contents are scanned at a time, 1 to 256; further asks stand in line",
+                    ),
             )?
             .arg(
                 Arg::new(alloc, "clamd")
@@ -323,7 +325,10 @@ fn ask_command<'a>(alloc: Global) -> Result<Command<'a>, Error> {
                 "OPENS",
                 "The guard's socket for opens: a path of 1 to 107 bytes",
             ))?
-            .arg(files_argument(alloc, "The files to ask about, of at most 1,048,576 bytes each")?)?
+            .arg(files_argument(
+                alloc,
+                "The files to ask about, of at most 1,048,576 bytes each",
+            )?)?
             .arg(recursive_option(alloc))?
             .arg(keep_going_option(alloc))?
             .arg(infected_option(

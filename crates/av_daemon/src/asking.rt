@@ -1,0 +1,184 @@
+use av_asks::{AnswerFeed, OpenAnswer, put_ask};
+use av_base::{OpenId, Refusal, StreamId, Version};
+use av_pend::Answer;
+use av_sockets::{Duplex, Hearing, Meeting, Saying, SocketFault, connect};
+use std::alloc::Global;
+use std::io::{Read, Write};
+use std::net::Net;
+use std::time::Clock;
+
+// How many answers may be owed before the next content is asked about.
+const MOST_OWED: usize = 128;
+
+// How many bytes are read at a time, and how many of a name go along with a content.
+const PIECE: usize = 4_096;
+
+const MOST_LABEL: usize = 255;
+
+/// A client's connection to a guard, over which it asks about contents, one behind the other, and hears the answers as they come
+/// about.
+#[derive(Drop)]
+pub struct Asker<'a, R> {
+    duplex: Duplex<'a, R>,
+    feed: AnswerFeed,
+    // The answer to each content that was asked about, where it has come.
+    answers: Vec<Option<Answer>>,
+    owed: usize,
+    room: Vec<u8>,
+}
+
+/// Why a content has no answer.
+#[derive(Clone, Copy, Debug, PartialEq, Eq)]
+pub enum AskingFault {
+    /// It has more than 1,048,576 bytes, and was not asked about.
+    TooLarge,
+    /// Memory was refused.
+    Memory,
+    /// The guard is gone, or answered nothing for too long, or what is no answer.
+    Lost,
+}
+
+impl<'a, R: Net + Clock> Asker<'a, R> {
+    /// Connects to the guard that listens at a socket, or will within the wait. No answer may take longer than that.
+    pub fn connect(
+        rt: &'a R,
+        alloc: Global,
+        meeting: Meeting<'_>,
+    ) -> Result<Asker<'a, R>, SocketFault> {
+        match connect(rt, alloc, meeting) {
+            Ok(duplex) => Ok(Asker {
+                duplex,
+                feed: AnswerFeed::new(alloc),
+                answers: Vec::new(alloc),
+                owed: 0,
+                room: Vec::new(alloc),
+            }),
+            Err(SocketFault::NotAllowed) => Err(SocketFault::NotAllowed),
+            Err(SocketFault::FilterLost) => Err(SocketFault::GuardLost),
+            Err(_) => Err(SocketFault::NoGuard),
+        }
+    }
+
+    /// Asks about a content, whose name the guard is told as far as it has room for it. The answer may come later.
+    pub fn ask(&mut self, name: &str, content: &[u8]) -> Result<(), AskingFault> {
+        let label = name.as_bytes();
+        let label = label.get(..MOST_LABEL).unwrap_or(label);
+        self.room.clear();
+        match put_ask(&mut self.room, self.answers.len() as u64, label, content) {
+            Ok(()) => {}
+            Err(Refusal::Fault(_)) => return Err(AskingFault::TooLarge),
+            Err(Refusal::NoMemory) => return Err(AskingFault::Memory),
+        }
+        if self.answers.push(None).is_err() {
+            return Err(AskingFault::Memory);
+        }
+        let mut saying = Saying {
+            duplex: &self.duplex,
+        };
+        if saying.write(self.room.as_slice()).is_err() {
+            return Err(AskingFault::Lost);
+        }
+        self.owed = self.owed.saturating_add(1);
+        self.hear_until(MOST_OWED)
+    }
+
+    /// Waits until all is answered.
+    pub fn finish(&mut self) -> Result<(), AskingFault> {
+        self.hear_until(1)
+    }
+
+    /// The answers to what was asked about, in that order, where they have come.
+    pub fn answers(&self) -> &[Option<Answer>] {
+        self.answers.as_slice()
+    }
+
+    // Waits until fewer answers than these are owed.
+    fn hear_until(&mut self, count: usize) -> Result<(), AskingFault> {
+        let mut piece = [0u8; PIECE];
+        'pieces: for _ in 0..u64::MAX {
+            if self.owed < count {
+                return Ok(());
+            }
+            let mut hearing = Hearing {
+                duplex: &self.duplex,
+            };
+            let Ok(read) = hearing.read(&mut piece) else {
+                break;
+            };
+            if read == 0 {
+                break;
+            }
+            self.take(piece.get(..read).unwrap_or(b"".as_slice()))?;
+        }
+        Err(AskingFault::Lost)
+    }
+
+    // Takes the answers that are whole.
+    fn take(&mut self, piece: &[u8]) -> Result<(), AskingFault> {
+        if self.feed.push(piece).is_err() {
+            return Err(AskingFault::Lost);
+        }
+        'answers: for _ in 0..u64::MAX {
+            match self.feed.next() {
+                Ok(Some(answer)) => self.keep(answer)?,
+                Ok(None) => return Ok(()),
+                Err(_) => break,
+            }
+        }
+        Err(AskingFault::Lost)
+    }
+
+    // Keeps an answer, where one is owed to its tag.
+    fn keep(&mut self, answer: OpenAnswer) -> Result<(), AskingFault> {
+        let (tag, answer) = told(answer);
+        let Ok(place) = usize::try_from(tag) else {
+            return Err(AskingFault::Lost);
+        };
+        match self.answers.get_mut(place) {
+            Some(kept) if kept.is_none() => *kept = Some(answer),
+            _ => return Err(AskingFault::Lost),
+        }
+        self.owed = self.owed.saturating_sub(1);
+        Ok(())
+    }
+}
+
+// An answer as an open's, under the tag as the open's number.
+fn told(answer: OpenAnswer) -> (u64, Answer) {
+    match answer {
+        OpenAnswer::Granted {
+            tag,
+            generation,
+            version,
+        } => (
+            tag,
+            Answer::Granted {
+                open_id: OpenId::new(tag),
+                least: Version::new(0),
+                stream: StreamId::new(0),
+                generation,
+                version,
+            },
+        ),
+        OpenAnswer::Denied { tag, cause } => (
+            tag,
+            Answer::Denied {
+                open_id: OpenId::new(tag),
+                cause,
+            },
+        ),
+        OpenAnswer::Unscanned {
+            tag,
+            generation,
+            cause,
+        } => (
+            tag,
+            Answer::Unscanned {
+                open_id: OpenId::new(tag),
+                stream: StreamId::new(0),
+                generation,
+                cause,
+            },
+        ),
+    }
+}

@@ -1,0 +1,23 @@
+//! The guard as a program: it takes opens of contents from any number of clients at a socket, asks the one scanning service that
+//! comes to another, and answers each client. One thread, which waits for nothing but the next thing that can be done. And the
+//! client that asks it about files.
+//!
+//! ```text
+//! guard_at(&rt, alloc, Guarding { doors, mode, keep: 67_108_864, questions: 256, wait, rights: 0o600 }, &mut err);
+//! let mut asker = Asker::connect(&rt, alloc, Meeting { path: "opens.socket", wait })?;
+//! asker.ask("letter.txt", content)?;
+//! ```
+#![tactic(auto)]
+
+mod asking;
+mod client;
+mod daemon;
+mod guarding;
+mod line;
+mod looks;
+mod names;
+mod questions;
+mod service;
+
+pub use asking::{Asker, AskingFault};
+pub use guarding::{Doors, Guarding, guard_at};

@@ -1,0 +1,187 @@
+use mio::event::Event;
+use mio::net::UnixStream;
+use mio::{Interest, Registry, Token};
+use std::alloc::Global;
+use std::io;
+use std::io::{ErrorKind, Read, Write};
+use std::time::Duration;
+
+// Once so many bytes in front have gone out, those behind are moved to their place.
+const MANY: usize = 65_536;
+
+/// One end of a connection, of which no call waits: what is to go out is kept until the other side takes it.
+#[derive(Drop)]
+pub struct Line {
+    stream: UnixStream,
+    waiting: Vec<u8>,
+    // How many of the waiting bytes have gone out.
+    sent: usize,
+    // Since when the other side has taken nothing of what waits.
+    since: Option<Duration>,
+    may_read: bool,
+    // The other side takes no more.
+    is_closed: bool,
+}
+
+/// Where a connection stands by.
+#[derive(Clone, Copy, Debug, Drop)]
+pub struct Turns {
+    /// It is among those that are read next.
+    pub is_ready: bool,
+    /// It is among those to which something is sent next.
+    pub is_sending: bool,
+    /// A time is set at which it is looked at.
+    pub is_watched: bool,
+}
+
+impl Turns {
+    /// Nowhere.
+    pub fn none() -> Turns {
+        Turns {
+            is_ready: false,
+            is_sending: false,
+            is_watched: false,
+        }
+    }
+
+    /// Since when it is waited for, where that is and no time is set for it; one is then.
+    pub fn to_be_watched(&mut self, since: Option<Duration>) -> Option<Duration> {
+        if since.is_none() || self.is_watched {
+            return None;
+        }
+        self.is_watched = true;
+        since
+    }
+}
+
+/// What a read came to.
+#[derive(Clone, Copy, Debug, PartialEq, Eq)]
+pub enum Came {
+    /// So many bytes, and there may be more.
+    Bytes(usize),
+    /// Nothing for now.
+    Nothing,
+    /// The other side sends no more, or the connection failed.
+    End,
+}
+
+impl Line {
+    /// Over a connection that does not block.
+    pub fn new(alloc: Global, stream: UnixStream) -> Line {
+        Line {
+            stream,
+            waiting: Vec::new(alloc),
+            sent: 0,
+            since: None,
+            may_read: true,
+            is_closed: false,
+        }
+    }
+
+    /// Has changes told under this number.
+    pub fn register(&mut self, registry: &Registry, number: u64) -> io::Result<()> {
+        let both = Interest::READABLE | Interest::WRITABLE;
+        registry.register(&mut self.stream, Token(number as usize), both)
+    }
+
+    /// A change was told. Whether what waits may go out now.
+    pub fn note(&mut self, event: &Event) -> bool {
+        if event.is_readable() || event.is_read_closed() || event.is_error() {
+            self.may_read = true;
+        }
+        if event.is_write_closed() {
+            self.is_closed = true;
+        }
+        event.is_writable() && self.waiting() > 0
+    }
+
+    /// Whether the other side was seen to take no more.
+    pub fn is_closed(&self) -> bool {
+        self.is_closed
+    }
+
+    /// Whether a read may come to anything.
+    pub fn may_read(&self) -> bool {
+        self.may_read
+    }
+
+    /// How many bytes wait to go out.
+    pub fn waiting(&self) -> usize {
+        self.waiting.len().saturating_sub(self.sent)
+    }
+
+    /// The bytes that wait to go out, to put more behind them.
+    pub fn out(&mut self) -> &mut Vec<u8> {
+        &mut self.waiting
+    }
+
+    /// Since when the other side has taken nothing, though something waits for it.
+    pub fn since(&self) -> Option<Duration> {
+        self.since
+    }
+
+    /// Reads a piece.
+    pub fn read(&mut self, buffer: &mut [u8]) -> Came {
+        'reads: for _ in 0..u64::MAX {
+            match self.stream.read(buffer) {
+                Ok(0) => break,
+                Ok(count) => return Came::Bytes(count.min(buffer.len())),
+                Err(error) => match error.kind() {
+                    ErrorKind::Interrupted => {}
+                    ErrorKind::WouldBlock => {
+                        self.may_read = false;
+                        return Came::Nothing;
+                    }
+                    _ => break,
+                },
+            }
+        }
+        self.may_read = false;
+        Came::End
+    }
+
+    /// Sends as much as the other side takes, and says whether the connection still stands.
+    pub fn send(&mut self, now: Duration) -> bool {
+        let before = self.sent;
+        let stands = self.send_all();
+        if self.waiting() == 0 {
+            self.since = None;
+        } else if self.sent > before || self.since.is_none() {
+            self.since = Some(now);
+        }
+        self.tidy();
+        stands
+    }
+
+    fn send_all(&mut self) -> bool {
+        'writes: for _ in 0..u64::MAX {
+            let rest = self.waiting.get(self.sent..).unwrap_or(b"".as_slice());
+            if rest.is_empty() {
+                break;
+            }
+            match self.stream.write(rest) {
+                Ok(0) => return false,
+                Ok(count) => self.sent = self.sent.saturating_add(count),
+                Err(error) => match error.kind() {
+                    ErrorKind::Interrupted => {}
+                    ErrorKind::WouldBlock => break,
+                    _ => return false,
+                },
+            }
+        }
+        true
+    }
+
+    // Lets go of what has gone out.
+    fn tidy(&mut self) {
+        if self.sent >= self.waiting.len() {
+            self.waiting.clear();
+            self.sent = 0;
+        } else if self.sent >= MANY && self.sent >= self.waiting() {
+            let rest = self.waiting();
+            self.waiting.rotate_left(self.sent.min(self.waiting.len()));
+            self.waiting.truncate(rest);
+            self.sent = 0;
+        }
+    }
+}
