@@ -193,7 +193,7 @@ def manual(checks, program):
     options = set(re.findall(r"(?<![\w-])--?[a-zA-Z][a-z]*", "".join(help_of(program, *words) for words in [[]] + [[command] for command in commands if command != "help"])))
     page = subprocess.run(["sh", os.path.join(ROOT, "man/page.sh"), "avscan.1", program], stdout=subprocess.PIPE, text=True).stdout.replace("\\-", "-")
     completions = {path: text_of(path) for path in ("completions/avscan.bash", "completions/_avscan", "completions/avscan.fish")}
-    checks.check(set(commands) == {"run", "scan", "host", "filter", "service", "chart", "generate", "import", "help"}, f"commands: {commands}")
+    checks.check(set(commands) == {"run", "scan", "host", "filter", "service", "guard", "ask", "chart", "generate", "import", "help"}, f"commands: {commands}")
     for word in [*commands, *sorted(options)]:
         checks.check(re.search(rf"(?<![\w-]){word}\b", page), f"avscan(1) has no {word}")
         for path, text in completions.items():
