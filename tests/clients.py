@@ -1,0 +1,326 @@
+#!/usr/bin/env python3
+"""The clients of examples/ beside `avscan ask`, over one guard and service: what they print, and how they end.
+
+The client in C and that in Python are asked about files that are clean, infected, empty, as long as may be, too long, not there; with no
+guard, one that lets through, one that goes away or says what is no answer, and stopped while they wait. The helper for fanotify holds
+`cat` of a clean and of an infected file, where the machine lets it; clamdscan asks at --clamd, where it is installed.
+The last line says how many passed and how many failed."""
+import os, shutil, signal, socket, struct, subprocess, sys, tempfile, threading, time
+
+from cases import Cases
+
+ROOT = os.path.dirname(os.path.dirname(os.path.abspath(__file__)))
+SECONDS = 60
+MOST = 1 << 20
+SET = b"avsig 1\nversion 1\nTest.X 5858\n"
+GRANTED, INFECTED = b" granted generation 2 version 1\n", b" denied cause 2\n"
+# A grant of the ask with tag 0.
+GRANT = bytes.fromhex("00000019" "02") + struct.pack(">QQQ", 0, 2, 1)
+FILES = {"clean": b"ABC", "infected": b"A letter with XX in it", "empty": b"", "most": b"A" * MOST, "last": b"A" * (MOST - 2) + b"XX", "long": b"XX" + b"A" * MOST}
+
+
+class Room:
+    """A folder with files to ask about, the clients, and a guard and a service that are started in it."""
+
+    def __init__(self, program, folder):
+        self.program, self.folder, self.begun = program, folder, []
+        self.opens, self.service, self.clamd = (os.path.join(folder, name) for name in ("o", "s", "c"))
+        for name, content in {**FILES, "set.avsig": SET}.items():
+            self.write(name, content)
+        os.mkdir(os.path.join(folder, "folder"))
+        self.ask, self.holder = os.path.join(folder, "ask"), os.path.join(folder, "avguard-fanotify")
+        build(os.path.join(ROOT, "examples", "client", "ask.c"), self.ask)
+        build(os.path.join(ROOT, "examples", "fanotify", "avguard-fanotify.c"), self.holder)
+
+    def write(self, name, content):
+        path = os.path.join(self.folder, name)
+        with open(path, "wb") as file:
+            file.write(content)
+        return path
+
+    def clients(self, wait=SECONDS):
+        """The name of each and the words that start it; `avscan ask` is the one that the others are compared with."""
+        return (("avscan", [self.program, "ask", "-k", "--wait", str(wait)]), ("ask", [self.ask]), ("ask.py", [sys.executable, os.path.join(ROOT, "examples", "client", "ask.py")]))
+
+    def start(self, *words, **more):
+        process = subprocess.Popen(words, cwd=self.folder, stdin=subprocess.DEVNULL, **more)
+        self.begun.append(process)
+        return process
+
+    def guard(self, *words, service=True):
+        """A guard, with a service that has said which version it has."""
+        guard = self.start(self.program, "guard", *words, self.opens, self.service, stderr=subprocess.PIPE)
+        if service:
+            self.start(self.program, "service", self.service, "set.avsig", stdout=subprocess.DEVNULL, stderr=subprocess.DEVNULL)
+            while b"connected" not in (line := guard.stderr.readline()):
+                if not line:
+                    raise OSError("the guard ended")
+        else:
+            await_path(self.opens)
+        return guard
+
+    def end(self):
+        """Ends what was started."""
+        for process in self.begun:
+            process.kill()
+            process.communicate()
+        self.begun.clear()
+        for path in (self.opens, self.service, self.clamd):
+            if os.path.exists(path):
+                os.unlink(path)
+
+
+def build(source, program):
+    subprocess.run(["cc", "-std=c11", "-O1", "-Wall", "-Wextra", "-Werror", "-o", program, source], check=True)
+
+
+def await_path(path):
+    limit = time.time() + SECONDS
+    while not os.path.exists(path) and time.time() < limit:
+        time.sleep(0.002)
+
+
+def ended(process):
+    out, err = process.communicate(timeout=SECONDS)
+    return process.returncode, out, err
+
+
+def run(room, words, *more):
+    return ended(room.start(*words, *more, stdout=subprocess.PIPE, stderr=subprocess.PIPE))
+
+
+def same(cases, room, what, words, wanted, wait=SECONDS):
+    """Each client ends so: status, standard output, and the lines of standard error behind the client's name and a colon."""
+    status, out, err = wanted
+    for name, client in room.clients(wait):
+        front = name.encode() + b": "
+        cases.same(f"{what}, {name}", run(room, client, *words), (status, out, b"".join(front + line for line in err)))
+
+
+def answers(cases, room):
+    room.guard()
+    lines = {"clean": GRANTED, "infected": INFECTED, "empty": GRANTED, "most": GRANTED, "last": INFECTED}
+    for _ in range(2):
+        for name, line in lines.items():
+            same(cases, room, f"a file, {name}", [room.opens, name], (0, name.encode() + line, b""))
+    all_lines = b"".join(name.encode() + line for name, line in lines.items())
+    same(cases, room, "five files", [room.opens, *lines], (0, all_lines, b""))
+    same(cases, room, "a file twice", [room.opens, "clean", "clean"], (0, b"clean" + GRANTED + b"clean" + GRANTED, b""))
+    same(cases, room, "too long", [room.opens, "long"], (1, b"", [b"long: TooLarge\n"]))
+    same(cases, room, "not there", [room.opens, "gone"], (4, b"", [b"gone: cannot read\n"]))
+    same(cases, room, "a folder", [room.opens, "folder"], (4, b"", [b"folder: cannot read\n"]))
+    faults = [b"long: TooLarge\n", b"gone: cannot read\n"]
+    same(cases, room, "some can be asked about", [room.opens, "clean", "long", "infected", "gone", "empty"], (4, b"clean" + GRANTED + b"infected" + INFECTED + b"empty" + GRANTED, faults))
+    many = ["clean", "infected", "empty"] * 100
+    same(cases, room, "300 files", [room.opens, *many], (0, b"".join(name.encode() + lines[name] for name in many), b""))
+    with open("/dev/full", "wb") as full:
+        for name, client in room.clients():
+            process = room.start(*client, room.opens, "clean", stdout=full, stderr=subprocess.PIPE)
+            cases.same(f"on a full device, {name}", ended(process), (4, None, name.encode() + b": device\n"))
+
+
+def let_through(cases, room):
+    room.guard("--open", service=False)
+    same(cases, room, "no service, a guard that lets through", [room.opens, "clean"], (0, b"clean unscanned generation 2 cause 3\n", b""))
+
+
+def denied(cases, room):
+    room.guard(service=False)
+    same(cases, room, "no service", [room.opens, "clean"], (0, b"clean denied cause 3\n", b""))
+
+
+def nobody(cases, room):
+    at = room.opens.encode()
+    same(cases, room, "no guard", [room.opens, "clean"], (4, b"", [at + b": no guard listens\n"]), wait=1)
+    socket.socket(socket.AF_UNIX).bind(room.opens)
+    same(cases, room, "a socket that was left over", [room.opens, "clean"], (4, b"", [at + b": no guard listens\n"]), wait=1)
+    for path in ("", "x" * 108):
+        same(cases, room, f"a path of {len(path)} bytes", [path, "clean"], (2, b"", [path.encode() + b": the path of a socket has 1 to 107 bytes\n"]))
+    for name, client in room.clients():
+        for words in ([], [room.opens]):
+            status, out, err = run(room, client, *words)
+            cases.check(f"{len(words)} words, {name}", (status, out) == (2, b"") and err, f"{status}, {out!r}, {err!r}")
+
+
+class Stand:
+    """A guard of bytes: each client that comes is sent these once it has sent an ask, and is closed."""
+
+    def __init__(self, path, said, delay=0.0):
+        self.said, self.delay = said, delay
+        self.listener = socket.socket(socket.AF_UNIX)
+        self.listener.bind(path)
+        self.listener.listen(8)
+        threading.Thread(target=self.serve, daemon=True).start()
+
+    def serve(self):
+        while True:
+            try:
+                end, _ = self.listener.accept()
+            except OSError:
+                return
+            end.recv(4)
+            time.sleep(self.delay)
+            end.sendall(self.said)
+            time.sleep(0.05)
+            end.close()
+
+    def close(self):
+        self.listener.shutdown(socket.SHUT_RDWR)
+        self.listener.close()
+
+
+def strangers(cases, room):
+    lost = [room.opens.encode() + b": the guard was lost\n"]
+    rows = [("nothing", b""), ("half a frame", GRANT[:10]), ("a frame that is too long", b"\xff" * 4 + GRANT[4:]), ("a frame of no bytes", bytes(4)),
+            ("another kind", GRANT[:4] + b"\x09" + GRANT[5:]), ("a denial that is too long", GRANT[:4] + b"\3" + GRANT[5:])]
+    for what, said in rows:
+        stand = Stand(room.opens, said)
+        for name, client in room.clients()[1:]:
+            cases.same(f"a guard that says {what}, {name}", run(room, client, room.opens, "clean"), (4, b"", name.encode() + b": " + lost[0]))
+        stand.close()
+        os.unlink(room.opens)
+    stand = Stand(room.opens, GRANT)
+    for name, client in room.clients()[1:]:
+        cases.same(f"a guard that goes away, {name}", run(room, client, room.opens, "clean", "clean"), (4, b"clean" + GRANTED, name.encode() + b": " + lost[0]))
+    stand.close()
+    os.unlink(room.opens)
+
+
+def stopped(cases, room):
+    stand = Stand(room.opens, GRANT, delay=0.5)
+    for name, client in room.clients()[1:]:
+        process = room.start(*client, room.opens, "clean", stdout=subprocess.PIPE, stderr=subprocess.PIPE)
+        for _ in range(10):
+            time.sleep(0.01)
+            process.send_signal(signal.SIGSTOP)
+            time.sleep(0.01)
+            process.send_signal(signal.SIGCONT)
+        cases.same(f"stopped and continued, {name}", ended(process), (0, b"clean" + GRANTED, b""))
+    stand.close()
+
+
+def cat(room, path):
+    return subprocess.run(["cat", path], stdin=subprocess.DEVNULL, capture_output=True, timeout=SECONDS).stdout
+
+
+def held(cases, room):
+    watched = os.path.join(room.folder, "watched")
+    os.mkdir(watched)
+    paths = {name: os.path.join("watched", name) for name in FILES}
+    for name, path in paths.items():
+        room.write(path, FILES[name])
+        paths[name] = os.path.join(room.folder, path)
+    paths["outside"] = os.path.join(room.folder, "infected")
+
+    def opened():
+        """Of each file whether `cat` shows all of it."""
+        return {name: cat(room, path) == FILES.get(name, FILES["infected"]) for name, path in paths.items()}
+
+    def holder(*words):
+        process = room.start(room.holder, *words, room.opens, watched, stderr=subprocess.PIPE)
+        limit = time.time() + SECONDS
+        while process.poll() is None and time.time() < limit and not is_marked(process.pid):
+            time.sleep(0.01)
+        return process
+
+    room.guard()
+    process = holder()
+    if process.poll() is not None:
+        print(f"the helper for fanotify was not run: {process.stderr.read().decode().strip()}", file=sys.stderr)
+        return
+    wanted = {"clean": True, "infected": False, "empty": True, "most": True, "last": False, "long": False, "outside": True}
+    cases.same("what may be opened", opened(), wanted)
+    cases.same("and once more, as it is known", opened(), wanted)
+    room.write("other", b"A clean letter")
+    os.rename(os.path.join(room.folder, "other"), paths["infected"])
+    cases.same("a file that is replaced is judged anew", cat(room, paths["infected"]), b"A clean letter")
+    os.rename(room.write("other", FILES["infected"]), paths["infected"])
+    cases.check("and again", not can_open(paths["infected"]))
+    process.kill()
+    process.wait()
+    cases.check("from its end on all may be opened", can_open(paths["infected"]))
+    process = holder("-o", "-p", "1")
+    cases.same("with -o a file that is too long passes", opened(), {**wanted, "long": True})
+    process.kill()
+    process.wait()
+    process = holder("-p", str(os.getpid()))
+    cases.same("a process that passes", (can_open(paths["infected"]), cat(room, paths["infected"])), (True, b""))
+    room.end()
+    process = holder()
+    cases.same("no guard", (can_open(paths["clean"]), can_open(paths["infected"])), (False, False))
+    room.guard()
+    cases.same("a guard that comes later", (can_open(paths["clean"]), can_open(paths["infected"])), (True, False))
+    process.kill()
+    process.wait()
+    process = holder("-o")
+    room.begun.remove(process)
+    room.end()
+    cases.same("with -o and no guard", (can_open(paths["clean"]), can_open(paths["infected"])), (True, True))
+    process.kill()
+    process.wait()
+
+
+def can_open(path):
+    try:
+        os.close(os.open(path, os.O_RDONLY))
+        return True
+    except PermissionError:
+        return False
+
+
+def is_marked(process):
+    """Whether a process holds marks of fanotify."""
+    for end in os.listdir(f"/proc/{process}/fd"):
+        try:
+            with open(f"/proc/{process}/fdinfo/{end}") as file:
+                if "fanotify ino" in (text := file.read()) or "fanotify mnt_id" in text:
+                    return True
+        except OSError:
+            pass
+    return False
+
+
+def words_of_holder(cases, room):
+    for words, status in (([], 2), (["x"], 2), (["-z", "o", "f"], 2), (["-p", "x", "o", "f"], 2), (["-p", "0", "o", "f"], 2), (["-h"], 0)):
+        got, out, err = run(room, [room.holder], *words)
+        text = out if status == 0 else err
+        cases.check(f"avguard-fanotify {words}", got == status and text.startswith(b"usage: ") and not (out and err) or b"invalid option" in err, f"{got}, {out!r}, {err!r}")
+    status, out, err = run(room, [room.holder], "o", "gone")
+    cases.check("a folder that is not there", (status, out) == (4, b"") and err.startswith(b"avguard-fanotify: ") and err.count(b"\n") == 1, f"{status}, {out!r}, {err!r}")
+
+
+def clamdscan(cases, room):
+    if not shutil.which("clamdscan"):
+        print("clamdscan is not installed: it was not run", file=sys.stderr)
+        return
+    room.guard("--clamd", room.clamd, "--names", os.path.join(room.folder, "set.avsig"))
+    room.write("clamd.conf", b"LocalSocket %s\nStreamMaxLength 2M\n" % room.clamd.encode())
+    at = room.folder.encode() + b"/"
+    rows = [("clean", 0, b"clean: OK\n"), ("infected", 1, b"infected: Test.X FOUND\n"), ("most", 0, b"most: OK\n"), ("last", 1, b"last: Test.X FOUND\n"),
+            ("long", 2, b"long: INSTREAM size limit exceeded. ERROR\n")]
+    for _ in range(2):
+        for name, status, line in rows:
+            got, out, err = run(room, ["clamdscan", "--config-file=clamd.conf", "--stream", "--no-summary", name])
+            cases.check(f"clamdscan {name}", got == status and line in out.replace(at, b"") + err.replace(at, b""), f"{got}, {out!r}, {err!r}")
+
+
+def main():
+    if len(sys.argv) != 2:
+        sys.exit("usage: tests/clients.py PROGRAM")
+    cases = Cases()
+    for part in (answers, let_through, denied, nobody, strangers, stopped, words_of_holder, held, clamdscan):
+        begun = time.time()
+        with tempfile.TemporaryDirectory() as folder:
+            room = Room(os.path.abspath(sys.argv[1]), folder)
+            try:
+                part(cases, room)
+            except Exception as fault:
+                cases.check(part.__name__, False, f"{type(fault).__name__}: {fault}")
+            finally:
+                room.end()
+        print(f"{part.__name__}: {time.time() - begun:.1f} s", file=sys.stderr)
+    print(f"{cases.passed} passed, {cases.failed} failed")
+    sys.exit(1 if cases.failed else 0)
+
+
+main()
