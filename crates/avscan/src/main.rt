@@ -1,6 +1,7 @@
 //! The program: it reads the words of its command line, and runs a script or scans files over the proved crates.
 #![tactic(auto)]
 
+mod ask;
 mod chart;
 mod generate;
 mod import;
@@ -11,7 +12,10 @@ mod scan;
 #[cfg(test)]
 mod tests;
 
+use ask::{Asking, ask_named};
+use av_base::Mode;
 use av_chart::Lines;
+use av_daemon::{Doors, Guarding, guard_at};
 use av_files::{Failing, MAX_FILE, add_file, empty_volume, read_set};
 use av_host::{Crew, Hosting, host_volume};
 use av_sockets::{Meeting, filter_volume, serve_at};
@@ -146,6 +150,64 @@ fn asked<R: Hosting>(rt: &HostRuntime, system: &R, alloc: Global, words: &Vec<St
             files.as_slice(),
             list,
             wishes,
+            &mut out,
+            &mut Progress::new(rt, err, !quiet && rt.stderr().is_terminal()),
+        ),
+        Ok(
+            Request::Guard {
+                opens,
+                service,
+                clamd,
+                names,
+                is_open,
+                wait,
+                keep,
+                questions,
+                mode,
+            },
+        ) => guard_at(
+            system,
+            alloc,
+            Guarding {
+                doors: Doors {
+                    opens,
+                    service,
+                    clamd,
+                    names,
+                },
+                mode: if is_open {
+                    Mode::FailOpen
+                } else {
+                    Mode::FailClosed
+                },
+                keep,
+                questions,
+                wait: Duration::from_secs(wait),
+                rights: mode,
+            },
+            &mut err,
+        ),
+        Ok(
+            Request::Ask {
+                opens,
+                files,
+                list,
+                finding,
+                wishes,
+                wait,
+                quiet,
+            },
+        ) => ask_named(
+            rt,
+            system,
+            alloc,
+            Asking {
+                meeting: meeting(opens, wait),
+                list,
+                finding,
+                wishes,
+            },
+            files.as_slice(),
             &mut out,
             &mut Progress::new(rt, err, !quiet && rt.stderr().is_terminal()),
         ),

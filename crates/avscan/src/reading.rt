@@ -42,3 +42,11 @@ fn may_end(rt: &HostRuntime, name: &str) -> bool {
         Err(_) => false,
     }
 }
+
+/// Whether a name is that of a folder, or of a link to one.
+pub fn is_folder(rt: &HostRuntime, name: &str) -> bool {
+    match fs::metadata(rt, name) {
+        Ok(metadata) => metadata.is_dir(),
+        Err(_) => false,
+    }
+}

@@ -1,7 +1,7 @@
 ghost use Rattle.std.specs.Prelude.{◌≡◌, ◌<◌, length};
 
 use crate::list::{all_names, list_text};
-use crate::reading::{open_file, read_file};
+use crate::reading::{is_folder, open_file, read_file};
 use av_base::Verdict;
 use av_files::{
     Failing, MAX_FILE, Met, Scanned, Scanner, Walk, line_failed, print_one, print_scanned,
@@ -307,12 +307,5 @@ fn judged<E: Write>(
                 .scan_pieces(name, &mut file, buffer, max_size, err)
         }
         None => Err(unreadable(err, name)),
-    }
-}
-
-fn is_folder(rt: &HostRuntime, name: &str) -> bool {
-    match fs::metadata(rt, name) {
-        Ok(metadata) => metadata.is_dir(),
-        Err(_) => false,
     }
 }
