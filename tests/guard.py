@@ -10,6 +10,7 @@ from cases import Cases
 HERE = os.path.dirname(os.path.abspath(__file__))
 SECONDS = 60
 QUIET = 0.15          # how long nothing is waited for where nothing is to come
+SETTLED = 0.3         # how long is waited for what shows nowhere
 MOST = 1 << 20
 
 
@@ -164,7 +165,7 @@ def replay(cases, program, path):
                     ends[who] = connected(at)
                 return ends[who]
 
-            waited = False
+            greeted = 0
             for place, line in enumerate(lines[1:], 2):
                 what = f"{name}:{place}"
                 said = re.fullmatch(r"(?:from )?(service|client \d+|door \d+): ([0-9a-f x]*)", line)
@@ -177,8 +178,11 @@ def replay(cases, program, path):
                         end_of(said[1]).sendall(bytes_of(said[2]))
                     except BrokenPipeError:
                         cases.check(what, False, "closed")
-                    if said[1] == "service" and bytes_of(said[2])[4:5] in (b"\5", b"\x08") or said[1] != "service" and waited:
-                        time.sleep(0.03)
+                    if said[1] == "service" and bytes_of(said[2])[4:5] == b"\5":
+                        greeted += 1
+                        guard.await_line(b" connected\n", greeted)
+                    elif said[1] == "service" and bytes_of(said[2])[4:5] == b"\x08":
+                        time.sleep(SETTLED)
                 elif line == "service lost":
                     end_of("service").close()
                     ends.pop("service")
@@ -186,7 +190,7 @@ def replay(cases, program, path):
                 elif re.fullmatch(r"(client|door) \d+ (lost|gone)", line):
                     end_of(line.rsplit(" ", 1)[0]).close()
                     ends.pop(line.rsplit(" ", 1)[0])
-                    time.sleep(0.03)
+                    time.sleep(SETTLED)
                 elif re.fullmatch(r"door \d+ closed", line):
                     cases.same(what, rest(end_of(line.rsplit(" ", 1)[0])), b"")
                 elif line.startswith("second "):
