@@ -38,6 +38,9 @@ const MOST_CLIENTS: usize = 4_096;
 // How many asks may stand in line before no more are read.
 const MOST_IN_LINE: usize = 64;
 
+// How many are let in at a door before what came is read.
+const AT_ONCE: usize = 64;
+
 // How many changes the system tells at a time, and how many bytes are read at a time.
 const CHANGES: usize = 256;
 
@@ -90,11 +93,12 @@ pub struct Daemon<'a, R> {
     buffer: Vec<u8>,
 }
 
-// A listening socket, and whether somebody may wait there.
+// A listening socket, whether somebody may wait there, and whether the last who came could not be let in.
 #[derive(Drop)]
 struct Door {
     listener: UnixListener,
     may_accept: bool,
+    has_failed: bool,
 }
 
 impl Door {
@@ -105,11 +109,22 @@ impl Door {
         Ok(Door {
             listener,
             may_accept: true,
+            has_failed: false,
         })
+    }
+
+    // When it is tried again to let in who may wait: at once, or after a pause where that failed.
+    fn next_try(&self, now: Duration) -> Option<Duration> {
+        if !self.may_accept {
+            return None;
+        }
+        let pause = if self.has_failed { PAUSE } else { 0 };
+        Some(now.saturating_add(Duration::from_millis(pause)))
     }
 
     // Who came. Where none is left no look is taken before somebody comes.
     fn next(&mut self) -> Option<UnixStream> {
+        self.has_failed = false;
         if !self.may_accept {
             return None;
         }
@@ -122,7 +137,10 @@ impl Door {
                         self.may_accept = false;
                         break;
                     }
-                    _ => break,
+                    _ => {
+                        self.has_failed = true;
+                        break;
+                    }
                 },
             }
         }
@@ -229,10 +247,21 @@ impl<'a, R: Files + Net + Clock> Daemon<'a, R> {
         if !self.ready.is_empty() {
             return Some(Duration::ZERO);
         }
+        let service_door = if self.service.is_none() {
+            self.service_door.next_try(now)
+        } else {
+            None
+        };
+        let clamd = match &self.clamd {
+            Some(clamd) => clamd.next_try(now),
+            None => None,
+        };
         let dues = [
             self.looks.first(),
             self.questions.first(),
-            self.next_try(now),
+            self.opens.next_try(now),
+            service_door,
+            clamd,
         ];
         let mut timeout: Option<Duration> = None;
         for due in dues {
@@ -242,20 +271,6 @@ impl<'a, R: Files + Net + Clock> Daemon<'a, R> {
             }
         }
         timeout
-    }
-
-    // When it is tried again to let in who waits at a door, where that failed.
-    fn next_try(&self, now: Duration) -> Option<Duration> {
-        let waits = match &self.clamd {
-            Some(clamd) => clamd.may_accept,
-            None => false,
-        };
-        let comes = self.service_door.may_accept && self.service.is_none();
-        if self.opens.may_accept || comes || waits {
-            Some(now.saturating_add(Duration::from_millis(PAUSE)))
-        } else {
-            None
-        }
     }
 
     // A change was told of a door or a connection.

@@ -1,6 +1,6 @@
 //! Who comes to a door.
 
-use super::{Daemon, FIRST, MOST_CLIENTS, SERVING, Stop};
+use super::{AT_ONCE, Daemon, FIRST, MOST_CLIENTS, SERVING, Stop};
 use crate::client::Client;
 use crate::line::Line;
 use crate::service::Service;
@@ -11,16 +11,16 @@ use std::net::Net;
 use std::time::{Clock, Duration};
 
 impl<'a, R: Files + Net + Clock> Daemon<'a, R> {
-    // Lets in all who wait at a door, and a service where none is there.
+    // Lets in some of those who wait at a door, and a service where none is there.
     pub(super) fn accept(&mut self, guard: &mut Guard, now: Duration) -> Result<(), Stop> {
-        'opens: for _ in 0..u64::MAX {
+        'opens: for _ in 0..AT_ONCE {
             let Some(stream) = self.opens.next() else {
                 break;
             };
             let client = Client::of_opens(self.alloc, Line::new(self.alloc, stream), now);
             self.admit(guard, client)?;
         }
-        'clamd: for _ in 0..u64::MAX {
+        'clamd: for _ in 0..AT_ONCE {
             let Some(stream) = self.next_of_clamd() else {
                 break;
             };
