@@ -248,7 +248,7 @@ fn guard_command<'a>(alloc: Global) -> Result<Command<'a>, Error> {
                  at once.\
                  \nWhere no service is there opens are denied (cause 3 or 6), or let through with --open. It runs until it is ended by a \
                  signal.\
-                 \n\nAt CLAMD programs may ask that speak to clamd, as `clamdscan --stream` does. `OK` is said of a grant alone.\
+                 \n\nAt CLAMD programs may ask that speak to clamd, as `clamdscan` does where it streams. `OK` is said of a grant alone.\
                  \n\nExample, in three terminals:\
                  \n  avscan guard opens.socket service.socket\
                  \n  avscan service service.socket examples/test.avsig\
