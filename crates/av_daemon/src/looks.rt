@@ -16,9 +16,11 @@ impl Looks {
         }
     }
 
-    /// The connection of this number is looked at then.
+    /// The connection of this number is looked at behind this moment, by less than two milliseconds: a wait that ends then is over
+    /// when it is looked at.
     pub fn add(&mut self, at: Duration, number: u64) -> Result<(), AllocError> {
-        match self.due.insert((millis(at), number), ()) {
+        let due = millis(at).saturating_add(1);
+        match self.due.insert((due, number), ()) {
             Ok(_) => Ok(()),
             Err(_) => Err(AllocError),
         }
@@ -37,7 +39,7 @@ impl Looks {
     /// When the first one is due.
     pub fn first(&self) -> Option<Duration> {
         let (at, _) = *self.due.first_key_value()?.0;
-        Some(Duration::from_millis(at.saturating_add(1)))
+        Some(Duration::from_millis(at))
     }
 }
 
