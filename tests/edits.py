@@ -1,17 +1,18 @@
 #!/usr/bin/env python3
 """Tries every must-fail edit (crates/NAME/must-fail/*.edit): the prover has to refuse the very function that the edit changes.
 
-usage: edits.py [--until SECONDS] [--times FILE] [CRATE ...]
+usage: edits.py [--until SECONDS] [--times FILE] [--over FOLDER] [CRATE ...]
 
 `rt must-fail NAME` tries each edit in a check of its own, most of which goes to reading libraries. Here edits of different
-functions share a check of a copy of the crate. The prover judges a function by its own body and the contracts of what it
-calls, and doesn't look at one that calls what is not proved: an edit that is hidden so is tried again without what hid it. An
-edit whose function passes beside others, and one that changes no function, is tried alone. No check is begun once the clock
-(seconds since 1970) is past --until: a line says how many edits were not tried then. Each day begins with another crate, so
+functions share a check of a copy of the crate, in which only the functions that edits change are proved, and what they call. The
+prover judges a function by its own body and the contracts of what it calls, and doesn't look at one that calls what is not proved: an
+edit that is hidden so is tried again without what hid it. An edit whose function passes beside others, and one that changes no
+function, is tried alone: with the functions that name the one that it changes, and then with the whole crate. No check is begun once
+the clock (seconds since 1970) is past --until: a line says how many edits were not tried then. Each day begins with another crate, so
 that it is not always the same ones that are left. The last line counts those that were tried.
 
-Needs `rt`, and takes what `rt check` kept. Of a crate that no other stands on, the program, only the functions that edits change
-are proved, and what they call.
+The libraries below a crate are those that `rt ci` or `rt lib` built of FOLDER/NAME (of this repository's crates/NAME, where none is named). What
+a check kept of the crate itself is taken where it is there.
 """
 import argparse
 import concurrent.futures
@@ -64,13 +65,9 @@ class Edit:
             text = text.replace(old, new)
         return text
 
-    def module(self):
-        """The names of the modules that its file is within."""
-        return [it for it in self.file[len("src/") : -len(".rt")].split("/") if it not in ("lib", "main", "mod")]
-
     def paths(self):
-        """What `rt check --only` names its functions by: a function by itself, a method by its type."""
-        return {"::".join([*self.module(), owner or name]) for owner, name in self.functions - {None}}
+        """What `rt check --only` names its functions by."""
+        return {path_of(self.file, *one) for one in self.functions - {None}}
 
     def names(self):
         return " and ".join(sorted(name for _, name in self.functions))
@@ -86,7 +83,18 @@ class Edit:
         words = [it for it in path.split("::") if it != "fn"]
         if owner:
             return any(one.startswith(owner) and other == name for one, other in zip(words, words[1:]))
-        return words[: 2 + len(self.module())] == [self.crate, *self.module(), name]
+        modules = modules_of(self.file)
+        return words[: 2 + len(modules)] == [self.crate, *modules, name]
+
+
+def modules_of(file):
+    """The names of the modules that a file's items are within."""
+    return [it for it in file[len("src/") : -len(".rt")].split("/") if it not in ("lib", "main", "mod")]
+
+
+def path_of(file, owner, name):
+    """What `rt check --only` names a function by: a function by itself, a method by its type."""
+    return "::".join([*modules_of(file), owner or name])
 
 
 def source(edit):
@@ -132,18 +140,23 @@ def groups_of(edits):
 
 
 class Copy:
-    """A room for a crate, with what earlier checks kept of it."""
+    """A room for a crate, over libraries that are built, with what earlier checks kept of it."""
 
-    def __init__(self, crate, crates, room):
-        self.folder = rooms.put_up(room, crate, crates)
+    def __init__(self, crate, crates, room, libraries):
+        self.folder = room
+        for part in ("src", "specs", "proofs"):
+            if os.path.isdir(f"{CRATES}/{crate}/{part}"):
+                shutil.copytree(f"{CRATES}/{crate}/{part}", f"{room}/{part}")
+        os.makedirs(f"{room}/out")
         proofs = f"{CRATES}/{crate}/out/incremental"
         if os.path.isdir(proofs):
-            shutil.copytree(proofs, f"{self.folder}/out/incremental")
-        self.is_top = not any(crate in lower for lower in crates.values())
+            shutil.copytree(proofs, f"{room}/out/incremental")
+        self.words = rooms.check_words(crate, crates, libraries)
         self.checks = self.used = self.mebibytes = 0
 
     def check(self, texts, paths):
-        """Checks the crate with these texts in place of its own: what the prover told of each function, and all that was said."""
+        """Checks these functions, all where none is named, with these texts in place of the crate's own: what the prover told of each
+        function, and all that was said."""
         self.checks += 1
         own = {}
         for file, text in texts.items():
@@ -151,15 +164,30 @@ class Copy:
                 own[file] = it.read()
             with open(f"{self.folder}/{file}", "w", encoding="utf-8") as it:
                 it.write(text)
-        only = [word for path in sorted(paths) for word in ("--only", path) if self.is_top]
-        job = rooms.Job(["rt", "check", "--jobs", "1", *only], self.folder, f"{self.folder}/out/edits.log")
-        job.wait()
-        self.used, self.mebibytes = self.used + job.used, max(self.mebibytes, job.mebibytes)
+        only = [word for path in sorted(paths) for word in ("--only", path)]
+        # (a path that fits nothing, as a function's that a macro writes, ends with 2: then all are checked)
+        for words in (only, []) if only else ([],):
+            job = rooms.Job([*self.words, *words], self.folder, f"{self.folder}/out/edits.log")
+            job.wait()
+            self.used, self.mebibytes = self.used + job.used, max(self.mebibytes, job.mebibytes)
+            if job.status != 2:
+                break
         for file, text in own.items():
             with open(f"{self.folder}/{file}", "w", encoding="utf-8") as it:
                 it.write(text)
         said = job.said()
         return TOLD.findall(said), said
+
+    def naming(self, edit):
+        """What `rt check --only` names the functions by that name one that the edit changes."""
+        named = re.compile(rf"\b(?:{'|'.join(name for _, name in edit.functions - {None}) or '(?!)'})\b")
+        files = [os.path.relpath(f"{at}/{it}", self.folder) for at, _, names in os.walk(f"{self.folder}/src") for it in names]
+        found = set()
+        for file in [it for it in files if "tests" not in modules_of(it)]:
+            with open(f"{self.folder}/{file}", encoding="utf-8") as it:
+                text = it.read()
+            found |= {path_of(file, *one) for one in {function_at(text, it.start()) for it in named.finditer(text)} - {None}}
+        return found
 
 
 class Tally:
@@ -206,34 +234,35 @@ class Tally:
         return hidden
 
     def try_alone(self, edit):
-        """Tries an edit in a check of its own, where any function may be the one that is refused."""
-        if self.is_over(1):
-            return
-        functions, said = self.copy.check({edit.file: edit.apply(source(edit))}, edit.paths())
-        refused = [path for path, how in functions if how in ("not proved", "no proof")]
-        ended = END.search(said)
-        if not ended:
-            self.tell(edit, False, f"doesn't compile: {said[-300:]!r}")
-        elif ended[1] or ended[2] and ended[2] == ended[3]:
-            self.tell(edit, False, "NOT REFUSED: the crate is still proved with this edit")
-        elif refused:
-            self.tell(edit, True, f"refused, alone, in {refused[0]}")
-        else:
-            self.tell(edit, True, "refused, alone, but by no function's contract, so that it says little")
+        """Tries an edit in checks of its own, where any function may be the one that is refused: first of those near it, then of all."""
+        near = edit.paths() | self.copy.naming(edit)
+        for paths in (near, set()) if near else (set(),):
+            if self.is_over(1):
+                return
+            functions, said = self.copy.check({edit.file: edit.apply(source(edit))}, paths)
+            ended = END.search(said)
+            if not ended:
+                self.tell(edit, False, f"doesn't compile: {said[-300:]!r}")
+                return
+            if not (ended[1] or ended[2] and ended[2] == ended[3]):
+                refused = [path for path, how in functions if how in ("not proved", "no proof")]
+                where = f"in {refused[0]}" if refused else "but by no function's contract, so that it says little"
+                self.tell(edit, True, f"refused, alone, {where}")
+                return
+        self.tell(edit, False, "NOT REFUSED: the crate is still proved with this edit")
 
 
-def tried(crate, edits, crates, until, times):
+def tried(crate, edits, crates, libraries, until, times):
     """Tries edits of a crate in a room of their own. Where the machine has no room for it, those that are left count as not tried."""
     begun, tally = time.time(), Tally(until)
-    kept = [f"{CRATES}/{it}/out/rlib/stamp" for it in rooms.below(crates, [crate]) if it != crate]
-    kept += [] if rooms.is_program(crate) else [f"{CRATES}/{crate}/out/incremental"]
-    if tally.is_over(len(edits)) or not all(map(os.path.exists, kept)):
+    built = [rooms.library(it, libraries) for it in rooms.below(crates, [crate]) if it != crate]
+    if tally.is_over(len(edits)) or not all(map(os.path.exists, built)):
         tally.untried = len(edits)
-        print(f"{crate}: {len(edits)} edits were not tried, for want of time or of a proof that was kept", flush=True)
+        print(f"{crate}: {len(edits)} edits were not tried, for want of time or of a library that is built", flush=True)
         return tally
     with tempfile.TemporaryDirectory(prefix="edits-", dir=f"{TOP}/out", ignore_cleanup_errors=True) as room:
         try:
-            tally.copy = Copy(crate, crates, room)
+            tally.copy = Copy(crate, crates, room, libraries)
             lost = [edit for edit in edits if edit.apply(source(edit)) is None]
             for edit in lost:
                 tally.tell(edit, False, "its text doesn't stand once in its file")
@@ -261,6 +290,7 @@ def main(words):
     asked = argparse.ArgumentParser(add_help=False)
     asked.add_argument("--until", type=float, default=float("inf"))
     asked.add_argument("--times")
+    asked.add_argument("--over", default=CRATES)
     asked.add_argument("crates", nargs="*")
     asked = asked.parse_args(words)
     crates, lanes = rooms.listed(), rooms.processors()
@@ -269,7 +299,7 @@ def main(words):
     parts = [(it, part) for it in with_edits[first:] + with_edits[:first] for part in parts_of(it, lanes)]
     os.makedirs(f"{TOP}/out", exist_ok=True)
     with concurrent.futures.ThreadPoolExecutor(lanes) as pool:
-        begun = [pool.submit(tried, crate, part, crates, asked.until, asked.times) for crate, part in parts]
+        begun = [pool.submit(tried, crate, part, crates, os.path.abspath(asked.over), asked.until, asked.times) for crate, part in parts]
     tallies = [run.result() for run in begun]
     refused, not_refused, untried = (sum(getattr(it, name) for it in tallies) for name in ("refused", "not_refused", "untried"))
     print(f"edits: {sum(len(part) for _, part in parts)}, of which {untried} were not tried, for want of time or of room")

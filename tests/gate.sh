@@ -1,10 +1,9 @@
 #!/bin/sh
 # The whole gate: every proof from nothing (`rt ci`), every test, what must not compile, each case of tests/ on the program as it was
 # built, and the must-fail edits. The last line counts them all.
-# `rt ci` runs in a copy without edits and without tests: it would try each edit in a check of its own, and prove each crate again with
-# its tests. A second proof of each crate, whose work is kept, is what the tests that have to be built and the edits are tried over:
-# these come last, and none of them is begun once the gate has run for 125 minutes; lines say what was left. docs/GATE.md says what
-# each part costs.
+# `rt ci` runs in a copy without edits and almost without tests: it would try each edit in a check of its own, and prove each crate again
+# with its tests. The edits are tried over the libraries that it built. They come last, and none is begun once the gate has run for 125
+# minutes: a line says what was left. docs/GATE.md says what each part costs.
 set -u
 cd "$(dirname "$0")/.."
 begun=$(date +%s)
@@ -52,7 +51,7 @@ echo "gate: the layout of the tests"
 step layout sh tests/layout.sh
 echo "gate: proving every crate from nothing (rt ci)"
 mkdir "$room/whole"
-step rt-ci sh tests/whole.sh "$room/whole"
+step rt-ci sh tests/whole.sh "$room/whole" --keep refused_or_not_ --of 3
 program=$room/whole/crates/avscan/out/avscan
 [ -x "$program" ] || { echo "gate: rt ci built no program"; echo "$passed passed, $((failed + 1)) failed"; exit 1; }
 echo "gate: the cases of tests/ on the built program"
@@ -90,17 +89,12 @@ echo "gate: what the documents name"
 step documents python3 tests/docs.py "$program"
 echo "gate: the tests"
 step tests python3 tests/run_tests.py --times "$times" --only run
+echo "gate: refused memory"
+step refused-memory sh tests/refused-memory.sh "$room"/whole/crates/*/out/*_tests
 echo "gate: values that must be spent"
 step must-be-spent python3 tests/must_be_spent.py
-until=$((begun + 7500))
-echo "gate: proving each library, whose work is kept"
-python3 tests/prove.py --times "$times" --until $until --libraries || failed=$((failed + 1))
-done_with proofs
-echo "gate: refused memory"
-step built python3 tests/run_tests.py --times "$times" --only built --of 3 --until $until
-step refused-memory sh tests/refused-memory.sh $(cat out/built)
-echo "gate: must-fail edits, over the proofs that were kept"
-step edits python3 tests/edits.py --times "$times" --until $until
+echo "gate: must-fail edits, over the libraries that were built"
+step edits python3 tests/edits.py --times "$times" --until $((begun + 7500)) --over "$room/whole/crates"
 echo "gate: $(nproc) processors, $(($(date +%s) - begun)) s; out/gate-times has what each part took"
 echo "$passed passed, $failed failed"
 [ "$failed" = 0 ]

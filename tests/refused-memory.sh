@@ -1,7 +1,7 @@
 #!/bin/sh
-# Refused memory: runs each test of the named crates whose name begins with `refused_or_not_` once for each request for
-# memory that its marked calls make, with that request refused. The test must pass each time. Wants the crates' tests as
-# `rt test` or `rt ci` built them, and a C compiler. The last line counts the tests.
+# Refused memory: runs each test whose name begins with `refused_or_not_` once for each request for memory that its marked calls make,
+# with that request refused. The test must pass each time. Takes the programs that `rt test` or `rt ci` built of crates' tests
+# (crates/NAME/out/NAME_tests), and wants a C compiler. The last line counts the tests.
 set -eu
 cd "$(dirname "$0")/.."
 work=$(mktemp -d)
@@ -37,10 +37,9 @@ refuse_each() {
     echo "$name: passes with each of $((n - 1)) requests refused in turn"
 }
 
-for crate in "$@"; do
-    tests="crates/$crate/out/${crate}_tests"
+for tests in "$@"; do
     "$tests" --list | sed -n 's/: test$//p' | grep -E '(^|::)refused_or_not_' > "$work/names" || {
-        echo "$crate: no test is named for refused memory"
+        echo "${tests##*/}: no test is named for refused memory"
         failed=$((failed + 1))
     }
     while read -r name; do

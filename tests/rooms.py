@@ -105,6 +105,26 @@ def put_up(room, crate, crates, sources=CRATES):
     return f"{room}/crates/{crate}"
 
 
+def library(crate, libraries):
+    """Where a library lies once it is built."""
+    return f"{libraries}/{crate}/out/rlib/{crate}.rlib"
+
+
+def check_words(crate, crates, libraries):
+    """The command that checks a crate in the folder that it is run in, over libraries that are built, and keeps what it proves there."""
+    kit = os.path.dirname(subprocess.run(["rt", "doc"], capture_output=True, text=True, check=True).stdout.strip())
+    named = lines()[crate].partition(":")[2].split()
+    root = "src/main.rt" if is_program(crate) else "src/lib.rt"
+    words = [f"{kit}/bin/rattle", "check", "--crate-name", crate, root, "--jobs", "1", "--incremental", "out/incremental"]
+    for name in ("std", *named):
+        words += ["--extern", f"{name}={library(name, libraries) if name in crates else f'{kit}/rlibs/{name}.rlib'}"]
+    for name in below(crates, [crate]):
+        words += ["-L", f"dependency={os.path.dirname(library(name, libraries))}"] * (name != crate)
+        words += ["--links", f"{name}="] * (name == crate or is_program(crate))
+    words += ["-L", f"dependency={kit}/rlibs"]
+    return [*words, "--antt-project", f"{kit}/rattle/logic/antt-project.json", "--logic-built", f"{kit}/logic_built"]
+
+
 def note(file, kind, crate, count, seconds, used, mebibytes):
     """Adds a line to a file of times, if one is named: what was done, the crate, of how many things, seconds, processor seconds and the
     mebibytes of the largest process."""

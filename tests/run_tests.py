@@ -1,13 +1,12 @@
 #!/usr/bin/env python3
 """Runs the tests of crates, side by side, and builds those of refused memory.
 
-usage: run_tests.py [--times FILE] [--above] [--only run|built] [--of N] [--until SECONDS] [CRATE ...]
+usage: run_tests.py [--times FILE] [--above] [--only run|built] [CRATE ...]
 
 Each test of the named crates (all, without a name; with --above those that stand on them too) is run without a proof, compiled with
 checks for bad accesses (`rt try --test`). The tests whose names begin with `refused_or_not_` are proved too, over what earlier runs kept
 of their crate, built and run (`rt test`): tests/refused-memory.sh runs what is built, crates/NAME/out/NAME_tests, over a `malloc` that
-refuses. With --of N these are built of every Nth crate, of others each day; out/built names the crates. --only does one of the
-two. None is begun once the clock (seconds since 1970) is past --until. The last line counts the tests.
+refuses. --only does one of the two. The last line counts the tests.
 """
 import argparse
 import os
@@ -16,7 +15,6 @@ import shutil
 import subprocess
 import sys
 import tempfile
-import time
 
 import rooms
 from rooms import CRATES, TOP
@@ -83,25 +81,19 @@ def main(words):
     asked.add_argument("--times")
     asked.add_argument("--above", action="store_true")
     asked.add_argument("--only", choices=("run", "built"))
-    asked.add_argument("--of", type=int, default=1)
-    asked.add_argument("--until", type=float, default=float("inf"))
     asked.add_argument("crates", nargs="*")
     asked = asked.parse_args(words)
     crates = rooms.listed()
     chosen = [it for name in asked.crates for it in (rooms.above(crates, name) if asked.above else [name])] or crates
     wanted = [it for it in crates if it in chosen and named(it)]
-    built = [it for at, it in enumerate(it for it in wanted if named(it, KEPT)) if (at + int(time.time() / 86400)) % asked.of == 0]
-    built = [it for it in built if os.path.isdir(f"{CRATES}/{it}/out/incremental")]
+    built = [it for it in wanted if named(it, KEPT) and os.path.isdir(f"{CRATES}/{it}/out/incremental")]
     os.makedirs(f"{TOP}/out", exist_ok=True)
     with tempfile.TemporaryDirectory(prefix="tests-", dir=f"{TOP}/out", ignore_cleanup_errors=True) as room:
         runs = Runs(crates, room, asked.times)
         tasks = {} if asked.only == "built" else {(it, "run"): (300, []) for it in wanted}
         if asked.only != "run":
             tasks.update({(it, "built"): (rooms.size(it), []) for it in built})
-        left = rooms.in_lanes(tasks, runs.begin, runs.ended_with, rooms.processors(), asked.until)
-    if asked.only != "run":
-        with open(f"{TOP}/out/built", "w", encoding="utf-8") as file:
-            file.write("".join(f"{it}\n" for it in built if (it, "built") not in left))
+        rooms.in_lanes(tasks, runs.begin, runs.ended_with, rooms.processors())
     print(f"{runs.passed} passed, {runs.failed} failed", flush=True)
     return 1 if runs.failed else 0
 
