@@ -5,3 +5,6 @@ pub mod SumLemmas
 pub mod KeepLemmas
 pub mod StateLemmas
 pub mod LawLemmas
+pub mod StayLemmas
+pub mod PairLemmas
+pub mod SoundLemmas

@@ -4,6 +4,8 @@ pub mod State
 pub mod Shelf
 pub mod Place
 pub mod Counts
+pub mod Waiting
+pub mod Written
 pub mod Sound
 pub mod Asking
 pub mod Keeping

@@ -5,11 +5,14 @@ ghost use Rattle.std.specs.Ordering.{nat_cmp};
 ghost use Rattle.av_base.specs.declared.refusal.Refusal.TheVariants.{NoMemory};
 ghost use Rattle.av_filter.specs.Once.{times};
 ghost use Rattle.av_filter.specs.Conduct.{Disconnects, Receives, TimesOut};
-ghost use Rattle.av_guard.specs.Asking.{AskedNow, GivesNothing, LetsGo, Refuses, Takes, bytes_kept, in_line, is_crowded, may_ask, must_stand, opens, refusal_of, skipped, still_here};
+ghost use Rattle.av_guard.specs.Asking.{AskedNow, GivesNothing, LetsGo, Refuses, Takes, bytes_kept, in_line, is_crowded, may_ask, must_stand, opens, place_of, refusal_of, skipped, still_here};
 ghost use Rattle.av_guard.specs.Line.{FirstOf, FrontOf, IsFree, NextOf};
 ghost use Rattle.av_guard.specs.Kept.{AsksNew, IsKeptBy};
 ghost use Rattle.av_guard.specs.Beginning.{Joins, NotBegun, begun};
+ghost use Rattle.av_guard.specs.Place.{Unused};
 ghost use Rattle.av_guard.specs.State.{Turns, happens};
+ghost use Rattle.av_guard.specs.Waiting.{ArePaired};
+ghost use Rattle.av_guard.specs.Written.{AreWritten};
 ghost use Rattle.av_store.specs.Store.{greatest};
 
 use crate::ask::Ask;
@@ -216,9 +219,10 @@ impl Guard {
         self.filter.question_count()
     }
 
-    /// How many asks wait for a verdict, those of clients that have left among them.
+    /// How many asks wait for a verdict, those of clients that have left among them: for each open that the filter holds one.
     pub fn waiting_count(&self) -> usize
-        ensures { result ≡ length self.now.waiting }
+        ensures count { result ≡ length self.now.waiting }
+        ensures paired { ArePaired self.now.table.pended self.now.waiting }
     {
         self.waiting.len()
     }
@@ -230,9 +234,10 @@ impl Guard {
         self.line.len()
     }
 
-    /// How many contents are kept.
+    /// How many contents are kept, each in a stream that was written once.
     pub fn kept_count(&self) -> u64
-        ensures { result ≡ length self.now.volume.streams }
+        ensures count { result ≡ length self.now.volume.streams }
+        ensures written { AreWritten self.now.volume.streams }
     {
         self.shelf.count()
     }
@@ -284,6 +289,7 @@ impl Guard {
         content: &[u8],
     ) -> Result<StreamId, Refusal<AskFault>>
         requires small { length content.now < 2 ^ 63 }
+        requires place { place_of self.old content.now ≡ Unused name.now }
         ensures kept { IsKeptBy self.old self.new name.now content.now result }
     {
         match self.volume.create_refusal(name) {
@@ -354,6 +360,7 @@ impl Guard {
     ) -> Result<Given, Refusal<AskFault>>
         requires small { length content.now < 2 ^ 63 }
         requires left { self.old.volume.opens < greatest }
+        requires place { place_of self.old content.now ≡ Unused name.now }
         ensures { AsksNew self.old self.new client tag name.now content.now result }
     {
         let stream = match self.keep_content(alloc, name, content) {

@@ -76,7 +76,7 @@ fn tell(
     }
 }
 
-/// One comes to wait for the open of this number.
+/// One comes to wait for the open of this number, for which nobody waits.
 pub(crate) fn enter(
     waiting: &mut BTreeMap<u64, Waiter>,
     shelf: &mut Shelf,
@@ -84,16 +84,12 @@ pub(crate) fn enter(
     waiter: Waiter,
 ) -> Result<(), AllocError>
     requires counted { AreCounted shelf.old.waits waiting.old.entries }
+    requires free { at waiting.old.entries number ≡ None }
     ensures ok { OnOk result (waiting.new.entries ≡ with waiting.old.entries number waiter) }
-    ensures free { OnOk result (at waiting.old.entries number ≡ None) }
     ensures err { OnErr result (waiting.new.entries ≡ waiting.old.entries) }
     ensures counted { AreCounted shelf.new.waits waiting.new.entries }
     ensures shelf { (shelf.new.count ≡ shelf.old.count) × (shelf.new.bytes ≡ shelf.old.bytes) }
 {
-    match waiting.get(&number) {
-        Some(_) => return Err(AllocError),
-        None => {}
-    }
     let stream = waiter.stream;
     match shelf.wait(stream) {
         Ok(()) => {}

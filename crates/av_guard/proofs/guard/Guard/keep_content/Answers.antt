@@ -1,7 +1,9 @@
-use Rattle.std.proofs.Common.{refl, sym, ap, ◌∙◌, arith}
+use Rattle.std.proofs.Common.{refl, sym, subst, ap, ◌∙◌, arith}
 use Rattle.av_guard.specs.Shelf.{Kept, waits_of}
 use Rattle.std.specs.Prelude.{is_some}
 use Rattle.av_guard.proofs.KeepLemmas.{more_bytes, more_count}
+use Rattle.av_guard.proofs.SoundLemmas.{free_name, written_more, written_same}
+use Rattle.av_guard.specs.Waiting.{ArePaired}
 use Rattle.av_guard.proofs.guard.Guard.keep_content.Goals as goal
 
 pub returns-in-Some : goal.returns-in-Some
@@ -13,6 +15,8 @@ invariant_of-self-in-Ok-store c =
     let added = c.in-Ok.ensures.ok in
     record {
       fits = c.store.ensures.fits;
+      written = written_same _ _ stored.streams (written_more _ _ _ _ c.self.invariant.written (free_name c.args.self.now.volume c.args.content.now c.args.name.now c.requires.place));
+      paired = subst (λ ps. ArePaired ps c.self.inside.waiting.entries) (sym stored.pended) c.self.invariant.paired;
       counted = λ s. ap (λ (k : Kept). waits_of k.waits s) added ∙ c.self.invariant.counted s;
       count = omega (arith, ap (λ (k : Kept). k.count) added, c.self.invariant.count, more_count _ _ _ _ _ _ stored);
       bytes = omega (arith, ap (λ (k : Kept). k.bytes) added, c.self.invariant.bytes, more_bytes _ _ _ _ _ _ stored);

@@ -1,0 +1,14 @@
+use Rattle.std.proofs.Common.{refl, ◌∙◌}
+use Rattle.av_filter.specs.Conduct.{Receives}
+use Rattle.av_guard.proofs.SoundLemmas.{paired_after}
+use Rattle.av_guard.proofs.guard.Guard.message.Goals as goal
+
+pub invariant_of-self-2 : goal.invariant_of-self-2
+invariant_of-self-2 c = record {
+  fits = c.receive.ensures.fits;
+  written = c.self.invariant.written;
+  paired = paired_after _ _ _ _ _ _ (Receives c.args.message.now) _ c.self.invariant.fits c.self.invariant.written c.self.invariant.paired refl tt c.in_ok-out.ensures.event c.settle.ensures.waiting;
+  counted = c.settle.ensures.counted;
+  count = c.settle.ensures.shelf.0 ∙ c.self.invariant.count;
+  bytes = c.settle.ensures.shelf.1 ∙ c.self.invariant.bytes;
+}
