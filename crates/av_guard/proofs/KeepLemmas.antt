@@ -170,7 +170,7 @@ written_new limits name c y =
     sym same ∙ ap (λ bs. record { name = name; generation = 2; bytes = bs }) bytes))
 
 -- no question is of a stream that is not there
-no_question : (t : Table) (v : Store) (s : ℕ) → Fits t v → stream_at s v.streams ≡ None → question_of s t.questions ≡ None
+pub no_question : (t : Table) (v : Store) (s : ℕ) → Fits t v → stream_at s v.streams ≡ None → question_of s t.questions ≡ None
 no_question t v s fits away = go (question_of s t.questions) refl
   where
     go : (o : Option Question) → question_of s t.questions ≡ o → o ≡ None

@@ -8,3 +8,9 @@ pub mod LawLemmas
 pub mod StayLemmas
 pub mod PairLemmas
 pub mod SoundLemmas
+pub mod PastLemmas
+pub mod TellLemmas
+pub mod StoryLemmas
+pub mod RunLemmas
+pub mod AskLemmas
+pub mod CallLemmas

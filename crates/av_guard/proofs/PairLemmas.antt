@@ -1,22 +1,22 @@
 -- Who waits here and which opens the filter holds, after an event.
-use Rattle.std.proofs.Common.{◌≡◌, ◌≢◌, ℕ, ◌+◌, ◌≤◌, ◌==◌, Bool, true, false, cond, List, [], ◌∷◌, map, Option, Some, None, if◌then◌else◌, refl, arith, ap, ◌∙◌, sym, subst, eq-eqb, true≢false}
+use Rattle.std.proofs.Common.{◌≡◌, ◌≢◌, ℕ, ◌+◌, ◌≤◌, ◌==◌, true, false, cond, List, [], ◌∷◌, map, Option, Some, None, if◌then◌else◌, refl, arith, ap, ◌∙◌, subst}
 use Rattle.std.proofs.lemmas.Bool.Decides.{nat_tests}
 use Rattle.std.specs.BTreeMap.{is_at}
 use Rattle.std.specs.List.{AllByRecursion as Each}
 use Rattle.std.specs.Ordering.{is_eq, match_ordering, nat_cmp}
 use Rattle.std.specs.declared.cmp.Ordering.TheVariants.{Less, Equal, Greater}
 use Rattle.av_context.specs.Contexts.{at, with, without}
-use Rattle.av_filter.proofs.CountLemmas.{Balanced, filter_balanced, opens_after}
+use Rattle.av_filter.proofs.CountLemmas.{filter_balanced, opens_after}
 use Rattle.av_filter.proofs.EachLemmas.{each_weaker}
 use Rattle.av_filter.proofs.MapLemmas.{at-without_other}
-use Rattle.av_filter.specs.Conduct.{FilterEvent, Opens, filter_step}
+use Rattle.av_filter.specs.Conduct.{FilterEvent, filter_step}
 use Rattle.av_filter.specs.Fit.{Fits, IsPresent}
 use Rattle.av_filter.specs.Once.{once_up_to, times}
 use Rattle.av_filter.specs.Reaction.{Reaction}
 use Rattle.av_filter_table.specs.Table.{Table}
 use Rattle.av_filter_table.specs.declared.pended.Pended.{Pended}
 use Rattle.av_filter_table.specs.declared.question.Question.{Question}
-use Rattle.av_guard.proofs.StayLemmas.{Comes, IsOf, Stays, event_stays}
+use Rattle.av_guard.proofs.StayLemmas.{Comes, Stays, event_stays}
 use Rattle.av_guard.specs.Telling.{Waiters, left_by}
 use Rattle.av_guard.specs.Waiting.{ArePaired, IsAwaited}
 use Rattle.av_guard.specs.Written.{AreWritten, IsWritten}

@@ -1,11 +1,11 @@
 -- What every event keeps of a guard: contents are written once, and each open is waited for by one.
-use Rattle.std.proofs.Common.{◌≡◌, ℕ, zero, suc, ◌+◌, ◌-◌, ◌<◌, ◌≤◌, ◌==◌, Bool, true, false, cond, List, [], ◌∷◌, ◌++◌, map, Option, Some, None, if◌then◌else◌, refl, arith, ap, ◌∙◌, sym, subst}
+use Rattle.std.proofs.Common.{◌≡◌, ℕ, zero, suc, ◌+◌, ◌-◌, ◌<◌, ◌≤◌, ◌==◌, Bool, true, false, cond, List, [], ◌∷◌, ◌++◌, Option, Some, None, if◌then◌else◌, refl, arith, ap, ◌∙◌, sym, subst}
 use Rattle.std.proofs.lemmas.Bool.Decides.{nat_tests}
 use Rattle.std.specs.List.{AllByRecursion as Each}
 use Rattle.av_context.specs.Contexts.{at, with}
-use Rattle.av_filter.proofs.BoundLemmas.{leads_to, volume_after}
+use Rattle.av_filter.proofs.BoundLemmas.{leads_to}
 use Rattle.av_filter.proofs.CountLemmas.{opens_after}
-use Rattle.av_filter.proofs.EachLemmas.{each-append, each_weaker}
+use Rattle.av_filter.proofs.EachLemmas.{each-append}
 use Rattle.av_filter.specs.Call.{Reacts}
 use Rattle.av_filter.specs.Conduct.{FilterEvent, Changes, Opens, filter_step}
 use Rattle.av_filter.specs.Fit.{Fits}
@@ -17,7 +17,7 @@ use Rattle.av_guard.proofs.PairLemmas.{at_new, at_none, at_other, ids, key_more,
 use Rattle.av_guard.proofs.StayLemmas.{Comes}
 use Rattle.av_guard.specs.Asking.{stream_with}
 use Rattle.av_guard.specs.Naming.{name_of}
-use Rattle.av_guard.specs.Place.{Held, Missing, Spot, Unused, has_bytes, place_from, spot_at}
+use Rattle.av_guard.specs.Place.{Held, Spot, Unused, has_bytes, place_from, spot_at}
 use Rattle.av_guard.specs.Telling.{Waiters, left_by}
 use Rattle.av_guard.specs.Waiting.{ArePaired, IsAwaited}
 use Rattle.av_guard.specs.Written.{AreWritten, IsWritten}
@@ -25,7 +25,7 @@ use Rattle.av_guard.specs.declared.waiter.Waiter.{Waiter}
 use Rattle.av_store.specs.Files.{Remove}
 use Rattle.av_store.specs.Rows.{Streams, is_number, number_named, stream_at, without}
 use Rattle.av_store.specs.Seen.{change_of, kept_or}
-use Rattle.av_store.specs.Store.{Store, greatest, removed, with_streams}
+use Rattle.av_store.specs.Store.{Store, greatest, with_streams}
 use Rattle.av_store.specs.declared.fault.StoreFault.TheVariants.{NoStream}
 use Rattle.std.specs.Prelude.{is_some, Ok, Err}
 
@@ -84,7 +84,7 @@ paired_after t t' v v' m m' e out fits all p none comes reacts left =
     (paired t v m e fits all (λ n. omega (arith, p.each n, ap (λ k. once_up_to k n) none)) (λ n. omega (arith, p.each n, p.once n)) p.streams comes))
 
 -- nobody waits for the next open yet
-number_free : (t : Table) (v : Store) (m : Waiters) → Fits t v → ArePaired t.pended m → at m (v.opens + 1) ≡ None
+pub number_free : (t : Table) (v : Store) (m : Waiters) → Fits t v → ArePaired t.pended m → at m (v.opens + 1) ≡ None
 number_free t v m fits p = at_none m (v.opens + 1) (p.each (v.opens + 1) ∙ times_above t.pended v.opens fits.taken)
 
 pub number_is : (opens left : ℕ) → left ≡ greatest - opens → opens < greatest → greatest - left + 1 ≡ opens + 1
@@ -93,13 +93,26 @@ number_is opens left is some = omega (arith, is, some)
 pub free_at : (t : Table) (v : Store) (m : Waiters) (n : ℕ) → Fits t v → ArePaired t.pended m → n ≡ v.opens + 1 → at m n ≡ None
 free_at t v m n fits p is = subst (λ k. at m k ≡ None) (sym is) (number_free t v m fits p)
 
-one_more : (k n : ℕ) → once_up_to (k + 1) n ≡ once_up_to k n + (if k + 1 == n then 1 else 0)
+pub one_more : (k n : ℕ) → once_up_to (k + 1) n ≡ once_up_to k n + (if k + 1 == n then 1 else 0)
 one_more k n = grind (arith, nat_tests)
 
 at_most_one : (k n a : ℕ) → a ≤ 1 → (k ≡ n → a ≡ 0) → (if k == n then 1 else 0) + a ≤ 1
 at_most_one k n a few none = grind (arith, nat_tests)
 
--- and after an open, for which one came to wait
+-- each number once, where one comes to wait for the next open
+pub at_most : (t : Table) (v : Store) (m : Waiters) (w : Waiter) (n : ℕ) → Fits t v → ArePaired t.pended m → times n (keys (with m (v.opens + 1) w)) ≤ 1
+at_most t v m w n fits p =
+    let k = v.opens + 1 in
+    let none : times k (ids t.pended) ≡ 0 = times_above t.pended v.opens fits.taken in
+    subst (λ a. a ≤ 1) (sym (key_more m k w n (number_free t v m fits p))) (at_most_one k n (times n (keys m)) (omega (arith, p.each n, p.once n)) (λ same. p.each n ∙ subst (λ j. times j (ids t.pended) ≡ 0) same none))
+
+pub still_awaited : (t : Table) (v : Store) (m : Waiters) (w : Waiter) → Fits t v → ArePaired t.pended m → (ps : List Pended) → Each (λ p. p.held.open_id ≤ v.opens) ps → Each (λ p. IsAwaited m p.held.open_id p.held.stream) ps
+    → Each (λ p. IsAwaited (with m (v.opens + 1) w) p.held.open_id p.held.stream) ps
+still_awaited t v m w fits p [] low held = tt
+still_awaited t v m w fits p (q ∷ qs) low held =
+    ((held.0.0, at_other m (v.opens + 1) q.held.open_id w (number_free t v m fits p) (λ is. omega (arith, is, low.0)) ∙ held.0.1, held.0.2), still_awaited t v m w fits p qs low.1 held.1)
+
+-- who waits after an open, for which one came to wait
 pub paired_opened : (t t' : Table) (v v' : Store) (m m' : Waiters) (w : Waiter) (n least : ℕ) (out : Out) → n ≡ v.opens + 1 → Fits t v → AreWritten v.streams → ArePaired t.pended m → Reacts out t' v' (filter_step t v (Opens w.stream least))
     → m' ≡ left_by (with m n w) out.answers.items → ArePaired t'.pended m'
 paired_opened t t' v v' m m' w n least out is fits all p reacts left =
@@ -107,16 +120,8 @@ paired_opened t t' v v' m m' w n least out is fits all p reacts left =
     let k = v.opens + 1 in
     let more = with m k w in
     let away : at m k ≡ None = number_free t v m fits p in
-    let none : times k (ids t.pended) ≡ 0 = times_above t.pended v.opens fits.taken in
     subst (λ (u : Table). ArePaired u.pended m') (sym reacts.table) (subst (ArePaired (filter_step t v e).table.pended) (sym (left ∙ ap (λ u. left_by (with m u w) out.answers.items) is ∙ ap (left_by more) reacts.answers))
-    (paired t v more e fits all (λ u. omega (arith, key_more m k w u away, p.each u, one_more v.opens u))
-    (λ u. subst (λ a. a ≤ 1) (sym (key_more m k w u away)) (at_most_one k u (times u (keys m)) (omega (arith, p.each u, p.once u)) (λ same. p.each u ∙ subst (λ j. times j (ids t.pended) ≡ 0) same none)))
-    (each_still t.pended fits.taken p.streams) (w, at_new m k w away, refl)))
-  where
-    each_still : (ps : List Pended) → Each (λ p. p.held.open_id ≤ v.opens) ps → Each (λ p. IsAwaited m p.held.open_id p.held.stream) ps → Each (λ p. IsAwaited (with m (v.opens + 1) w) p.held.open_id p.held.stream) ps
-    each_still [] low held = tt
-    each_still (q ∷ qs) low held =
-        ((held.0.0, at_other m (v.opens + 1) q.held.open_id w (number_free t v m fits p) (λ is. omega (arith, is, low.0)) ∙ held.0.1, held.0.2), each_still qs low.1 held.1)
+    (paired t v more e fits all (λ u. omega (arith, key_more m k w u away, p.each u, one_more v.opens u)) (λ u. at_most t v m w u fits p) (still_awaited t v m w fits p t.pended fits.taken p.streams) (w, at_new m k w away, refl)))
 
 -- nothing has changed
 pub paired_back : (t t' : Table) (m m' : Waiters) → t' ≡ t → m' ≡ m → ArePaired t.pended m → ArePaired t'.pended m'

@@ -10,7 +10,7 @@ use Rattle.av_filter.specs.Once.{times}
 use Rattle.av_guard.specs.declared.waiter.Waiter.{Waiter}
 use Rattle.av_filter_table.specs.Table.{Table}
 use Rattle.av_guard.proofs.SumLemmas.{count_less, sum_less}
-use Rattle.av_guard.specs.Asking.{Asked, AskedNow, IsRefused, LetGo, LetsGo, Nexts, is_crowded, ask_fault, may_ask, skipped, asked, behind, bytes_in, bytes_kept, kept, opens, place_fault, place_of}
+use Rattle.av_guard.specs.Asking.{Asked, AskedNow, IsRefused, IsThere, LetGo, LetsGo, Nexts, is_crowded, ask_fault, may_ask, skipped, asked, behind, bytes_in, bytes_kept, kept, opens, place_fault, place_of}
 use Rattle.av_guard.specs.Asking as refused_so
 use Rattle.av_guard.specs.Kept.{AsksNew, IsLeft, IsNotIn, Never, Stays}
 use Rattle.av_guard.specs.Kept as kept_so
@@ -70,15 +70,16 @@ fault_at : (g : State) (c : List ℕ) (spot : Spot) → (g.volume.opens == great
 fault_at g c spot left is = ap (λ b. if b then Some OpensSpent else place_fault g (place_of g c)) left ∙ ap (λ p. place_fault g p) is
 
 pub asked_new : (old new : State) (client tag : ℕ) (name c : List ℕ) (r : Result Given (Refusal AskFault)) → (old.volume.opens == greatest) ≡ false → place_of old c ≡ Unused name → AsksNew old new client tag name c r → AskedNow old new client tag c r
-asked_new old new client tag name c (Ok given) left is (creates, gives) = (
-  fault_at old c (Unused name) left is ∙ ap (λ o. if is_some o then Some Full else None) creates,
+asked_new old new client tag name c (Ok given) left is (there, gives) = (
+  fault_at old c (Unused name) left is ∙ ap (λ o. if is_some o then Some Full else None) there.0,
+  subst (IsThere old c) (sym is) there,
   subst (λ p. Gives given new (asked old client tag c p)) (sym is) gives,
 )
 asked_new old new client tag name c (Err (Fault f)) left is (full, refused, same) =
     (fault_at old c (Unused name) left is ∙ ap (λ b. if b then Some Full else None) refused ∙ ap (λ k. Some k) (sym full), same)
-asked_new old new client tag name c (Err NoMemory) left is (Never (kept_so.Same same)) = refused_so.Same same
-asked_new old new client tag name c (Err NoMemory) left is (Never (kept_so.Spent spent)) = refused_so.Spent spent
-asked_new old new client tag name c (Err NoMemory) left is (Stays creates stays) = refused_so.Kept name is stays
+asked_new old new client tag name c (Err NoMemory) left is (Never creates (kept_so.Same same)) = refused_so.Same same
+asked_new old new client tag name c (Err NoMemory) left is (Never creates (kept_so.Spent spent)) = refused_so.Spent name is creates spent
+asked_new old new client tag name c (Err NoMemory) left is (Stays there stays) = refused_so.Kept name is there stays
 
 -- what an ask gives, whatever the line behind it
 gives_behind : (old mid : State) (given : Given) (client tag : ℕ) (c : List ℕ) (line : List Ask) (spot : Spot) → Gives given mid (asked (behind old []) client tag c spot) → Gives given (behind mid line) (asked (behind old line) client tag c spot)
@@ -86,17 +87,22 @@ gives_behind old mid given client tag c line (Held s) g = record { told = g.told
 gives_behind old mid given client tag c line (Unused name) g = record { told = g.told; messages = g.messages; state = ap (λ x. behind x line) g.state }
 gives_behind old mid given client tag c line Missing g = record { told = g.told; messages = g.messages; state = ap (λ x. behind x line) g.state }
 
+there_behind : (old : State) (c : List ℕ) (line : List Ask) (spot : Spot) → IsThere (behind old []) c spot → IsThere (behind old line) c spot
+there_behind old c line (Held s) is = is
+there_behind old c line (Unused name) is = is
+there_behind old c line Missing is = is
+
 -- the first in line was asked
 pub first_asked : (old mid : State) (line : List Ask) (given : Given) → old.line ≡ line → FrontOf (behind old []) mid line (Ok (Some given)) → FirstOf old (behind mid (drop 1 line)) (Ok (Some given))
 first_asked old mid line given is f =
     subst (λ l. (x : Ask) → old.line ≡ x ∷ drop 1 l → AskedNow (behind old (drop 1 l)) (behind mid (drop 1 line)) x.client x.tag x.content (Ok given) → IsFirst old (behind mid (drop 1 line)) given) is
     (λ x first asked_so. record { ask = x; first = first; asked = asked_so }) f.ask (is ∙ f.first)
-    (f.asked.0, gives_behind old mid given f.ask.client f.ask.tag f.ask.content (drop 1 line) _ f.asked.1)
+    (f.asked.0, there_behind old f.ask.content (drop 1 line) _ f.asked.1, gives_behind old mid given f.ask.client f.ask.tag f.ask.content (drop 1 line) _ f.asked.2)
 
 refused_behind : (old mid : State) (c : List ℕ) → IsRefused (behind old []) mid c → IsRefused old (behind mid old.line) c
 refused_behind old mid c (refused_so.Same e) = refused_so.Same (ap (λ x. behind x old.line) e)
-refused_behind old mid c (refused_so.Spent e) = refused_so.Spent (ap (λ x. behind x old.line) e)
-refused_behind old mid c (refused_so.Kept name is e) = refused_so.Kept name is (ap (λ x. behind x old.line) e)
+refused_behind old mid c (refused_so.Spent name is creates e) = refused_so.Spent name is creates (ap (λ x. behind x old.line) e)
+refused_behind old mid c (refused_so.Kept name is there e) = refused_so.Kept name is there (ap (λ x. behind x old.line) e)
 
 pub first_refused : (old mid : State) (line : List Ask) (why : Refusal AskFault) → old.line ≡ line → FrontOf (behind old []) mid line (Err why) → FirstOf old (behind mid line) (Err why)
 first_refused old mid line (Fault f) is front = ap (λ x. behind x line) front.asked.1 ∙ ap (λ l. behind old l) (sym is)

@@ -1,6 +1,6 @@
 -- What an event of the filter does to the opens that it holds: each keeps its number and its stream, and each answer is for one of
 -- them, or for the open that comes.
-use Rattle.std.proofs.Common.{◌≡◌, ℕ, ◌+◌, not, ◌&&◌, List, [], ◌∷◌, ◌++◌, length, map, filter, Option, Some, None, if◌then◌else◌, ◌==◌, nat_le, nat_lt, true, false, subst, sym, refl}
+use Rattle.std.proofs.Common.{◌≡◌, ℕ, ◌+◌, not, ◌&&◌, List, [], ◌∷◌, length, map, filter, Option, Some, None, if◌then◌else◌, ◌==◌, nat_le, nat_lt, true, false, subst, sym, refl}
 use Rattle.std.specs.List.{AllByRecursion as Each, list_any}
 use Rattle.std.proofs.lemmas.Bool.{cond_both}
 use Rattle.av_base.specs.declared.cause.Cause.{Cause}
@@ -24,7 +24,7 @@ use Rattle.av_filter.specs.declared.note.Note.{Note}
 use Rattle.av_filter.specs.declared.note.Note.TheVariants.{Quiet}
 use Rattle.av_filter_table.specs.Answering.{judged, present_bytes, refused_now}
 use Rattle.av_filter_table.specs.Asking.{again_cause, again_under, asks, ended, is_held, is_lost, moved}
-use Rattle.av_filter_table.specs.Table.{Table, can_ask, context_of, has_room, is_modified, next_id, question_at, sequence_left, waits_for}
+use Rattle.av_filter_table.specs.Table.{Table, can_ask, context_of, has_room, is_modified, next_id, sequence_left, waits_for}
 use Rattle.av_filter_table.specs.declared.pended.Pended.{Pended}
 use Rattle.av_filter_table.specs.declared.question.Question.{Question}
 use Rattle.av_base.specs.MessageId.{same_id}

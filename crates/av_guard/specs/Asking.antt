@@ -64,6 +64,14 @@ stream_with name c = record { name = name; generation = 2; bytes = c }
 abbrev pub kept : State → List ℕ → List ℕ → State
 kept g name c = record g { table = (stored g.table g.volume name c).table; volume = (stored g.table g.volume name c).volume }
 
+-- where a content had to be kept, a stream more is there that has it
+abbrev pub IsThere : State → List ℕ → Spot → Type 0
+IsThere g c (Held s) = Unit {0}
+IsThere g c (Unused name) =
+    (result_err (create_of g.volume name) ≡ None)
+    × ((kept g name c).volume.streams ≡ g.volume.streams ++ (g.volume.last + 1, stream_with name c) ∷ [])
+IsThere g c Missing = Unit {0}
+
 -- the number of a stream is spent, and nothing else is changed
 abbrev pub spent : State → State
 spent g = record g { volume = record g.volume { last = g.volume.last + 1 } }
@@ -92,12 +100,15 @@ ask_fault g c = if g.volume.opens == greatest then Some OpensSpent else place_fa
 -- stream's number may be spent, or the content may be kept, which nobody waits for.
 pub data IsRefused (old new : State) (c : List ℕ) : Type 0 where
   Same : new ≡ old → IsRefused old new c
-  Spent : new ≡ spent old → IsRefused old new c
-  Kept : (name : List ℕ) → place_of old c ≡ Unused name → new ≡ kept old name c → IsRefused old new c
+  Spent : (name : List ℕ) → place_of old c ≡ Unused name → result_err (create_of old.volume name) ≡ None → new ≡ spent old
+      → IsRefused old new c
+  Kept : (name : List ℕ) → place_of old c ≡ Unused name → IsThere old c (Unused name) → new ≡ kept old name c
+      → IsRefused old new c
 
 -- a content was asked about
 abbrev pub AskedNow : State → State → ℕ → ℕ → List ℕ → Result Given (Refusal AskFault) → Type 0
-AskedNow old new client tag c (Ok given) = (ask_fault old c ≡ None) × Gives given new (asked old client tag c (place_of old c))
+AskedNow old new client tag c (Ok given) =
+    (ask_fault old c ≡ None) × IsThere old c (place_of old c) × Gives given new (asked old client tag c (place_of old c))
 AskedNow old new client tag c (Err (Fault f)) = (ask_fault old c ≡ Some f) × (new ≡ old)
 AskedNow old new client tag c (Err NoMemory) = IsRefused old new c
 
@@ -123,7 +134,7 @@ abbrev pub Takes : State → State → Given → ℕ → ℕ → List ℕ → Ty
 Takes old new given client tag c =
     MatchBool (must_stand old)
     (GivesNothing given × (new ≡ in_line old (record { client = client; tag = tag; content = c })))
-    (Gives given new (asked old client tag c (place_of old c)))
+    (IsThere old c (place_of old c) × Gives given new (asked old client tag c (place_of old c)))
 
 -- an ask that is refused
 abbrev pub Refuses : State → State → ℕ → List ℕ → Refusal AskFault → Type 0

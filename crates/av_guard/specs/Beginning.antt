@@ -1,7 +1,9 @@
 -- A guard as it begins, and clients that come.
 use Rattle.std.specs.Prelude.{◌≡◌, ℕ, ◌+◌, ◌&&◌, true, false, nat_le, Option, Some, None}
+use Rattle.std.specs.BTreeMap.{is_at}
 use Rattle.std.specs.BTreeSet.{insert_key}
 use Rattle.std.specs.Ordering.{nat_cmp}
+use Rattle.std.specs.Set.{remove_key}
 use Rattle.av_base.specs.Limits.{greatest_values}
 use Rattle.av_base.specs.declared.limits.LimitValues.{LimitValues}
 use Rattle.av_base.specs.declared.mode.Mode.{Mode}
@@ -25,6 +27,10 @@ begun mode keep questions =
 abbrev pub NotBegun : ℕ → Refusal QuestionsFault → Type 0
 NotBegun questions (Fault f) = (nat_le 1 questions && nat_le questions 1024) ≡ false
 NotBegun questions NoMemory = (nat_le 1 questions && nat_le questions 1024) ≡ true
+
+-- a client leaves
+abbrev pub left : State → ℕ → State
+left g client = record g { clients = remove_key (is_at (nat_cmp client)) g.clients }
 
 -- a client comes, by the next number; or memory is refused, or no number is left
 abbrev pub Joins : State → State → Option ℕ → Type 0

@@ -3,7 +3,8 @@ use Rattle.std.specs.Prelude.{◌≡◌, ℕ, ◌+◌, List, [], ◌∷◌, ◌+
 use Rattle.std.specs.Result.{result_err}
 use Rattle.av_base.specs.declared.refusal.Refusal.{Refusal}
 use Rattle.av_base.specs.declared.refusal.Refusal.TheVariants.{Fault, NoMemory}
-use Rattle.av_guard.specs.Asking.{kept, opens, spent, stream_with}
+use Rattle.av_guard.specs.Asking.{IsThere, kept, opens, spent, stream_with}
+use Rattle.av_guard.specs.Place.{Unused}
 use Rattle.av_guard.specs.declared.given.Given.{Given}
 use Rattle.av_guard.specs.State.{Gives, State}
 use Rattle.av_guard.specs.declared.fault.AskFault.{AskFault}
@@ -32,12 +33,12 @@ IsKeptBy old new name c (Err NoMemory) = (result_err (create_of old.volume name)
 -- A content was asked about under a free name. Where memory was refused, nothing has changed, or a number is spent, or the
 -- content is kept.
 pub data IsLeft (old new : State) (name c : List ℕ) : Type 0 where
-  Never : IsNotIn old new → IsLeft old new name c
-  Stays : result_err (create_of old.volume name) ≡ None → new ≡ kept old name c → IsLeft old new name c
+  Never : result_err (create_of old.volume name) ≡ None → IsNotIn old new → IsLeft old new name c
+  Stays : IsThere old c (Unused name) → new ≡ kept old name c → IsLeft old new name c
 
 -- it is kept and opened, or the volume refuses a stream more, or memory is refused
 abbrev pub AsksNew : State → State → ℕ → ℕ → List ℕ → List ℕ → Result Given (Refusal AskFault) → Type 0
 AsksNew old new client tag name c (Ok given) =
-    (result_err (create_of old.volume name) ≡ None) × Gives given new (opens (kept old name c) (old.volume.last + 1) client tag)
+    IsThere old c (Unused name) × Gives given new (opens (kept old name c) (old.volume.last + 1) client tag)
 AsksNew old new client tag name c (Err (Fault f)) = (f ≡ Full) × (is_some (result_err (create_of old.volume name)) ≡ true) × (new ≡ old)
 AsksNew old new client tag name c (Err NoMemory) = IsLeft old new name c

@@ -12,4 +12,5 @@ pub mod Keeping
 pub mod Kept
 pub mod Beginning
 pub mod Line
+pub mod Run
 pub mod Laws

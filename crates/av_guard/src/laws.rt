@@ -1,7 +1,16 @@
-//! What holds of every ask.
+//! What holds of every ask, and of every list of calls.
 ghost use Rattle.av_guard.specs.Laws.{OpensItsBytes};
+ghost use Rattle.av_guard.specs.Run.{GuardsHaveHistory};
 
 /// The stream that is opened for a content that is kept has exactly the bytes that were asked about, whatever the hash.
 pub fn asks_open_their_bytes()
     ensures { OpensItsBytes }
+{}
+
+/// Of every list of calls of a guard that was just made, each as its contract says: there is a history of its filter, a legal audit
+/// that leads to the guard's table and volume, whose messages are those that the calls gave out. Each answer that they told is to
+/// an ask that was taken, by its client and tag; and a grant stands in the history, of generation 2 of a stream whose content of
+/// that generation is the one that was asked about.
+pub fn guards_have_history()
+    ensures { GuardsHaveHistory }
 {}

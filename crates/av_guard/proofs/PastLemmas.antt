@@ -1,0 +1,126 @@
+-- A history that grows by an event.
+use Rattle.std.proofs.Common.{◌≡◌, ℕ, List, [], ◌∷◌, ◌++◌, length, map, Option, Some, None, Ok, refl, ap, sym, subst, ◌∙◌, append_assoc, inl, inr}
+use Rattle.std.specs.List.{AllByRecursion as Each}
+use Rattle.av_base.specs.Refused.{unless}
+use Rattle.av_filter.proofs.BoundLemmas.{leads_to, volume_after}
+use Rattle.av_filter.proofs.EachLemmas.{each_weaker}
+use Rattle.av_filter.proofs.FitLemmas.{accepted}
+use Rattle.av_filter.specs.Audit.{FilterEntry, IsFilterAudit, IsReply, Kept, answers_given, filter_end, sent_down}
+use Rattle.av_filter.specs.Changing.{changed_volume}
+use Rattle.av_filter.specs.Conduct.{FilterEvent, Changes, CleansUp, Disconnects, Opens, Receives, Restarts, TimesOut, filter_refusal, filter_step}
+use Rattle.av_filter_table.specs.Table.{Table}
+use Rattle.av_frame.specs.declared.message.Body.{Body}
+use Rattle.av_guard.specs.Run.{Among, all_held, held_after}
+use Rattle.av_store.proofs.HistoryLemmas.{remembers}
+use Rattle.av_store.proofs.SeenLemmas.{follows}
+use Rattle.std.specs.Option.{option_map}
+use Rattle.av_store.specs.Files.{Change, File, change_refusal, file_of, files_after}
+use Rattle.av_store.specs.History.{StreamHistory, content, histories_after, now}
+use Rattle.av_store.specs.Rows.{stream_at}
+use Rattle.av_store.specs.Seen.{Keeps, change_of, seen, stream_of}
+use Rattle.av_store.specs.declared.stream.Stream.{Stream}
+use Rattle.av_store.specs.Store.{Store}
+
+-- the entry of an event
+abbrev pub entry_of : Table → Store → FilterEvent → FilterEntry
+entry_of t v e =
+    record { event = e; answers = (filter_step t v e).answers; messages = (filter_step t v e).messages; note = (filter_step t v e).note }
+
+audit_more : (t : Table) (v : Store) (xs : List FilterEntry) (x : FilterEntry) → IsFilterAudit t v xs → filter_refusal (filter_end t v xs).table (filter_end t v xs).volume x.event ≡ None
+    → IsReply x (filter_step (filter_end t v xs).table (filter_end t v xs).volume x.event) → IsFilterAudit t v (xs ++ x ∷ [])
+audit_more t v [] x legal ok reply = (ok, reply, tt)
+audit_more t v (y ∷ ys) x legal ok reply = (legal.0, legal.1, audit_more (filter_step t v y.event).table (filter_step t v y.event).volume ys x legal.2 ok reply)
+
+end_more : (t : Table) (v : Store) (xs : List FilterEntry) (x : FilterEntry) → filter_end t v (xs ++ x ∷ []) ≡ filter_end (filter_end t v xs).table (filter_end t v xs).volume (x ∷ [])
+end_more t v [] x = refl
+end_more t v (y ∷ ys) x = end_more (filter_step t v y.event).table (filter_step t v y.event).volume ys x
+
+sent_more : (down : List Body) (xs : List FilterEntry) (x : FilterEntry) → sent_down down (xs ++ x ∷ []) ≡ sent_down down xs ++ x.messages
+sent_more down [] x = refl
+sent_more down (y ∷ ys) x = sent_more (down ++ y.messages) ys x
+
+pub held_more : (hs : List StreamHistory) (xs : List FilterEntry) (x : FilterEntry) → all_held hs (xs ++ x ∷ []) ≡ held_after (all_held hs xs) x.event
+held_more hs [] x = refl
+held_more hs (y ∷ ys) x = held_more (held_after hs y.event) ys x
+
+append_none : {A : Type 0} (xs : List A) → xs ++ [] ≡ xs
+append_none [] = refl
+append_none (x ∷ xs) = ap (λ ys. x ∷ ys) (append_none xs)
+
+pub answers_more : (xs : List FilterEntry) (x : FilterEntry) → answers_given (xs ++ x ∷ []) ≡ answers_given xs ++ x.answers
+answers_more [] x = append_none x.answers
+answers_more (y ∷ ys) x = ap (λ rest. y.answers ++ rest) (answers_more ys x) ∙ sym (append_assoc y.answers (answers_given ys) x.answers)
+
+pub among_left : {A : Type 0} (x : A) (xs ys : List A) → Among x xs → Among x (xs ++ ys)
+among_left x [] ys a = absurd a
+among_left x (z ∷ zs) ys (inl e) = inl e
+among_left x (z ∷ zs) ys (inr a) = inr (among_left x zs ys a)
+
+pub among_right : {A : Type 0} (x : A) (xs ys : List A) → Among x ys → Among x (xs ++ ys)
+among_right x [] ys a = a
+among_right x (z ∷ zs) ys a = inr (among_right x zs ys a)
+
+pub each_self : {A : Type 0} (xs : List A) → Each (λ x. Among x xs) xs
+each_self [] = tt
+each_self (x ∷ xs) = (inl refl, each_weaker (λ y. Among y xs) (λ y. Among y (x ∷ xs)) (λ y h. inr h) xs (each_self xs))
+
+-- a change of the volume is the change of what its streams have held
+kept_change : (v w : Store) (hs : List StreamHistory) (c : Change) → Keeps v (map now hs) → change_of v c ≡ Ok w → Keeps w (map now (histories_after hs c))
+kept_change v w hs c k h =
+    let fs = files_after (map now hs) c in
+    let next : Store = record v { streams = seen fs; last = length fs } in
+    subst (Keeps w) (sym (remembers.present hs c))
+    ((elim (change_refusal v.limits (map now hs) c) as (λ o. unless o next ≡ Ok w → Keeps w fs) [
+      | None ↦ λ g. let same : next ≡ w = cc in subst (λ x. Keeps x fs) same (record { streams = refl; last = refl })
+      | Some f ↦ λ g. absurd cc
+    ]) (sym (follows.changes v (map now hs) c k) ∙ h))
+
+keeps_after : (t : Table) (v : Store) (hs : List StreamHistory) (e : FilterEvent) → Keeps v (map now hs) → filter_refusal t v e ≡ None → Keeps (volume_after v e) (map now (held_after hs e))
+unfolding filter_refusal
+keeps_after t v hs (Opens s least) k ok = record { streams = k.streams; last = k.last }
+keeps_after t v hs (Changes c) k ok = kept_change v (changed_volume v c) hs c k (accepted v c ok)
+keeps_after t v hs (CleansUp s) k ok = k
+keeps_after t v hs (Receives m) k ok = k
+keeps_after t v hs (TimesOut seq) k ok = k
+keeps_after t v hs Disconnects k ok = k
+keeps_after t v hs Restarts k ok = record { streams = k.streams; last = k.last }
+
+-- no event takes a content away
+pub held_stays : (hs : List StreamHistory) (e : FilterEvent) (s g : ℕ) (c : List ℕ) → content hs s g ≡ Some c → content (held_after hs e) s g ≡ Some c
+held_stays hs (Opens s least) u g c h = h
+held_stays hs (Changes ch) u g c h = remembers.stays hs ch u g c h
+held_stays hs (CleansUp s) u g c h = h
+held_stays hs (Receives m) u g c h = h
+held_stays hs (TimesOut seq) u g c h = h
+held_stays hs Disconnects u g c h = h
+held_stays hs Restarts u g c h = h
+
+-- where a history leads from a first table and volume, and what it sent
+pub record Past (t0 : Table) (v0 : Store) (t : Table) (v : Store) (sent : List Body) (history : List FilterEntry) : Type 0 where
+  pub legal : IsFilterAudit t0 v0 history
+  pub leads : ◌≡◌ {A = Kept} (filter_end t0 v0 history) (record { table = t; volume = v })
+  pub sends : sent_down [] history ≡ sent
+  pub keeps : Keeps v (map now (all_held [] history))
+
+pub past_more : (t0 : Table) (v0 : Store) (t : Table) (v : Store) (sent : List Body) (history : List FilterEntry) (e : FilterEvent) → Past t0 v0 t v sent history → filter_refusal t v e ≡ None
+    → Past t0 v0 (filter_step t v e).table (filter_step t v e).volume (sent ++ (filter_step t v e).messages) (history ++ entry_of t v e ∷ [])
+past_more t0 v0 t v sent history e p ok =
+    let x = entry_of t v e in
+    record {
+      legal =
+          audit_more t0 v0 history x p.legal (subst (λ (k : Kept). filter_refusal k.table k.volume e ≡ None) (sym p.leads) ok)
+          (subst (λ (k : Kept). IsReply x (filter_step k.table k.volume e)) (sym p.leads) (record { answers = refl; messages = refl; note = refl }));
+      leads = end_more t0 v0 history x ∙ ap (λ (k : Kept). filter_end k.table k.volume (x ∷ [])) p.leads;
+      sends = sent_more [] history x ∙ ap (λ ms. ms ++ (filter_step t v e).messages) p.sends;
+      keeps = subst (λ hs. Keeps (filter_step t v e).volume (map now hs)) (sym (held_more [] history x)) (subst (λ u. Keeps u (map now (held_after (all_held [] history) e))) (sym (leads_to t v e)) (keeps_after t v (all_held [] history) e p.keeps ok));
+    }
+
+-- what a stream has is the content of its generation
+pub present : (v : Store) (hs : List StreamHistory) (s : ℕ) (x : Stream) → Keeps v (map now hs) → stream_at s v.streams ≡ Some x → content hs s x.generation ≡ Some x.bytes
+present v hs s x k at = go (file_of (map now hs) s) refl (sym (follows.reads v (map now hs) s k) ∙ at)
+  where
+    go : (o : Option File) → file_of (map now hs) s ≡ o → option_map stream_of o ≡ Some x → content hs s x.generation ≡ Some x.bytes
+    go None is bad = absurd cc
+    go (Some f) is same =
+        let x_is : stream_of f ≡ x = cc in
+        subst (λ (y : Stream). content hs s y.generation ≡ Some y.bytes) x_is (remembers.current hs s f is).0
