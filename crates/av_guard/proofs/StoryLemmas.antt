@@ -103,7 +103,7 @@ module _ (t0 : Table) (v0 : Store) (asks : List Ask) (told : List Told) (sent : 
     of.1,
     λ w is. let same : of.0.0 ≡ w = cc (of.0.1, is) in sym (ap (λ (y : Waiter). y.stream) same) ∙ of.0.2,
   )
-  meant (Unscanned n s gen c) of among = tt
+  meant (Unscanned n s gen c) of among = subst (Among (Unscanned n s gen c)) (sym (answers_more history x)) (among_right (Unscanned n s gen c) (answers_given history) r.answers among)
   meant (Denied n c) of among = tt
 
   pub event_story : Story t0 v0 asks (told ++ (happens g e).told) (sent ++ (happens g e).messages) longer (happens g e).state

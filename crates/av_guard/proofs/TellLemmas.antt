@@ -43,6 +43,7 @@ pub record IsAsking (asks : List Ask) (history : List FilterEntry) (w : Waiter) 
 abbrev pub IsMeant : List FilterEntry → Waiters → Answer → Type 0
 IsMeant history m (Granted n least s generation version) =
     Among (Granted n least s generation version) (answers_given history) × (generation ≡ 2) × ((w : Waiter) → at m n ≡ Some w → w.stream ≡ s)
+IsMeant history m (Unscanned n s generation c) = Among (Unscanned n s generation c) (answers_given history)
 IsMeant history m _ = Unit {0}
 
 at_each : (P : Waiter → Type 0) (m : Waiters) (k : ℕ) (w : Waiter) → Each (λ e. P e.1) m → at m k ≡ Some w → P w
@@ -74,7 +75,7 @@ still_at m k n w once h =
 
 meant_less : (history : List FilterEntry) (m : Waiters) (k : ℕ) → times k (keys m) ≤ 1 → (a : Answer) → IsMeant history m a → IsMeant history (without m k) a
 meant_less history m k once (Granted n least s g v) h = (h.0, h.1, λ w is. h.2 w (still_at m k n w once is))
-meant_less history m k once (Unscanned n s g c) h = tt
+meant_less history m k once (Unscanned n s g c) h = h
 meant_less history m k once (Denied n c) h = tt
 
 denied_rests : (history : List FilterEntry) (c : List ℕ) (why : Cause) (o : Option (ℕ × Verdict)) → RestsOn history c (denied_as why o)
@@ -94,7 +95,7 @@ module _ (clients : List ℕ) (t : Table) (asks : List Ask) (history : List Filt
         once = two;
         bytes = subst (λ k. content (all_held [] history) k g ≡ Some is.ask.content) (own w here) (subst (λ k. content (all_held [] history) w.stream k ≡ Some is.ask.content) (sym two) is.bytes);
       }
-  rests (Unscanned n s g c) w is m here meant = tt
+  rests (Unscanned n s g c) w is m here among = record { open_id = n; stream = s; let_through = among }
   rests (Denied n c) w is m here meant = denied_rests history is.ask.content c (verdict_of (context_of t.contexts w.stream))
 
   one_founded : (m : Waiters) (a : Answer) → Each (λ e. IsAsking asks history e.1) m → IsMeant history m a → (o : Option Waiter) → at m (open_of a) ≡ o → Each (IsFounded asks history) (told_one clients t a o)
@@ -136,7 +137,11 @@ module _ (history : List FilterEntry) (x : FilterEntry) where
   rests_more c (told.Granted g v) is = grant_more c g v is
   rests_more c (told.Infected v i e) is = tt
   rests_more c (told.Denied w) is = tt
-  rests_more c (told.Unscanned g w) is = tt
+  rests_more c (told.Unscanned g w) is = record {
+    open_id = is.open_id;
+    stream = is.stream;
+    let_through = subst (Among (Unscanned is.open_id is.stream g w)) (sym (answers_more history x)) (among_left _ (answers_given history) x.answers is.let_through);
+  }
 
   pub founded_more : (asks : List Ask) (t : Told) → IsFounded asks history t → IsFounded asks (history ++ x ∷ []) t
   founded_more asks t is = record { ask = is.ask; taken = is.taken; client = is.client; tag = is.tag; rests = rests_more is.ask.content t.answer is.rests }

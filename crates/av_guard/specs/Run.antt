@@ -2,6 +2,7 @@
 use Rattle.std.specs.Prelude.{◌≡◌, ◌⊎◌, ℕ, List, [], ◌∷◌, All, Option, Some, None, Result, Ok, Err}
 use Rattle.std.specs.List.{flat_map}
 use Rattle.std.specs.declared.alloc.AllocError.{AllocError}
+use Rattle.av_base.specs.declared.cause.Cause.{Cause}
 use Rattle.av_base.specs.declared.mode.Mode.{Mode}
 use Rattle.av_base.specs.declared.refusal.Refusal.{Refusal}
 use Rattle.av_filter.specs.Audit.{FilterEntry, IsFilterAudit, answers_given, filter_end, sent_down}
@@ -18,7 +19,7 @@ use Rattle.av_guard.specs.declared.ask.Ask.{Ask}
 use Rattle.av_guard.specs.declared.fault.AskFault.{AskFault}
 use Rattle.av_guard.specs.declared.given.Given.{Given}
 use Rattle.av_guard.specs.declared.given.Told.{Told}
-use Rattle.av_pend.specs.declared.answer.Answer.TheVariants.{Granted}
+use Rattle.av_pend.specs.declared.answer.Answer.TheVariants.{Granted, Unscanned}
 use Rattle.av_store.specs.History.{StreamHistory, content, histories_after}
 use Rattle.av_store.specs.Store.{Store, empty_store}
 
@@ -96,9 +97,16 @@ pub record IsGrantOf (history : List FilterEntry) (c : List ℕ) (generation ver
   pub once : generation ≡ 2
   pub bytes : content (all_held [] history) stream generation ≡ Some c
 
+-- The filter let an open through unscanned.
+pub record IsLetThrough (history : List FilterEntry) (generation : ℕ) (cause : Cause) : Type 0 where
+  pub open_id : ℕ
+  pub stream : ℕ
+  pub let_through : Among (Unscanned open_id stream generation cause) (answers_given history)
+
 -- what a content was told rests on the history
 abbrev pub RestsOn : List FilterEntry → List ℕ → Answered → Type 0
 RestsOn history c (told.Granted generation version) = IsGrantOf history c generation version
+RestsOn history c (told.Unscanned generation cause) = IsLetThrough history generation cause
 RestsOn history c _ = Unit {0}
 
 -- an answer was told to an ask that was taken, and rests on the history

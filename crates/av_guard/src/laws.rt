@@ -10,7 +10,7 @@ pub fn asks_open_their_bytes()
 /// Of every list of calls of a guard that was just made, each as its contract says: there is a history of its filter, a legal audit
 /// that leads to the guard's table and volume, whose messages are those that the calls gave out. Each answer that they told is to
 /// an ask that was taken, by its client and tag; and a grant stands in the history, of generation 2 of a stream whose content of
-/// that generation is the one that was asked about.
+/// that generation is the one that was asked about; and so does an answer that lets an open through unscanned.
 pub fn guards_have_history()
     ensures { GuardsHaveHistory }
 {}
