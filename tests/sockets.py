@@ -176,6 +176,22 @@ def poured(end, said):
         pass
 
 
+def full_socket(path):
+    """A socket at which nobody is taken, with as many that wait as may."""
+    listener, waiting = socket.socket(socket.AF_UNIX), []
+    listener.bind(path)
+    listener.listen(0)
+    while True:
+        end = socket.socket(socket.AF_UNIX)
+        end.setblocking(False)
+        try:
+            end.connect(path)
+        except BlockingIOError:
+            end.close()
+            return listener, waiting
+        waiting.append(end)
+
+
 def waits(cases, programs):
     """A peer that keeps one waiting is lost after --wait and not before it, on both sides."""
     wait, slack = 2, 2.5
@@ -227,6 +243,15 @@ def waits(cases, programs):
         status, _, err = ended(start())
         took = time.time() - begun
         cases.check(f"{name} comes: the time", (status, err) == (4, line) and wait * 0.9 < took < wait + slack, f"{status} {err!r} {took}")
+    listener, waiting = full_socket(programs.socket)
+    begun = time.time()
+    status, _, err = ended(programs.service(wait=str(wait)))
+    took = time.time() - begun
+    line = b"avscan: %s: no filter listens\n" % programs.socket.encode()
+    cases.check("a socket at which as many wait as may: the time", (status, err) == (4, line) and wait * 0.9 < took < wait + slack, f"{status} {err!r} {took}")
+    for end in (listener, *waiting):
+        end.close()
+    os.unlink(programs.socket)
     for words in (("0",), ("86401",), ("x",), ("",)):
         for command in (("filter", programs.socket, "a.bin"), ("service", programs.socket, "set.txt")):
             status, out, err = ended(programs.start(*command, "--wait", *words))

@@ -2,6 +2,7 @@
 
 use crate::duplex::Duplex;
 use crate::fault::SocketFault;
+use mio::net;
 use std::alloc::{AllocError, Global};
 use std::fs::{Files, Permissions};
 use std::io::ErrorKind;
@@ -230,7 +231,7 @@ fn is_over<R: Clock>(rt: &R, begun: Duration, wait: Duration) -> bool {
     }
 }
 
-/// Connects to a filter that may take so long to listen.
+/// Connects to a filter that may take so long to listen. No call waits, also not where as many others wait there as may.
 pub fn connect<'a, R: Net + Clock>(
     rt: &'a R,
     alloc: Global,
@@ -238,8 +239,8 @@ pub fn connect<'a, R: Net + Clock>(
 ) -> Result<Duplex<'a, R>, SocketFault> {
     let begun = rt.monotonic().unwrap_or(Duration::ZERO);
     'looks: for _ in 0..u64::MAX {
-        match UnixStream::connect(rt, meeting.path) {
-            Ok(stream) => return over(rt, alloc, stream, meeting.wait),
+        match net::UnixStream::connect(rt, meeting.path) {
+            Ok(stream) => return over(rt, alloc, stream.into(), meeting.wait),
             Err(error) if error.kind() == ErrorKind::PermissionDenied => {
                 return Err(SocketFault::NotAllowed);
             }
