@@ -1,6 +1,7 @@
 #!/bin/sh
 # The gate of one crate, for work between commits: it and those that stand on it are proved over what was kept, side by side, their tests
-# are run, and its own must-fail edits are tried. `make test CRATE=av_store` calls it. The whole gate alone is the verdict.
+# are run, and of its own must-fail edits those are tried that were not refused before as they are. `make test CRATE=av_store` calls it. The
+# whole gate alone is the verdict.
 set -eu
 cd "$(dirname "$0")/.."
 wanted=$1
@@ -9,6 +10,6 @@ begun=$(date +%s)
 failed=0
 python3 tests/prove.py --above "$wanted" || failed=$((failed + 1))
 python3 tests/run_tests.py --above "$wanted" || failed=$((failed + 1))
-if [ -d "crates/$wanted/must-fail" ]; then python3 tests/edits.py "$wanted" || failed=$((failed + 1)); fi
+if [ -d "crates/$wanted/must-fail" ]; then python3 tests/edits.py --changed "$wanted" || failed=$((failed + 1)); fi
 echo "gate: $wanted and what stands on it: $(($(date +%s) - begun)) s, $failed failed"
 [ "$failed" = 0 ]

@@ -1,7 +1,7 @@
 #!/usr/bin/env python3
 """Tries every must-fail edit (crates/NAME/must-fail/*.edit): the prover has to refuse the very function that the edit changes.
 
-usage: edits.py [--until SECONDS] [--times FILE] [--over FOLDER] [CRATE ...]
+usage: edits.py [--until SECONDS] [--times FILE] [--over FOLDER] [--changed] [CRATE ...]
 
 `rt must-fail NAME` tries each edit in a check of its own, most of which goes to reading libraries. Here edits of different
 functions share a check of a copy of the crate, in which only the functions that edits change are proved, and what they call. The
@@ -11,11 +11,15 @@ function, is tried alone: with the functions that name the one that it changes, 
 the clock (seconds since 1970) is past --until: a line says how many edits were not tried then. Each day begins with another crate, so
 that it is not always the same ones that are left. The last line counts those that were tried.
 
-The libraries below a crate are those that `rt ci` or `rt lib` built of FOLDER/NAME (of this repository's crates/NAME, where none is named). What
-a check kept of the crate itself is taken where it is there.
+With --changed an edit is passed over that was refused before here, if it, its file and the crate's specs/ are as they were then: for
+work between commits, since the proof of an edit rests on more.
+
+The libraries below a crate are those that `rt ci` or `rt lib` built of FOLDER/NAME (of this repository's crates/NAME, where none is
+named). What a check kept of the crate itself is taken where it is there.
 """
 import argparse
 import concurrent.futures
+import hashlib
 import os
 import re
 import shutil
@@ -28,6 +32,8 @@ from rooms import CRATES, TOP
 
 # How many edits one lane takes of a crate at a time, about: each part begins with a copy of what was proved.
 PART = 24
+# The digests of edits that were refused here, a line each.
+REFUSED = f"{TOP}/out/edits-refused"
 # How many edits share a check at most, so that none takes too long.
 MOST = 40
 HEAD = re.compile(r"((?: {4})?)(?:pub(?:\(\w+\))? )?(?:const )?fn (\w+)")
@@ -64,6 +70,16 @@ class Edit:
                 return None
             text = text.replace(old, new)
         return text
+
+    def digest(self):
+        """A digest of the edit, the file that it changes and the crate's specs."""
+        paths = [f"{CRATES}/{self.crate}/{self.file}", f"{CRATES}/{self.crate}/must-fail/{self.name}.edit"]
+        paths += sorted(f"{at}/{it}" for at, _, names in os.walk(f"{CRATES}/{self.crate}/specs") for it in names)
+        digest = hashlib.sha256()
+        for path in paths:
+            with open(path, "rb") as file:
+                digest.update(file.read())
+        return digest.hexdigest()
 
     def paths(self):
         """What `rt check --only` names its functions by."""
@@ -199,6 +215,9 @@ class Tally:
 
     def tell(self, edit, is_refused, text):
         print(f"must-fail {edit.crate}/{edit.name}: {text}", flush=True)
+        if is_refused:
+            with open(REFUSED, "a", encoding="utf-8") as file:
+                file.write(f"{edit.digest()}\n")
         self.refused += is_refused
         self.not_refused += not is_refused
 
@@ -276,13 +295,14 @@ def tried(crate, edits, crates, libraries, until, times):
     return tally
 
 
-def parts_of(crate, lanes):
-    """A crate's edits, in parts of about the same number that are tried side by side; edits of one file stay together where they can."""
+def parts_of(crate, lanes, known):
+    """A crate's edits, but those whose digests are known, in parts of about the same number that are tried side by side; edits of one
+    file stay together where they can."""
     folder = f"{CRATES}/{crate}/must-fail"
     edits = [Edit(crate, f"{folder}/{name}") for name in sorted(os.listdir(folder)) if name.endswith(".edit")]
-    edits.sort(key=lambda it: it.file)
+    edits = sorted((it for it in edits if not known or it.digest() not in known), key=lambda it: it.file)
     count = max(1, min(lanes, round(len(edits) / PART)))
-    size = -(-len(edits) // count)
+    size = max(1, -(-len(edits) // count))
     return [edits[at : at + size] for at in range(0, len(edits), size)]
 
 
@@ -291,12 +311,17 @@ def main(words):
     asked.add_argument("--until", type=float, default=float("inf"))
     asked.add_argument("--times")
     asked.add_argument("--over", default=CRATES)
+    asked.add_argument("--changed", action="store_true")
     asked.add_argument("crates", nargs="*")
     asked = asked.parse_args(words)
     crates, lanes = rooms.listed(), rooms.processors()
     with_edits = [it for it in crates if (not asked.crates or it in asked.crates) and os.path.isdir(f"{CRATES}/{it}/must-fail")]
     first = int(time.time() / 86400) % max(len(with_edits), 1)
-    parts = [(it, part) for it in with_edits[first:] + with_edits[:first] for part in parts_of(it, lanes)]
+    known = set()
+    if asked.changed and os.path.isfile(REFUSED):
+        with open(REFUSED, encoding="utf-8") as file:
+            known = set(file.read().split())
+    parts = [(it, part) for it in with_edits[first:] + with_edits[:first] for part in parts_of(it, lanes, known)]
     os.makedirs(f"{TOP}/out", exist_ok=True)
     with concurrent.futures.ThreadPoolExecutor(lanes) as pool:
         begun = [pool.submit(tried, crate, part, crates, os.path.abspath(asked.over), asked.until, asked.times) for crate, part in parts]
