@@ -9,12 +9,13 @@ use Rattle.av_match.specs.Scanning.{index_of, is_past, moved, resting, run as sc
 use Rattle.av_service.specs.Conduct.{service_step}
 use Rattle.av_service.specs.Lending.{finished}
 use Rattle.av_service.specs.Scanning.{chunk_found, dropped, receives as service_receives, scan_cached, scan_found}
+use Rattle.av_sigset.specs.Catalogue.{set_at}
 use Rattle.av_engines.specs.Examples.{AreWorked}
 
 abbrev computed : Bool
-unfolding again disconnects filter_step open_asked open_cached open_found open_judged opened greeted reads receives replies asks ended lost_contexts index_of is_past moved resting scan_run word_after service_step finished chunk_found dropped service_receives scan_cached scan_found
+unfolding again disconnects filter_step open_asked open_cached open_found open_judged opened greeted reads receives replies asks ended lost_contexts index_of is_past moved resting scan_run word_after service_step finished chunk_found dropped service_receives scan_cached scan_found set_at
 computed = true
 
 pub are_worked : AreWorked
 unfolding computed
-are_worked = record { serves = refl; watches = refl; grants = refl; is_over = refl; nothing_behind = refl; not_before = refl; at_once = refl; grants_then = refl; none_at_once = refl; lost = refl }
+are_worked = record { serves = refl; renews = refl; may = (tt, (refl, (refl, (tt, tt)))); published = refl; watches = refl; grants = refl; is_over = refl; nothing_behind = refl; not_before = refl; at_once = refl; grants_then = refl; none_at_once = refl; lost = refl }

@@ -4,17 +4,20 @@ use Rattle.av_base.specs.Limits.{greatest_values}
 use Rattle.av_base.specs.declared.cause.Cause.TheVariants.{PortDisconnected}
 use Rattle.av_base.specs.declared.message_id.MessageId.{MessageId}
 use Rattle.av_base.specs.declared.mode.Mode.TheVariants.{FailClosed}
-use Rattle.av_base.specs.declared.verdict.Verdict.TheVariants.{Clean}
+use Rattle.av_base.specs.declared.refusal.Refusal.TheVariants.{Fault}
+use Rattle.av_base.specs.declared.verdict.Verdict.TheVariants.{Clean, Infected}
 use Rattle.av_filter.specs.Conduct.{Disconnects, Receives}
 use Rattle.av_filter_table.specs.Table.{Table, mounted}
 use Rattle.av_frame.specs.declared.message.Body.{Body}
-use Rattle.av_frame.specs.declared.message.Body.TheVariants.{Scan, Chunk, Hello, Read, Reply}
+use Rattle.av_frame.specs.declared.message.Body.TheVariants.{Scan, Chunk, Hello, Read, Reply, Updated}
 use Rattle.av_frame.specs.declared.outcome.Outcome.TheVariants.{Judged}
 use Rattle.av_pend.specs.declared.answer.Answer.TheVariants.{Denied, Granted}
 use Rattle.av_service.specs.Desk.{Desk, just_started}
-use Rattle.av_sigset.specs.Set.{widest}
+use Rattle.av_sigset.specs.Set.{NumberedSet, widest}
+use Rattle.av_sigset.specs.declared.fault.CatalogueFault.TheVariants.{OldVersion}
 use Rattle.av_sigset.specs.declared.signature.Pattern.{Pattern}
 use Rattle.av_store.specs.Store.{Store}
+use Rattle.av_engines.specs.Fresh.{Happening, Comes, Renews, Refuses, AllMayHappen, all_published, fresh_run}
 use Rattle.av_engines.specs.Serving.{service_run}
 use Rattle.av_engines.specs.Watching.{filter_run, happened, is_done, unled}
 
@@ -54,14 +57,36 @@ down = Scan first_id 1 2 3 ∷ Chunk first_id 0 (65 ∷ 66 ∷ 67 ∷ []) ∷ []
 abbrev pub up : List Body
 up = Hello 1 1 ∷ Read first_id 0 3 ∷ Reply first_id (Judged 1 Clean) ∷ []
 
+-- the set of these patterns under its version
+abbrev pub first_set : NumberedSet
+first_set = record { version = 1; signatures = record { name = 120 ∷ []; pattern = record { bytes = 88 ∷ 88 ∷ []; span = widest } } ∷ [] }
+
+-- and a newer one of one signature that the stream has
+abbrev pub second_set : NumberedSet
+second_set = record { version = 2; signatures = record { name = 121 ∷ []; pattern = record { bytes = 65 ∷ 66 ∷ []; span = widest } } ∷ [] }
+
+-- a scan comes, the newer set, the one before it again, and then the content
+abbrev pub between : List Happening
+between =
+    Comes (Scan first_id 1 2 3)
+    ∷ Renews second_set
+    ∷ Refuses first_set (Fault OldVersion)
+    ∷ Comes (Chunk first_id 0 (65 ∷ 66 ∷ 67 ∷ []))
+    ∷ []
+
 -- a filter that was greeted before
 abbrev pub greeted_table : Table
 greeted_table = (happened (unled worked_table worked_store []) (Receives (Hello 1 1))).table
 
 -- Each side's text of what the other sends is that of the worked run. A message behind the last answer changes nothing; where
--- the service is lost before its reply, the open is denied; and a filter that was greeted before submits at once.
+-- the service is lost before its reply, the open is denied; and a filter that was greeted before submits at once. A newer set
+-- begins the scan anew, and is what its reply names.
 pub record AreWorked : Type 0 where
   pub serves : (service_run worked_patterns worked_desk down).sent ≡ up
+  pub renews : (fresh_run (first_set ∷ []) worked_desk between).sent
+      ≡ Hello 1 1 ∷ Read first_id 0 3 ∷ Updated 2 ∷ Read first_id 0 3 ∷ Reply first_id (Judged 2 (Infected 0 2)) ∷ []
+  pub may : AllMayHappen (first_set ∷ []) between
+  pub published : all_published (first_set ∷ []) between ≡ second_set ∷ first_set ∷ []
   pub watches : (filter_run worked_table worked_store (1 ∷ []) up).led.sent ≡ down
   pub grants : (filter_run worked_table worked_store (1 ∷ []) up).led.answers ≡ Granted 1 0 1 2 1 ∷ []
   pub is_over : is_done 0 1 (filter_run worked_table worked_store (1 ∷ []) up) ≡ true

@@ -1,5 +1,5 @@
 -- Messages that come over a stream of frames.
-use Rattle.std.specs.Prelude.{ℕ, ◌≡◌, ◌+◌, ◌*◌, ◌<◌, ◌≤◌, ◌⊎◌, true, false, List, [], ◌++◌, length, Option, None, Some}
+use Rattle.std.specs.Prelude.{ℕ, ◌≡◌, ◌+◌, ◌*◌, ◌<◌, ◌≤◌, ◌⊎◌, true, false, List, [], ◌∷◌, ◌++◌, length, Option, None, Some}
 use Rattle.std.specs.Io.KnownBytes.{Consumes, IsAtEnd}
 use Rattle.std.specs.List.{flat_map, AllByRecursion}
 use Rattle.av_engines.specs.declared.end.End.{End}
@@ -60,6 +60,15 @@ pub record IsKept (fed : Fed) (buffer : List ℕ) (waiting : ℕ) : Type 0 where
 -- more bytes than can come yet and are unread: each message takes some off
 abbrev pub budget : Received → ℕ
 budget r = length (unread r) + PIECE * r.turns
+
+-- the same and the reads that are left: each message and each read takes some off
+abbrev pub to_come : Received → ℕ
+to_come r = budget r + r.turns
+
+-- the message that a look gave, if any
+abbrev pub listed : Option Body → List Body
+listed None = []
+listed (Some m) = m ∷ []
 
 -- what a look at the front of a stream of which nothing waits leaves: a message is taken off, or no frame is whole
 abbrev pub GivesFront : Received → Received → Option Body → Type 0

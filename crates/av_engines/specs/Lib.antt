@@ -7,3 +7,5 @@ pub mod ServiceEnd
 pub mod Watching
 pub mod FilterEnd
 pub mod Examples
+pub mod Fresh
+pub mod FreshEnd

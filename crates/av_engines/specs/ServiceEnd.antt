@@ -3,7 +3,7 @@ use Rattle.std.specs.Prelude.{ℕ, ◌≡◌, List, [], ◌∷◌, ◌++◌, ◌
 use Rattle.std.specs.List.{flat_map}
 use Rattle.av_engines.specs.declared.end.End.{End}
 use Rattle.av_engines.specs.declared.end.End.TheVariants.{Done, Memory}
-use Rattle.av_engines.specs.Serving.{Served, heard, heard_all, patterns_at, service_run, service_text, unserved}
+use Rattle.av_engines.specs.Serving.{Served, heard, patterns_at, service_run, service_text, unserved}
 use Rattle.av_engines.specs.Spelled.{AreSpelled, CameIn, IsSent, SpellsFirst}
 use Rattle.av_frame.specs.declared.message.Body.{Body}
 use Rattle.av_frame.specs.Spelling.{frame}
@@ -44,25 +44,6 @@ abbrev pub IsLed : End → Type 0 → Desk → Desk → Type 0
 IsLed Done within led new = ⊥
 IsLed Memory within led new = within
 IsLed _ within led new = new ≡ led
-
--- the same before the service is disconnected
-pub record RunsTo (sets : List NumberedSet) (old new : Desk) (input held holds : Option (List ℕ)) (turns : ℕ) (end : End) : Type 0 where
-  pub messages : List Body
-  pub spelled : AreSpelled end input messages
-  pub few : CameIn turns messages
-  pub sent : IsSent end held holds (service_text (patterns_at sets) old messages)
-  pub desk : IsLed end (IsRefused input messages old (service_run (patterns_at sets) old messages).desk new)
-      (service_run (patterns_at sets) old messages).desk new
-
--- the same of a service that has connected: it was handed on with frames that waited to go out
-pub record HearsTo (patterns : ℕ → List Pattern) (old new : Desk) (waited : List ℕ) (input held holds : Option (List ℕ))
-    (turns : ℕ) (end : End) : Type 0 where
-  pub messages : List Body
-  pub spelled : AreSpelled end input messages
-  pub few : CameIn turns messages
-  pub sent : IsSent end held holds (waited ++ flat_map frame (heard_all patterns (unserved old) messages).sent)
-  pub desk : IsLed end (IsWithin input messages (heard_all patterns (unserved old) messages).desk new)
-      (heard_all patterns (unserved old) messages).desk new
 
 -- what a want of memory leaves of a message: nothing happened, it came, or it came and what it lent came back
 abbrev pub IsAmid : (ℕ → List Pattern) → Desk → Body → Desk → Type 0

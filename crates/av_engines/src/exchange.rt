@@ -1,6 +1,6 @@
-ghost use Rattle.std.specs.Prelude.{◌≡◌, ◌∷◌, [], IfErr, IfOk};
+ghost use Rattle.std.specs.Prelude.{◌≡◌, ◌∷◌, ◌<◌, [], IfErr, IfOk, OnOk};
 ghost use Rattle.av_engines.specs.Exchange.{Passes, StopsAs};
-ghost use Rattle.av_engines.specs.Incoming.{nothing_yet};
+ghost use Rattle.av_engines.specs.Incoming.{listed, nothing_yet, to_come};
 
 use crate::end::End;
 use crate::incoming::Incoming;
@@ -43,6 +43,26 @@ impl Exchange {
     {
         match self.outgoing.flush(writer) {
             Ok(()) => self.incoming.next(reader),
+            Err(WriteFault) => Err(End::WriteFault),
+        }
+    }
+
+    /// Sends what waits to go out, and then gives the next message where it has come whole, or makes one read for it.
+    pub fn look<R: Read, W: Write>(
+        &mut self,
+        reader: &mut R,
+        writer: &mut W,
+    ) -> Result<Option<Message>, End>
+        ensures message { IfOk result
+            (λ o. Passes self.old self.new (R.remaining reader.old) (R.remaining reader.new) (W.contents writer.old)
+            (W.contents writer.new) (listed o)) }
+        ensures stops { IfErr result
+            (λ e. StopsAs e self.old self.new (R.remaining reader.old) (R.remaining reader.new) (W.contents writer.old)
+            (W.contents writer.new)) }
+        ensures less { OnOk result (to_come self.new.incoming < to_come self.old.incoming) }
+    {
+        match self.outgoing.flush(writer) {
+            Ok(()) => self.incoming.look(reader),
             Err(WriteFault) => Err(End::WriteFault),
         }
     }

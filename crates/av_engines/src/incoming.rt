@@ -1,5 +1,5 @@
-ghost use Rattle.std.specs.Prelude.{◌≡◌, ◌∷◌, ◌<◌, [], false, IfErr, IfOk, OnErr, OnOk};
-ghost use Rattle.av_engines.specs.Incoming.{EndsAs, GivesFront, HasNoFront, IsDue, Reads, ReadsNothing, Takes, nothing_yet, unread};
+ghost use Rattle.std.specs.Prelude.{◌≡◌, ◌∷◌, ◌<◌, ◌≤◌, [], false, IfErr, IfOk, OnErr, OnOk};
+ghost use Rattle.av_engines.specs.Incoming.{EndsAs, GivesFront, HasNoFront, IsDue, Reads, ReadsNothing, Takes, listed, nothing_yet, to_come, unread};
 ghost use Rattle.av_engines.specs.declared.end.End.TheVariants.{Memory};
 
 use crate::end::End;
@@ -60,11 +60,44 @@ impl Incoming {
         ensures spent { self.old.turns ≡ 0 → R.remaining reader.new ≡ R.remaining reader.old }
         ensures fault { IfErr result (λ e. IsDue e self.old.turns self.new.turns) }
     {
-        'reads: loop {
-            self.settle()?;
-            match self.front()? {
-                Some(message) => return Ok(message),
-                None => self.read(reader)?,
+        'looks: loop {
+            if let Some(message) = self.step(reader, Patience::None)? {
+                return Ok(message);
+            }
+        }
+    }
+
+    /// The next message where it has come whole, as `next` gives it; else one read is made and none is given, whatever it
+    /// brought. Where the read's time was up (WouldBlock) it brought nothing, which is no fault here.
+    pub fn look<R: Read>(&mut self, reader: &mut R) -> Result<Option<Message>, End>
+        ensures message { IfOk result
+            (λ o. Takes self.old self.new (R.remaining reader.old) (R.remaining reader.new) (listed o)) }
+        ensures nothing { OnErr result (Takes self.old self.new (R.remaining reader.old) (R.remaining reader.new) []) }
+        ensures end { IfErr result (λ e. EndsAs e self.new (R.remaining reader.new)) }
+        ensures spent { self.old.turns ≡ 0 → R.remaining reader.new ≡ R.remaining reader.old }
+        ensures fault { IfErr result (λ e. IsDue e self.old.turns self.new.turns) }
+        ensures less { OnOk result (to_come self.new < to_come self.old) }
+    {
+        self.step(reader, Patience::Timed)
+    }
+
+    // The same with this patience.
+    fn step<R: Read>(&mut self, reader: &mut R, patience: Patience) -> Result<Option<Message>, End>
+        ensures message { IfOk result
+            (λ o. Takes self.old self.new (R.remaining reader.old) (R.remaining reader.new) (listed o)) }
+        ensures nothing { OnErr result (Takes self.old self.new (R.remaining reader.old) (R.remaining reader.new) []) }
+        ensures end { IfErr result (λ e. EndsAs e self.new (R.remaining reader.new)) }
+        ensures spent { self.old.turns ≡ 0 → R.remaining reader.new ≡ R.remaining reader.old }
+        ensures fault { IfErr result (λ e. IsDue e self.old.turns self.new.turns) }
+        ensures less { OnOk result (to_come self.new < to_come self.old) }
+        ensures turns { self.new.turns ≤ self.old.turns }
+    {
+        self.settle()?;
+        match self.front()? {
+            Some(message) => Ok(Some(message)),
+            None => {
+                self.read(reader, patience)?;
+                Ok(None)
             }
         }
     }
@@ -101,8 +134,8 @@ impl Incoming {
         }
     }
 
-    // One read, which gives nothing where it was interrupted.
-    fn read<R: Read>(&mut self, reader: &mut R) -> Result<(), End>
+    // One read, which gives nothing where it is to be made again.
+    fn read<R: Read>(&mut self, reader: &mut R, patience: Patience) -> Result<(), End>
         requires waiting { self.old.waiting ≡ [] }
         requires sound { self.old.fed.broken ≡ false }
         ensures ok { OnOk result (Reads self.old self.new (R.remaining reader.old) (R.remaining reader.new)) }
@@ -121,8 +154,25 @@ impl Incoming {
                 self.waiting = count;
                 Ok(())
             }
-            Err(error) if error.kind() == ErrorKind::Interrupted => Ok(()),
+            Err(error) if patience.makes_again(error.kind()) => Ok(()),
             Err(_) => Err(End::ReadFault),
+        }
+    }
+}
+
+// Which reads are made again: those that were interrupted, and with a reader whose reads have a time those whose time was up.
+#[derive(Clone, Copy)]
+enum Patience {
+    None,
+    Timed,
+}
+
+impl Patience {
+    fn makes_again(self, kind: ErrorKind) -> bool {
+        match kind {
+            ErrorKind::Interrupted => true,
+            ErrorKind::WouldBlock => matches!(self, Patience::Timed),
+            _ => false,
         }
     }
 }

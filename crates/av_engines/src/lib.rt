@@ -10,9 +10,11 @@
 
 pub mod end;
 mod exchange;
+pub mod fresh;
 pub mod incoming;
 pub mod laws;
 pub mod outgoing;
+mod renewing;
 pub mod serving;
 mod tally;
 #[cfg(test)]
@@ -20,7 +22,8 @@ mod tests;
 pub mod watching;
 
 pub use end::End;
+pub use fresh::Fresh;
 pub use incoming::Incoming;
 pub use outgoing::Outgoing;
-pub use serving::serve_service;
+pub use serving::{serve_fresh, serve_service};
 pub use watching::{Watched, serve_filter};

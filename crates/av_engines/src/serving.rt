@@ -1,15 +1,18 @@
 ghost use Rattle.std.specs.Prelude.{◌≡◌, ◌≤◌, ◌⊎◌, ◌∷◌, ◌++◌, [], false, None, IfOk, IsSome, OnErr, OnOk};
 ghost use Rattle.std.specs.List.{flat_map};
+ghost use Rattle.av_engines.specs.FreshEnd.{HearsFresh, RunsFresh, ServesFresh};
 ghost use Rattle.av_engines.specs.Incoming.{unread};
-ghost use Rattle.av_engines.specs.ServiceEnd.{HearsTo, IsAmid, Puts, RunsTo, ServesTo, always};
+ghost use Rattle.av_engines.specs.ServiceEnd.{IsAmid, Puts, ServesTo, always};
 ghost use Rattle.av_engines.specs.Serving.{gone_on, heard, patterns_at, unserved, worked};
 ghost use Rattle.av_frame.specs.Spelling.{frame};
 ghost use Rattle.av_service.specs.Conduct.{Connects, Disconnects, connect_refusal, service_step};
-ghost use Rattle.av_sigset.specs.Catalogue.{set_at};
+ghost use Rattle.av_sigset.specs.Catalogue.{latest, set_at};
 
 use crate::end::End;
 use crate::exchange::Exchange;
+use crate::fresh::Fresh;
 use crate::outgoing::Outgoing;
+use crate::renewing::refresh;
 use av_base::Refusal;
 use av_frame::Message;
 use av_frame::laws::bytes_spell_one_list;
@@ -23,22 +26,45 @@ use std::io::{Read, Write};
 /// Runs a scanning service over a stream of frames: it connects, handles each message that comes, and runs each work at
 /// once, under the set of its version. It ends with ReadFault, also once `turns` reads were made; WriteFault; Frame; Closed;
 /// each of these disconnects the service; or with Memory, which leaves it where the messages led, or within the last of them.
-/// It holds the automaton of the set, a buffer and the frames of one message.
+/// It holds the automaton of the set, a buffer and the frames of one message. It is `serve_fresh` where no set comes.
 pub fn serve_service<R: Read, W: Write>(
     alloc: Global,
     service: &mut Service,
-    catalogue: &Catalogue,
+    catalogue: &mut Catalogue,
     reader: &mut R,
     writer: &mut W,
     turns: u64,
 ) -> End
     requires idle { service.old.connected ≡ false }
     requires version { 1 ≤ service.old.version }
-    requires set { IsSome (set_at catalogue.now.sets service.old.version) }
-    ensures { ServesTo catalogue.now.sets service.old service.new (R.remaining reader.old) (W.contents writer.old)
+    requires set { IsSome (set_at catalogue.old.sets service.old.version) }
+    ensures serves { ServesTo catalogue.old.sets service.old service.new (R.remaining reader.old) (W.contents writer.old)
         (W.contents writer.new) turns result }
+    ensures kept { catalogue.new.sets ≡ catalogue.old.sets }
 {
-    let end = serve(alloc, service, catalogue, reader, writer, turns);
+    serve_fresh(alloc, service, catalogue, reader, writer, turns, &mut ())
+}
+
+/// The same of a service to which newer sets may come. Before each message and each read it is asked whether one has: it is
+/// published, where it is above the set before it and the catalogue has room; the filter is told (Updated), and each job begins
+/// anew under it. A set that is refused, also for want of memory, changes nothing. Each is told which it was. A read whose time
+/// was up (WouldBlock) is made again, so a reader that gives the sets their turn has reads of a bounded time.
+pub fn serve_fresh<R: Read, W: Write, F: Fresh>(
+    alloc: Global,
+    service: &mut Service,
+    catalogue: &mut Catalogue,
+    reader: &mut R,
+    writer: &mut W,
+    turns: u64,
+    fresh: &mut F,
+) -> End
+    requires idle { service.old.connected ≡ false }
+    requires version { 1 ≤ service.old.version }
+    requires set { IsSome (set_at catalogue.old.sets service.old.version) }
+    ensures { ServesFresh catalogue.old.sets catalogue.new.sets service.old service.new (F.coming fresh.old)
+        (F.coming fresh.new) (R.remaining reader.old) (W.contents writer.old) (W.contents writer.new) turns result }
+{
+    let end = serve(alloc, service, catalogue, reader, writer, turns, fresh);
     if end != End::Memory {
         leave(alloc, service);
     }
@@ -46,29 +72,39 @@ pub fn serve_service<R: Read, W: Write>(
 }
 
 // The same, without the disconnection.
-fn serve<R: Read, W: Write>(
+fn serve<R: Read, W: Write, F: Fresh>(
     alloc: Global,
     service: &mut Service,
-    catalogue: &Catalogue,
+    catalogue: &mut Catalogue,
     reader: &mut R,
     writer: &mut W,
     turns: u64,
+    fresh: &mut F,
 ) -> End
     requires idle { service.old.connected ≡ false }
     requires version { 1 ≤ service.old.version }
-    requires set { IsSome (set_at catalogue.now.sets service.old.version) }
-    ensures { RunsTo catalogue.now.sets service.old service.new (R.remaining reader.old) (W.contents writer.old)
-        (W.contents writer.new) turns result }
+    requires set { IsSome (set_at catalogue.old.sets service.old.version) }
+    ensures { RunsFresh catalogue.old.sets catalogue.new.sets service.old service.new (F.coming fresh.old)
+        (F.coming fresh.new) (R.remaining reader.old) (W.contents writer.old) (W.contents writer.new) turns result }
 {
     works_are_lent_under_the_present_version();
-    let Ok(automaton) = automaton_of(alloc, service, catalogue) else {
+    let Ok(mut automaton) = automaton_of(alloc, service, catalogue) else {
         return End::Memory;
     };
     let Ok(mut exchange) = Exchange::new(alloc, turns) else {
         return End::Memory;
     };
     match greet(alloc, service, &mut exchange.outgoing) {
-        Ok(()) => hear_all(alloc, service, &automaton, &mut exchange, reader, writer),
+        Ok(()) => hear_all(
+            alloc,
+            service,
+            catalogue,
+            &mut automaton,
+            &mut exchange,
+            reader,
+            writer,
+            fresh,
+        ),
         Err(_) => End::Memory,
     }
 }
@@ -81,7 +117,8 @@ fn automaton_of(
 ) -> Result<Automaton, AllocError>
     requires version { 1 ≤ service.now.version }
     requires set { IsSome (set_at catalogue.now.sets service.now.version) }
-    ensures { IfOk result (λ a. a.patterns ≡ patterns_at catalogue.now.sets service.now.version) }
+    ensures patterns { IfOk result (λ a. a.patterns ≡ patterns_at catalogue.now.sets service.now.version) }
+    ensures newest { IfOk result (λ a. service.now.version ≤ latest catalogue.now.sets) }
 {
     let Some(version) = service.version() else {
         unreachable!()
@@ -107,23 +144,34 @@ fn greet(alloc: Global, service: &mut Service, outgoing: &mut Outgoing) -> Resul
     }
 }
 
-// Handles each message that comes, until none does.
-fn hear_all<R: Read, W: Write>(
+// Handles each message and each newer set that comes, until no message does.
+fn hear_all<R: Read, W: Write, F: Fresh>(
     alloc: Global,
     service: &mut Service,
-    automaton: &Automaton,
+    catalogue: &mut Catalogue,
+    automaton: &mut Automaton,
     exchange: &mut Exchange,
     reader: &mut R,
     writer: &mut W,
+    fresh: &mut F,
 ) -> End
-    requires { unread exchange.old.incoming ≡ [] }
-    ensures { HearsTo (always automaton.now.patterns) service.old service.new exchange.old.outgoing (R.remaining reader.old)
-        (W.contents writer.old) (W.contents writer.new) exchange.old.incoming.turns result }
+    requires unread { unread exchange.old.incoming ≡ [] }
+    requires newest { service.old.version ≤ latest catalogue.old.sets }
+    requires patterns { automaton.old.patterns ≡ patterns_at catalogue.old.sets service.old.version }
+    ensures { HearsFresh catalogue.old.sets catalogue.new.sets service.old service.new (F.coming fresh.old)
+        (F.coming fresh.new) exchange.old.outgoing (R.remaining reader.old) (W.contents writer.old)
+        (W.contents writer.new) exchange.old.incoming.turns result }
 {
     bytes_spell_one_list();
-    'messages: loop {
-        let message = match exchange.next(reader, writer) {
-            Ok(message) => message,
+    works_are_lent_under_the_present_version();
+    'looks: loop {
+        let outgoing = &mut exchange.outgoing;
+        let Ok(()) = refresh(alloc, service, catalogue, automaton, outgoing, fresh) else {
+            return End::Memory;
+        };
+        let message = match exchange.look(reader, writer) {
+            Ok(Some(message)) => message,
+            Ok(None) => continue,
             Err(end) => return end,
         };
         match hear(alloc, service, automaton, &mut exchange.outgoing, &message) {
@@ -186,8 +234,8 @@ fn bring_back(
     }
 }
 
-// Puts the messages of an event. A work, which it doesn't lend, is let go.
-fn put_plain(outgoing: &mut Outgoing, out: ServiceOut) -> Result<(), AllocError>
+/// Puts the messages of an event. A work, which it doesn't lend, is let go.
+pub fn put_plain(outgoing: &mut Outgoing, out: ServiceOut) -> Result<(), AllocError>
     ensures { OnOk result (outgoing.new ≡ outgoing.old ++ flat_map frame out.messages.items) }
 {
     let ServiceOut {

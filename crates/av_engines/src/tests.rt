@@ -3,6 +3,7 @@ mod cut;
 mod faults;
 mod floods;
 mod frames;
+mod fresh;
 mod interrupted;
 mod sides;
 mod sockets;

@@ -163,7 +163,7 @@ pub fn served_within<R: Read, W: Write>(
     writer: &mut W,
     turns: u64,
 ) -> Result<End, Unmade> {
-    let catalogue = catalogue_of_one(alloc)?;
+    let mut catalogue = catalogue_of_one(alloc)?;
     let Ok(mut service) = Service::start(alloc, 1, &catalogue, limits) else {
         return Err(Unmade);
     };
@@ -174,7 +174,7 @@ pub fn served_within<R: Read, W: Write>(
         return Err(Unmade);
     }
     may_refuse(alloc);
-    let end = serve_service(alloc, &mut service, &catalogue, reader, writer, turns);
+    let end = serve_service(alloc, &mut service, &mut catalogue, reader, writer, turns);
     refuse_no_more(alloc);
     Ok(end)
 }

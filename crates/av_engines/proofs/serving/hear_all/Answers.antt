@@ -1,28 +1,56 @@
-use Rattle.av_engines.proofs.IncomingLemmas.{takes_less}
-use Rattle.av_engines.proofs.ServingLemmas.{hearing_begins, hearing_goes_on, hearing_stops, hearing_fails}
+use Rattle.std.proofs.Common.{arith, ap, sym, ◌∙◌}
+use Rattle.std.specs.Prelude.{None, Some}
+use Rattle.av_engines.specs.Serving.{patterns_at}
+use Rattle.av_engines.proofs.FreshLemmas.{goes_freshened, goes_heard, goes_nowhere, goes_passed, goes_then, heard_version, hearing_fails, hearing_stops, hearing_unsent, looked}
 use Rattle.av_engines.proofs.serving.hear_all.Goals as goal
 
-pub messages-init : goal.messages-init
-messages-init g c = hearing_begins _ _ _ _ _ _
+pub looks-init : goal.looks-init
+looks-init g c = record { goes = goes_nowhere _ _ _ _ _ _ _; newest = c.requires.newest; patterns = c.requires.patterns }
+
+pub returns-in_default : goal.returns-in_default
+returns-in_default g c =
+    hearing_unsent _ _ _ _ _ _ _ _ _ _ _ _ _ _ _ _ _ _ _ c.requires.unread c.looks.invariant.goes c.in_default.ensures.freshens
+
+pub looks-preserved-in-Ok-None : goal.looks-preserved-in-Ok-None
+looks-preserved-in-Ok-None g c = record {
+  goes =
+      goes_then (goes_then c.looks.invariant.goes (goes_freshened _ _ _ _ _ _ _ _ _ _ _ c.in-Ok.ensures.freshens))
+      (goes_passed _ _ _ _ _ _ _ _ _ (looked _ None c.in-Ok-None.field-0-is c.in-Ok-None.ensures.message));
+  newest = c.in-Ok.ensures.newest;
+  patterns = c.in-Ok.ensures.patterns;
+}
 
 pub returns-in-Err : goal.returns-in-Err
 returns-in-Err g c =
-    hearing_stops c.bytes_spell_one_list.ensures.fault _ _ _ _ _ c.messages.exchange c.next.new.self _ _ _ _ _ _ _ c.requires c.messages.invariant c.in-Err.ensures.stops
+    hearing_stops c.bytes_spell_one_list.ensures.fault _ _ _ _ _ _ _ _ _ _ _ _ _ _ _ _ _ c.requires.unread
+    (goes_then c.looks.invariant.goes (goes_freshened _ _ _ _ _ _ _ _ _ _ _ c.in-Ok.ensures.freshens)) c.in-Err.ensures.stops
 
 pub returns-in-Err-hear : goal.returns-in-Err-hear
 returns-in-Err-hear g c =
-    hearing_fails _ _ _ _ c.messages.exchange c.next.new.self _ _ _ _ _ _ _ _ _ c.requires c.messages.invariant c.in-Ok.ensures.message c.in-Err-hear.ensures.err
+    hearing_fails c.works_are_lent_under_the_present_version.ensures _ _ _ _ _ _ _ _ _ _ _ _ _ _ _ _ _ _ _ c.requires.unread
+    c.in-Ok.ensures.patterns (goes_then c.looks.invariant.goes (goes_freshened _ _ _ _ _ _ _ _ _ _ _ c.in-Ok.ensures.freshens))
+    (looked _ (Some c.in-Ok-Some.message) c.in-Ok-Some.field-0-is c.in-Ok-Some.ensures.message) c.in-Err-hear.ensures.err
 
-pub messages-smaller-in-Ok-hear : goal.messages-smaller-in-Ok-hear
-messages-smaller-in-Ok-hear g c = takes_less _ _ _ _ _ c.in-Ok.ensures.message.taken
+pub looks-preserved-in-Ok-hear : goal.looks-preserved-in-Ok-hear
+looks-preserved-in-Ok-hear g c =
+    let same = heard_version c.works_are_lent_under_the_present_version.ensures _ _ _ _ _ _ c.in-Ok-hear.ensures.ok in
+    record {
+      goes =
+          goes_then (goes_then c.looks.invariant.goes (goes_freshened _ _ _ _ _ _ _ _ _ _ _ c.in-Ok.ensures.freshens))
+          (goes_heard c.works_are_lent_under_the_present_version.ensures _ _ _ _ _ _ _ _ _ _ _ _ _ c.in-Ok.ensures.patterns
+          (looked _ (Some c.in-Ok-Some.message) c.in-Ok-Some.field-0-is c.in-Ok-Some.ensures.message) c.in-Ok-hear.ensures.ok);
+      newest = omega (arith, same, c.in-Ok.ensures.newest);
+      patterns = c.in-Ok.ensures.patterns ∙ ap (patterns_at _) (sym same);
+    }
 
-pub messages-preserved-in-Ok-hear : goal.messages-preserved-in-Ok-hear
-messages-preserved-in-Ok-hear g c =
-    hearing_goes_on _ _ _ _ c.messages.exchange c.next.new.self _ _ _ _ _ _ _ _ _ _ c.messages.invariant c.in-Ok.ensures.message c.in-Ok-hear.ensures.ok
-
-pub messages-smaller : goal.messages-smaller
-messages-smaller g c = takes_less _ _ _ _ _ c.in-Ok.ensures.message.taken
-
-pub messages-preserved : goal.messages-preserved
-messages-preserved g c =
-    hearing_goes_on _ _ _ _ c.messages.exchange c.next.new.self _ _ _ _ _ _ _ _ _ _ c.messages.invariant c.in-Ok.ensures.message c.in-Ok-hear.ensures.ok
+pub looks-preserved : goal.looks-preserved
+looks-preserved g c =
+    let same = heard_version c.works_are_lent_under_the_present_version.ensures _ _ _ _ _ _ c.in-Ok-hear.ensures.ok in
+    record {
+      goes =
+          goes_then (goes_then c.looks.invariant.goes (goes_freshened _ _ _ _ _ _ _ _ _ _ _ c.in-Ok.ensures.freshens))
+          (goes_heard c.works_are_lent_under_the_present_version.ensures _ _ _ _ _ _ _ _ _ _ _ _ _ c.in-Ok.ensures.patterns
+          (looked _ (Some c.in-Ok-Some.message) c.in-Ok-Some.field-0-is c.in-Ok-Some.ensures.message) c.in-Ok-hear.ensures.ok);
+      newest = omega (arith, same, c.in-Ok.ensures.newest);
+      patterns = c.in-Ok.ensures.patterns ∙ ap (patterns_at _) (sym same);
+    }

@@ -1,13 +1,19 @@
-use Rattle.av_engines.specs.Incoming.{budget}
-use Rattle.av_engines.specs.ServiceEnd.{always}
-use Rattle.av_engines.proofs.ServingLemmas.{IsHearing}
+use Rattle.std.proofs.Common.{◌≡◌, ◌≤◌}
+use Rattle.av_engines.specs.Incoming.{to_come}
+use Rattle.av_engines.specs.Serving.{patterns_at}
+use Rattle.av_engines.proofs.FreshLemmas.{Goes}
+use Rattle.av_sigset.specs.Catalogue.{latest}
 use Rattle.av_engines.proofs.serving.hear_all.Given as goal
 
--- the messages so far were handled
-abbrev pub invariant-messages : goal.invariant-messages
-invariant-messages g l =
-    IsHearing (always l.initial.automaton.patterns) l.initial.service l.initial.exchange.incoming l.initial.exchange.outgoing l.exchange.incoming l.exchange.outgoing
-    (g.R.Read.remaining l.initial.reader) (g.R.Read.remaining l.reader) (g.W.Write.contents l.initial.writer) (g.W.Write.contents l.writer) l.service
+-- what happened so far was handled
+abbrev pub invariant-looks : goal.invariant-looks
+invariant-looks g l = record {
+  goes : Goes l.initial.catalogue.sets l.catalogue.sets l.initial.service l.service (g.F.Fresh.coming l.initial.fresh) (g.F.Fresh.coming l.fresh)
+      l.initial.exchange.incoming l.exchange.incoming l.initial.exchange.outgoing l.exchange.outgoing
+      (g.R.Read.remaining l.initial.reader) (g.R.Read.remaining l.reader) (g.W.Write.contents l.initial.writer) (g.W.Write.contents l.writer);
+  newest : l.service.version ≤ latest l.catalogue.sets;
+  patterns : l.automaton.patterns ≡ patterns_at l.catalogue.sets l.service.version;
+}
 
-abbrev pub decreases-messages : goal.decreases-messages
-decreases-messages g l = budget l.exchange.incoming
+abbrev pub decreases-looks : goal.decreases-looks
+decreases-looks g l = to_come l.exchange.incoming
