@@ -3,10 +3,10 @@ use av_base::device::read_whole;
 use av_files::{MAX_FILE, TURNS};
 use av_guard::Answered;
 use av_sigset::SignatureSet;
+use av_sockets::{Look, looked_at};
 use std::alloc::Global;
 use std::fs;
 use std::fs::Files;
-use std::os::unix::fs::MetadataExt;
 
 /// The names of signatures, from a signature file that is read again where it has changed and a verdict names a version that is
 /// not held.
@@ -15,16 +15,6 @@ pub struct Names<'a> {
     path: Option<&'a str>,
     set: Option<SignatureSet>,
     looked: Option<Look>,
-}
-
-// Which file it is, how long, and when it was changed.
-#[derive(Clone, Copy, PartialEq, Eq)]
-struct Look {
-    device: u64,
-    number: u64,
-    length: u64,
-    seconds: i64,
-    nanoseconds: i64,
 }
 
 impl<'a> Names<'a> {
@@ -93,15 +83,4 @@ fn set_in<R: Files>(rt: &R, alloc: Global, path: &str) -> Option<SignatureSet> {
     let mut file = fs::open(rt, path).ok()?;
     let bytes = read_whole(alloc, &mut file, MAX_FILE, TURNS).ok()?;
     SignatureSet::read(alloc, bytes.as_slice()).ok()
-}
-
-fn looked_at<R: Files>(rt: &R, path: &str) -> Option<Look> {
-    let data = fs::metadata(rt, path).ok()?;
-    Some(Look {
-        device: data.dev(),
-        number: data.ino(),
-        length: data.len(),
-        seconds: data.mtime(),
-        nanoseconds: data.mtime_nsec(),
-    })
 }

@@ -19,6 +19,9 @@ const PAUSE: u64 = 10;
 // The shortest wait, for what is there already, in milliseconds.
 const LEAST: u64 = 1;
 
+// For how many seconds a read waits that has no end.
+const LONG: u64 = 3_600;
+
 // How many bytes are read at a time while a write waits, how often, and how many of them are kept at most.
 const PIECE: usize = 8_192;
 
@@ -53,6 +56,8 @@ struct Inside {
     waiting: Vec<u8>,
     // Where what came ends, and since when a frame is waited for that is not whole.
     arriving: Arriving,
+    // The moment at which a read that waits ends with nothing, where there is one.
+    wake: Option<Duration>,
 }
 
 impl<'a, C: Clock> Duplex<'a, C> {
@@ -77,6 +82,7 @@ impl<'a, C: Clock> Duplex<'a, C> {
                 given: 0,
                 waiting: Vec::new(alloc),
                 arriving: Arriving::since(since),
+                wake: None,
             }),
         })
     }
@@ -86,6 +92,15 @@ impl<'a, C: Clock> Duplex<'a, C> {
         match self.inside.try_borrow_mut() {
             Ok(mut inside) => inside.await_first(&self.line),
             Err(_) => Err(lost()),
+        }
+    }
+
+    /// From now on the next frame is waited for without an end, as long as it has not begun, and a read that waits at this
+    /// moment ends with WouldBlock.
+    pub fn wake_at(&self, moment: Duration) {
+        if let Ok(mut inside) = self.inside.try_borrow_mut() {
+            inside.arriving.rest();
+            inside.wake = Some(moment);
         }
     }
 
@@ -137,29 +152,41 @@ impl Inside {
         count
     }
 
-    // One read. A frame that has begun is waited for since its first byte, else the next one from now on.
+    // One read. A frame that has begun is waited for since its first byte, else the next one from now on, or without an end where
+    // there is a moment to wake at.
     fn hear<C: Clock>(&mut self, line: &Line<'_, C>, buf: &mut [u8]) -> io::Result<usize>
         ensures { IfOk result (λ count. count ≤ length buf.new) }
     {
-        let since = match self.arriving.begun() {
-            Some(since) => since,
-            None => line.clock.monotonic()?,
-        };
+        let over = self.over(line)?;
         'reads: for _ in 0..u64::MAX {
-            let left = line.left_since(since)?;
-            let least = Duration::from_millis(LEAST);
-            line.stream.set_read_timeout(Some(left.unwrap_or(least)))?;
+            let now = line.clock.monotonic()?;
+            let left = left_until(over, now);
+            let rest = left_until(self.wake, now);
+            line.stream
+                .set_read_timeout(Some(left.min(rest).max(Duration::from_millis(LEAST))))?;
             let mut reader = &line.stream;
             match reader.read(buf) {
                 Ok(count) => {
                     self.pass(line, &buf[..count])?;
                     return Ok(count);
                 }
-                Err(error) if is_passing(&error) && left.is_some() => {}
-                Err(error) => return Err(error),
+                Err(error) if !is_passing(&error) => return Err(error),
+                Err(_) if is_none(left) => return Err(lost()),
+                Err(_) if is_none(rest) => return Err(io::Error::from(ErrorKind::WouldBlock)),
+                Err(_) => {}
             }
         }
         Err(lost())
+    }
+
+    // The moment at which the wait for a frame is over, where it ever is.
+    fn over<C: Clock>(&self, line: &Line<'_, C>) -> io::Result<Option<Duration>> {
+        let since = match self.arriving.begun() {
+            Some(since) => since,
+            None if self.wake.is_some() => return Ok(None),
+            None => line.clock.monotonic()?,
+        };
+        Ok(Some(since.saturating_add(line.wait)))
     }
 
     // Goes on over bytes that came.
@@ -249,11 +276,24 @@ impl<'a, C: Clock> Line<'a, C> {
     fn left_since(&self, since: Duration) -> io::Result<Option<Duration>> {
         let gone = self.clock.monotonic()?.saturating_sub(since);
         let left = self.wait.saturating_sub(gone);
-        if left < Duration::from_millis(LEAST) {
+        if is_none(left) {
             return Ok(None);
         }
         Ok(Some(left))
     }
+}
+
+// How much is left until a moment, or an hour where there is none.
+fn left_until(moment: Option<Duration>, now: Duration) -> Duration {
+    match moment {
+        Some(moment) => moment.saturating_sub(now),
+        None => Duration::from_secs(LONG),
+    }
+}
+
+// Whether so little is left that it is nothing.
+fn is_none(left: Duration) -> bool {
+    left < Duration::from_millis(LEAST)
 }
 
 // Whether a read or a write is to be made again: it was interrupted, or waited as long as one call does.

@@ -3,20 +3,26 @@
 //! ```text
 //! let meeting = Meeting { path: "avscan.socket", wait: Duration::from_secs(30) };
 //! filter_volume(&rt, alloc, meeting, 0o600, volume, &names, &mut out, &mut err);    // in the one
-//! serve_at(&rt, alloc, meeting, set, &mut out, &mut err);                           // in the other
+//! serve_at(&rt, alloc, meeting, set, None, &mut out, &mut err);                     // in the other
 //! ```
 #![tactic(auto)]
 
 mod duplex;
 pub mod fault;
 pub mod filter;
+pub mod looks;
 mod place;
 pub mod service;
 pub mod sockets;
+#[cfg(test)]
+mod tests;
+pub mod watch;
 
 pub use duplex::{Duplex, Hearing, Saying};
 pub use fault::SocketFault;
 pub use filter::filter_volume;
+pub use looks::{Look, looked_at};
 pub use place::Arriving;
 pub use service::serve_at;
 pub use sockets::{Meeting, Node, connect, listen, remove_own};
+pub use watch::Watched;

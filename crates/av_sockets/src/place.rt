@@ -80,6 +80,13 @@ impl Arriving {
         }
     }
 
+    /// No frame is waited for that has not begun.
+    pub fn rest(&mut self) {
+        if !self.place.is_within() {
+            self.since = None;
+        }
+    }
+
     /// Since when a frame is waited for: the first one, or one that has begun.
     pub fn begun(&self) -> Option<Duration> {
         self.since

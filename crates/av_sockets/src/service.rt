@@ -4,35 +4,50 @@ ghost use Rattle.av_sigset.specs.Catalogue.{set_at};
 use crate::duplex::{Duplex, Hearing, Saying};
 use crate::fault::{SocketFault, socket_failed};
 use crate::sockets::{Meeting, connect};
-use av_base::Limits;
+use crate::watch::{Watch, Watched};
 use av_base::device::write_text;
-use av_engines::{End, serve_service};
-use av_files::streams::{TURNS, VOLUME};
+use av_base::{Limits, Version};
+use av_engines::{End, serve_fresh, serve_service};
+use av_files::streams::VOLUME;
 use av_service::Service;
 use av_sigset::{Catalogue, SignatureSet};
 use av_status::faults::{bad_frame, device_failed, out_of_memory};
 use av_status::status::Status;
 use std::alloc::{AllocError, Global};
+use std::fs::Files;
 use std::io::Write;
 use std::net::Net;
 use std::time::Clock;
 
+// How many reads a service makes of its connection at most: it may run for as long as it likes.
+const READS: u64 = u64::MAX;
+
 /// Scans under a set for the filter that listens at a socket, or will within the wait, until the filter closes the
-/// connection: then `closed` is written. Else one line to `err` says why.
-pub fn serve_at<R: Net + Clock, W: Write, E: Write>(
+/// connection: then `closed` is written. Else one line to `err` says why. Where a signature file is watched, its newer sets are
+/// published meanwhile, and an idle filter is waited for without an end.
+pub fn serve_at<R: Files + Net + Clock, W: Write, E: Write>(
     rt: &R,
     alloc: Global,
     meeting: Meeting<'_>,
     set: SignatureSet,
+    watched: Option<Watched<'_>>,
     out: &mut W,
     err: &mut E,
 ) -> Status {
-    let Ok((mut service, catalogue)) = service_of(alloc, set) else {
+    let Ok((mut service, mut catalogue)) = service_of(alloc, set) else {
         return out_of_memory(err);
     };
     match connect(rt, alloc, meeting) {
         Ok(duplex) => {
-            let end = serve_over(alloc, &mut service, &catalogue, &duplex);
+            let end = serve_over(
+                rt,
+                alloc,
+                &mut service,
+                &mut catalogue,
+                &duplex,
+                watched,
+                err,
+            );
             told(meeting.path, end, out, err)
         }
         Err(fault) => socket_failed(err, meeting.path, fault),
@@ -40,19 +55,35 @@ pub fn serve_at<R: Net + Clock, W: Write, E: Write>(
 }
 
 // Scans until the connection ends.
-fn serve_over<C: Clock>(
+fn serve_over<'a, R: Files + Clock, E: Write>(
+    rt: &'a R,
     alloc: Global,
     service: &mut Service,
-    catalogue: &Catalogue,
-    duplex: &Duplex<'_, C>,
+    catalogue: &mut Catalogue,
+    duplex: &Duplex<'a, R>,
+    watched: Option<Watched<'_>>,
+    err: &mut E,
 ) -> End
     requires idle { service.old.connected ≡ false }
     requires version { 1 ≤ service.old.version }
-    requires set { IsSome (set_at catalogue.now.sets service.old.version) }
+    requires set { IsSome (set_at catalogue.old.sets service.old.version) }
 {
     let mut reader = Hearing { duplex };
     let mut writer = Saying { duplex };
-    serve_service(alloc, service, catalogue, &mut reader, &mut writer, TURNS)
+    let Some(watched) = watched else {
+        return serve_service(alloc, service, catalogue, &mut reader, &mut writer, READS);
+    };
+    let version = service.version().unwrap_or(Version::new(0));
+    let mut watch = Watch::new(rt, alloc, duplex, watched, version, err);
+    serve_fresh(
+        alloc,
+        service,
+        catalogue,
+        &mut reader,
+        &mut writer,
+        READS,
+        &mut watch,
+    )
 }
 
 // How the service's side ended.
