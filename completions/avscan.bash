@@ -10,8 +10,8 @@ _avscan() {
         COMPREPLY=($(compgen -W "1 2 4 8 16" -- "$word"))
         return
         ;;
-    --wait)
-        COMPREPLY=($(compgen -W "5 30 60 300" -- "$word"))
+    --wait | --watch)
+        COMPREPLY=($(compgen -W "5 10 30 60 300" -- "$word"))
         return
         ;;
     --max-size)
@@ -40,7 +40,7 @@ _avscan() {
     scan) options="--recursive --keep-going --max-size --infected --json --files-from --null --found-status --summary --quiet --help" ;;
     host) options="--openers --workers --infected --json --files-from --null --found-status --summary --quiet --help" ;;
     filter) options="--wait --mode --infected --json --files-from --null --found-status --summary --quiet --help" ;;
-    service) options="--wait --help" ;;
+    service) options="--wait --watch --help" ;;
     guard) options="--open --wait --keep --questions --clamd --names --mode --help" ;;
     ask) options="--recursive --keep-going --infected --json --files-from --null --found-status --summary --wait --quiet --help" ;;
     chart) options="--from --to --help" ;;

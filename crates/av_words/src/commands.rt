@@ -223,9 +223,14 @@ fn service_command<'a>(alloc: Global) -> Result<Command<'a>, Error> {
             .about("Scans for a filter that listens on a socket, until the filter closes it")
             .after_help(
                 "It prints `closed` once the filter has closed the connection.\
+                 \nWith --watch it looks at SET again and again, and scans under each newer version as soon as the file stays as it is; \
+                 what is wrong with\
+                 \none is said on standard error, and it goes on with the set that it has.\
                  \n\nExample, in two terminals:\
                  \n  avscan filter avscan.socket examples/letter.txt examples/eicar.com.txt\
-                 \n  avscan service avscan.socket examples/test.avsig",
+                 \n  avscan service avscan.socket examples/test.avsig\
+                 \nFor a guard, as long as that runs:\
+                 \n  avscan service service.socket examples/test.avsig --watch 10",
             )
             .arg(socket_argument(alloc, "The filter's socket: a path of 1 to 107 bytes"))?
             .arg(set_argument(alloc))?
@@ -233,7 +238,16 @@ fn service_command<'a>(alloc: Global) -> Result<Command<'a>, Error> {
                 alloc,
                 "30",
                 "How long to wait for the socket to be there, for each message, and for the filter to take each reply",
-            ))?,
+            ))?
+            .arg(
+                Arg::new(alloc, "watch")
+                    .long("watch")
+                    .value_name("SECONDS")
+                    .value_parser(ValueParser::unsigned(1, 86_400))
+                    .help(
+                        "Looks at SET every so many seconds, 1 to 86,400, and takes newer versions; an idle filter is waited for",
+                    ),
+            )?,
     )
 }
 

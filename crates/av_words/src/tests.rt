@@ -196,6 +196,39 @@ fn a_socket_has_a_path_and_a_time_to_wait(rt: HostRuntime) -> Result<(), Fail> {
     Ok(())
 }
 
+// Whether the words ask for a service, and every how many seconds it is to look at its signature file.
+fn watch_of(alloc: Global, words: &[&str]) -> Option<Option<u64>> {
+    let mut out = FakeWriter::new(alloc);
+    let mut err = FakeWriter::new(alloc);
+    match read_words(alloc, words, &mut out, &mut err) {
+        Ok(Request::Service { watch, .. }) => Some(watch),
+        _ => None,
+    }
+}
+
+#[test]
+fn a_service_looks_at_its_signature_file_every_1_to_86400_seconds_or_never(
+    rt: HostRuntime,
+) -> Result<(), Fail> {
+    let alloc = rt.alloc();
+    let never = ["avscan", "service", "t", "s"];
+    assert!(&rt; watch_of(alloc, never.as_slice()) == Some(None));
+    for (word, seconds) in [
+        ("0", None),
+        ("1", Some(Some(1))),
+        ("86400", Some(Some(86_400))),
+        ("86401", None),
+        ("", None),
+        ("1.5", None),
+    ] {
+        let words = ["avscan", "service", "t", "s", "--watch", word];
+        assert!(&rt; watch_of(alloc, words.as_slice()) == seconds, "{word}");
+    }
+    let other = ["avscan", "filter", "s", "f", "--watch", "1"];
+    assert!(&rt; watch_of(alloc, other.as_slice()).is_none());
+    Ok(())
+}
+
 // The rights of a socket that the words ask for.
 fn mode_of(alloc: Global, words: &[&str]) -> Option<u32> {
     let mut out = FakeWriter::new(alloc);

@@ -67,11 +67,13 @@ pub enum Request<'a> {
         mode: u32,
         quiet: bool,
     },
-    /// Scan under the signature file `set` for the filter at this socket, which may take `wait` seconds to be there.
+    /// Scan under the signature file `set` for the filter at this socket, which may take `wait` seconds to be there. With
+    /// `watch` newer sets are taken from that file, which is looked at every so many seconds.
     Service {
         socket: &'a str,
         set: &'a str,
         wait: u64,
+        watch: Option<u64>,
     },
     /// Answer opens that are asked about at a socket, by what the service at another one says, until the program is ended.
     Guard {
@@ -197,6 +199,7 @@ fn requested<'a, S: AsStr>(alloc: Global, words: &'a [S]) -> Result<Request<'a>,
             socket: text_of(service, "socket"),
             set: text_of(service, "set"),
             wait: number_of(service, "wait"),
+            watch: service.get_one::<u64>("watch"),
         }),
         Some(("guard", guard)) => Ok(guard_of(guard)),
         Some(("ask", ask)) => Ok(Request::Ask {

@@ -18,7 +18,8 @@ use av_chart::Lines;
 use av_daemon::{Doors, Guarding, guard_at};
 use av_files::{Failing, MAX_FILE, add_file, empty_volume, read_set};
 use av_host::{Crew, Hosting, host_volume};
-use av_sockets::{Meeting, filter_volume, serve_at};
+use av_sigset::SignatureSet;
+use av_sockets::{Meeting, Watched, filter_volume, looked_at, serve_at};
 use av_status::faults::{bad_word, out_of_memory, say, text, unreadable};
 use av_status::{Progress, Status, Tally, Wishes};
 use av_store::Volume;
@@ -120,17 +121,23 @@ fn asked<R: Hosting>(rt: &HostRuntime, system: &R, alloc: Global, words: &Vec<St
             &mut out,
             &mut Progress::new(rt, err, !quiet && rt.stderr().is_terminal()),
         ),
-        Ok(Request::Service { socket, set, wait }) => {
-            serve_named(
-                rt,
-                system,
-                alloc,
-                meeting(socket, wait),
+        Ok(
+            Request::Service {
+                socket,
                 set,
-                &mut out,
-                &mut err,
-            )
-        }
+                wait,
+                watch,
+            },
+        ) => serve_named(
+            rt,
+            system,
+            alloc,
+            meeting(socket, wait),
+            set,
+            watch,
+            &mut out,
+            &mut err,
+        ),
         Ok(
             Request::Filter {
                 socket,
@@ -324,23 +331,48 @@ fn meeting(path: &str, seconds: u64) -> Meeting<'_> {
     }
 }
 
-// Scans under the set of this name for the filter at a socket.
+// Scans under the set of this name for the filter at a socket, and under newer ones where it is to be watched.
 fn serve_named<R: Hosting, W: Write, E: Write>(
     rt: &HostRuntime,
     system: &R,
     alloc: Global,
     meeting: Meeting<'_>,
-    set: &str,
+    name: &str,
+    watch: Option<u64>,
     out: &mut W,
     err: &mut E,
 ) -> Status {
-    let Ok(mut buffer) = vec![in alloc; 0u8; MAX_FILE + 2] else {
-        return out_of_memory(err);
+    let seen = looked_at(rt, name);
+    let set = match set_named(rt, alloc, name, err) {
+        Ok(set) => set,
+        Err(status) => return status,
     };
-    match read_set(alloc, read_file(rt, set, &mut buffer), err) {
-        Ok(set) => serve_at(system, alloc, meeting, set, out, err),
-        Err(status) => status,
-    }
+    let watched = match watch {
+        Some(seconds) => Some(Watched {
+            path: name,
+            every: Duration::from_secs(seconds),
+            seen: if looked_at(rt, name) == seen {
+                seen
+            } else {
+                None
+            },
+        }),
+        None => None,
+    };
+    serve_at(system, alloc, meeting, set, watched, out, err)
+}
+
+// The set of this name.
+fn set_named<E: Write>(
+    rt: &HostRuntime,
+    alloc: Global,
+    name: &str,
+    err: &mut E,
+) -> Result<SignatureSet, Status> {
+    let Ok(mut buffer) = vec![in alloc; 0u8; MAX_FILE + 2] else {
+        return Err(out_of_memory(err));
+    };
+    read_set(alloc, read_file(rt, name, &mut buffer), err)
 }
 
 // The names that were given, and behind them those of a list, and a volume with these files.
