@@ -639,4 +639,5 @@ def main():
     sys.exit(1 if cases.failed else 0)
 
 
-main()
+if __name__ == "__main__":
+    main()
