@@ -3,7 +3,8 @@
 
 The client in C and that in Python are asked about files that are clean, infected, empty, as long as may be, too long, not there; with no
 guard, one that lets through, one that goes away or says what is no answer, and stopped while they wait. The helper for fanotify holds
-`cat` of a clean and of an infected file, where the machine lets it; clamdscan asks at --clamd, where it is installed.
+`cat` of a clean and of an infected file, where the machine lets it. clamdscan, clamonacc, rspamd and pyclamd ask at --clamd, where they are
+installed (Debian: clamdscan, clamav-daemon, rspamd, python3-pyclamd); each that was not run is named.
 The last line says how many passed and how many failed."""
 import os, shutil, signal, socket, struct, subprocess, sys, tempfile, threading, time
 
@@ -293,7 +294,7 @@ def clamdscan(cases, room):
     if not shutil.which("clamdscan"):
         print("clamdscan is not installed: it was not run", file=sys.stderr)
         return
-    room.guard("--clamd", room.clamd, "--names", os.path.join(room.folder, "set.avsig"))
+    with_clamd(room)
     room.write("clamd.conf", b"LocalSocket %s\nStreamMaxLength 2M\n" % room.clamd.encode())
     at = room.folder.encode() + b"/"
     rows = [("clean", 0, b"clean: OK\n"), ("infected", 1, b"infected: Test.X FOUND\n"), ("most", 0, b"most: OK\n"), ("last", 1, b"last: Test.X FOUND\n"),
@@ -302,13 +303,114 @@ def clamdscan(cases, room):
         for name, status, line in rows:
             got, out, err = run(room, ["clamdscan", "--config-file=clamd.conf", "--stream", "--no-summary", name])
             cases.check(f"clamdscan {name}", got == status and line in out.replace(at, b"") + err.replace(at, b""), f"{got}, {out!r}, {err!r}")
+    for name in ("clean", "infected", "empty", "last"):
+        room.write(os.path.join("folder", name), FILES[name])
+    got, out, err = run(room, ["clamdscan", "--config-file=clamd.conf", "--stream", "--multiscan", "--no-summary", "folder"])
+    found = sorted(out.replace(at, b"").splitlines())
+    cases.check("clamdscan of a folder in one session", got == 1 and found == [b"folder/infected: Test.X FOUND", b"folder/last: Test.X FOUND"], f"{got}, {out!r}, {err!r}")
+    for name, status, line in (("clean", 0, b"stream: OK\n"), ("infected", 1, b"stream: Test.X FOUND\n")):
+        done = subprocess.run(["clamdscan", "--config-file=clamd.conf", "--no-summary", "-"], cwd=room.folder, input=FILES[name], capture_output=True, timeout=SECONDS)
+        cases.same(f"clamdscan of standard input, {name}", (done.returncode, done.stdout), (status, line))
+
+
+def with_clamd(room, *words):
+    """A guard at which clients of clamd ask, with the names of the signatures."""
+    return room.guard("--clamd", room.clamd, "--names", os.path.join(room.folder, "set.avsig"), *words)
+
+
+PYCLAMD = """
+import pyclamd, sys
+client = pyclamd.ClamdUnixSocket(sys.argv[1])
+print(client.ping(), client.version())
+for content in (b"ABC", b"A letter with XX in it", b"A" * 1048574 + b"XX"):
+    print(client.scan_stream(content))
+"""
+
+
+def pyclamd(cases, room):
+    """By Debian's own Python, for which the package is."""
+    python = "/usr/bin/python3"
+    if not os.path.exists(python) or subprocess.run([python, "-c", "import pyclamd"], capture_output=True).returncode:
+        print("pyclamd is not installed: it was not run", file=sys.stderr)
+        return
+    with_clamd(room)
+    wanted = b"True Vizdroun 1\nNone\n{'stream': ('FOUND', 'Test.X')}\n{'stream': ('FOUND', 'Test.X')}\n"
+    cases.same("pyclamd", run(room, [python, "-W", "ignore", "-c", PYCLAMD, room.clamd]), (0, wanted, b""))
+
+
+def clamonacc(cases, room):
+    if not shutil.which("clamonacc"):
+        print("clamonacc is not installed: it was not run", file=sys.stderr)
+        return
+    watched = os.path.join(room.folder, "watched")
+    os.mkdir(watched)
+    paths = {name: room.write(os.path.join("watched", name), FILES[name]) for name in ("clean", "infected", "empty", "last")}
+    room.write("clamd.conf", b"LocalSocket %s\nStreamMaxLength 2M\nOnAccessIncludePath %s\nOnAccessPrevention yes\nOnAccessDenyOnError yes\nOnAccessExcludeUname nobody\n"
+               % (room.clamd.encode(), watched.encode()))
+    with_clamd(room)
+    process = room.start("clamonacc", "--foreground", "--stream", "--config-file=clamd.conf", "--log=onacc.log", stdout=subprocess.DEVNULL, stderr=subprocess.PIPE)
+    limit = time.time() + 20
+    while process.poll() is None and time.time() < limit and can_open(paths["infected"]):
+        time.sleep(0.1)
+    if process.poll() is not None:
+        print(f"clamonacc was not run: {process.stderr.read().decode(errors='replace').strip()}", file=sys.stderr)
+        return
+    shown = {name: cat(room, path) == FILES[name] for name, path in paths.items()}
+    cases.same("what may be opened under clamonacc", shown, {"clean": True, "infected": False, "empty": True, "last": False})
+    process.terminate()
+    process.wait(SECONDS)
+    cases.check("from the end of clamonacc on all may be opened", can_open(paths["infected"]))
+
+
+RSPAMD = """
+options {{ pidfile = "{0}/rspamd.pid"; filters = ""; dns {{ nameserver = ["127.0.0.1:1"]; }} cache_file = "{0}/symcache"; url_tld = "{0}/tld"; }}
+logging {{ type = "file"; filename = "{0}/rspamd.log"; level = "info"; }}
+worker "normal" {{ bind_socket = "{0}/rspamd.sock mode=0666"; count = 1; task_timeout = 20s; }}
+modules {{ path = "/usr/share/rspamd/plugins/antivirus.lua"; }}
+lua = "/usr/share/rspamd/rules/rspamd.lua";
+antivirus {{ clamav {{ type = "clamav"; servers = "{1}"; symbol = "CLAM_VIRUS"; scan_mime_parts = false; log_clean = true; }} }}
+group "antivirus" {{ symbols {{ "CLAM_VIRUS" {{ weight = 1; }} }} }}
+actions {{ reject = 15; }}
+"""
+
+
+def rspamd(cases, room):
+    if not shutil.which("rspamd"):
+        print("rspamd is not installed: it was not run", file=sys.stderr)
+        return
+    with_clamd(room)
+    os.chmod(room.folder, 0o755)
+    room.write("tld", b"com\norg\n")
+    room.write("rspamd.conf", RSPAMD.format(room.folder, room.clamd).encode())
+    process = room.start("rspamd", "-f", "-i", "-c", "rspamd.conf", stdout=subprocess.DEVNULL, stderr=subprocess.PIPE)
+    path = os.path.join(room.folder, "rspamd.sock")
+    limit = time.time() + SECONDS
+    while process.poll() is None and time.time() < limit and not os.path.exists(path):
+        time.sleep(0.05)
+    if not os.path.exists(path):
+        cases.check("rspamd", False, "it made no socket")
+        return
+    head = b"From: a@example.org\r\nTo: b@example.org\r\nSubject: s\r\nMessage-Id: <%d@example.org>\r\n\r\n"
+    for number, (body, found) in enumerate(((b"A clean letter\r\n", False), (b"A letter with XX in it\r\n", True))):
+        text = head % number + body
+        client = socket.socket(socket.AF_UNIX)
+        client.settimeout(SECONDS)
+        client.connect(path)
+        client.sendall(b"POST /checkv2 HTTP/1.0\r\nContent-Length: %d\r\n\r\n" % len(text) + text)
+        told = b""
+        while piece := client.recv(65536):
+            told += piece
+        client.close()
+        cases.check(f"rspamd over {body!r}", b" 200 " in told.split(b"\n")[0] and (b"CLAM_VIRUS" in told and b"Test.X" in told) == found, f"{told!r}")
+    process.terminate()
+    process.wait(SECONDS)
 
 
 def main():
     if len(sys.argv) != 2:
         sys.exit("usage: tests/clients.py PROGRAM")
     cases = Cases()
-    for part in (answers, let_through, denied, nobody, strangers, stopped, words_of_holder, held, clamdscan):
+    for part in (answers, let_through, denied, nobody, strangers, stopped, words_of_holder, held, clamdscan, pyclamd, clamonacc, rspamd):
         begun = time.time()
         with tempfile.TemporaryDirectory() as folder:
             room = Room(os.path.abspath(sys.argv[1]), folder)
