@@ -520,6 +520,48 @@ def hostile_clients(cases, program):
             end.close()
 
 
+# The figures of docs/OPERATING.md, in KiB: of a guard that holds nothing, of a client, and of a content beside its bytes.
+BASE, A_CLIENT, A_CONTENT = 16 * 1024, 32, 2
+
+
+def memory(cases, program):
+    with Guard(program, clamd=False) as guard:
+        service = subprocess.Popen([program, "service", guard.service, guard.write("set", NAMES)], stdout=subprocess.DEVNULL, stderr=subprocess.DEVNULL)
+        guard.await_line(b"connected\n")
+        base = guard.memory()
+        cases.check("a guard that holds nothing has at most its figure", base <= BASE, f"{base} KiB")
+        many, clients = [connected(guard.opens) for _ in range(900)], 900
+        many[-1].sendall(ask(1, b"x"))
+        heard(many[-1], 29)
+        with_clients = guard.memory()
+        cases.check("900 clients have at most their figure", with_clients - base <= clients * A_CLIENT, f"{(with_clients - base) / clients:.1f} KiB each")
+        for end in many:
+            end.close()
+        before, size, end = guard.memory(), 1000, connected(guard.opens)
+        for tag in range(8000):
+            end.sendall(ask(tag, b"%08d" % tag + b"A" * (size - 8)))
+            answer = heard(end, 29)
+            if answer[4:5] != b"\2":
+                cases.same(f"content {tag} is granted", answer[4:5], b"\2")
+                break
+        grown = (guard.memory() - before) / 8000 - size / 1024
+        cases.check("8,000 contents that are kept have at most their figure", grown <= A_CONTENT, f"{grown:.2f} KiB each beside its bytes")
+        end.close()
+        service.kill()
+        service.communicate()
+    with Guard(program, "--keep", "1000000", clamd=False) as guard:
+        service = subprocess.Popen([program, "service", guard.service, guard.write("set", NAMES)], stdout=subprocess.DEVNULL, stderr=subprocess.DEVNULL)
+        guard.await_line(b"connected\n")
+        before, end = guard.memory(), connected(guard.opens)
+        for tag in range(300):
+            end.sendall(ask(tag, b"%08d" % tag + b"A" * 500_000))
+            heard(end, 29)
+        cases.check("150 MB of contents stay within --keep and one that is judged", guard.memory() - before <= 16 * 1024, f"{guard.memory() - before} KiB")
+        end.close()
+        service.kill()
+        service.communicate()
+
+
 def hostile_services(cases, program):
     noise = random.Random(13)
     with Guard(program, "--wait", "1", clamd=False) as guard:
@@ -628,7 +670,7 @@ def main():
         sys.exit("usage: tests/guard.py PROGRAM [SCHEDULES]")
     cases, program = Cases(), os.path.abspath(sys.argv[1])
     count = int(sys.argv[2]) if len(sys.argv) == 3 else 2000
-    for part in (rows, cut, asks, places, idle, hostile_services, hostile_clients, lambda *words: schedules(*words, count)):
+    for part in (rows, cut, asks, places, idle, memory, hostile_services, hostile_clients, lambda *words: schedules(*words, count)):
         begun, name = time.time(), part.__name__.replace("<lambda>", "schedules")
         try:
             part(cases, program)

@@ -93,6 +93,116 @@ def memory_of_host(cases, program):
         cases.check("avscan host", refused > 0, "no request was refused")
 
 
+class Guarded:
+    """A guard, some of whose words and environment may be said, and a service that it has."""
+
+    def __init__(self, program, stderr=subprocess.PIPE, environment=None):
+        self.room = tempfile.TemporaryDirectory()
+        self.opens, self.at = os.path.join(self.room.name, "o"), os.path.join(self.room.name, "s")
+        self.guard = subprocess.Popen([program, "guard", self.opens, self.at], stdin=subprocess.DEVNULL, stdout=subprocess.PIPE, stderr=stderr, env=environment)
+        self.service = subprocess.Popen([program, "service", self.at, SET], stdin=subprocess.DEVNULL, stdout=subprocess.PIPE, stderr=subprocess.PIPE)
+
+    def __enter__(self):
+        return self
+
+    def __exit__(self, *fault):
+        for process in (self.guard, self.service):
+            process.kill()
+            process.communicate()
+        self.room.cleanup()
+
+    def await_answer(self, program, names):
+        """What `ask` prints once the service is there, or as long as the guard stands."""
+        limit = time.time() + SECONDS
+        while True:
+            done = run([program, "ask", "--wait", "1", self.opens, *names], stdout=subprocess.PIPE)
+            if b" cause 3" not in done.stdout and b" cause 6" not in done.stdout or time.time() > limit or self.guard.poll() is not None:
+                return done
+            time.sleep(0.02)
+
+
+ASKED = [LETTER, os.path.join(EXAMPLES, "eicar.com.txt")]
+ANSWERED = f"{ASKED[0]} granted generation 2 version 1\n{ASKED[1]} denied cause 2\n".encode()
+
+
+def devices_of_ask(cases, program):
+    with Guarded(program) as guarded:
+        cases.same("an ask", guarded.await_answer(program, ASKED).stdout, ANSWERED)
+        for name, words in (("an ask", [LETTER]), ("300 asks", [LETTER] * 300), ("300 asks as JSON", ["--json"] + [LETTER] * 300)):
+            words = [program, "ask", guarded.opens, *words]
+            with open("/dev/full", "wb") as full:
+                done = run(words, stdout=full)
+            cases.same(f"{name} on a full device", (done.returncode, done.stderr), (4, b"avscan: device\n"))
+            done = run(["sh", "-c", '"$@" >&-', "sh"] + words)
+            cases.same(f"{name} on a closed output", (done.returncode, done.stderr), (4, b"avscan: device\n"))
+            reading, writing = os.pipe()
+            os.close(reading)
+            done = run(words, stdout=writing)
+            os.close(writing)
+            cases.check(f"{name} on a pipe that nobody reads", done.returncode in (-signal.SIGPIPE, 4), f"status {done.returncode}")
+        cases.same("the guard behind clients that could not write", guarded.await_answer(program, ASKED).stdout, ANSWERED)
+
+
+def guard_that_can_say_nothing(cases, program):
+    """Its lines are lost, and nothing else."""
+    with open("/dev/full", "wb") as full, Guarded(program, stderr=full) as guarded:
+        cases.same("a guard whose standard error is a full device", guarded.await_answer(program, ASKED).stdout, ANSWERED)
+    reading, writing = os.pipe()
+    os.close(reading)
+    with Guarded(program, stderr=writing) as guarded:
+        os.close(writing)
+        cases.same("a guard whose standard error nobody reads", guarded.await_answer(program, ASKED).stdout, ANSWERED)
+
+
+def memory_of_ask(cases, program):
+    """Each request of a client refused in turn: all answers, or a front of them and the line; the guard goes on."""
+    with tempfile.TemporaryDirectory() as work, Guarded(program) as guarded:
+        library = built(work, "fail_nth")
+        cases.same("an ask", guarded.await_answer(program, ASKED).stdout, ANSWERED)
+        for words in ([guarded.opens, *ASKED], ["--json", guarded.opens, *ASKED]):
+            words = [program, "ask", *words]
+            whole = run(words, stdout=subprocess.PIPE).stdout
+            refused, in_a_row, number = 0, 0, 0
+            while in_a_row < 20:
+                number += 1
+                done = run(words, stdout=subprocess.PIPE, env=dict(os.environ, LD_PRELOAD=library, FAIL_NTH=str(number)))
+                spared = (done.returncode, done.stdout, done.stderr) == (0, whole, b"")
+                told = (done.returncode, done.stderr) in ((3, b"avscan: no memory\n"), (4, b"avscan: device\n")) and whole.startswith(done.stdout)
+                in_a_row = in_a_row + 1 if spared else 0
+                refused += told
+                if not told and not spared:
+                    cases.check("avscan ask", False, f"request {number} refused: status {done.returncode}, {done.stdout!r} {done.stderr!r}")
+                    break
+            cases.check("avscan ask", refused > 0, "no request was refused")
+        cases.same("the guard behind clients without memory", guarded.await_answer(program, ASKED).stdout, ANSWERED)
+
+
+def memory_of_guard(cases, program):
+    """Each request of a guard refused in turn: its clients have all answers; or it ended with the line, and they have a front of the
+    answers and say that it was lost, or that none listens. What is infected is never granted."""
+    with tempfile.TemporaryDirectory() as work:
+        library = built(work, "fail_nth")
+        refused, in_a_row, number = 0, 0, 0
+        while in_a_row < 20 and number < 400:
+            number += 1
+            with Guarded(program, environment=dict(os.environ, LD_PRELOAD=library, FAIL_NTH=str(number))) as guarded:
+                done = guarded.await_answer(program, ASKED)
+                status = guarded.guard.poll()
+                if status is None and (done.returncode, done.stdout, done.stderr) == (0, ANSWERED, b""):
+                    in_a_row += 1
+                    continue
+                in_a_row = 0
+                told = guarded.guard.communicate(timeout=SECONDS)[1] if done.returncode == 4 else b""
+                at = os.fsencode(guarded.opens)
+                ends = told.endswith(b"avscan: no memory\n") and guarded.guard.returncode == 3 or told.endswith((b"cannot make a socket\n", b"avscan: device\n")) and guarded.guard.returncode == 4
+                lost = done.stderr in (b"avscan: " + at + b": the guard was lost\n", b"avscan: " + at + b": no guard listens\n")
+                front = all(line in ANSWERED.splitlines() or b" denied cause " in line for line in done.stdout.splitlines())
+                holds = ends and lost and front
+                refused += holds
+                cases.check("avscan guard", holds, f"request {number} refused: {guarded.guard.returncode} {told!r}; {done.returncode} {done.stdout!r} {done.stderr!r}")
+        cases.check("avscan guard", refused > 0 and in_a_row >= 20, f"{refused} of {number} requests were refused")
+
+
 def words(cases, program):
     with tempfile.TemporaryDirectory() as work:
         name = os.path.join(os.fsencode(work), b"caf\xe9.txt")
@@ -269,7 +379,7 @@ def main():
     if len(sys.argv) != 2:
         sys.exit("usage: tests/program.py PROGRAM")
     cases = Cases()
-    for part in (devices, memory, memory_of_host, words, order, helps, progress, alone, kinds):
+    for part in (devices, devices_of_ask, guard_that_can_say_nothing, memory, memory_of_host, memory_of_ask, memory_of_guard, words, order, helps, progress, alone, kinds):
         try:
             part(cases, os.path.abspath(sys.argv[1]))
         except Exception as fault:

@@ -326,6 +326,20 @@ def memory_that_is_refused_is_told(cases, program, refused_at):
                 cases.check(f"request {nth} refused", holds, f"status {status}, {lines!r}")
 
 
+def a_service_without_standard_error_says_its_lines_nowhere(cases, program):
+    """Above all not to the filter, whose connection would else have the number of standard error."""
+    with tempfile.TemporaryDirectory() as folder:
+        without = os.path.join(folder, "without")
+        with open(without, "w") as file:
+            file.write(f"#!/bin/sh\nexec '{program}' \"$@\" >&- 2>&-\n")
+        os.chmod(without, 0o700)
+        with Service(without, X) as service:
+            service.hear(hello(1))
+            service.put(Y)
+            cases.same("a service without standard error takes a newer set", service.hear(updated(2)), updated(2))
+            cases.check("and says nothing else to the filter", service.is_silent() and service.judge(1, b"AB", infected(1, 2, 0, 2)))
+
+
 def a_guard_is_asked_all_the_while(cases, program):
     with tempfile.TemporaryDirectory() as folder:
         path = lambda name: os.path.join(folder, name)
@@ -375,7 +389,7 @@ def main():
     program, cases = os.path.abspath(sys.argv[1]), Cases()
     parts = [a_newer_set_begins_the_jobs_anew, appends_are_taken_once_behind_the_last, a_copy_that_stays_cut_is_told_and_not_taken, older_versions_and_the_same_one_are_told,
              bad_files_are_told_and_the_service_goes_on, a_file_that_goes_away_is_no_set, many_versions_leave_no_memory_but_their_sets, an_idle_service_waits_and_does_not_spin,
-             a_busy_service_looks_at_its_file, a_guard_is_asked_all_the_while]
+             a_busy_service_looks_at_its_file, a_service_without_standard_error_says_its_lines_nowhere, a_guard_is_asked_all_the_while]
     jobs = [(part, ()) for part in parts] + [(memory_that_is_refused_is_told, (range(first, 100, 10),)) for first in range(1, 11)]
 
     def tried(job):

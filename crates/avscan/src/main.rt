@@ -32,13 +32,25 @@ use reading::read_file;
 use run::run_text;
 use scan::{Scanning, scan_named};
 use std::alloc::Global;
+use std::fs::File;
 use std::io::{BufWriter, IsTerminal, Write};
 use std::process::ExitCode;
 use std::time::Duration;
 use std::{env, fs};
 
 fn main(rt: HostRuntime) -> ExitCode {
+    let _held = held(&rt);
     ExitCode::from(started(&rt, &rt, rt.alloc()).number())
+}
+
+// Stands in for standard input, output and error where the program was begun without them, so that no file or socket that is opened
+// later takes their place and is written to: a folder can be neither read nor written. Where they are there it is held beside them.
+fn held(rt: &HostRuntime) -> [Option<File>; 3] {
+    [
+        fs::open(rt, "/").ok(),
+        fs::open(rt, "/").ok(),
+        fs::open(rt, "/").ok(),
+    ]
 }
 
 // Takes the words of the command line as text. The system is taken twice, the second time for threads and sockets.
