@@ -1,7 +1,7 @@
 use Rattle.std.proofs.Common.{ℕ, suc, zero, ◌≡◌, ◌<◌, ◌/◌, ◌%◌, ◌==◌, Bool, true, false, List, [], ◌∷◌, ◌++◌, codes, refl, arith, if◌then◌else◌, slice_index}
 use Rattle.hex.specs.Hex.{IsBytes, encode_with, lower_digits}
 use Rattle.av_base.specs.Part.{digits_of}
-use Rattle.av_chart.specs.Escape.{IsXml, ampersand, escaped, escaped_byte, greater, is_plain, is_printable, less, nothing, plain, quote}
+use Rattle.av_chart.specs.Escape.{IsXml, ampersand, escaped, greater, is_plain, is_printable, less, nothing, plain, quote}
 
 -- each digit stands for itself
 pub plain_digit : (n : ℕ) → n < 16 → is_plain (slice_index lower_digits n) ≡ true

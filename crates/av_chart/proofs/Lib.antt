@@ -1,4 +1,9 @@
 mod ChartLemmas
+pub mod DrawnLemmas
 mod EscapeLemmas
+pub mod LifeLemmas
 mod LoopLemmas
 mod PutLemmas
+pub mod ReportLemmas
+pub mod SlotLemmas
+pub mod StoryLemmas

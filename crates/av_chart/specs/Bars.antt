@@ -109,6 +109,6 @@ unfoldable pub all_bars_text : Picture → List ℕ
 all_bars_text p =
     spelt
     (
-    bars_text p Open p.happened.now.opens.bars.items ∷ bars_text p Question p.happened.now.questions.bars.items
-    ∷ bars_text p Job p.happened.now.jobs.bars.items ∷ bars_text p Work p.happened.now.works.bars.items ∷ []
+    bars_text p Open p.happened.now.opens ∷ bars_text p Question p.happened.now.questions
+    ∷ bars_text p Job p.happened.now.jobs ∷ bars_text p Work p.happened.now.works ∷ []
     )

@@ -1,5 +1,5 @@
 -- Which messages are drawn, and how.
-use Rattle.std.specs.Prelude.{ℕ, ◌+◌, ◌-◌, ◌==◌, ◌&&◌, ◌||◌, Bool, true, false, not, nat_le, nat_lt, List, [], ◌∷◌, ◌++◌, Option, None, Some, is_some, slice_get, map, vec_len, if◌then◌else◌}
+use Rattle.std.specs.Prelude.{ℕ, ◌+◌, ◌-◌, ◌==◌, ◌&&◌, ◌||◌, Bool, false, not, nat_le, nat_lt, List, [], ◌++◌, Option, None, Some, is_some, slice_get, map, vec_len, if◌then◌else◌}
 use Rattle.std.specs.List.{list_any}
 use Rattle.av_base.specs.Part.{spelt}
 use Rattle.av_frame.specs.declared.message.Body.{Body}

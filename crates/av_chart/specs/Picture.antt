@@ -1,6 +1,5 @@
 -- The whole picture.
-use Rattle.std.specs.Prelude.{ℕ, ◌+◌, ◌-◌, ◌*◌, ◌/◌, ◌%◌, ◌==◌, min, Bool, nat_lt, List, [], ◌∷◌, ◌++◌, Option, None, Some, is_none, slice_get, length, map, codes, decimal, if◌then◌else◌}
-use Rattle.std.specs.List.{sum}
+use Rattle.std.specs.Prelude.{ℕ, ◌+◌, ◌-◌, ◌%◌, ◌==◌, List, [], ◌∷◌, Option, None, Some, is_none, slice_get, length, codes, decimal, if◌then◌else◌}
 use Rattle.av_base.specs.Part.{spelt}
 use Rattle.av_world.specs.Text.Messages.{placed}
 use Rattle.av_world.specs.Text.Refusals.{judge_word_of, word_of}
@@ -65,7 +64,7 @@ answered_told c waits =
 -- what is told of opens
 unfoldable pub opens_told : Happened → List ℕ
 opens_told h =
-    let waits = waiting h.opens.bars.items in
+    let waits = waiting h.opens in
     let answered = capped (capped (h.counts.granted + h.counts.unscanned) + h.counts.denied) in
     spelt (count_text (capped (answered + waits)) (codes " open") (codes ": ") ∷ answered_told h.counts waits ∷ [])
 

@@ -1,5 +1,5 @@
 -- What a step did on the right of the port: to the service and its works.
-use Rattle.std.specs.Prelude.{ℕ, ◌*◌, ◌/◌, ◌==◌, Bool, true, false, not, List, [], ◌∷◌, ◌++◌, Option, None, Some, slice_get, codes, decimal, if◌then◌else◌}
+use Rattle.std.specs.Prelude.{ℕ, ◌*◌, ◌/◌, ◌==◌, Bool, true, false, List, [], ◌∷◌, ◌++◌, Option, None, Some, slice_get, codes, decimal, if◌then◌else◌}
 use Rattle.std.specs.declared.vec.Vec.{Vec}
 use Rattle.std.specs.declared.alloc.Global.{Global}
 use Rattle.av_base.specs.Part.{spelt}
@@ -87,5 +87,5 @@ right_text p number s =
     spelt
     (
     service_text s.service y ∷ noted_right p.world.now s y ∷ lent_text p.happened.now.works_told.items s.lent y
-    ∷ ran_text p.happened.now.works.bars.items s.ran (is_noted s.note) y ∷ []
+    ∷ ran_text p.happened.now.works s.ran (is_noted s.note) y ∷ []
     )

@@ -1,5 +1,5 @@
 -- What a step has on its row, and how high the row is.
-use Rattle.std.specs.Prelude.{ℕ, ◌+◌, ◌-◌, ◌*◌, ◌||◌, max, Bool, true, false, nat_lt, Option, None, Some, is_some, List, length, if◌then◌else◌}
+use Rattle.std.specs.Prelude.{ℕ, ◌+◌, ◌-◌, ◌*◌, ◌||◌, max, Bool, true, false, nat_lt, Option, None, Some, is_some, List, if◌then◌else◌}
 use Rattle.std.specs.List.{between}
 use Rattle.av_filter.specs.declared.note.Note.TheVariants as filter
 use Rattle.av_service.specs.declared.note.Note.TheVariants as service
@@ -20,6 +20,26 @@ count s = s.to - s.from
 -- what stands in a list at the places of a span
 abbrev pub spanned : {A : Type 0} → Span → List A → List A
 spanned s xs = between s.from s.to xs
+
+-- the step of a line that has done nothing
+abbrev pub silent : ℕ → Span → Step
+silent line command =
+    record {
+      line = line;
+      command = command;
+      refused = None;
+      volume = None;
+      asks = None;
+      filter = None;
+      service = None;
+      note = said.Quiet;
+      answers = record { from = 0; to = 0 };
+      down = record { from = 0; to = 0 };
+      up = record { from = 0; to = 0 };
+      arrival = None;
+      lent = None;
+      ran = None;
+    }
 
 -- what asks the filter, or befalls it, has a line before the answers
 abbrev pub asked_lines : Step → ℕ

@@ -1,9 +1,12 @@
-ghost use Rattle.std.specs.Prelude.{◌≡◌, map, IfErr, IfOk, IfSome, OnErr, OnOk};
+ghost use Rattle.std.specs.Prelude.{◌≡◌, ◌+◌, ◌≤◌, ◌<◌, ◌^◌, count_by, length, map, position, IfErr, IfOk, IfSome, Ok, OnErr, OnOk};
 ghost use Rattle.std.specs.Io.KnownBytes.{Appends};
 ghost use Rattle.av_base.specs.Device.{AppendsPrefix};
-ghost use Rattle.av_chart.specs.Chart.{Draws, IsEarly, IsOfDrawing, IsPicture, IsPlaced, IsTrueOf, Leaves};
+ghost use Rattle.av_world.specs.Script.{script_of};
+ghost use Rattle.av_chart.specs.Chart.{Draws, HaveSlots, IsDrawn, IsEarly, IsNotDrawn, IsOfDrawing, IsPicture, IsRunDrawn, IsTrueOf, Leaves, Shows, asks, begun};
+ghost use Rattle.av_chart.specs.Picture.{picture_text};
 ghost use Rattle.av_chart.specs.Place.{StandAt, bottom_of};
 ghost use Rattle.av_chart.specs.Row.{height_of, spanned};
+ghost use Rattle.av_chart.specs.Story.{story_of};
 
 use crate::fault::ChartFault;
 use crate::happened::{Happened, Span, Step};
@@ -24,6 +27,15 @@ pub struct Lines {
     pub to: u64,
 }
 
+impl Lines {
+    // Whether the line of a step is one of them.
+    fn ask(self, step: &Step) -> bool
+        ensures { result ≡ asks self step.now }
+    {
+        step.line >= self.from && step.line <= self.to
+    }
+}
+
 /// Reads a script whole, runs it and writes its picture, an SVG, with this title. Where that fails nothing was written, but
 /// where a write failed: there it was a front of the picture.
 pub fn write_chart<R: Read, W: Write>(
@@ -34,9 +46,9 @@ pub fn write_chart<R: Read, W: Write>(
     writer: &mut W,
     turns: u64,
 ) -> Result<(), ChartFault>
-    ensures ok { OnOk result (IfSome (R.remaining reader.old) (Draws title.now (W.contents writer.old) (W.contents writer.new))) }
-    ensures fault { IfErr result (λ f. IfSome (R.remaining reader.old) (IsTrueOf f)) }
-    ensures err { IfErr result (λ f. IfSome (R.remaining reader.old) (Leaves title.now (W.contents writer.old) (W.contents writer.new) f)) }
+    ensures ok { OnOk result (IfSome (R.remaining reader.old) (Draws lines title.now (W.contents writer.old) (W.contents writer.new))) }
+    ensures fault { IfErr result (λ f. IfSome (R.remaining reader.old) (IsTrueOf lines f)) }
+    ensures err { IfErr result (λ f. IfSome (R.remaining reader.old) (Leaves lines title.now (W.contents writer.old) (W.contents writer.new) f)) }
 {
     let page = read_page(alloc, title, lines, reader, turns)?;
     write_page(writer, &page)
@@ -50,8 +62,8 @@ fn read_page<R: Read>(
     reader: &mut R,
     turns: u64,
 ) -> Result<Vec<u8>, ChartFault>
-    ensures ok { IfOk result (λ page. IfSome (R.remaining reader.old) (λ text. IsPicture title.now text page.items)) }
-    ensures fault { IfErr result (λ f. IfSome (R.remaining reader.old) (IsTrueOf f)) }
+    ensures ok { IfOk result (λ page. IfSome (R.remaining reader.old) (λ text. IsPicture lines title.now text page.items)) }
+    ensures fault { IfErr result (λ f. IfSome (R.remaining reader.old) (IsTrueOf lines f)) }
     ensures early { IfErr result IsEarly }
 {
     let (text, script) = match read_script(alloc, reader, turns) {
@@ -81,8 +93,9 @@ fn page_of(
     lines: Lines,
     text: &[u8],
 ) -> Result<Vec<u8>, ChartFault>
-    ensures ok { IfOk result (λ page. IsPicture title.now text.now page.items) }
-    ensures fault { IfErr result IsOfDrawing }
+    requires { 1 + length text.now < 2 ^ 64 }
+    ensures ok { IfOk result (λ page. IsRunDrawn (begun script.now) lines title.now text.now page.items) }
+    ensures fault { IfErr result (IsOfDrawing (begun script.now) lines text.now) }
 {
     let mut world = World::new(alloc, script.number(), script.mode(), script.limits())?;
     let drawn = draw(alloc, &mut world, title, lines, text);
@@ -98,8 +111,9 @@ fn draw(
     lines: Lines,
     text: &[u8],
 ) -> Result<Vec<u8>, ChartFault>
-    ensures ok { IfOk result (λ page. IsPicture title.now text.now page.items) }
-    ensures fault { IfErr result IsOfDrawing }
+    requires { 1 + length text.now < 2 ^ 64 }
+    ensures ok { IfOk result (λ page. IsRunDrawn world.old lines title.now text.now page.items) }
+    ensures fault { IfErr result (IsOfDrawing world.old lines text.now) }
 {
     let mut happened = Happened::new(alloc);
     run_lines(alloc, world, text, &mut happened)?;
@@ -115,16 +129,23 @@ fn draw_lines(
     text: &[u8],
     happened: &mut Happened<'_>,
 ) -> Result<Vec<u8>, ChartFault>
-    ensures ok { IfOk result (λ page. IsPicture title.now text.now page.items) }
-    ensures fault { IfErr result IsOfDrawing }
+    ensures ok { IfOk result (λ page. IsDrawn world.now (story_of happened.old) lines title.now text.now page.items) }
+    ensures fault { IfErr result (IsNotDrawn lines (story_of happened.old)) }
 {
-    let Some((first, count)) = shown(happened, lines) else {
+    let Some((first, count)) = shown(&happened.steps, lines) else {
         return Err(ChartFault::NoLines);
     };
-    take_slots(happened, (first as u64).saturating_add(count as u64));
+    let behind = (first as u64).saturating_add(count as u64);
+    take_slots(
+        happened,
+        Moment {
+            step: behind,
+            line: 0,
+        },
+    );
     let span = Span {
         from: first as u64,
-        to: (first as u64).saturating_add(count as u64),
+        to: behind,
     };
     let places = places_of(alloc, first, span_of(&happened.steps, span))?;
     let picture = Picture {
@@ -140,43 +161,44 @@ fn draw_lines(
 
 // The page of a picture.
 fn page_with(alloc: Global, picture: &Picture<'_, '_>, title: &[u8]) -> Result<Vec<u8>, AllocError>
-    requires { IsPlaced picture.now }
-    ensures { IfOk result (λ page. IsPicture title.now picture.now.text.now page.items) }
+    ensures { IfOk result (λ page. page.items ≡ picture_text picture.now title.now) }
 {
     let mut page = Vec::new(alloc);
     put_picture(alloc, &mut page, picture, title)?;
     Ok(page)
 }
 
-// Gives each bar its place beside its lane.
-fn take_slots(happened: &mut Happened<'_>, behind: u64) {
-    let behind = Moment {
-        step: behind,
-        line: 0,
-    };
-    happened.opens.take_slots(behind);
-    happened.questions.take_slots(behind);
-    happened.jobs.take_slots(behind);
-    happened.works.take_slots(behind);
+// Gives each bar its place beside its lane; what has not ended holds it up to the last moment.
+fn take_slots(happened: &mut Happened<'_>, last: Moment)
+    ensures story { story_of happened.new ≡ story_of happened.old }
+    ensures slots { HaveSlots last happened.new }
+{
+    happened.opens.take_slots(last);
+    happened.questions.take_slots(last);
+    happened.jobs.take_slots(last);
+    happened.works.take_slots(last);
 }
 
 // The first step of these lines, and how many there are, where there is one.
-fn shown(happened: &Happened<'_>, lines: Lines) -> Option<(usize, usize)> {
-    let mut first = 0;
-    let mut count = 0usize;
-    for (index, step) in happened.steps.iter().enumerate() {
-        if step.line >= lines.from && step.line <= lines.to {
-            if count == 0 {
-                first = index;
-            }
-            count = count.saturating_add(1);
-        }
-    }
-    if count == 0 {
-        None
-    } else {
-        Some((first, count))
-    }
+fn shown(steps: &[Step], lines: Lines) -> Option<(usize, usize)>
+    ensures { Shows lines steps.now result }
+{
+    let first = first_of(steps, lines)?;
+    Some((first, count_of(steps, lines)))
+}
+
+// The first step of these lines.
+fn first_of(steps: &[Step], lines: Lines) -> Option<usize>
+    ensures { result ≡ position (asks lines) steps.now }
+{
+    steps.iter().position(|step| lines.ask(step))
+}
+
+// How many steps these lines have.
+fn count_of(steps: &[Step], lines: Lines) -> usize
+    ensures { result ≡ count_by (asks lines) steps.now }
+{
+    steps.iter().filter(|step| lines.ask(step)).count()
 }
 
 // Where the rows of steps stand, the first of which has this number.

@@ -1,8 +1,9 @@
 //! What happened in a script's run: who sent what, where it arrived, how long each open, question, job and work lived, and what
 //! each step told.
 
-ghost use Rattle.std.specs.Prelude.{◌≡◌};
-ghost use Rattle.av_chart.specs.Row.{asked_lines, count, is_noted, late_of, note_of, sent_by};
+ghost use Rattle.std.specs.Prelude.{◌≡◌, OnOk};
+ghost use Rattle.av_chart.specs.Row.{asked_lines, count, is_noted, late_of, note_of, sent_by, silent};
+ghost use Rattle.av_chart.specs.Story.{nothing, story_of, with_step};
 
 use crate::life::{Lives, Moment};
 use av_base::Verdict;
@@ -23,7 +24,10 @@ pub struct Span {
 
 impl Span {
     /// Of no places.
-    pub fn empty() -> Span {
+    pub fn empty() -> Span
+        ensures from { result.from ≡ 0 }
+        ensures to { result.to ≡ 0 }
+    {
         Span { from: 0, to: 0 }
     }
 
@@ -162,7 +166,9 @@ pub struct Step {
 
 impl Step {
     /// A command that has done nothing yet.
-    pub fn new(line: u64, command: Span) -> Step {
+    pub fn new(line: u64, command: Span) -> Step
+        ensures { result ≡ silent line command }
+    {
         Step {
             line,
             command,
@@ -251,7 +257,9 @@ pub struct Happened<'a> {
 
 impl<'a> Happened<'a> {
     /// Nothing yet.
-    pub fn new(alloc: Global) -> Happened<'a> {
+    pub fn new(alloc: Global) -> Happened<'a>
+        ensures { story_of result ≡ nothing }
+    {
         Happened {
             steps: Vec::new(alloc),
             down: Vec::new(alloc),
@@ -271,20 +279,11 @@ impl<'a> Happened<'a> {
     }
 
     /// Takes a step.
-    pub fn add(&mut self, step: Step) -> Result<(), AllocError> {
+    pub fn add(&mut self, step: Step) -> Result<(), AllocError>
+        ensures { OnOk result (story_of self.new ≡ with_step (story_of self.old) step) }
+    {
         self.steps.reserve(1)?;
         self.steps.push_reserved(step);
         Ok(())
-    }
-
-    /// The name of a stream.
-    pub fn name(&self, stream: u64) -> &'a [u8] {
-        if stream == 0 {
-            return b"?".as_slice();
-        }
-        match self.names.get((stream - 1) as usize) {
-            Some(name) => *name,
-            None => b"?".as_slice(),
-        }
     }
 }

@@ -1,56 +1,54 @@
 //! How a script's run becomes what happened.
 
-ghost use Rattle.std.specs.Prelude.{◌≡◌, ◌++◌, ◌∷◌, [], OnOk};
+ghost use Rattle.std.specs.Prelude.{◌≡◌, ◌+◌, ◌-◌, ◌<◌, ◌^◌, ◌++◌, true, Some, fold, length, map, OnOk};
+ghost use Rattle.av_base.specs.Line.{lines_of};
+ghost use Rattle.av_world.specs.Objects.{said_world};
+ghost use Rattle.av_world.specs.Script.Grammar.{line_of};
+ghost use Rattle.av_world.specs.Script.Statement.{is_told, meaning};
+ghost use Rattle.av_world.specs.Text.{command_world};
+ghost use Rattle.av_world.specs.World.{after, step_of};
+ghost use Rattle.av_chart.specs.Marks.{asks_of, given_in};
 ghost use Rattle.av_chart.specs.Row.{spanned};
+ghost use Rattle.av_chart.specs.Story.{accepted, counted, did_after, named, quiet, step_of as told_step, story_after, story_of, with_step, works_lines};
+ghost use Rattle.av_chart.specs.Told.{Judges, Mounted, Steps, did_of, tells, told_from, told_of, world_after};
 ghost use Rattle.av_chart.specs.Words.{word_at};
 
-use crate::happened::{
-    Arrival, Asks, Counts, FilterMark, Happened, REACH, Refused, Said, Sent, ServiceMark, Span,
-    Step, VolumeMark, Way,
+use crate::happened::{Counts, FilterMark, Happened, Refused, Span, Step};
+use crate::happening::lives::{take_jobs, take_opens, take_questions, take_works};
+use crate::happening::marks::{
+    Deed, asks_of, deed_of, filter_mark, judged_mark, lent_of, ran_of, said_of, service_mark,
+    volume_mark,
 };
+use crate::happening::posts::{arrival_in, take_down, take_up};
 use crate::label::told_work;
-use crate::life::{How, Moment};
+use av_base::Refusal;
 use av_base::line::{first_line, first_piece};
-use av_base::{MessageId, Refusal, Verdict};
-use av_filter::Note as FilterNote;
-use av_frame::{Body, Message, Outcome};
 use av_pend::Answer;
-use av_service::Note as ServiceNote;
 use av_world::given::Given;
 use av_world::script::command::Command;
 use av_world::script::reading::read_statement;
 use av_world::script::statement::Statement;
-use av_world::{Event, JudgeFault, Judged, Line, Note, Report, StepFault, World};
+use av_world::{Event, JudgeFault, Judged, Line, Report, StepFault, World};
 use std::alloc::{AllocError, Global};
 
-// What a picture has to know of an event besides what its report tells.
-#[derive(Clone, Copy)]
-enum Deed {
-    Other,
-    Open,
-    Cleanup,
-    Timeout,
-    Deliver { way: Way, place: u64 },
-    Run { place: u64 },
-    DisconnectFilter,
-    DisconnectService,
-    RestartFilter,
-    RestartService,
-}
+pub mod lives;
+pub mod marks;
+pub mod posts;
 
-// A line of the script that does something.
+/// A line of the script: its number, from 1, the places of its text, and the text.
 #[derive(Clone, Copy)]
-struct Row<'a> {
-    line: u64,
-    from: u64,
-    text: &'a [u8],
+pub struct Row<'a> {
+    pub line: u64,
+    pub command: Span,
+    pub text: &'a [u8],
 }
 
 impl Row<'_> {
     // The step of it, which has done nothing yet.
-    fn step(self) -> Step {
-        let to = self.from.saturating_add(self.text.len() as u64);
-        Step::new(self.line, span(self.from, to))
+    fn step(self) -> Step
+        ensures { result ≡ quiet (told_of self.entry Mounted) }
+    {
+        Step::new(self.line, self.command)
     }
 }
 
@@ -60,34 +58,42 @@ pub fn run_lines<'a>(
     world: &mut World,
     text: &'a [u8],
     happened: &mut Happened<'a>,
-) -> Result<(), AllocError> {
+) -> Result<(), AllocError>
+    requires { 1 + length text.now < 2 ^ 64 }
+    ensures world { OnOk result (world.new ≡ world_after world.old (lines_of text.now)) }
+    ensures happened { OnOk result (story_of happened.new
+        ≡ fold story_after (story_of happened.old) (told_from world.old 1 0 (lines_of text.now))) }
+{
     let mut rest = text;
     let mut line = 1u64;
+    let mut from = 0u64;
     'lines: while !rest.is_empty() {
-        let from = text.len().saturating_sub(rest.len()) as u64;
         let (first, below) = first_line(rest);
-        run_line(
-            alloc,
-            world,
-            happened,
-            Row {
-                line,
-                from,
-                text: first,
-            },
-        )?;
+        let to = from + first.len() as u64;
+        let row = Row {
+            line,
+            command: span(from, to),
+            text: first,
+        };
+        run_line(alloc, world, happened, row)?;
         rest = below;
-        line = line.saturating_add(1);
+        line += 1;
+        from = to + 1;
     }
     Ok(())
 }
 
+// Runs a line.
 fn run_line<'a>(
     alloc: Global,
     world: &mut World,
     happened: &mut Happened<'a>,
     row: Row<'a>,
-) -> Result<(), AllocError> {
+) -> Result<(), AllocError>
+    ensures world { OnOk result (world.new ≡ said_world world.old (line_of row.entry.text.now)) }
+    ensures happened { OnOk result (story_of happened.new
+        ≡ fold story_after (story_of happened.old) (tells world.old (told_of row.entry) (line_of row.entry.text.now))) }
+{
     match read_statement(row.text) {
         Some(statement) if statement.is_told() => {
             run_statement(alloc, world, happened, row, statement)
@@ -96,28 +102,55 @@ fn run_line<'a>(
     }
 }
 
+// Runs a statement that does something.
 fn run_statement<'a>(
     alloc: Global,
     world: &mut World,
     happened: &mut Happened<'a>,
     row: Row<'a>,
     statement: Statement<'_>,
-) -> Result<(), AllocError> {
+) -> Result<(), AllocError>
+    requires { is_told (meaning statement) ≡ true }
+    ensures world { OnOk result (world.new ≡ said_world world.old (Some (meaning statement.entry))) }
+    ensures happened { OnOk result (story_of happened.new
+        ≡ fold story_after (story_of happened.old) (tells world.old (told_of row.entry) (Some (meaning statement.entry)))) }
+{
     match statement.command(alloc)? {
-        Some(Command::Step(event)) => run_event(alloc, world, happened, row, event),
-        Some(Command::Judge { name }) => {
-            let judged = world.judge(name.as_slice());
-            take_judged(happened, row, judged)
-        }
+        Some(command) => run_command(alloc, world, happened, row, command),
         None => take_volume(happened, row),
     }
 }
 
-fn take_judged(
-    happened: &mut Happened<'_>,
-    row: Row<'_>,
+// Runs a command.
+fn run_command<'a>(
+    alloc: Global,
+    world: &mut World,
+    happened: &mut Happened<'a>,
+    row: Row<'a>,
+    command: Command,
+) -> Result<(), AllocError>
+    ensures world { OnOk result (world.new ≡ command_world world.old command) }
+    ensures happened { OnOk result (story_of happened.new
+        ≡ story_after (story_of happened.old) (told_of row.entry (did_of world.old command))) }
+{
+    match command {
+        Command::Step(event) => run_event(alloc, world, happened, row, event),
+        Command::Judge { name } => {
+            let judged = world.judge(name.as_slice());
+            take_judged(happened, row, judged)
+        }
+    }
+}
+
+// Takes a judgement.
+fn take_judged<'a>(
+    happened: &mut Happened<'a>,
+    row: Row<'a>,
     judged: Result<Judged, JudgeFault>,
-) -> Result<(), AllocError> {
+) -> Result<(), AllocError>
+    ensures { OnOk result (story_of happened.new
+        ≡ did_after (story_of happened.old) (told_of row.entry (Judges judged)) (Judges judged)) }
+{
     let mut step = row.step();
     match judged {
         Ok(judged) => step.volume = Some(judged_mark(judged)),
@@ -127,37 +160,41 @@ fn take_judged(
 }
 
 // Takes the line of the volume, which mounts the filter.
-fn take_volume(happened: &mut Happened<'_>, row: Row<'_>) -> Result<(), AllocError> {
+fn take_volume<'a>(happened: &mut Happened<'a>, row: Row<'a>) -> Result<(), AllocError>
+    ensures { OnOk result (story_of happened.new
+        ≡ did_after (story_of happened.old) (told_of row.entry Mounted) Mounted) }
+{
     let mut step = row.step();
     step.filter = Some(FilterMark::Boot { boot: 1 });
     happened.add(step)
 }
 
-fn take_refused(
-    happened: &mut Happened<'_>,
-    row: Row<'_>,
+// Takes the refusal of a command.
+fn take_refused<'a>(
+    happened: &mut Happened<'a>,
+    row: Row<'a>,
     fault: StepFault,
-) -> Result<(), AllocError> {
+) -> Result<(), AllocError>
+    ensures { OnOk result (story_of happened.new
+        ≡ with_step (story_of happened.old) (record (quiet (told_of row.entry Mounted)) { refused = Some (Refused.Step fault) })) }
+{
     let mut step = row.step();
     step.refused = Some(Refused::Step(fault));
     happened.add(step)
 }
 
-fn judged_mark(judged: Judged) -> VolumeMark {
-    VolumeMark::Judged {
-        generation: judged.generation.get(),
-        version: judged.version.get(),
-        verdict: judged.verdict,
-    }
-}
-
+// Lets an event happen.
 fn run_event<'a>(
     alloc: Global,
     world: &mut World,
     happened: &mut Happened<'a>,
     row: Row<'a>,
     event: Event,
-) -> Result<(), AllocError> {
+) -> Result<(), AllocError>
+    ensures world { OnOk result (world.new ≡ after world.old event) }
+    ensures happened { OnOk result (story_of happened.new
+        ≡ story_after (story_of happened.old) (told_of row.entry (Steps event (step_of world.old event)))) }
+{
     let deed = deed_of(&event);
     match world.step(alloc, event) {
         Ok(report) => take_report(alloc, world, happened, row, deed, &report),
@@ -165,28 +202,6 @@ fn run_event<'a>(
             Refusal::Fault(fault) => take_refused(happened, row, fault),
             Refusal::NoMemory => Err(AllocError),
         },
-    }
-}
-
-fn deed_of(event: &Event) -> Deed {
-    match event {
-        Event::Open { .. } => Deed::Open,
-        Event::Cleanup { .. } => Deed::Cleanup,
-        Event::Timeout { .. } => Deed::Timeout,
-        Event::Down { place } => Deed::Deliver {
-            way: Way::Down,
-            place: *place,
-        },
-        Event::Up { place } => Deed::Deliver {
-            way: Way::Up,
-            place: *place,
-        },
-        Event::Run { place } => Deed::Run { place: *place },
-        Event::DisconnectFilter => Deed::DisconnectFilter,
-        Event::DisconnectService => Deed::DisconnectService,
-        Event::RestartFilter => Deed::RestartFilter,
-        Event::RestartService => Deed::RestartService,
-        _ => Deed::Other,
     }
 }
 
@@ -198,38 +213,115 @@ fn take_report<'a>(
     row: Row<'a>,
     deed: Deed,
     report: &Report,
-) -> Result<(), AllocError> {
+) -> Result<(), AllocError>
+    ensures { OnOk result (story_of happened.new
+        ≡ accepted (story_of happened.old) (told_of row.entry Mounted) deed report.now world.now) }
+{
+    let step = step_of(world, happened, row, deed, report);
     let at = happened.steps.len() as u64;
     let name = word(row.text, 1);
-    let mut step = told_step(row, deed, report);
     let given = span_of(world.answers(), step.answers);
-    step.asks = asks_of(deed, given, report.note);
-    if let Line::Created { .. } = report.line {
-        happened.names.push(name)?;
-    }
-    take_deed(happened, &mut step, at, deed)?;
-    take_answers(happened, &step, at, given);
-    take_open(happened, at, name, given, report.note)?;
-    take_sent(alloc, world, happened, at, &step)?;
-    take_works(alloc, world, happened, &mut step, at, report)?;
-    take_end(world, happened, &step, at, deed);
+    take_name(&mut happened.names, report.line, name)?;
+    let down = span_of(world.down(), step.down).len();
+    let up = span_of(world.up(), step.up).len();
+    take_down(alloc, &mut happened.down, deed, at, down)?;
+    take_up(alloc, &mut happened.up, deed, at, down, up)?;
+    take_opens(&mut happened.opens, &step, at, name, given, report.note)?;
+    take_questions(
+        &mut happened.questions,
+        &happened.names,
+        world,
+        &step,
+        at,
+        deed,
+    )?;
+    take_jobs(&mut happened.jobs, world, &step, at, deed)?;
+    take_works(&mut happened.works, report, at, deed)?;
+    take_lines(alloc, &mut happened.works_told, world, report)?;
+    take_counts(&mut happened.counts, given);
     happened.add(step)
 }
 
-// What a report alone tells of a step.
-fn told_step(row: Row<'_>, deed: Deed, report: &Report) -> Step {
-    let mut step = row.step();
-    step.note = said_of(report.note);
-    step.filter = filter_mark(deed, report.line);
-    step.service = service_mark(deed, report.line);
-    step.volume = volume_mark(report.line);
-    step.answers = span(report.before.answers, report.after.answers);
-    step.down = span(report.before.down, report.after.down);
-    step.up = span(report.before.up, report.after.up);
-    step
+// What a step is.
+fn step_of<'a>(
+    world: &World,
+    happened: &Happened<'a>,
+    row: Row<'a>,
+    deed: Deed,
+    report: &Report,
+) -> Step
+    ensures { result ≡ told_step (story_of happened.now) (told_of row.entry Mounted) deed report.now world.now }
+{
+    let answers = span(report.before.answers, report.after.answers);
+    let note = said_of(report.note);
+    Step {
+        line: row.line,
+        command: row.command,
+        refused: None,
+        volume: volume_mark(report.line),
+        asks: asks_of(deed, span_of(world.answers(), answers), report.note),
+        filter: filter_mark(deed, report.line),
+        service: service_mark(deed, report.line),
+        note,
+        answers,
+        down: span(report.before.down, report.after.down),
+        up: span(report.before.up, report.after.up),
+        arrival: arrival_in(happened, deed, note),
+        lent: lent_of(report),
+        ran: ran_of(deed),
+    }
 }
 
-fn span(from: u64, to: u64) -> Span {
+// Takes the name of a stream that is created.
+fn take_name<'a>(names: &mut Vec<&'a [u8]>, line: Line, name: &'a [u8]) -> Result<(), AllocError>
+    ensures { OnOk result (map (λ n. n.now) names.new.items ≡ named line name.now (map (λ n. n.now) names.old.items)) }
+{
+    match line {
+        Line::Created { .. } => names.push(name)?,
+        _ => {}
+    }
+    Ok(())
+}
+
+// Takes the lines that told the works of a step.
+fn take_lines(
+    alloc: Global,
+    told: &mut Vec<Vec<u8>>,
+    world: &World,
+    report: &Report,
+) -> Result<(), AllocError>
+    ensures { OnOk result (map (λ t. t.items) told.new.items ≡ map (λ t. t.items) told.old.items
+        ++ works_lines world.now report.now.before.works (report.now.after.works - report.now.before.works)) }
+{
+    for index in report.before.works..report.after.works {
+        told.push(told_work(alloc, world, index)?)?;
+    }
+    Ok(())
+}
+
+// Counts answers.
+fn take_counts(counts: &mut Counts, given: &[Given])
+    ensures { counts.new ≡ fold (λ c g. counted c g.answer) counts.old given.now }
+{
+    for one in given {
+        count(counts, &one.answer);
+    }
+}
+
+fn count(counts: &mut Counts, answer: &Answer)
+    ensures { counts.new ≡ counted counts.old answer.now }
+{
+    match *answer {
+        Answer::Granted { .. } => counts.granted = counts.granted.saturating_add(1),
+        Answer::Unscanned { .. } => counts.unscanned = counts.unscanned.saturating_add(1),
+        Answer::Denied { .. } => counts.denied = counts.denied.saturating_add(1),
+    }
+}
+
+// A run of places.
+fn span(from: u64, to: u64) -> Span
+    ensures { result ≡ record { from = from; to = to } }
+{
     Span { from, to }
 }
 
@@ -261,421 +353,5 @@ pub fn word(line: &[u8], place: usize) -> &[u8]
     match rest {
         Some(words) => first_piece(words, b' ').0,
         None => &line[..0],
-    }
-}
-
-// Whether what arrived brings nothing any more.
-fn is_spent(note: Said) -> bool {
-    matches!(
-        note,
-        Said::NoWaiter
-            | Said::Ignored
-            | Said::WrongVolume
-            | Said::Connected
-            | Said::OldVersion
-            | Said::Repeat
-            | Said::IgnoredByService
-    )
-}
-
-fn said_of(note: Note) -> Said {
-    match note {
-        Note::Filter(filter) => said_by_filter(filter),
-        Note::Service(service) => said_by_service(service),
-    }
-}
-
-fn said_by_filter(note: FilterNote) -> Said {
-    match note {
-        FilterNote::Quiet | FilterNote::Submitted { .. } => Said::Quiet,
-        FilterNote::Welcome => Said::Welcome,
-        FilterNote::NoWaiter => Said::NoWaiter,
-        FilterNote::Ignored => Said::Ignored,
-        FilterNote::NoStream => Said::NoStream,
-        FilterNote::WrongVolume => Said::WrongVolume,
-        FilterNote::Connected => Said::Connected,
-        FilterNote::OldVersion => Said::OldVersion,
-    }
-}
-
-fn said_by_service(note: ServiceNote) -> Said {
-    match note {
-        ServiceNote::Quiet => Said::Quiet,
-        ServiceNote::Repeat => Said::Repeat,
-        ServiceNote::Ignored => Said::IgnoredByService,
-        ServiceNote::Orphan => Said::Orphan,
-    }
-}
-
-fn asks_of(deed: Deed, given: &[Given], note: Note) -> Option<Asks> {
-    match deed {
-        Deed::Open => Some(Asks::Open {
-            open_id: asked_id(given, note),
-        }),
-        Deed::Cleanup => Some(Asks::Cleanup),
-        _ => None,
-    }
-}
-
-// The number that an open was given.
-fn asked_id(given: &[Given], note: Note) -> u64 {
-    match given.first() {
-        Some(first) => id_of(&first.answer),
-        None => submitted_id(note),
-    }
-}
-
-// The number under which an open was taken, or 0.
-fn submitted_id(note: Note) -> u64 {
-    match note {
-        Note::Filter(note) => filter_id(note),
-        Note::Service(_) => 0,
-    }
-}
-
-fn filter_id(note: FilterNote) -> u64 {
-    let FilterNote::Submitted { open_id } = note else {
-        return 0;
-    };
-    open_id.get()
-}
-
-/// The number of the open that an answer is for.
-pub fn id_of(answer: &Answer) -> u64 {
-    match *answer {
-        Answer::Granted { open_id, .. } => open_id.get(),
-        Answer::Unscanned { open_id, .. } => open_id.get(),
-        Answer::Denied { open_id, .. } => open_id.get(),
-    }
-}
-
-fn filter_mark(deed: Deed, line: Line) -> Option<FilterMark> {
-    match line {
-        Line::Booted { boot } => Some(FilterMark::Boot { boot }),
-        _ => match deed {
-            Deed::Timeout => Some(FilterMark::Timeout),
-            Deed::DisconnectFilter => Some(FilterMark::ServiceLost),
-            _ => None,
-        },
-    }
-}
-
-fn service_mark(deed: Deed, line: Line) -> Option<ServiceMark> {
-    match line {
-        Line::Published {
-            version,
-            signatures,
-        } => Some(ServiceMark::Set {
-            version: version.get(),
-            signatures,
-        }),
-        _ => match deed {
-            Deed::DisconnectService => Some(ServiceMark::FilterLost),
-            Deed::RestartService => Some(ServiceMark::Restart),
-            _ => None,
-        },
-    }
-}
-
-fn volume_mark(line: Line) -> Option<VolumeMark> {
-    match line {
-        Line::Created { .. } => Some(VolumeMark::Created),
-        Line::Changed {
-            generation,
-            length,
-            ..
-        } => Some(VolumeMark::Changed {
-            generation: generation.get(),
-            length,
-        }),
-        Line::Removed { .. } => Some(VolumeMark::Removed),
-        _ => None,
-    }
-}
-
-// Takes the delivery or the work that a step was asked for.
-fn take_deed(
-    happened: &mut Happened<'_>,
-    step: &mut Step,
-    at: u64,
-    deed: Deed,
-) -> Result<(), AllocError> {
-    match deed {
-        Deed::Deliver { way, place } => {
-            let is_spent = is_spent(step.note);
-            step.arrival = match way {
-                Way::Down => deliver(&mut happened.down, way, place, at, is_spent)?,
-                Way::Up => deliver(&mut happened.up, way, place, at, is_spent)?,
-            };
-        }
-        Deed::Run { place } => {
-            step.ran = Some(place.saturating_sub(1) as usize);
-            happened
-                .works
-                .end(number_id(place), first_line_of(at), How::Run);
-        }
-        _ => {}
-    }
-    Ok(())
-}
-
-// A message of these arrives, at its place from 1.
-fn deliver(
-    messages: &mut Vec<Sent>,
-    way: Way,
-    place: u64,
-    at: u64,
-    is_spent: bool,
-) -> Result<Option<Arrival>, AllocError> {
-    if place == 0 || place > messages.len() as u64 {
-        return Ok(None);
-    }
-    let index = (place - 1) as usize;
-    let sent = &mut messages[index];
-    let is_again = !sent.arrivals.is_empty();
-    arrive(sent, at)?;
-    Ok(Some(Arrival {
-        way,
-        index,
-        is_again,
-        is_far: is_again || at.saturating_sub(sent.at.step) > REACH,
-        is_spent,
-    }))
-}
-
-// A message arrives in a step.
-fn arrive(sent: &mut Sent, at: u64) -> Result<(), AllocError>
-    ensures arrived { OnOk result (sent.new.arrivals.items ≡ sent.old.arrivals.items ++ at ∷ []) }
-    ensures sent { sent.new.at ≡ sent.old.at }
-{
-    sent.arrivals.push(at)?;
-    Ok(())
-}
-
-fn number_id(number: u64) -> MessageId {
-    MessageId {
-        boot: 0,
-        seq: number,
-    }
-}
-
-fn first_line_of(step: u64) -> Moment {
-    Moment { step, line: 0 }
-}
-
-// Ends the opens that were answered, each on the line of its answer.
-fn take_answers(happened: &mut Happened<'_>, step: &Step, at: u64, given: &[Given]) {
-    let mut line = if step.asked_lines() > 0 { 1u32 } else { 0 };
-    for one in given {
-        let how = take_count(&mut happened.counts, &one.answer);
-        let id = number_id(id_of(&one.answer));
-        happened.opens.end(id, Moment { step: at, line }, how);
-        line = line.saturating_add(1);
-    }
-}
-
-// Counts an answer, and says how it ends its open.
-fn take_count(counts: &mut Counts, answer: &Answer) -> How {
-    match *answer {
-        Answer::Granted { .. } => {
-            counts.granted = counts.granted.saturating_add(1);
-            How::Granted
-        }
-        Answer::Unscanned { .. } => {
-            counts.unscanned = counts.unscanned.saturating_add(1);
-            How::Unscanned
-        }
-        Answer::Denied { .. } => {
-            counts.denied = counts.denied.saturating_add(1);
-            How::Denied
-        }
-    }
-}
-
-// Begins the life of an open that waits.
-fn take_open<'a>(
-    happened: &mut Happened<'a>,
-    at: u64,
-    name: &'a [u8],
-    given: &[Given],
-    note: Note,
-) -> Result<(), AllocError> {
-    let open_id = submitted_id(note);
-    if open_id == 0 || is_answered(open_id, given) {
-        return Ok(());
-    }
-    happened
-        .opens
-        .begin(number_id(open_id), name, 0, first_line_of(at))
-}
-
-// Whether the open of this number is answered by one of these.
-fn is_answered(open_id: u64, given: &[Given]) -> bool {
-    for one in given {
-        if id_of(&one.answer) == open_id {
-            return true;
-        }
-    }
-    false
-}
-
-// Takes the messages that were sent, those to the service first.
-fn take_sent(
-    alloc: Global,
-    world: &World,
-    happened: &mut Happened<'_>,
-    at: u64,
-    step: &Step,
-) -> Result<(), AllocError> {
-    let mut line = 0u32;
-    for message in span_of(world.down(), step.down) {
-        take_message(
-            alloc,
-            happened,
-            Way::Down,
-            message,
-            Moment { step: at, line },
-        )?;
-        line = line.saturating_add(1);
-    }
-    for message in span_of(world.up(), step.up) {
-        take_message(alloc, happened, Way::Up, message, Moment { step: at, line })?;
-        line = line.saturating_add(1);
-    }
-    Ok(())
-}
-
-fn take_message(
-    alloc: Global,
-    happened: &mut Happened<'_>,
-    way: Way,
-    message: &Message,
-    at: Moment,
-) -> Result<(), AllocError> {
-    let sent = Sent {
-        at,
-        arrivals: Vec::new(alloc),
-    };
-    match way {
-        Way::Down => happened.down.push(sent)?,
-        Way::Up => happened.up.push(sent)?,
-    }
-    match message.body() {
-        Body::Scan {
-            id,
-            stream,
-            generation,
-            ..
-        } => {
-            let name = happened.name(stream.get());
-            happened.questions.begin(*id, name, generation.get(), at)
-        }
-        Body::Abort { id } => {
-            happened.questions.end(*id, at, How::Aborted);
-            Ok(())
-        }
-        Body::Read { id, .. } => {
-            if happened.jobs.lives(*id) {
-                return Ok(());
-            }
-            happened.jobs.begin(*id, b"".as_slice(), 0, at)
-        }
-        Body::Reply { id, outcome } => {
-            happened.jobs.end(*id, at, job_end(*outcome));
-            Ok(())
-        }
-        _ => Ok(()),
-    }
-}
-
-// How a job ended, as its reply tells.
-fn job_end(outcome: Outcome) -> How {
-    match outcome {
-        Outcome::Judged {
-            verdict: Verdict::Clean,
-            ..
-        } => How::Clean,
-        Outcome::Judged {
-            verdict: Verdict::Infected { end_at, .. },
-            ..
-        } => How::Byte(end_at),
-        Outcome::Failed { .. } => How::Failed,
-    }
-}
-
-// How a question ended, as its reply told.
-fn question_end(outcome: Outcome) -> How {
-    match outcome {
-        Outcome::Judged {
-            verdict: Verdict::Clean,
-            ..
-        } => How::Clean,
-        Outcome::Judged { .. } => How::Infected,
-        Outcome::Failed { .. } => How::Failed,
-    }
-}
-
-// Takes the work that was lent.
-fn take_works(
-    alloc: Global,
-    world: &World,
-    happened: &mut Happened<'_>,
-    step: &mut Step,
-    at: u64,
-    report: &Report,
-) -> Result<(), AllocError> {
-    for index in report.before.works..report.after.works {
-        let line = told_work(alloc, world, index)?;
-        happened.works_told.push(line)?;
-        happened.works.begin(
-            number_id(index.saturating_add(1)),
-            b"".as_slice(),
-            0,
-            first_line_of(at),
-        )?;
-        step.lent = Some(index as usize);
-    }
-    Ok(())
-}
-
-// Ends what a step ended without a line of its own.
-fn take_end(world: &World, happened: &mut Happened<'_>, step: &Step, at: u64, deed: Deed) {
-    let now = first_line_of(at);
-    match deed {
-        Deed::Deliver { way, place } => {
-            if !step.is_noted() {
-                end_by_message(world, happened, way, place, now);
-            }
-        }
-        Deed::DisconnectFilter | Deed::RestartFilter => {
-            happened.questions.end_all(now, How::Ended);
-        }
-        Deed::DisconnectService | Deed::RestartService => {
-            happened.jobs.end_all(now, How::Dropped);
-        }
-        _ => {}
-    }
-}
-
-// Ends what a message ends where it arrives.
-fn end_by_message(world: &World, happened: &mut Happened<'_>, way: Way, place: u64, now: Moment) {
-    let list = match way {
-        Way::Down => world.down(),
-        Way::Up => world.up(),
-    };
-    let Some(message) = list.get(place.saturating_sub(1) as usize) else {
-        return;
-    };
-    match message.body() {
-        Body::Reply { id, outcome } => {
-            happened.questions.end(*id, now, question_end(*outcome));
-        }
-        Body::Abort { id } => {
-            happened.jobs.end(*id, now, How::Dropped);
-        }
-        Body::NoChunk { id, .. } => {
-            happened.jobs.end(*id, now, How::Dropped);
-        }
-        _ => {}
     }
 }

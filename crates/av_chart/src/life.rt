@@ -1,11 +1,14 @@
 //! Lives of opens, questions, jobs and works: each is a bar of the picture.
 
-ghost use Rattle.std.specs.Prelude.{◌≡◌, ◌+◌, OnOk, vec_len};
-ghost use Rattle.av_chart.specs.Life.{KeepsEnds};
+ghost use Rattle.std.specs.Prelude.{◌≡◌, ◌<◌, ◌+◌, [], false, true, is_none, length, map, slice_get, slice_set, IfNone, IfSome, OnOk, None, Some};
+ghost use Rattle.std.specs.List.{list_any};
+ghost use Rattle.av_chart.specs.Slot.{first_free, free_places, hold, is_by, place_or_shared, slots, until};
+ghost use Rattle.av_chart.specs.Life.{begins, ends, ends_all, life_of, lives_as, lives_of, with_end};
 
 use av_base::MessageId;
 use std::alloc::{AllocError, Global};
 use std::collections::BTreeMap;
+use std::marker::Model;
 
 /// When something is: in a step, counted from 0, and on a line of its row, from 0.
 #[derive(Clone, Copy)]
@@ -16,7 +19,9 @@ pub struct Moment {
 
 impl Moment {
     /// Whether it is this moment or before it.
-    pub fn is_by(self, other: Moment) -> bool {
+    pub fn is_by(self, other: Moment) -> bool
+        ensures { result ≡ is_by self other }
+    {
         self.step < other.step || (self.step == other.step && self.line <= other.line)
     }
 }
@@ -57,101 +62,154 @@ pub struct Bar<'a> {
     pub slot: u32,
 }
 
-/// The lives of one kind, in the order of their beginnings.
+/// The lives of one kind, in the order of their beginnings; each that has no end is found by its id.
 #[derive(Drop)]
 pub struct Lives<'a> {
-    pub bars: Vec<Bar<'a>>,
+    bars: Vec<Bar<'a>>,
     living: BTreeMap<MessageId, usize>,
+}
+
+impl<'a> Model for Lives<'a> {
+    ghost use Rattle.std.specs.Prelude.{List};
+    ghost use Rattle.av_chart.specs.Life.{IsIndexed, lives_of, place_in};
+    ghost use Rattle.av_chart.specs.declared.life.Bar.{Bar};
+
+    ghost Value = { List Bar };
+
+    ghost view = { λ l. l.bars.items };
+
+    ghost invariant = { λ l. IsIndexed (lives_of l.bars.items) (place_in l.living) };
 }
 
 impl<'a> Lives<'a> {
     /// No lives.
-    pub fn new(alloc: Global) -> Lives<'a> {
+    pub fn new(alloc: Global) -> Lives<'a>
+        ensures { result ≡ [] }
+    {
         Lives {
             bars: Vec::new(alloc),
             living: BTreeMap::new(alloc),
         }
     }
 
+    /// All that ever lived.
+    pub fn bars(&self) -> &[Bar<'a>]
+        ensures { result.now ≡ self.now }
+    {
+        self.bars.as_slice()
+    }
+
     /// Whether this one lives now.
-    pub fn lives(&self, id: MessageId) -> bool {
+    pub fn lives(&self, id: MessageId) -> bool
+        ensures { result ≡ list_any (lives_as id) (lives_of self.now) }
+    {
         self.living.contains_key(&id)
     }
 
-    /// A life begins.
-    pub fn begin(
-        &mut self,
-        id: MessageId,
-        name: &'a [u8],
-        generation: u64,
-        begin: Moment,
-    ) -> Result<(), AllocError>
-        ensures { OnOk result (vec_len self.new.bars ≡ vec_len self.old.bars + 1) }
+    /// A life begins, unless one of its id lives.
+    pub fn begin(&mut self, bar: Bar<'a>) -> Result<(), AllocError>
+        requires { is_none bar.end ≡ true }
+        ensures { OnOk result (lives_of self.new ≡ begins (life_of bar.entry) (lives_of self.old)) }
     {
-        let index = self.bars.len();
-        self.bars.push(Bar {
-            id,
-            name,
-            generation,
-            begin,
-            end: None,
-            slot: 0,
-        })?;
-        self.living.insert(id, index)?;
+        if self.lives(bar.id) {
+            return Ok(());
+        }
+        self.bars.reserve(1)?;
+        self.living.insert(bar.id, self.bars.len())?;
+        self.bars.push_reserved(bar);
         Ok(())
-    }
-
-    /// A life ends, if it has begun and has not ended.
-    pub fn end(&mut self, id: MessageId, at: Moment, how: How)
-        ensures { KeepsEnds self.old.bars.items self.new.bars.items }
-    {
-        if let Some(index) = self.living.remove(&id) {
-            finish(&mut self.bars, index, End { at, how });
-        }
-    }
-
-    /// All that live end.
-    pub fn end_all(&mut self, at: Moment, how: How) {
-        while let Some((_, index)) = self.living.pop_first() {
-            finish(&mut self.bars, index, End { at, how });
-        }
     }
 
     /// Gives each bar the first place beside its lane that is free, of so many; the last one is shared. What has not ended
     /// holds its place up to `last`.
-    pub fn take_slots(&mut self, last: Moment) {
-        let mut free = [Moment { step: 0, line: 0 }; SLOTS];
-        for bar in self.bars.iter_mut() {
-            let until = match bar.end {
-                Some(end) => end.at,
-                None => last,
-            };
-            bar.slot = take_slot(&mut free, bar.begin, until);
+    pub fn take_slots(&mut self, last: Moment)
+        ensures lives { lives_of self.new ≡ lives_of self.old }
+        ensures slots { map (λ b. b.slot) self.new ≡ slots last free_places (lives_of self.old) }
+    {
+        give_slots(&mut self.bars, last);
+    }
+
+    /// A life ends, if it has begun and has not ended.
+    pub fn end(&mut self, id: MessageId, end: End)
+        ensures { lives_of self.new ≡ ends id end (lives_of self.old) }
+    {
+        if let Some(index) = self.living.remove(&id) {
+            finish(&mut self.bars, index, end);
+        }
+    }
+
+    /// All that live end.
+    pub fn end_all(&mut self, end: End)
+        ensures { lives_of self.new ≡ ends_all end (lives_of self.old) }
+    {
+        'living: while let Some((_, index)) = self.living.pop_first() {
+            finish(&mut self.bars, index, end);
         }
     }
 }
 
-// Ends a life, if it has no end.
-fn finish(bars: &mut [Bar<'_>], index: usize, end: End)
-    ensures { KeepsEnds bars.old bars.new }
+// Gives each bar the first place beside its lane that is free.
+fn give_slots(bars: &mut Vec<Bar<'_>>, last: Moment)
+    ensures lives { lives_of bars.new.items ≡ lives_of bars.old.items }
+    ensures slots { map (λ b. b.slot) bars.new.items ≡ slots last free_places (lives_of bars.old.items) }
 {
-    if index < bars.len() && bars[index].end.is_none() {
-        bars[index].end = Some(end);
+    let mut held = [Moment { step: 0, line: 0 }; SLOTS];
+    for index in 0..bars.len() {
+        let until = until(last, bars[index].end);
+        let slot = take_slot(&mut held, bars[index].begin, until);
+        set_slot(bars, index, slot);
     }
+}
+
+// Until when a life holds its place.
+fn until(last: Moment, end: Option<End>) -> Moment
+    ensures { result ≡ until last end }
+{
+    match end {
+        Some(end) => end.at,
+        None => last,
+    }
+}
+
+// Gives a bar its place.
+fn set_slot(bars: &mut Vec<Bar<'_>>, index: usize, slot: u32)
+    requires { index < length bars.old.items }
+    ensures { IfSome (slice_get bars.old.items index)
+        (λ bar. bars.new.items ≡ slice_set bars.old.items index (record bar { slot = slot })) }
+{
+    bars[index].slot = slot;
 }
 
 /// How many places for bars stand beside a lane, besides the shared one.
 const SLOTS: usize = 4;
 
 // The first place that is free at a moment, which is held until another; behind the last one is the shared one.
-fn take_slot(free: &mut [Moment; SLOTS], begin: Moment, until: Moment) -> u32 {
-    let mut slot = 0u32;
-    for held in free.iter_mut() {
-        if held.is_by(begin) {
-            *held = until;
-            return slot;
+fn take_slot(held: &mut [Moment; SLOTS], begin: Moment, until: Moment) -> u32
+    ensures slot { result ≡ place_or_shared (first_free held.old begin) }
+    ensures held { held.new ≡ hold held.old (first_free held.old begin) until }
+{
+    match first_free(held, begin) {
+        Some(slot) => {
+            held[slot] = until;
+            slot as u32
         }
-        slot = slot.saturating_add(1);
+        None => SLOTS as u32,
     }
-    slot
+}
+
+// The first of these places that is free at a moment.
+fn first_free(held: &[Moment; SLOTS], at: Moment) -> Option<usize>
+    ensures first { result ≡ first_free held.now at }
+    ensures within { IfSome result (λ k. k < 4) }
+{
+    held.iter().position(|one| one.is_by(at))
+}
+
+// Ends a life.
+fn finish(bars: &mut Vec<Bar<'_>>, index: usize, end: End)
+    requires { index < length bars.old.items }
+    ensures { IfSome (slice_get (lives_of bars.old.items) index)
+        (λ life. lives_of bars.new.items ≡ slice_set (lives_of bars.old.items) index (with_end end life)) }
+{
+    bars[index].end = Some(end);
 }

@@ -293,7 +293,7 @@ fn put_opens(text: &mut Vec<u8>, happened: &Happened<'_>) -> Result<(), AllocErr
         .granted
         .saturating_add(counts.unscanned)
         .saturating_add(counts.denied);
-    let waits = waiting(&happened.opens.bars) as u64;
+    let waits = waiting(happened.opens.bars()) as u64;
     put_count(text, answered.saturating_add(waits), b" open", b": ")?;
     put_answered(text, counts, waits)
 }

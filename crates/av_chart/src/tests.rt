@@ -3,7 +3,7 @@ use crate::mark::{Mark, Side, put_marks};
 use crate::place::Places;
 use crate::spot::Spot;
 use crate::{ChartFault, Lines, write_chart};
-use av_fakes::{FakeReader, FakeWriter, Fault};
+use av_fakes::{FakeReader, FakeWriter, Fault, may_refuse, refuse_no_more};
 use std::test::Fail;
 
 const ALL: Lines = Lines {
@@ -114,5 +114,57 @@ fn a_picture_is_the_same_in_any_pieces(rt: HostRuntime) -> Result<(), Fail> {
     let mut reader = FakeReader::new(script).in_pieces_of(1);
     assert!(rt; write_chart(rt.alloc(), b"t", ALL, &mut reader, &mut pieces, 100).is_ok());
     assert_eq!(rt; pieces.taken(), whole.taken());
+    Ok(())
+}
+
+// An open that waits for a job, a reply that is late, a lost message, and a second delivery.
+const SCRIPT: &[u8] =
+    b"volume 1 closed\npublish 1 41\ncreate a\nwrite a 0 42\nconnect\nup 1\nopen a\ndown 1\nup 2\n\
+    down 2\nwork 1\nwrite a 0 43\nup 3\nup 3\ncleanup a\nrestart service\njudge a\nremove b\n";
+
+#[test]
+fn the_lines_that_are_asked_for_are_drawn(rt: HostRuntime) -> Result<(), Fail> {
+    let mut out = FakeWriter::new(rt.alloc());
+    let mut reader = FakeReader::new(SCRIPT);
+    let lines = Lines { from: 7, to: 9 };
+    assert!(rt; write_chart(rt.alloc(), b"t", lines, &mut reader, &mut out, 100).is_ok());
+    let page = out.taken();
+    assert!(rt; holds(page, b" Shown: lines 7 to 9."));
+    assert!(rt; holds(page, b"<title>open a</title>"));
+    assert!(rt; holds(page, b"<title>up 2</title>"));
+    assert!(rt; !holds(page, b"<title>up 1</title>"));
+    assert!(rt; !holds(page, b"<title>down 2</title>"));
+    Ok(())
+}
+
+// Whether a text stands in a page.
+fn holds(page: &[u8], text: &[u8]) -> bool {
+    for place in 0..page.len() {
+        if page[place..].starts_with(text) {
+            return true;
+        }
+    }
+    false
+}
+
+#[test]
+fn refused_or_not_a_picture_is_whole_or_a_front(rt: HostRuntime) -> Result<(), Fail> {
+    let alloc = rt.alloc();
+    let mut whole = FakeWriter::new(alloc);
+    let mut reader = FakeReader::new(SCRIPT);
+    assert!(rt; write_chart(alloc, b"t", ALL, &mut reader, &mut whole, 100).is_ok());
+    let mut out = FakeWriter::new(alloc);
+    let mut reader = FakeReader::new(SCRIPT);
+    may_refuse(alloc);
+    let written = write_chart(alloc, b"t", ALL, &mut reader, &mut out, 100);
+    refuse_no_more(alloc);
+    match written {
+        Ok(()) => assert_eq!(rt; out.taken(), whole.taken()),
+        Err(ChartFault::NoMemory) => assert_eq!(rt; out.taken(), b"".as_slice()),
+        Err(fault) => {
+            assert_eq!(rt; fault, ChartFault::Write);
+            assert!(rt; whole.taken().starts_with(out.taken()));
+        }
+    }
     Ok(())
 }

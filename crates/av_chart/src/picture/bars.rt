@@ -40,28 +40,28 @@ pub fn put_all_bars(
         page,
         picture,
         Kind::Open,
-        picture.happened.opens.bars.as_slice(),
+        picture.happened.opens.bars(),
     )?;
     put_bars(
         alloc,
         page,
         picture,
         Kind::Question,
-        picture.happened.questions.bars.as_slice(),
+        picture.happened.questions.bars(),
     )?;
     put_bars(
         alloc,
         page,
         picture,
         Kind::Job,
-        picture.happened.jobs.bars.as_slice(),
+        picture.happened.jobs.bars(),
     )?;
     put_bars(
         alloc,
         page,
         picture,
         Kind::Work,
-        picture.happened.works.bars.as_slice(),
+        picture.happened.works.bars(),
     )
 }
 

@@ -173,12 +173,12 @@ fn put_ran(
     y: u32,
 ) -> Result<(), AllocError>
     ensures { OnOk result
-        (page.new.items ≡ page.old.items ++ ran_text picture.now.happened.now.works.bars.items step.now.ran (is_noted step.now.note) y) }
+        (page.new.items ≡ page.old.items ++ ran_text picture.now.happened.now.works step.now.ran (is_noted step.now.note) y) }
 {
     let Some(index) = step.ran else {
         return Ok(());
     };
-    let Some(bar) = picture.happened.works.bars.as_slice().get(index) else {
+    let Some(bar) = picture.happened.works.bars().get(index) else {
         return Ok(());
     };
     put_back(alloc, page, bar, step.is_noted(), y)

@@ -1,4 +1,4 @@
-use Rattle.std.proofs.Common.{rules, ◌≡◌, ◌++◌, add-one, ap, sym, ◌∙◌, take, get_or}
+use Rattle.std.proofs.Common.{rules, ◌≡◌, ◌++◌, add-one, ap, sym, ◌∙◌, get_or}
 use Rattle.av_base.proofs.PartLemmas.{spelt_next}
 use Rattle.av_chart.specs.Escape.{printed_byte}
 use Rattle.av_chart.proofs.escape.printed.Goals as goal
