@@ -27,7 +27,7 @@ use av_sigset::set::{MAX_BYTES, MAX_SIGNATURES};
 use av_sigset::signature::{MAX_PATTERN, MAX_PLACE};
 use av_sigset::{Pattern, Signature, Span, write_signatures};
 use std::alloc::{AllocError, Global};
-use std::io::Write;
+use std::io::{BufWriter, Write};
 use std::marker::Model;
 use thiserror::Error;
 
@@ -237,7 +237,7 @@ impl Import {
 
     /// Takes what a file says, as far as it can be said exactly. Its path tells what it is: `.ndb` and `.ndu`, `.db`, `.yar` and
     /// `.yara`. Each line or rule that is left out is told to `err` with its number, its name and the reason, as far as that can be
-    /// written. Takes time of about the file's size.
+    /// written; all of it was written when this ends, whichever way. Takes time of about the file's size.
     pub fn take<E: Write>(
         &mut self,
         path: &str,
@@ -246,6 +246,24 @@ impl Import {
     ) -> Result<(), ImportFault>
         ensures taken { OnOk result (TakesFile (kind_of path.now) content.now self.old self.new) }
         ensures fault { IfErr result (λ f. f ≡ ImportFault.NoMemory) }
+    {
+        let Ok(mut told) = BufWriter::new(self.alloc(), err) else {
+            return Err(ImportFault::NoMemory);
+        };
+        let taken = self.take_kind(path, content, &mut told);
+        let _ = told.flush();
+        taken?;
+        Ok(())
+    }
+
+    // Takes what a file of some kind says.
+    fn take_kind<E: Write>(
+        &mut self,
+        path: &str,
+        content: &[u8],
+        err: &mut E,
+    ) -> Result<(), AllocError>
+        ensures { OnOk result (TakesFile (kind_of path.now) content.now self.old self.new) }
     {
         match kind_of(path.as_bytes()) {
             Kind::Lines(form) => take_lines(self, form, path, content, err)?,

@@ -218,7 +218,7 @@ fn a_write_that_fails_is_told(rt: HostRuntime) -> Result<(), Fail> {
 }
 
 #[test]
-fn refused_take(rt: HostRuntime) -> Result<(), Fail> {
+fn refused_or_not_a_line_is_taken_once(rt: HostRuntime) -> Result<(), Fail> {
     let alloc = rt.alloc();
     let mut import = Import::new(alloc, STRICT);
     let mut err = FakeWriter::new(alloc);
@@ -230,5 +230,61 @@ fn refused_take(rt: HostRuntime) -> Result<(), Fail> {
         assert!(rt; import.take("a.db", b"A=41\n", &mut err).is_ok());
     }
     assert_eq!(rt; import.taken(), 1);
+    Ok(())
+}
+
+// Lines that are left out, and how they are told.
+const LEFT_OUT: &[u8] = b"A=4\nB=41\nC=4\nD=\n";
+
+const TOLD: &[u8] = b"avscan: a.db: line 1: A: half a byte\n\
+    avscan: a.db: line 3: C: half a byte\n\
+    avscan: a.db: line 4: D: no bytes\n";
+
+#[test]
+fn what_is_left_out_is_told_in_few_writes(rt: HostRuntime) -> Result<(), Fail> {
+    let alloc = rt.alloc();
+    let mut import = Import::new(alloc, STRICT);
+    let mut err = FakeWriter::new(alloc);
+    assert!(rt; import.take("a.db", LEFT_OUT, &mut err).is_ok());
+    assert_eq!(rt; err.taken(), TOLD);
+    assert_eq!(rt; err.flushed(), TOLD.len());
+    assert_eq!(rt; err.writes(), 1);
+    Ok(())
+}
+
+#[test]
+fn what_is_left_out_is_told_before_the_next_file(rt: HostRuntime) -> Result<(), Fail> {
+    let alloc = rt.alloc();
+    let mut import = Import::new(alloc, STRICT);
+    let mut err = FakeWriter::new(alloc);
+    for path in ["a.hdb", "a.txt"] {
+        let before = err.taken().len();
+        assert!(rt; import.take(path, b"x", &mut err).is_ok());
+        assert!(rt; err.taken().len() > before);
+        assert_eq!(rt; err.flushed(), err.taken().len());
+    }
+    Ok(())
+}
+
+#[test]
+fn refused_or_not_what_was_left_out_is_told(rt: HostRuntime) -> Result<(), Fail> {
+    let alloc = rt.alloc();
+    let mut import = Import::new(alloc, STRICT);
+    let mut err = FakeWriter::new(alloc);
+    may_refuse(alloc);
+    let taken = import.take("a.db", LEFT_OUT, &mut err);
+    refuse_no_more(alloc);
+    assert!(rt; TOLD.starts_with(err.taken()));
+    assert_eq!(rt; err.flushed(), err.taken().len());
+    match taken {
+        Ok(()) => {
+            assert_eq!(rt; import.taken(), 1);
+            assert_eq!(rt; import.left(), 3);
+        }
+        Err(fault) => {
+            assert_eq!(rt; fault, ImportFault::NoMemory);
+            assert!(rt; import.taken() <= 1);
+        }
+    }
     Ok(())
 }
