@@ -35,7 +35,7 @@ use Rattle.av_store.specs.Files.{Remove}
 use Rattle.av_store.specs.Store.{Store}
 
 -- of the asks that are asked now, none is refused
-asked_now : (g : State) (client : ℕ) (c : List ℕ) → refusal_of g client c ≡ None → must_stand g ≡ false → ask_fault g c ≡ None
+pub asked_now : (g : State) (client : ℕ) (c : List ℕ) → refusal_of g client c ≡ None → must_stand g ≡ false → ask_fault g c ≡ None
 asked_now g client c none stand = here (is_here g.clients client) none
   where
     last : (b : Bool) → b ≡ false → (if b then None else ask_fault g c) ≡ None → ask_fault g c ≡ None
@@ -50,7 +50,7 @@ asked_now g client c none stand = here (is_here g.clients client) none
     here true n = small (nat_lt 1048576 (length c)) n
     here false n = absurd cc
 
-still_each : (P : Ask → Type 0) (clients : List ℕ) (line : List Ask) → Each P line → Each P (still_here clients line)
+pub still_each : (P : Ask → Type 0) (clients : List ℕ) (line : List Ask) → Each P line → Each P (still_here clients line)
 still_each P clients [] all = tt
 still_each P clients (a ∷ line) all =
     elim (is_here clients a.client) as (λ b. Each P (if b then a ∷ line else still_here clients line)) [
@@ -133,7 +133,7 @@ module _ (t0 : Table) (v0 : Store) (asks : List Ask) (told : List Told) (sent : 
     quiet : (e : FilterEvent) → (filter_step old.table old.volume e).volume ≡ old.volume → AreWritten (filter_step old.table old.volume e).volume.streams
     quiet e is = written_same _ _ (ap (λ (v : Store). v.streams) is) s.written
 
-    step : (call : Call) (new : State) → Does call old new → Each (λ a. Among a asks) (taken_by call) → Left new (flat_map (λ g. g.told.items) (given_by call)) (flat_map (λ g. g.messages.items) (given_by call))
+    pub step : (call : Call) (new : State) → Does call old new → Each (λ a. Among a asks) (taken_by call) → Left new (flat_map (λ g. g.told.items) (given_by call)) (flat_map (λ g. g.messages.items) (given_by call))
     unfolding filter_refusal
     step (Client None) new d all = same new d
     step (Client (Some n)) new d all = idle history new (subst (Story t0 v0 asks told sent history) (sym d.1) (other _ n old.line s.line))
@@ -152,7 +152,7 @@ module _ (t0 : Table) (v0 : Store) (asks : List Ask) (told : List Told) (sent : 
     step (TimeUp seq (Ok given)) new d all = heard new given (TimesOut seq) (quiet_story t0 v0 asks told sent history old (TimesOut seq) s refl tt refl (quiet (TimesOut seq) (leads_to old.table old.volume (TimesOut seq)))) d
     step (TimeUp seq (Err e)) new d all = same new d
 
-taken_among : (asks : List Ask) (more : List Ask) → Each (λ a. Among a (asks ++ more)) more
+pub taken_among : (asks : List Ask) (more : List Ask) → Each (λ a. Among a (asks ++ more)) more
 taken_among asks more = go more (λ a h. h)
   where
     go : (xs : List Ask) → ((a : Ask) → Among a xs → Among a more) → Each (λ a. Among a (asks ++ more)) xs
@@ -178,7 +178,7 @@ run t0 v0 (c ∷ cs) asks told sent history old new s (mid, does, rest) =
           (subst (λ x. Story t0 v0 (asks ++ more ++ asks_in cs) (told ++ flat_map (λ g. g.told.items) (given_by c) ++ told_in cs) x all.0 new) (append_assoc sent _ (sent_in cs) ∙ ap (λ x. sent ++ x) (sym (flat_map-append (λ g. g.messages.items) (given_by c) (flat_map given_by cs)))) all.1)),
     )
 
-first_story : (mode : Mode) (keep questions : ℕ) → Story (first_table mode questions) (first_volume questions) [] [] [] [] (begun mode keep questions)
+pub first_story : (mode : Mode) (keep questions : ℕ) → Story (first_table mode questions) (first_volume questions) [] [] [] [] (begun mode keep questions)
 first_story mode keep questions = record {
   past = record { legal = tt; leads = refl; sends = refl; keeps = record { streams = (follows.starts 1 (limits_of questions)).streams; last = (follows.starts 1 (limits_of questions)).last } };
   fits = mounted_fits mode _ (first_volume questions);

@@ -14,3 +14,5 @@ pub mod StoryLemmas
 pub mod RunLemmas
 pub mod AskLemmas
 pub mod CallLemmas
+pub mod OnceLemmas
+pub mod AnsweredLemmas

@@ -13,4 +13,5 @@ pub mod Kept
 pub mod Beginning
 pub mod Line
 pub mod Run
+pub mod Answering
 pub mod Laws

@@ -1,4 +1,5 @@
 //! What holds of every ask, and of every list of calls.
+ghost use Rattle.av_guard.specs.Answering.{AsksAreAnsweredOnce};
 ghost use Rattle.av_guard.specs.Laws.{OpensItsBytes};
 ghost use Rattle.av_guard.specs.Run.{GuardsHaveHistory};
 
@@ -13,4 +14,10 @@ pub fn asks_open_their_bytes()
 /// that generation is the one that was asked about; and so does an answer that lets an open through unscanned.
 pub fn guards_have_history()
     ensures { GuardsHaveHistory }
+{}
+
+/// Of every list of calls of a guard that was just made, and each client that has not left: as often as it asked under a tag, and was
+/// not refused, it was told under it, waits, or stands in line, each ask in one of these ways.
+pub fn asks_are_answered_once()
+    ensures { AsksAreAnsweredOnce }
 {}
