@@ -75,7 +75,7 @@ struct Case<'a> {
 
 const MANY: u64 = 67_108_864;
 
-const CASES: [Case<'_>; 12] = [
+const CASES: [Case<'_>; 13] = [
     Case {
         name: "a client that left is told nothing",
         mode: Mode::FailClosed,
@@ -202,6 +202,25 @@ const CASES: [Case<'_>; 12] = [
             Step::Ask(1, 3, b"ABC"),
         ],
         said: "scan 1 1 2 3;1.1=granted 2 1;scan 2 2 2 3;1.2=granted 2 1;scan 3 3 2 3;",
+    },
+    Case {
+        name: "what was asked for again stays longer",
+        mode: Mode::FailClosed,
+        keep: 6,
+        questions: 1_024,
+        steps: &[
+            Step::Hello(1),
+            Step::Ask(1, 1, b"ABC"),
+            Step::Clean(1, 1),
+            Step::Ask(1, 2, b"XYZ"),
+            Step::Clean(2, 1),
+            Step::Ask(1, 3, b"ABC"),
+            Step::Ask(1, 4, b"DEF"),
+            Step::Clean(3, 1),
+            Step::Ask(1, 5, b"ABC"),
+            Step::Ask(1, 6, b"XYZ"),
+        ],
+        said: "scan 1 1 2 3;1.1=granted 2 1;scan 2 2 2 3;1.2=granted 2 1;1.3=granted 2 1;scan 3 3 2 3;1.4=granted 2 1;1.5=granted 2 1;scan 4 4 2 3;",
     },
     Case {
         name: "two ask for one content",
