@@ -141,10 +141,10 @@ def lemmas(checks):
 
 
 def fault_lines(checks):
-    given = "".join(text_of(path) for path in glob.glob(os.path.join(ROOT, "tests", "*", "*.case")) + glob.glob(os.path.join(ROOT, "tests", "import", "*.err"))) + "".join(text_of(path) for path in ("tests/program.py", "tests/files.py", "tests/tables.py", "tests/sockets.py", "tests/chart.py", "crates/av_status/src/tests.rt", "crates/avscan/src/tests.rt"))
+    given = "".join(text_of(path) for path in glob.glob(os.path.join(ROOT, "tests", "*", "*.case")) + glob.glob(os.path.join(ROOT, "tests", "import", "*.err"))) + "".join(text_of(path) for path in ("tests/program.py", "tests/files.py", "tests/tables.py", "tests/sockets.py", "tests/watch.py", "tests/chart.py", "crates/av_status/src/tests.rt", "crates/avscan/src/tests.rt"))
     for line in re.findall(r"\| `(avscan: [^`]*)` \|", text_of("docs/FORMATS.md")):
         pattern = re.escape(line).replace(r"\.\.", ".*")
-        for word, form in (("N", r"(\d+|%d)"), ("K", r"(\d+|%d)"), ("FILE", r".*"), ("SOCKET", r".*"), ("LIST", r".*")):
+        for word, form in (("N", r"(\d+|%d)"), ("K", r"(\d+|%d)"), ("FILE", r".*"), ("SOCKET", r".*"), ("LIST", r".*"), ("SET", r".*"), ("V", r"(\d+|%d)"), ("W", r"(\d+|%d)")):
             pattern = re.sub(rf"\b{word}\b", lambda _: form, pattern)
         checks.check(re.search(pattern, given), f"docs/FORMATS.md: no case has the line {line}")
 

@@ -521,7 +521,7 @@ def hostile_clients(cases, program):
 
 
 # The figures of docs/OPERATING.md, in KiB: of a guard that holds nothing, of a client, and of a content beside its bytes.
-BASE, A_CLIENT, A_CONTENT = 16 * 1024, 32, 2
+BASE, A_CLIENT, A_CONTENT = 16 * 1024, 32, 4
 
 
 def memory(cases, program):

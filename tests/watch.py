@@ -109,8 +109,9 @@ class Service:
             time.sleep(0.01)
         return self.lines()
 
-    def told(self, text):
-        return b"avscan: " + os.fsencode(self.set) + b": " + text + b"\n"
+    def told(self, line):
+        """A line that names the signature file."""
+        return line % os.fsencode(self.set)
 
     def judge(self, seq, content, reply):
         """Whether the service replies so to a content."""
@@ -194,16 +195,16 @@ def older_versions_and_the_same_one_are_told(cases, program):
     with Service(program, signatures(3, b"XX")) as service:
         service.hear(hello(3))
         service.put(signatures(2, b"AB"))
-        told = service.told(b"version 2 is not above 3")
+        told = service.told(b"avscan: %s: version 2 is not above 3\n")
         cases.same("an older version is told", service.await_lines(told), told)
         service.put(signatures(3, b"AB"))
-        told += service.told(b"version 3 is not above 3")
+        told += service.told(b"avscan: %s: version 3 is not above 3\n")
         cases.same("the same version is told", service.await_lines(told), told)
         cases.check("neither is taken", service.judge(1, b"ABXX", infected(1, 3, 0, 4)))
         service.put(signatures(18446744073709551615, b"AB"))
         cases.same("the greatest version is taken", service.hear(updated(18446744073709551615)), updated(18446744073709551615))
         service.put(signatures(5, b"AB"))
-        told += b"avscan: version 18446744073709551615\n" + service.told(b"version 5 is not above 18446744073709551615")
+        told += b"avscan: version 18446744073709551615\n" + service.told(b"avscan: %s: version 5 is not above 18446744073709551615\n")
         cases.same("a version below the greatest is told", service.await_lines(told), told)
 
 
@@ -212,14 +213,14 @@ def bad_files_are_told_and_the_service_goes_on(cases, program):
         service.hear(hello(1))
         told = b""
         for content, line in ((b"avsig 3\nversion 2\n", b"avscan: set line 1: kind 1\n"), (b"", b"avscan: set line 1: kind 8\n"), (b"avsig 1\nversion 2\na 4\n", b"avscan: set line 3: kind 4\n"),
-                              (signatures(2) + b"a 41\n" * (1 << 18), service.told(b"TooLarge"))):
+                              (signatures(2) + b"a 41\n" * (1 << 18), service.told(b"avscan: %s: TooLarge\n"))):
             service.put(content)
             told += line
             cases.same(f"a bad file is told: {line}", service.await_lines(told), told)
             cases.check(f"the service goes on behind {line}", service.judge(told.count(b"\n"), b"XX", infected(told.count(b"\n"), 1, 0, 2)))
         os.unlink(service.set)
         os.symlink("/proc/self/mem", service.set)
-        told += service.told(b"cannot read")
+        told += service.told(b"avscan: %s: cannot read\n")
         cases.same("a file that can't be read is told", service.await_lines(told), told)
         os.unlink(service.set)
         service.put(Y)
@@ -248,18 +249,18 @@ def a_file_that_goes_away_is_no_set(cases, program):
 
 
 def many_versions_leave_no_memory_but_their_sets(cases, program):
-    """Each automaton has some 8 MiB here, and each set some 100 KiB."""
+    """Each automaton has some 2.4 MiB here, and each set some 50 KiB."""
     def patterns(version):
-        return [struct.pack(">IIQ", version, place, 0x5a5a5a5a5a5a5a5a) for place in range(1000)]
+        return [struct.pack(">IIQ", version, place, 0x5a5a5a5a5a5a5a5a) for place in range(300)]
     with Service(program, signatures(1, *patterns(1))) as service:
         service.hear(hello(1))
         sizes, open_then = [], service.descriptors()
         for version in range(2, 12):
             service.put(signatures(version, *patterns(version)))
             cases.same(f"version {version} is taken", service.hear(updated(version)), updated(version))
-            cases.check(f"version {version} is judged by", service.judge(version, patterns(version)[999], infected(version, version, 999, 16)))
+            cases.check(f"version {version} is judged by", service.judge(version, patterns(version)[299], infected(version, version, 299, 16)))
             sizes.append(service.memory())
-        cases.check("memory grows by the sets alone", sizes[-1] - sizes[1] < 8 * 512, f"KiB: {sizes}")
+        cases.check("memory grows by the sets alone", sizes[-1] - sizes[1] < 8 * 256, f"KiB: {sizes}")
         cases.same("no descriptor is lost", service.descriptors(), open_then)
 
 
@@ -331,7 +332,7 @@ def a_service_without_standard_error_says_its_lines_nowhere(cases, program):
     with tempfile.TemporaryDirectory() as folder:
         without = os.path.join(folder, "without")
         with open(without, "w") as file:
-            file.write(f"#!/bin/sh\nexec '{program}' \"$@\" >&- 2>&-\n")
+            file.write(f"#!/bin/sh\nexec '{program}' \"$@\" 2>&-\n")
         os.chmod(without, 0o700)
         with Service(without, X) as service:
             service.hear(hello(1))
