@@ -638,6 +638,7 @@ def places(cases, program):
         with Guard(program, "--mode", "660") as guard:
             connected(guard.opens).close()
             connected(guard.service).close()
+            connected(guard.clamd).close()
             modes = [os.stat(path).st_mode & 0o777 for path in (guard.opens, guard.service, guard.clamd)]
             cases.same("--mode", modes, [0o660] * 3)
             fails([guard.opens, at("s")], 4, b"avscan: %s: another filter waits there\n" % guard.opens.encode())
