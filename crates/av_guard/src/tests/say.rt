@@ -1,16 +1,25 @@
+ghost use Rattle.std.specs.Prelude.{◌≤◌};
+
 use crate::{Answered, Given};
 use av_base::{MessageId, Verdict, Version};
 use av_frame::{Body, Message, Outcome};
 use std::fmt::Write;
 use std::test::Fail;
 
+// Versions and the numbers of questions count from 1.
+fn version_of(number: u64) -> Version
+    ensures { 1 ≤ result }
+{
+    Version::new(number.max(1))
+}
+
 /// A service of this version greets.
 pub(crate) fn hello(version: u64) -> Message {
-    Message::hello(1, Version::new(version))
+    Message::hello(1, version_of(version))
 }
 
 pub(crate) fn updated(version: u64) -> Message {
-    Message::updated(Version::new(version))
+    Message::updated(version_of(version))
 }
 
 /// The reply to a question of boot 1.
@@ -24,10 +33,14 @@ pub(crate) fn reply(seq: u64, version: u64, infected: bool) -> Message {
         Verdict::Clean
     };
     let outcome = Outcome::Judged {
-        version: Version::new(version),
+        version: version_of(version),
         verdict,
     };
-    Message::reply(MessageId { boot: 1, seq }, outcome)
+    let id = MessageId {
+        boot: 1,
+        seq: seq.max(1),
+    };
+    Message::reply(id, outcome)
 }
 
 /// Adds what was given out.
