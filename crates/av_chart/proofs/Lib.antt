@@ -3,6 +3,8 @@ pub mod DrawnLemmas
 mod EscapeLemmas
 pub mod LifeLemmas
 mod LoopLemmas
+mod NumberLemmas
+mod OneBarLemmas
 mod PutLemmas
 pub mod ReportLemmas
 pub mod SlotLemmas

@@ -12,6 +12,7 @@ pub mod Mark
 pub mod Marks
 pub mod Messages
 pub mod Number
+pub mod OneBar
 pub mod Picture
 pub mod Place
 pub mod Right

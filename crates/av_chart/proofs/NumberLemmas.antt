@@ -1,0 +1,279 @@
+-- What an event does to the numbers of opens: which it takes, and which wait or are answered.
+use Rattle.std.proofs.Common.{◌≡◌, ℕ, suc, ◌+◌, ◌==◌, ◌&&◌, ◌++◌, not, nat_le, nat_lt, List, [], length, map, Option, None, Some, Result, Ok, Err, if◌then◌else◌, refl, sym, ap, ◌∙◌, subst, arith}
+use Rattle.std.proofs.Math.Seq.{drop-append_seam}
+use Rattle.std.proofs.lemmas.Bool.{cond_both}
+use Rattle.std.proofs.lemmas.Bool.Decides.{nat_tests}
+use Rattle.std.proofs.lemmas.List.Edits.{between_none}
+use Rattle.std.proofs.lemmas.Slice.{between_to_end}
+use Rattle.std.specs.List.{between, list_any}
+use Rattle.std.specs.Option.{option_map}
+use Rattle.av_base.specs.Refused.{unless}
+use Rattle.av_base.specs.declared.message_id.MessageId.{MessageId}
+use Rattle.av_base.specs.declared.verdict.Verdict.{Verdict}
+use Rattle.av_cache.specs.declared.entry.Entry.{Entry}
+use Rattle.av_filter.proofs.CountLemmas.{Balanced, filter_balanced, opens_after}
+use Rattle.av_filter.proofs.EachLemmas.{map_same}
+use Rattle.av_filter.specs.Again.{again}
+use Rattle.av_filter.specs.Changing.{changes, cleaned, removed, rewritten}
+use Rattle.av_filter.specs.Conduct.{FilterEvent, Opens, Changes, CleansUp, Receives, TimesOut, Disconnects, Restarts, disconnects, filter_refusal, filter_step, restarts, times_out}
+use Rattle.av_filter.specs.Once.{once_up_to, times}
+use Rattle.av_filter.specs.Opening.{answers_with, open_asked, open_cached, open_found, open_judged, opened, pends, taken}
+use Rattle.av_filter.specs.Reaction.{Reaction}
+use Rattle.av_filter.specs.Receiving.{greeted, reads, receives, replies}
+use Rattle.av_filter.specs.declared.fault.FilterFault.{FilterFault}
+use Rattle.av_filter_table.specs.Answering.{present_bytes}
+use Rattle.av_filter_table.specs.Asking.{asks, ended, is_held}
+use Rattle.av_filter_table.specs.Table.{Table, can_ask, context_of, has_room, is_modified, raised, sequence_left}
+use Rattle.av_filter_table.specs.declared.question.Question.{Question}
+use Rattle.av_frame.specs.declared.message.Body.{Body}
+use Rattle.av_frame.specs.declared.message.Body.TheVariants.{Hello, Read, Reply, Updated}
+use Rattle.av_frame.specs.declared.outcome.Outcome.{Outcome as ReplyOutcome}
+use Rattle.av_frame.specs.declared.outcome.Outcome.TheVariants.{Judged, Failed}
+use Rattle.av_pend.specs.Pend.{open_of}
+use Rattle.av_pend.specs.declared.answer.Answer.{Answer}
+use Rattle.av_service.specs.Conduct.{ServiceEvent, connect_refusal}
+use Rattle.av_service.specs.Work.{WorkState}
+use Rattle.av_service.specs.declared.fault.ConnectFault.{ConnectFault}
+use Rattle.av_sigset.specs.Catalogue.{may_publish}
+use Rattle.av_sigset.specs.Made.{set_made}
+use Rattle.av_sigset.specs.Set.{NumberedSet}
+use Rattle.av_sigset.specs.declared.fault.CatalogueFault.{CatalogueFault}
+use Rattle.av_sigset.specs.declared.fault.SetFault.{SetFault}
+use Rattle.av_store.specs.Files.{Change, Create, Write, Cut, Remove}
+use Rattle.av_store.specs.Rows.{number_named}
+use Rattle.av_store.specs.Store.{Store}
+use Rattle.av_store.specs.declared.stream.Stream.{Stream}
+use Rattle.av_world.specs.Held.{pended}
+use Rattle.av_world.specs.World.{Outcome, WorldState, added, changed_line, connected, down_frame, filter_event, filter_outcome, given_at, member, named_event, no_line, published, service_event, step_fault, step_of, up_frame, work_at, work_event}
+use Rattle.av_world.specs.declared.event.Event.{Event}
+use Rattle.av_world.specs.declared.event.Event.TheVariants as event
+use Rattle.av_world.specs.declared.given.Given.{Given}
+use Rattle.av_world.specs.declared.report.Line.{Line}
+use Rattle.av_world.specs.declared.report.Line.TheVariants as line
+use Rattle.av_world.specs.declared.report.Report.{Report}
+use Rattle.av_chart.specs.Marks.{filter_id, given_in, submitted_id}
+
+-- ---- only an open takes a number, and tells it
+
+record TellsNone (r : Reaction) : Type 0 where
+  none : filter_id r.note ≡ 0
+
+record TellsLast (r : Reaction) : Type 0 where
+  last : filter_id r.note ≡ r.volume.opens
+
+module _ (t : Table) (v : Store) where
+  answered_note : (t : Table) (a : Answer) → TellsLast (answers_with t v a)
+  answered_note t a = record { last = refl }
+
+  pended_note : (t : Table) (s least : ℕ) (id : MessageId) (ms : List Body) → TellsLast (pends t v s least id ms)
+  pended_note t s least id ms = record { last = refl }
+
+  cached_note : (s least : ℕ) (x : Stream) (o : Option Entry) → TellsLast (open_cached t v s least x o)
+  unfolding open_cached
+  cached_note s least x (Some e) = record { last = refl }
+  cached_note s least x None =
+      cond_both (not (has_room t)) _ _ TellsLast (λ e. answered_note t _)
+      (λ e. cond_both (not t.connected) _ _ TellsLast (λ e. answered_note t _)
+      (λ e. cond_both (not (can_ask t)) _ _ TellsLast (λ e. answered_note t _) (λ e. pended_note _ s least _ _)))
+
+  asked_note : (s least : ℕ) (x : Stream) (o : Option Question) → TellsLast (open_asked t v s least x o)
+  unfolding open_asked
+  asked_note s least x (Some q) = cond_both (has_room t) _ _ TellsLast (λ e. pended_note t s least _ _) (λ e. answered_note t _)
+  asked_note s least x None = cached_note s least x _
+
+  judged_note : (s least : ℕ) (x : Stream) (o : Option Verdict) → TellsLast (open_judged t v s least x o)
+  unfolding open_judged
+  judged_note s least x (Some r) = record { last = refl }
+  judged_note s least x None = asked_note s least x _
+
+  found_note : (s least : ℕ) (o : Option Stream) → TellsLast (open_found t v s least o)
+  unfolding open_found
+  found_note s least None = record { last = refl }
+  found_note s least (Some x) = judged_note s least x _
+
+  again_note : (q : Question) (early : List Body) → TellsNone (again t v q early)
+  unfolding again asks ended
+  again_note q early = cond_both (list_any (is_held q.id) t.pended && sequence_left t) _ _ TellsNone (λ e. record { none = refl }) (λ e. record { none = refl })
+
+  written_note : (s : ℕ) (o : Option Question) → TellsNone (rewritten t v s o)
+  unfolding rewritten
+  written_note s None = record { none = refl }
+  written_note s (Some q) = again_note q _
+
+  removed_note : (s : ℕ) (o : Option Question) → TellsNone (removed t v s o)
+  unfolding removed ended
+  removed_note s None = record { none = refl }
+  removed_note s (Some q) = record { none = refl }
+
+  cleaned_note : (s : ℕ) (o : Option Stream) → TellsNone (cleaned t v s o)
+  unfolding cleaned asks
+  cleaned_note s None = record { none = refl }
+  cleaned_note s (Some x) = cond_both (is_modified (context_of t.contexts s) && can_ask t) _ _ TellsNone (λ e. record { none = refl }) (λ e. record { none = refl })
+
+  greeted_note : (number version : ℕ) → TellsNone (greeted t v number version)
+  unfolding greeted
+  greeted_note number version =
+      cond_both (not (number == v.number)) _ _ TellsNone (λ e. record { none = refl })
+      (λ e. cond_both t.connected _ _ TellsNone (λ e. record { none = refl }) (λ e. cond_both (nat_lt version t.floor) _ _ TellsNone (λ e. record { none = refl }) (λ e. record { none = refl })))
+
+  reads_note : (id : MessageId) (offset count : ℕ) (o : Option Question) → TellsNone (reads t v id offset count o)
+  unfolding reads
+  reads_note id offset count None = record { none = refl }
+  reads_note id offset count (Some q) = cond_both (nat_le (length (present_bytes v q.stream)) offset) _ _ TellsNone (λ e. record { none = refl }) (λ e. record { none = refl })
+
+  replies_note : (outcome : ReplyOutcome) (o : Option Question) → TellsNone (replies t v outcome o)
+  unfolding replies ended
+  replies_note outcome None = record { none = refl }
+  replies_note (Failed why) (Some q) = record { none = refl }
+  replies_note (Judged version r) (Some q) = cond_both (nat_lt version t.floor) _ _ TellsNone (λ e. again_note q []) (λ e. record { none = refl })
+
+  receives_note : (m : Body) → TellsNone (receives t v m)
+  unfolding receives
+  receives_note (Hello number version) = greeted_note number version
+  receives_note (Updated version) = record { none = refl }
+  receives_note (Read id offset count) = reads_note id offset count _
+  receives_note (Reply id outcome) = replies_note outcome _
+  receives_note _ = record { none = refl }
+
+  timed_note : (o : Option Question) → TellsNone (times_out t v o)
+  unfolding times_out ended
+  timed_note None = record { none = refl }
+  timed_note (Some q) = record { none = refl }
+
+changes_note : (t : Table) (v : Store) (c : Change) → TellsNone (changes t v c)
+unfolding changes
+changes_note t v (Create name) = record { none = refl }
+changes_note t v (Write s o b) = written_note t _ s _
+changes_note t v (Cut s n) = written_note t _ s _
+changes_note t v (Remove s) = removed_note t _ s _
+
+-- ---- the numbers that are taken
+
+-- once for the number that was taken
+abbrev pub taken_as : ℕ → ℕ → ℕ
+taken_as id n = if id == 0 then 0 else (if id == n then 1 else 0)
+
+-- from the last number to the next last one
+abbrev pub Takes : ℕ → ℕ → ℕ → Type 0
+Takes k id next = (n : ℕ) → once_up_to k n + taken_as id n ≡ once_up_to next n
+
+none_taken : (k id : ℕ) → id ≡ 0 → Takes k id k
+none_taken k id none n = grind (arith, nat_tests)
+
+one_taken : (k id : ℕ) → id ≡ k + 1 → Takes k id (k + 1)
+one_taken k id next n = grind (arith, nat_tests)
+
+quiet_takes : (v : Store) (r : Reaction) → TellsNone r → r.volume.opens ≡ v.opens → Takes v.opens (filter_id r.note) r.volume.opens
+quiet_takes v r none same = subst (Takes v.opens (filter_id r.note)) (sym same) (none_taken v.opens (filter_id r.note) none.none)
+
+open_takes : (v : Store) (r : Reaction) → TellsLast r → r.volume.opens ≡ v.opens + 1 → Takes v.opens (filter_id r.note) r.volume.opens
+open_takes v r last next = subst (Takes v.opens (filter_id r.note)) (sym next) (one_taken v.opens (filter_id r.note) (last.last ∙ next))
+
+by_event : (t : Table) (v : Store) (f : FilterEvent) → (filter_step t v f).volume.opens ≡ opens_after v.opens f
+    → Takes v.opens (filter_id (filter_step t v f).note) (filter_step t v f).volume.opens
+unfolding filter_step opened disconnects restarts
+by_event t v (Opens s least) so = open_takes v _ (found_note (raised least t) (taken v) s least _) so
+by_event t v (Changes c) so = quiet_takes v _ (changes_note t v c) so
+by_event t v (CleansUp s) so = quiet_takes v _ (cleaned_note t v s _) so
+by_event t v (Receives m) so = quiet_takes v _ (receives_note t v m) so
+by_event t v (TimesOut seq) so = quiet_takes v _ (timed_note t v _) so
+by_event t v Disconnects so = quiet_takes v (disconnects t v) (record { none = refl }) so
+by_event t v Restarts so = quiet_takes v (restarts t v) (record { none = refl }) so
+
+-- ---- the numbers that wait or are answered
+
+-- the numbers of answers
+abbrev pub answered_in : List Given → List ℕ
+answered_in given = map (λ g. open_of g.answer) given
+
+-- a report over the next world: from the last number and those that waited
+pub record Goes (k : ℕ) (waiting : List ℕ) (p : Report × WorldState) : Type 0 where
+  pub takes : Takes k (submitted_id p.0.note) p.1.volume.opens
+  pub moves : (n : ℕ) → times n (pended p.1) + times n (answered_in (given_in p.0 p.1)) ≡ times n waiting + taken_as (submitted_id p.0.note) n
+
+abbrev pub MayGo : ℕ → List ℕ → Outcome → Type 0
+MayGo k waiting (Ok p) = Goes k waiting p
+MayGo k waiting (Err f) = Unit {0}
+
+-- what a list has behind its old end
+behind_end : {A : Type 0} (old new : List A) → between (length old) (length (old ++ new)) (old ++ new) ≡ new
+behind_end old new = between_to_end (old ++ new) (length old) (length (old ++ new)) (omega arith) ∙ drop-append_seam old new
+
+filter_goes : (w : WorldState) (e : Event) (line : Store → Line) (f : FilterEvent)
+    → Goes w.volume.opens (pended w) (filter_outcome w e line (filter_step w.table w.volume f))
+filter_goes w e line f =
+    let r = filter_step w.table w.volume f in
+    let b : Balanced w.table w.volume (opens_after w.volume.opens f) r = filter_balanced w.table w.volume f in
+    let takes = by_event w.table w.volume f b.opens in
+    let new : List Given = map (given_at (suc (length w.history))) r.answers in
+    let given : answered_in (between (length w.answers) (length (w.answers ++ new)) (w.answers ++ new)) ≡ map open_of r.answers =
+    ap answered_in (behind_end w.answers new) ∙ map_same (λ (a : Given). open_of a.answer) (given_at (suc (length w.history))) open_of (λ a. refl) r.answers in
+    record {
+      takes = takes;
+      moves = λ n. omega (arith, b.kept n, takes n, ap (times n) given, ap (λ k. once_up_to k n) b.opens);
+    }
+
+service_goes : (w : WorldState) (e : Event) (line : Line) (s : ServiceEvent) → MayGo w.volume.opens (pended w) (service_event w e line s)
+service_goes w e line s =
+    record {
+      takes = none_taken w.volume.opens 0 refl;
+      moves = λ n. omega (arith, ap (λ g. times n (answered_in g)) (between_none w.answers (length w.answers)));
+    }
+
+module _ (w : WorldState) where
+  abbrev CanGo : Outcome → Type 0
+  CanGo o = MayGo w.volume.opens (pended w) o
+
+  unrefused : (o : Option FilterFault) (p : Report × WorldState) → Goes w.volume.opens (pended w) p → CanGo (unless (option_map step_fault o) p)
+  unrefused None p goes = goes
+  unrefused (Some f) p goes = tt
+
+  by_filter : (e : Event) (line : Store → Line) (f : FilterEvent) → CanGo (filter_event w e line f)
+  by_filter e line f = unrefused (filter_refusal w.table w.volume f) _ (filter_goes w e line f)
+
+  by_name : (e : Event) (line : ℕ → Store → Line) (f : ℕ → FilterEvent) (o : Option ℕ) → CanGo (named_event w e line f o)
+  by_name e line f None = tt
+  by_name e line f (Some s) = by_filter e (line s) (f s)
+
+  by_down : (e : Event) (o : Option Body) → CanGo (down_frame w e o)
+  by_down e None = tt
+  by_down e (Some m) = service_goes w e _ _
+
+  by_up : (e : Event) (o : Option Body) → CanGo (up_frame w e o)
+  by_up e None = tt
+  by_up e (Some m) = by_filter e no_line _
+
+  by_work : (e : Event) (k : ℕ) (o : Option WorkState) → CanGo (work_event w e k o)
+  by_work e k None = tt
+  by_work e k (Some x) = service_goes _ e _ _
+
+  by_catalogue : (e : Event) (s : NumberedSet) (r : Result (Unit {0}) CatalogueFault) → CanGo (added w e s r)
+  by_catalogue e s (Ok free) = service_goes _ e _ _
+  by_catalogue e s (Err f) = tt
+
+  by_set : (e : Event) (r : Result NumberedSet SetFault) → CanGo (published w e r)
+  by_set e (Ok s) = by_catalogue e s (may_publish w.sets s.version)
+  by_set e (Err f) = tt
+
+  by_connection : (e : Event) (o : Option ConnectFault) → CanGo (connected w e o)
+  by_connection e None = service_goes w e _ _
+  by_connection e (Some f) = tt
+
+  pub step_goes : (e : Event) → MayGo w.volume.opens (pended w) (step_of w e)
+  unfolding step_of
+  step_goes (event.Publish v ps) = by_set (event.Publish v ps) (set_made v ps)
+  step_goes (event.Create name) = by_filter (event.Create name) (λ v. line.Created v.last) _
+  step_goes (event.Write name o b) = by_name (event.Write name o b) changed_line _ (number_named name w.volume.streams)
+  step_goes (event.Cut name n) = by_name (event.Cut name n) changed_line _ (number_named name w.volume.streams)
+  step_goes (event.Remove name) = by_name (event.Remove name) (λ s v. line.Removed s) _ (number_named name w.volume.streams)
+  step_goes (event.Open name least) = by_filter (event.Open name least) no_line _
+  step_goes (event.Cleanup name) = by_name (event.Cleanup name) (λ s. no_line) _ (number_named name w.volume.streams)
+  step_goes (event.Down n) = by_down (event.Down n) (member w.down n)
+  step_goes (event.Up n) = by_up (event.Up n) (member w.up n)
+  step_goes (event.Run n) = by_work (event.Run n) n (work_at w.works n)
+  step_goes (event.Timeout seq) = by_filter (event.Timeout seq) no_line _
+  step_goes event.Connect = by_connection event.Connect (connect_refusal w.desk)
+  step_goes event.DisconnectFilter = by_filter event.DisconnectFilter no_line _
+  step_goes event.DisconnectService = service_goes w event.DisconnectService _ _
+  step_goes event.RestartFilter = by_filter event.RestartFilter (λ v. line.Booted v.boot) _
+  step_goes event.RestartService = service_goes w event.RestartService _ _
