@@ -51,7 +51,8 @@ echo "gate: the layout of the tests"
 step layout sh tests/layout.sh
 echo "gate: proving every crate from nothing (rt ci)"
 mkdir "$room/whole"
-step rt-ci sh tests/whole.sh "$room/whole" --keep refused_or_not_ --of 3
+tested="av_cache av_context av_store"
+step rt-ci sh tests/whole.sh "$room/whole" --keep refused_or_not_ --of "$(echo "$tested" | tr ' ' ,)"
 program=$room/whole/crates/avscan/out/avscan
 [ -x "$program" ] || { echo "gate: rt ci built no program"; echo "$passed passed, $((failed + 1)) failed"; exit 1; }
 echo "gate: the cases of tests/ on the built program"
@@ -91,7 +92,7 @@ step documents python3 tests/docs.py "$program"
 echo "gate: the tests"
 step tests python3 tests/run_tests.py --times "$times" --only run
 echo "gate: refused memory"
-step refused-memory sh tests/refused-memory.sh "$room"/whole/crates/*/out/*_tests
+step refused-memory sh tests/refused-memory.sh $(for crate in $tested; do echo "$room/whole/crates/$crate/out/${crate}_tests"; done)
 echo "gate: values that must be spent"
 step must-be-spent python3 tests/must_be_spent.py
 echo "gate: must-fail edits, over the libraries that were built"

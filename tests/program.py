@@ -70,14 +70,14 @@ def memory(cases, program):
 
 def memory_of_host(cases, program):
     """A host with each request refused in turn: all files opened as ever, or one line that says why not, and of each file that has
-    a line what it was told: its verdict, or that the service was lost (3) or is not there (6)."""
+    a line what it was told: its verdict, or that the service was lost (3) or is not there (6). What was told by then is written first."""
     names = [LETTER, os.path.join(EXAMPLES, "eicar.com.txt")]
     words = [program, "host", SET, *names]
     whole = run(words, stdout=subprocess.PIPE).stdout
     told = [{line, *(f"{name} denied cause {cause}".encode() for cause in (3, 6))} for name, line in zip(names, whole.splitlines())]
     with tempfile.TemporaryDirectory() as work:
         library = built(work, "fail_nth")
-        refused, in_a_row, number = 0, 0, 0
+        refused, with_lines, in_a_row, number = 0, 0, 0, 0
         while in_a_row < 50:
             number += 1
             done = run(words, stdout=subprocess.PIPE, env=dict(os.environ, LD_PRELOAD=library, FAIL_NTH=str(number)))
@@ -87,10 +87,12 @@ def memory_of_host(cases, program):
             is_told = (done.returncode, done.stderr) in ((3, b"avscan: no memory\n"), (4, b"avscan: device\n")) and is_part
             in_a_row = in_a_row + 1 if is_whole else 0
             refused += is_told
+            with_lines += is_told and lines != []
             if not is_whole and not is_told:
                 cases.check("avscan host", False, f"request {number} refused: status {done.returncode}, {done.stdout!r} {done.stderr!r}")
                 return
         cases.check("avscan host", refused > 0, "no request was refused")
+        cases.check("avscan host: answers before the line that says why not", with_lines > 0, "no run without memory wrote what was told")
 
 
 class Guarded:
@@ -155,7 +157,8 @@ def guard_that_can_say_nothing(cases, program):
 
 
 def memory_of_ask(cases, program):
-    """Each request of a client refused in turn: all answers, or a front of them and the line; the guard goes on."""
+    """Each request of a client refused in turn: all answers, or a front of them and a line that says why not, which may be that the
+    guard was lost, where the connection could not be kept up; the guard goes on."""
     with tempfile.TemporaryDirectory() as work, Guarded(program) as guarded:
         library = built(work, "fail_nth")
         cases.same("an ask", guarded.await_answer(program, ASKED).stdout, ANSWERED)
@@ -167,7 +170,8 @@ def memory_of_ask(cases, program):
                 number += 1
                 done = run(words, stdout=subprocess.PIPE, env=dict(os.environ, LD_PRELOAD=library, FAIL_NTH=str(number)))
                 spared = (done.returncode, done.stdout, done.stderr) == (0, whole, b"")
-                told = (done.returncode, done.stderr) in ((3, b"avscan: no memory\n"), (4, b"avscan: device\n")) and whole.startswith(done.stdout)
+                lost = b"avscan: %s: the guard was lost\n" % os.fsencode(guarded.opens)
+                told = (done.returncode, done.stderr) in ((3, b"avscan: no memory\n"), (4, b"avscan: device\n"), (4, lost)) and whole.startswith(done.stdout)
                 in_a_row = in_a_row + 1 if spared else 0
                 refused += told
                 if not told and not spared:
@@ -178,8 +182,9 @@ def memory_of_ask(cases, program):
 
 
 def memory_of_guard(cases, program):
-    """Each request of a guard refused in turn: its clients have all answers; or it ended with the line, and they have a front of the
-    answers and say that it was lost, or that none listens. What is infected is never granted."""
+    """Each request of a guard refused in turn: its clients have all answers; or it lost a client and goes on, so that who asks again has
+    them; or it ended with the line, and they have a front of the answers and say that it was lost, or that none listens. What is
+    infected is never granted."""
     with tempfile.TemporaryDirectory() as work:
         library = built(work, "fail_nth")
         refused, in_a_row, number = 0, 0, 0
@@ -187,11 +192,16 @@ def memory_of_guard(cases, program):
             number += 1
             with Guarded(program, environment=dict(os.environ, LD_PRELOAD=library, FAIL_NTH=str(number))) as guarded:
                 done = guarded.await_answer(program, ASKED)
-                status = guarded.guard.poll()
-                if status is None and (done.returncode, done.stdout, done.stderr) == (0, ANSWERED, b""):
+                if (done.returncode, done.stdout, done.stderr) == (0, ANSWERED, b"") and guarded.guard.poll() is None:
                     in_a_row += 1
                     continue
                 in_a_row = 0
+                again = guarded.await_answer(program, ASKED) if guarded.guard.poll() is None else done
+                if guarded.guard.poll() is None and (again.returncode, again.stdout, again.stderr) == (0, ANSWERED, b""):
+                    refused += 1
+                    infected = b"%s granted" % os.fsencode(ASKED[1])
+                    cases.check("avscan guard", infected not in done.stdout, f"request {number} refused: {done.stdout!r}")
+                    continue
                 told = guarded.guard.communicate(timeout=SECONDS)[1] if done.returncode == 4 else b""
                 at = os.fsencode(guarded.opens)
                 ends = told.endswith(b"avscan: no memory\n") and guarded.guard.returncode == 3 or told.endswith((b"cannot make a socket\n", b"avscan: device\n")) and guarded.guard.returncode == 4

@@ -1,17 +1,16 @@
 #!/usr/bin/env python3
-"""Takes tests away from a copy of this repository: `strip_tests.py [--keep PREFIX [--of N]] FOLDER`.
+"""Takes tests away from a copy of this repository: `strip_tests.py [--keep PREFIX [--of CRATES]] FOLDER`.
 
 Every test is run without a proof (`rt try --test`, which looks for bad accesses meanwhile), and what `rt ci` proves is a copy without
 them. With --keep the tests whose names begin with PREFIX stay, with what they name and the proofs of it: those of refused memory run
-as they are built, over a `malloc` that refuses, and what is built is proved first. With --of they stay in every Nth crate that has
-such tests, in others each day.
+as they are built, over a `malloc` that refuses, and what is built is proved first. With --of they stay in these crates alone, names
+with commas between.
 """
 import argparse
 import os
 import re
 import shutil
 import sys
-import time
 
 ITEM = re.compile(r"(?:pub(?:\(\w+\))? )?(?:const )?(fn|struct|enum|trait|type|const|static|impl)\b(?:<[^{]*?>(?= ))?(?:.*? for)? \W*(\w+)")
 VALUE = re.compile(r"(?:pub(?:\(\w+\))? )?(?:const|static) (?!fn)")
@@ -109,12 +108,6 @@ def modules_of(crate):
     return found
 
 
-def has_tests(crate, prefix):
-    """Whether a test of a crate has a name that begins so."""
-    blocks = [it for module in modules_of(crate) for it in module.blocks()]
-    return any(it.is_test and it.name.startswith(prefix) for it in blocks)
-
-
 def left(crate, prefix):
     """Takes away the tests of a crate that do not stay, and says how many are left."""
     modules = modules_of(crate)
@@ -130,13 +123,12 @@ def left(crate, prefix):
 def main(words):
     asked = argparse.ArgumentParser(add_help=False)
     asked.add_argument("--keep", default="")
-    asked.add_argument("--of", type=int, default=1)
+    asked.add_argument("--of")
     asked.add_argument("folder")
     asked = asked.parse_args(words)
-    crates = [f"{asked.folder}/crates/{it}" for it in sorted(os.listdir(f"{asked.folder}/crates"))]
-    kept = [it for it in crates if asked.keep and has_tests(it, asked.keep)]
-    kept = [it for at, it in enumerate(kept) if (at + int(time.time() / 86400)) % asked.of == 0]
-    print(sum(left(it, asked.keep if it in kept else "") for it in crates), flush=True)
+    crates = sorted(os.listdir(f"{asked.folder}/crates"))
+    of = crates if asked.of is None else asked.of.split(",")
+    print(sum(left(f"{asked.folder}/crates/{it}", asked.keep if it in of else "") for it in crates), flush=True)
 
 
 main(sys.argv[1:])

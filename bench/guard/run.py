@@ -26,7 +26,7 @@ class Daemons:
         rules = self.write("rules.avsig", "avsig 1\nversion 1\n" + "".join(f"s{i} {pattern}\n" for i, pattern in enumerate(patterns)))
         opens, service, clamd = (os.path.join(folder, name) for name in ("opens", "service", "clamd"))
         self.guard = self.start([program, "guard", opens, service], stderr=subprocess.PIPE)
-        self.start([program, "service", service, rules], stdout=subprocess.DEVNULL)
+        self.start([program, "service", service, rules, "--watch", "60"], stdout=subprocess.DEVNULL)
         while b"connected" not in (line := self.guard.stderr.readline()):
             if not line:
                 sys.exit("the guard ended")
