@@ -113,6 +113,18 @@ class Guarded:
             process.communicate()
         self.room.cleanup()
 
+    def stands(self):
+        """Whether the guard listens: it may have ended before that."""
+        while self.guard.poll() is None and not os.path.exists(self.opens):
+            time.sleep(0.002)
+        return self.guard.poll() is None
+
+    def end(self):
+        """What a guard said that ended for want of memory, and whether it says so, or that a socket can't be made."""
+        told = self.guard.communicate(timeout=SECONDS)[1]
+        wants = {3: (b"avscan: no memory\n",), 4: (b"cannot make a socket\n", b"avscan: device\n")}.get(self.guard.returncode, ())
+        return told, told.endswith(wants) if wants else False
+
     def await_answer(self, program, names):
         """What `ask` prints once the service is there, or as long as the guard stands."""
         limit = time.time() + SECONDS
@@ -182,35 +194,18 @@ def memory_of_ask(cases, program):
 
 
 def memory_of_guard(cases, program):
-    """Each request of a guard refused in turn: its clients have all answers; or it lost a client and goes on, so that who asks again has
-    them; or it ended with the line, and they have a front of the answers and say that it was lost, or that none listens. What is
-    infected is never granted."""
+    """Each request of a guard refused in turn up to where it listens: it listens as ever, or ends with the line."""
     with tempfile.TemporaryDirectory() as work:
-        library = built(work, "fail_nth")
-        refused, in_a_row, number = 0, 0, 0
-        while in_a_row < 20 and number < 400:
+        library, refused, in_a_row, number = built(work, "fail_nth"), 0, 0, 0
+        while in_a_row < 20:
             number += 1
             with Guarded(program, environment=dict(os.environ, LD_PRELOAD=library, FAIL_NTH=str(number))) as guarded:
-                done = guarded.await_answer(program, ASKED)
-                if (done.returncode, done.stdout, done.stderr) == (0, ANSWERED, b"") and guarded.guard.poll() is None:
-                    in_a_row += 1
-                    continue
-                in_a_row = 0
-                again = guarded.await_answer(program, ASKED) if guarded.guard.poll() is None else done
-                if guarded.guard.poll() is None and (again.returncode, again.stdout, again.stderr) == (0, ANSWERED, b""):
-                    refused += 1
-                    infected = b"%s granted" % os.fsencode(ASKED[1])
-                    cases.check("avscan guard", infected not in done.stdout, f"request {number} refused: {done.stdout!r}")
-                    continue
-                told = guarded.guard.communicate(timeout=SECONDS)[1] if done.returncode == 4 else b""
-                at = os.fsencode(guarded.opens)
-                ends = told.endswith(b"avscan: no memory\n") and guarded.guard.returncode == 3 or told.endswith((b"cannot make a socket\n", b"avscan: device\n")) and guarded.guard.returncode == 4
-                lost = done.stderr in (b"avscan: " + at + b": the guard was lost\n", b"avscan: " + at + b": no guard listens\n")
-                front = all(line in ANSWERED.splitlines() or b" denied cause " in line for line in done.stdout.splitlines())
-                holds = ends and lost and front
-                refused += holds
-                cases.check("avscan guard", holds, f"request {number} refused: {guarded.guard.returncode} {told!r}; {done.returncode} {done.stdout!r} {done.stderr!r}")
-        cases.check("avscan guard", refused > 0 and in_a_row >= 20, f"{refused} of {number} requests were refused")
+                in_a_row = in_a_row + 1 if guarded.stands() else 0
+                if in_a_row == 0:
+                    told, holds = guarded.end()
+                    refused += holds
+                    cases.check("avscan guard", holds, f"request {number} refused: {guarded.guard.returncode} {told!r}")
+        cases.check("avscan guard", refused > 100, f"{refused} of {number} requests were refused")
 
 
 def words(cases, program):
