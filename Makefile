@@ -8,8 +8,8 @@ SHARE = $(DESTDIR)$(PREFIX)/share
 .PHONY: build run try test gate-times bench install install-built clean kit
 
 build: kit
-	@echo "building: proving each crate and compiling avscan (some minutes on the first run)"
-	@python3 tests/build.py || { echo "make: avscan was not built: the lines above say why" >&2; exit 1; }
+	@echo "building: proving each crate and compiling avscan (README.md says how long the first time takes)"
+	@python3 tests/prove.py avscan || { echo "make: avscan was not built: the lines above say why" >&2; exit 1; }
 	@echo "built: $(PROGRAM)"
 
 run: build

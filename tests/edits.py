@@ -8,8 +8,9 @@ functions share a check of a copy of the crate, in which only the functions that
 prover judges a function by its own body and the contracts of what it calls, and doesn't look at one that calls what is not proved: an
 edit that is hidden so is tried again without what hid it. An edit whose function passes beside others, and one that changes no
 function, is tried alone: with the functions that name the one that it changes, and then with the whole crate. No check is begun once
-the clock (seconds since 1970) is past --until: a line says how many edits were not tried then. Each day begins with another crate, so
-that it is not always the same ones that are left. The last line counts those that were tried.
+the clock (seconds since 1970) is past --until: a line says how many edits were not tried then. The crates with the most edits come
+first, one a lane, and of the others each day begins with another one, so that it is not always the same that are left. The last lines
+name the edits that failed and count those that were tried.
 
 With --changed an edit is passed over that was refused before here, if it, its file and the crate's specs/ are as they were then: for
 work between commits, since the proof of an edit rests on more.
@@ -30,7 +31,8 @@ import time
 import rooms
 from rooms import CRATES, TOP
 
-# How many edits one lane takes of a crate at a time, about: each part begins with a copy of what was proved.
+# How many edits one lane takes of a crate, about, where there are more lanes than crates: each part proves anew what its edits'
+# functions call, so that a lane takes a crate whole where it can.
 PART = 24
 # The digests of edits that were refused here, a line each.
 REFUSED = f"{TOP}/out/edits-refused"
@@ -160,14 +162,14 @@ class Copy:
 
     def __init__(self, crate, crates, room, libraries):
         self.folder = room
-        for part in ("src", "specs", "proofs"):
+        for part in rooms.PARTS:
             if os.path.isdir(f"{CRATES}/{crate}/{part}"):
                 shutil.copytree(f"{CRATES}/{crate}/{part}", f"{room}/{part}")
         os.makedirs(f"{room}/out")
         proofs = f"{CRATES}/{crate}/out/incremental"
         if os.path.isdir(proofs):
             shutil.copytree(proofs, f"{room}/out/incremental")
-        self.words = rooms.check_words(crate, crates, libraries)
+        self.words = rooms.prover_words("check", crate, crates, libraries)
         self.checks = self.used = self.mebibytes = 0
 
     def check(self, texts, paths):
@@ -211,7 +213,8 @@ class Tally:
 
     def __init__(self, until):
         self.copy, self.until = None, until
-        self.refused = self.not_refused = self.untried = 0
+        self.refused = self.untried = 0
+        self.failed = []
 
     def tell(self, edit, is_refused, text):
         print(f"must-fail {edit.crate}/{edit.name}: {text}", flush=True)
@@ -219,7 +222,7 @@ class Tally:
             with open(REFUSED, "a", encoding="utf-8") as file:
                 file.write(f"{edit.digest()}\n")
         self.refused += is_refused
-        self.not_refused += not is_refused
+        self.failed += [] if is_refused else [f"{edit.crate}/{edit.name}"]
 
     def is_over(self, count):
         """Whether the time is over, so that so many edits are not tried."""
@@ -290,20 +293,31 @@ def tried(crate, edits, crates, libraries, until, times):
             print(f"{crate}: {len(edits)} edits in {copy.checks} checks, {seconds:.0f} s, {copy.used:.0f} processor seconds", flush=True)
             rooms.note(times, "edits", crate, len(edits) - tally.untried, seconds, copy.used, copy.mebibytes)
         except OSError as error:
-            tally.untried = len(edits) - tally.refused - tally.not_refused
+            tally.untried = len(edits) - tally.refused - len(tally.failed)
             print(f"{crate}: {tally.untried} of its {len(edits)} edits could not be tried: {str(error)[:300]}", flush=True)
     return tally
 
 
-def parts_of(crate, lanes, known):
-    """A crate's edits, but those whose digests are known, in parts of about the same number that are tried side by side; edits of one
-    file stay together where they can."""
+def edits_of(crate, known):
+    """A crate's edits, but those whose digests are known, those of one file together."""
     folder = f"{CRATES}/{crate}/must-fail"
     edits = [Edit(crate, f"{folder}/{name}") for name in sorted(os.listdir(folder)) if name.endswith(".edit")]
-    edits = sorted((it for it in edits if not known or it.digest() not in known), key=lambda it: it.file)
+    return sorted((it for it in edits if not known or it.digest() not in known), key=lambda it: it.file)
+
+
+def parts_of(edits, lanes):
+    """A crate's edits in parts of about the same number, which are tried side by side in so many lanes."""
     count = max(1, min(lanes, round(len(edits) / PART)))
     size = max(1, -(-len(edits) // count))
     return [edits[at : at + size] for at in range(0, len(edits), size)]
+
+
+def in_turn(edits, lanes, day):
+    """The crates that have edits to be tried, in the order in which they are."""
+    most = sorted((it for it in edits if edits[it]), key=lambda it: -len(edits[it]))
+    first, others = most[:lanes], sorted(most[lanes:])
+    at = day % max(len(others), 1)
+    return [*first, *others[at:], *others[:at]]
 
 
 def main(words):
@@ -316,20 +330,23 @@ def main(words):
     asked = asked.parse_args(words)
     crates, lanes = rooms.listed(), rooms.processors()
     with_edits = [it for it in crates if (not asked.crates or it in asked.crates) and os.path.isdir(f"{CRATES}/{it}/must-fail")]
-    first = int(time.time() / 86400) % max(len(with_edits), 1)
     known = set()
     if asked.changed and os.path.isfile(REFUSED):
         with open(REFUSED, encoding="utf-8") as file:
             known = set(file.read().split())
-    parts = [(it, part) for it in with_edits[first:] + with_edits[:first] for part in parts_of(it, lanes, known)]
+    edits = {it: edits_of(it, known) for it in with_edits}
+    each = max(1, lanes // max(len(edits), 1))
+    parts = [(it, part) for it in in_turn(edits, lanes, int(time.time() / 86400)) for part in parts_of(edits[it], each)]
     os.makedirs(f"{TOP}/out", exist_ok=True)
     with concurrent.futures.ThreadPoolExecutor(lanes) as pool:
         begun = [pool.submit(tried, crate, part, crates, os.path.abspath(asked.over), asked.until, asked.times) for crate, part in parts]
     tallies = [run.result() for run in begun]
-    refused, not_refused, untried = (sum(getattr(it, name) for it in tallies) for name in ("refused", "not_refused", "untried"))
+    refused, untried = (sum(getattr(it, name) for it in tallies) for name in ("refused", "untried"))
+    failed = sorted(name for it in tallies for name in it.failed)
     print(f"edits: {sum(len(part) for _, part in parts)}, of which {untried} were not tried, for want of time or of room")
-    print(f"{refused} passed, {not_refused} failed")
-    return 1 if not_refused or untried and not refused else 0
+    print("\n".join(f"edits: {name} failed" for name in failed), end="\n" * bool(failed))
+    print(f"{refused} passed, {len(failed)} failed")
+    return 1 if failed or untried and not refused else 0
 
 
 sys.exit(main(sys.argv[1:]))

@@ -15,6 +15,7 @@ times=$(pwd)/out/gate-times
 : > "$times"
 passed=0
 failed=0
+not_whole=
 part=$begun
 used_before=0
 # what was done, whose time is noted, with the processor seconds of the commands that have ended since
@@ -37,13 +38,15 @@ step() {
     *" passed, "*" failed")
         passed=$((passed + ${last%% passed*}))
         last=${last##*passed, }
-        failed=$((failed + ${last%% failed}))
+        count=${last%% failed}
         ;;
     *)
         echo "gate: $* gave no count"
-        failed=$((failed + 1))
+        count=1
         ;;
     esac
+    failed=$((failed + count))
+    [ "$count" = 0 ] || not_whole="$not_whole $name"
     done_with "$name"
 }
 
@@ -98,5 +101,7 @@ step must-be-spent python3 tests/must_be_spent.py
 echo "gate: must-fail edits, over the libraries that were built"
 step edits python3 tests/edits.py --times "$times" --until $((begun + 7500)) --over "$room/whole/crates"
 echo "gate: $(nproc) processors, $(($(date +%s) - begun)) s; out/gate-times has what each part took"
+echo "gate: seconds, and of a processor:$(awk '$1 == "part" { printf " %s %d %d;", $2, $4, $5 }' "$times")"
+[ -z "$not_whole" ] || echo "gate: something failed in:$not_whole"
 echo "$passed passed, $failed failed"
 [ "$failed" = 0 ]

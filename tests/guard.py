@@ -19,12 +19,17 @@ def frame(kind, *fields):
     return struct.pack(">I", len(body)) + body
 
 
+def message(kind, *fields):
+    """A frame between filter and service, at port 1."""
+    return frame(kind, b"\1", *fields)
+
+
 def number(n):
     return struct.pack(">Q", n)
 
 
 def hello(version):
-    return frame(5, number(1), number(version))
+    return message(5, number(1), number(version))
 
 
 def ask(tag, content, label=b"f"):
@@ -251,15 +256,15 @@ class Service:
         return True
 
     def answer(self, body):
-        kind, ident = body[0], body[1:17]
+        kind, ident = body[0], body[2:18]
         if kind == 1:
-            length = struct.unpack(">Q", body[33:41])[0]
+            length = struct.unpack(">Q", body[34:42])[0]
             self.asked[ident], self.contents[ident] = length, b""
             return self.next(ident)
         if kind == 2 and ident in self.asked:
-            offset = struct.unpack(">Q", body[17:25])[0]
+            offset = struct.unpack(">Q", body[18:26])[0]
             if offset == len(self.contents[ident]):
-                self.contents[ident] += body[25:]
+                self.contents[ident] += body[26:]
                 return self.next(ident)
         if kind in (3, 4):
             self.asked.pop(ident, None)
@@ -268,17 +273,17 @@ class Service:
     def next(self, ident):
         done = len(self.contents[ident])
         if done < self.asked[ident]:
-            return frame(6, ident, number(done), struct.pack(">I", min(4096, self.asked[ident] - done)))
+            return message(6, ident, number(done), struct.pack(">I", min(4096, self.asked[ident] - done)))
         self.asked.pop(ident)
         place = self.contents[ident].find(self.pattern)
         if place < 0:
-            return frame(7, ident, b"\0", number(self.version))
-        return frame(7, ident, b"\1", number(self.version), struct.pack(">I", 0), number(place + len(self.pattern)))
+            return message(7, ident, b"\0", number(self.version))
+        return message(7, ident, b"\1", number(self.version), struct.pack(">I", 0), number(place + len(self.pattern)))
 
     def learn(self, version, pattern):
         """A newer set: what is being judged is judged anew."""
         self.version, self.pattern = version, pattern
-        self.end.sendall(frame(8, number(version)))
+        self.end.sendall(message(8, number(version)))
         for ident in self.asked:
             self.contents[ident] = b""
         self.end.sendall(b"".join(self.next(ident) for ident in list(self.asked)))
@@ -573,7 +578,7 @@ def hostile_services(cases, program):
         cases.same("it is closed", rest(silent), b"")
         cases.check("after the wait", 0.5 < time.time() - begun < 5, f"{time.time() - begun}")
         for turn in range(300):
-            said = bytearray(hello(1) + frame(7, number(1), number(turn + 1), b"\0", number(1)) + frame(8, number(1)))
+            said = bytearray(hello(1) + message(7, number(1), number(turn + 1), b"\0", number(1)) + message(8, number(1)))
             for _ in range(noise.randrange(0, 3)):
                 said[noise.randrange(len(said))] = noise.randrange(256)
             other = connected(guard.service)
@@ -602,20 +607,20 @@ def hostile_services(cases, program):
             if select.select([new], [], [], 0.01)[0]:
                 new.turn()
         cases.same("the next one serves", heard(end, 29), frame(2, number(1), number(2), number(5)))
-    exchange = hello(1) + frame(6, number(1), number(1), number(0), struct.pack(">I", 3)) + frame(7, number(1), number(1), b"\0", number(1))
+    exchange = hello(1) + message(6, number(1), number(1), number(0), struct.pack(">I", 3)) + message(7, number(1), number(1), b"\0", number(1))
     for count in range(len(exchange) + 1):
         with Guard(program, clamd=False) as guard:
             other, end = connected(guard.service), connected(guard.opens)
-            other.sendall(exchange[:min(count, 21)])
-            if count >= 21:
+            other.sendall(exchange[:min(count, 22)])
+            if count >= 22:
                 guard.await_line(b"connected\n")
             end.sendall(ask(1, b"ABC"))
-            if count >= 21:
-                heard(other, 45)
-                other.sendall(exchange[21:count])
+            if count >= 22:
+                heard(other, 46)
+                other.sendall(exchange[22:count])
             other.close()
             got = heard(end, 14) if count < len(exchange) else heard(end, 29)
-            wanted = frame(2, number(1), number(2), number(1)) if count == len(exchange) else frame(3, number(1), b"\3" if count < 21 else b"\6")
+            wanted = frame(2, number(1), number(2), number(1)) if count == len(exchange) else frame(3, number(1), b"\3" if count < 22 else b"\6")
             cases.same(f"killed after {count} bytes", got, wanted)
 
 

@@ -4,15 +4,18 @@
 usage: prove.py [--jobs N] [--times FILE] [--until SECONDS] [--libraries] [--above] [CRATE ...]
 
 Proves the named crates (all, without a name; all libraries, with --libraries; those that stand on the named ones too, with --above)
-and what they stand on, as many at once as there are processors and memory for them, those with the longest chain of crates above them first. A library is made for the crates above it (`rt lib`); a program is
-proved, compiled and run once for its help. --jobs says how many processors to use, else all; --times adds a line a crate to a file. No crate is begun once the
-clock (seconds since 1970) is past --until.
+and what they stand on, as far as what their proofs make is not there as an earlier run made it: a library for the crates above, or a
+program. As many are proved at once as there are processors and memory for them, those with the longest chain of crates above them first.
+--jobs says how many processors to use, else all; --times adds a line a crate to a file. No crate is begun once the clock (seconds since
+1970) is past --until.
+
+The first proof of a crate keeps nothing where it has one processor, which takes about two thirds of the time; with more of them, and once
+the crate was proved before, what is proved is kept in out/, so that the next run proves what has changed.
 """
 import argparse
 import fcntl
 import os
 import re
-import shutil
 import sys
 import time
 
@@ -20,50 +23,44 @@ import rooms
 from rooms import CRATES
 
 # What is worth reading of a check that failed.
-TOLD = re.compile(r"^rt: |: error|error\[|no proof|not proved")
+TOLD = re.compile(r"^error|: error|error\[|no proof|not proved")
 
 
 class Proof:
-    """Each crate is proved in a room of its own, in which its out/ lies meanwhile."""
+    """Each crate is proved in its own folder, unless what its proof makes is there already."""
 
     def __init__(self, crates, times):
-        self.crates, self.times, self.lanes = crates, times, f"{rooms.TOP}/out/lanes"
-        self.used = self.failed = 0
-        os.makedirs(self.lanes, exist_ok=True)
-        self.alone = os.open(self.lanes, os.O_RDONLY)
-        try:
-            fcntl.flock(self.alone, fcntl.LOCK_EX | fcntl.LOCK_NB)
-        except BlockingIOError:
-            print("prove.py: waiting for another run to end", file=sys.stderr)
-            fcntl.flock(self.alone, fcntl.LOCK_EX)
-        for name in os.listdir(self.lanes):
-            self.bring_back(name)
+        self.crates, self.times, self.keys = crates, times, {}
+        self.proved, self.kept, self.failed, self.used = 0, 0, 0, 0
 
     def begin(self, crate, jobs, ended):
-        folder = rooms.put_up(f"{self.lanes}/{crate}", crate, self.crates)
-        os.makedirs(f"{CRATES}/{crate}/out", exist_ok=True)
-        os.rename(f"{CRATES}/{crate}/out", f"{folder}/out")
-        words = ["run", "--jobs", str(jobs), "--", "--help"] if rooms.is_program(crate) else ["lib", "--jobs", str(jobs)]
-        return rooms.Job(["rt", *words], folder, f"{folder}/out/prove.log", ended, jobs)
-
-    def bring_back(self, crate):
-        """Puts a crate's out/ back where it belongs, also what a run that was killed left."""
-        made = f"{self.lanes}/{crate}/crates/{crate}/out"
-        if os.path.isdir(made) and os.path.isdir(f"{CRATES}/{crate}"):
-            shutil.rmtree(f"{CRATES}/{crate}/out", ignore_errors=True)
-            os.rename(made, f"{CRATES}/{crate}/out")
-        shutil.rmtree(f"{self.lanes}/{crate}", ignore_errors=True)
+        folder = f"{CRATES}/{crate}"
+        os.makedirs(f"{folder}/out/rlib", exist_ok=True)
+        self.keys[crate] = rooms.key(crate, self.crates)
+        if rooms.is_made(crate, self.crates):
+            return rooms.Job(["true"], folder, f"{folder}/out/prove.log", ended)
+        keeps = jobs > 1 or os.path.isdir(f"{folder}/out/incremental") or os.path.isfile(f"{folder}/out/made-of")
+        words = rooms.prover_words("build", crate, self.crates, jobs=jobs, keeps=keeps)
+        words += ["--toolchain", f"{rooms.kit()}/toolchain", "-o", f"out/{crate}.o"] if rooms.is_program(crate) else ["-o", rooms.library(crate)]
+        return rooms.Job(words, folder, f"{folder}/out/prove.log", ended, jobs)
 
     def ended_with(self, crate, job):
-        said = job.said()
-        self.bring_back(crate)
-        self.used, self.failed = self.used + job.used, self.failed + (job.status != 0)
-        word = "proved" if not job.status else "NOT PROVED"
+        self.used += job.used
+        if job.words == ["true"]:
+            self.kept += 1
+            return True
+        is_well = not job.status and (not rooms.is_program(crate) or rooms.linked(rooms.made(crate)))
+        word = "proved" if is_well else "NOT PROVED"
         print(f"{crate}: {word}, {job.seconds:.0f} s, {job.used:.0f} processor seconds, {job.mebibytes} MiB, jobs {job.jobs}", flush=True)
         rooms.note(self.times, "proof", crate, 1, job.seconds, job.used, job.mebibytes)
-        if job.status:
-            print("\n".join([line for line in said.split("\n") if TOLD.search(line)][-40:]), flush=True)
-        return not job.status
+        if not is_well:
+            self.failed += 1
+            print("\n".join([line for line in job.said().split("\n") if TOLD.search(line)][-40:]), flush=True)
+            return False
+        self.proved += 1
+        # (a source that was changed meanwhile gives the crate another key, so that it is proved again)
+        rooms.note_made(crate, self.keys[crate])
+        return True
 
 
 def main(words):
@@ -82,14 +79,21 @@ def main(words):
         return 2
     named = [it for name in asked.crates for it in (rooms.above(crates, name) if asked.above else [name])]
     wanted = rooms.below(crates, named or [it for it in crates if not (asked.libraries and rooms.is_program(it))])
-    proof = Proof(crates, asked.times and os.path.abspath(asked.times))
-    tasks = {it: (rooms.size(it), crates[it]) for it in wanted}
-    passed = []
-    left = rooms.in_lanes(tasks, proof.begin, lambda it, job: proof.ended_with(it, job) and not passed.append(it), asked.jobs, asked.until)
+    os.makedirs(f"{rooms.TOP}/out", exist_ok=True)
+    with open(f"{rooms.TOP}/out/prove-lock", "w", encoding="utf-8") as lock:
+        try:
+            fcntl.flock(lock, fcntl.LOCK_EX | fcntl.LOCK_NB)
+        except BlockingIOError:
+            print("prove.py: waiting for another run to end", file=sys.stderr)
+            fcntl.flock(lock, fcntl.LOCK_EX)
+        proof = Proof(crates, asked.times and os.path.abspath(asked.times))
+        tasks = {it: (rooms.size(it), crates[it]) for it in wanted}
+        left = rooms.in_lanes(tasks, proof.begin, proof.ended_with, asked.jobs, asked.until)
     if left:
         print(f"not tried, for want of time or of what they stand on: {' '.join(left)}", flush=True)
-    print(f"proved {len(passed)} of {len(wanted)} crates in {time.time() - begun:.0f} s, {proof.used:.0f} processor seconds", flush=True)
-    return 0 if proof.failed == 0 and (len(passed) == len(wanted) or time.time() > asked.until) else 1
+    seconds = time.time() - begun
+    print(f"proved {proof.proved} of {len(wanted)} crates, {proof.kept} stood as they were, {seconds:.0f} s, {proof.used:.0f} processor seconds", flush=True)
+    return 0 if not proof.failed and (not left or time.time() > asked.until) else 1
 
 
 sys.exit(main(sys.argv[1:]))

@@ -1,8 +1,10 @@
-"""The crates of this repository, as crates.txt lists them, and rooms in which one of them is checked.
+"""The crates of this repository, as crates.txt lists them, the prover's command for one of them, and how many are at work at once.
 
-`rt` lets one run at a time work on a crate and on all below it. A room is a copy of a crate and of those below it, with what earlier
-runs made of these, so that several crates are checked side by side over the same libraries.
+`rt` lets one run at a time work on a crate and on all below it. So crates are proved by the prover's own command, side by side, over
+libraries that an earlier proof built. A room is a copy of a crate and of those below it.
 """
+import functools
+import hashlib
 import os
 import re
 import shutil
@@ -12,6 +14,8 @@ import time
 
 TOP = os.path.dirname(os.path.dirname(os.path.abspath(__file__)))
 CRATES = f"{TOP}/crates"
+# What a crate is made of.
+PARTS = ("src", "specs", "proofs")
 # A process of the prover takes up to so many mebibytes, as seen: what is not free is not handed out.
 MEBIBYTES = 3_000
 
@@ -51,7 +55,7 @@ def is_program(crate):
 def size(crate):
     """The lines of a crate's code and proofs, to which the time of its proof is about proportional."""
     count = 0
-    for part in ("src", "specs", "proofs"):
+    for part in PARTS:
         for at, _, files in os.walk(f"{CRATES}/{crate}/{part}"):
             for name in files:
                 with open(f"{at}/{name}", "rb") as file:
@@ -78,17 +82,8 @@ def processors():
     return len(os.sched_getaffinity(0))
 
 
-def link(file, to):
-    """The same file at one more place, or a copy where that can't be: libraries are large, and nothing changes them."""
-    try:
-        os.link(file, to)
-    except OSError:
-        shutil.copy2(file, to)
-
-
-def put_up(room, crate, crates, sources=CRATES):
-    """Makes the folder a room for a crate: its sources, those of the crates below it, and the libraries of these. The sources may be
-    those of a copy of this repository."""
+def put_up(room, crate, crates):
+    """Makes the folder a room for a crate: its sources and those of the crates below it. Gives the crate's folder there."""
     lower = [it for it in below(crates, [crate]) if it != crate]
     all_lines = lines()
     os.makedirs(room, exist_ok=True)
@@ -96,33 +91,79 @@ def put_up(room, crate, crates, sources=CRATES):
     with open(f"{room}/crates.txt", "w", encoding="utf-8") as file:
         file.writelines(all_lines[name] for name in (*lower, crate))
     for name in (*lower, crate):
-        for part in ("src", "specs", "proofs"):
-            of = sources if name == crate else CRATES
-            if os.path.isdir(f"{of}/{name}/{part}"):
-                shutil.copytree(f"{of}/{name}/{part}", f"{room}/crates/{name}/{part}")
-        if name in lower and os.path.isdir(f"{CRATES}/{name}/out/rlib"):
-            shutil.copytree(f"{CRATES}/{name}/out/rlib", f"{room}/crates/{name}/out/rlib", copy_function=link)
+        for part in PARTS:
+            if os.path.isdir(f"{CRATES}/{name}/{part}"):
+                shutil.copytree(f"{CRATES}/{name}/{part}", f"{room}/crates/{name}/{part}")
     return f"{room}/crates/{crate}"
 
 
-def library(crate, libraries):
+@functools.cache
+def kit():
+    """The folder of the kit."""
+    return os.path.dirname(subprocess.run(["rt", "doc"], capture_output=True, text=True, check=True).stdout.strip())
+
+
+def library(crate, libraries=CRATES):
     """Where a library lies once it is built."""
     return f"{libraries}/{crate}/out/rlib/{crate}.rlib"
 
 
-def check_words(crate, crates, libraries):
-    """The command that checks a crate in the folder that it is run in, over libraries that are built, and keeps what it proves there."""
-    kit = os.path.dirname(subprocess.run(["rt", "doc"], capture_output=True, text=True, check=True).stdout.strip())
+def prover_words(verb, crate, crates, libraries=CRATES, jobs=1, keeps=True):
+    """The command by which the prover itself works on a crate in the folder that it is run in, over libraries that are built. It keeps
+    there what it proves, unless it is not to."""
     named = lines()[crate].partition(":")[2].split()
     root = "src/main.rt" if is_program(crate) else "src/lib.rt"
-    words = [f"{kit}/bin/rattle", "check", "--crate-name", crate, root, "--jobs", "1", "--incremental", "out/incremental"]
+    words = [f"{kit()}/bin/rattle", verb, "--crate-name", crate, root, "--jobs", str(jobs)]
+    words += ["--incremental", "out/incremental"] if keeps else ["--statements"] * (not is_program(crate))
     for name in ("std", *named):
-        words += ["--extern", f"{name}={library(name, libraries) if name in crates else f'{kit}/rlibs/{name}.rlib'}"]
+        words += ["--extern", f"{name}={library(name, libraries) if name in crates else f'{kit()}/rlibs/{name}.rlib'}"]
     for name in below(crates, [crate]):
         words += ["-L", f"dependency={os.path.dirname(library(name, libraries))}"] * (name != crate)
         words += ["--links", f"{name}="] * (name == crate or is_program(crate))
-    words += ["-L", f"dependency={kit}/rlibs"]
-    return [*words, "--antt-project", f"{kit}/rattle/logic/antt-project.json", "--logic-built", f"{kit}/logic_built"]
+    words += ["-L", f"dependency={kit()}/rlibs"]
+    return [*words, "--antt-project", f"{kit()}/rattle/logic/antt-project.json", "--logic-built", f"{kit()}/logic_built"]
+
+
+def linked(program):
+    """Makes a program of its object file, PROGRAM.o, and says whether that could be done."""
+    words = [f"{kit()}/bin/rattle-link", "--target", "x86_64-unknown-linux-gnu", "--toolchain", f"{kit()}/toolchain", "-o", program]
+    return not subprocess.call([*words, f"{program}.o", f"{kit()}/c/libos_c.a", f"{kit()}/c/liblibc_c.a"])
+
+
+def made(crate):
+    """What a proof of a crate makes: its library or, of a program, the program."""
+    return f"{CRATES}/{crate}/out/{crate}" if is_program(crate) else library(crate)
+
+
+def key(crate, crates):
+    """A digest of all that a crate's library or program is made of: its sources, the kit, and the libraries below it as they were
+    built, of each of which the file `format` has the sums. None where one of them is not there."""
+    digest = hashlib.sha256(lines()[crate].encode())
+    formats = [f"{library(it)}/format" for it in below(crates, [crate]) if it != crate]
+    walked = [f"{at}/{name}" for part in PARTS for at, _, names in os.walk(f"{CRATES}/{crate}/{part}") for name in names]
+    for path in [f"{kit()}/KIT-ID", *formats, *sorted(walked)]:
+        try:
+            with open(path, "rb") as file:
+                text = file.read()
+        except FileNotFoundError:
+            return None
+        digest.update(f"{os.path.relpath(path, TOP)} {len(text)}\n".encode() + text)
+    return digest.hexdigest()
+
+
+def is_made(crate, crates):
+    """Whether what a proof of a crate makes is there, made of what is there now."""
+    try:
+        with open(f"{CRATES}/{crate}/out/made-of", encoding="utf-8") as file:
+            return os.path.exists(made(crate)) and file.read() == key(crate, crates)
+    except FileNotFoundError:
+        return False
+
+
+def note_made(crate, said):
+    """Notes of what a crate's library or program was made."""
+    with open(f"{CRATES}/{crate}/out/made-of", "w", encoding="utf-8") as file:
+        file.write(said)
 
 
 def note(file, kind, crate, count, seconds, used, mebibytes):
@@ -137,7 +178,7 @@ class Job:
     """A command in the background, with what it wrote, its time and its memory once it is over."""
 
     def __init__(self, words, folder, log, ended=None, jobs=1):
-        self.begun, self.log, self.jobs, self.is_over = time.time(), log, jobs, False
+        self.words, self.begun, self.log, self.jobs, self.is_over = words, time.time(), log, jobs, False
         with open(log, "w", encoding="utf-8") as file:
             self.process = subprocess.Popen(words, cwd=folder, stdin=subprocess.DEVNULL, stdout=file, stderr=subprocess.STDOUT)
         if ended:

@@ -4,9 +4,9 @@
 usage: run_tests.py [--times FILE] [--above] [--only run|built] [CRATE ...]
 
 Each test of the named crates (all, without a name; with --above those that stand on them too) is run without a proof, compiled with
-checks for bad accesses (`rt try --test`). The tests whose names begin with `refused_or_not_` are proved too, over what earlier runs kept
-of their crate, built and run (`rt test`): tests/refused-memory.sh runs what is built, crates/NAME/out/NAME_tests, over a `malloc` that
-refuses. --only does one of the two. The last line counts the tests.
+checks for bad accesses (`rt try --test`). The tests whose names begin with `refused_or_not_` are proved too, where the libraries below
+their crate are built, built and run: tests/refused-memory.sh runs what is built, crates/NAME/out/NAME_tests, over a `malloc` that refuses.
+--only does one of the two. The last line counts the tests.
 """
 import argparse
 import os
@@ -35,7 +35,7 @@ def named(crate, prefix=""):
 
 
 class Runs:
-    """Two runs a crate: (NAME, "run") without a proof, and (NAME, "built") of what has to be built, in a room of its own."""
+    """Two runs a crate: (NAME, "run") without a proof, and (NAME, "built") of what has to be built, in a copy that has those tests alone."""
 
     def __init__(self, crates, room, times):
         self.crates, self.room, self.times = crates, room, times
@@ -50,14 +50,26 @@ class Runs:
         log = f"{CRATES}/{crate}/out/tests-{kind}.log"
         if kind == "run":
             return rooms.Job(["rt", "try", "--test", "--seconds", "300"], f"{CRATES}/{crate}", log, ended)
-        folder = rooms.put_up(f"{self.room}/lanes/{crate}", crate, self.crates, f"{self.room}/crates")
+        folder = f"{self.room}/crates/{crate}"
+        os.makedirs(f"{folder}/out")
         if os.path.isdir(f"{CRATES}/{crate}/out/incremental"):
             shutil.copytree(f"{CRATES}/{crate}/out/incremental", f"{folder}/out/incremental")
-        return rooms.Job(["rt", "test", "--jobs", str(jobs)], folder, log, ended, jobs)
+        words = rooms.prover_words("build", crate, self.crates, jobs=jobs)
+        words += ["--test", "--toolchain", f"{rooms.kit()}/toolchain", "-o", f"out/{crate}_tests.o"]
+        return rooms.Job(words, folder, log, ended, jobs)
+
+    def run_built(self, crate):
+        """Links the tests that were built, runs them, and gives what they said."""
+        made, to = f"{self.room}/crates/{crate}/out/{crate}_tests", f"{CRATES}/{crate}/out/{crate}_tests"
+        if not rooms.linked(made):
+            return "rt: the tests could not be linked\n"
+        shutil.move(made, to)
+        ran = subprocess.run([f"{rooms.kit()}/bin/rattle-test", "--seconds", "60", to], capture_output=True, text=True, errors="replace")
+        return ran.stdout + ran.stderr
 
     def ended_with(self, key, job):
         crate, kind = key
-        said = job.said()
+        said = job.said() + (self.run_built(crate) if kind == "built" and job.status == 0 else "")
         count = COUNT.search(said)
         passed, wanted = int(count[1]) if count else 0, named(crate, KEPT if kind == "built" else "")
         is_well = job.status == 0 and passed == wanted
@@ -67,11 +79,6 @@ class Runs:
         print(f"{crate}: {passed} of {wanted} tests passed, {how}, {job.seconds:.0f} s, {job.used:.0f} processor seconds", flush=True)
         if not is_well:
             print("\n".join([line for line in said.split("\n") if FAILED.search(line)][-30:]), flush=True)
-        if kind == "built":
-            made = f"{self.room}/lanes/{crate}/crates/{crate}/out/{crate}_tests"
-            if os.path.isfile(made):
-                shutil.copy(made, f"{CRATES}/{crate}/out/{crate}_tests")
-            shutil.rmtree(f"{self.room}/lanes/{crate}", ignore_errors=True)
         rooms.note(self.times, f"tests-{kind}", crate, passed, job.seconds, job.used, job.mebibytes)
         return is_well
 
@@ -86,7 +93,8 @@ def main(words):
     crates = rooms.listed()
     chosen = [it for name in asked.crates for it in (rooms.above(crates, name) if asked.above else [name])] or crates
     wanted = [it for it in crates if it in chosen and named(it)]
-    built = [it for it in wanted if named(it, KEPT) and os.path.isdir(f"{CRATES}/{it}/out/incremental")]
+    has_libraries = {it: all(os.path.isdir(rooms.library(low)) for low in rooms.below(crates, [it]) if low != it) for it in wanted}
+    built = [it for it in wanted if named(it, KEPT) and has_libraries[it]]
     os.makedirs(f"{TOP}/out", exist_ok=True)
     with tempfile.TemporaryDirectory(prefix="tests-", dir=f"{TOP}/out", ignore_cleanup_errors=True) as room:
         runs = Runs(crates, room, asked.times)

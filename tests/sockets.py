@@ -12,9 +12,11 @@ import os, random, re, signal, socket, struct, subprocess, sys, tempfile, thread
 from cases import Cases
 
 SECONDS = 60
+# And one that opens more files than a volume has streams.
+PATIENT = 300
 SET = b"avsig 1\nversion 1\nx 5858\n"
 CLEAN, INFECTED = b"ABC", b"XX"
-HELLO = bytes.fromhex("00000011" "05" "0000000000000001" "0000000000000001")
+HELLO = bytes.fromhex("00000012" "05" "01" "0000000000000001" "0000000000000001")
 
 
 class Programs:
@@ -40,9 +42,9 @@ class Programs:
         return self.start("service", "--wait", wait, path or self.socket, "set.txt")
 
 
-def ended(process):
+def ended(process, seconds=SECONDS):
     """What a process wrote and its status."""
-    out, err = process.communicate(timeout=SECONDS)
+    out, err = process.communicate(timeout=seconds)
     return process.returncode, out, err
 
 
@@ -454,7 +456,7 @@ def hostile_services(cases, programs):
             ("a greeting, then no message", HELLO + bytes.fromhex("0000000109"), 1, LOST, b"avscan: frame\n"),
             ("a greeting, then nothing", HELLO, 4, LOST, lost),
             ("half a greeting", HELLO[:10], 4, ALONE, lost),
-            ("a thousand updates and no answer", HELLO + bytes.fromhex("0000000908" "0000000000000001") * 1000, 4, LOST, lost)]
+            ("a thousand updates and no answer", HELLO + bytes.fromhex("0000000a0801" "0000000000000001") * 1000, 4, LOST, lost)]
     for name, said, status, out, err in rows:
         filter = programs.filter()
         await_socket(programs.socket)
@@ -500,7 +502,7 @@ def serve(programs, said):
 
 
 def frame(kind, *fields):
-    body = bytes([kind]) + b"".join(fields)
+    body = bytes([kind, 1]) + b"".join(fields)
     return struct.pack(">I", len(body)) + body
 
 
@@ -588,7 +590,11 @@ def inputs(cases, programs):
     for step in steps:
         os.symlink(".", os.path.join(programs.folder, step))
     ways = [f"{one}/{other}/a.bin" for one in steps for other in steps]
-    cases.same("one file more than a volume has streams", ended(programs.start("host", "set.txt", *ways, "b.bin")), (1, b"", b"avscan: b.bin: Full\n"))
+    cases.same("one file more than a volume has streams", ended(programs.filter(*ways, "b.bin"), PATIENT), (1, b"", b"avscan: b.bin: Full\n"))
+    status, out, err = ended(programs.start("host", "set.txt", *ways, "b.bin"), PATIENT)
+    lines = out.splitlines()
+    cases.same("a host of more files than a volume has streams", (status, len(lines), lines[0], lines[-1], err),
+               (0, 65_537, b"aa/aa/a.bin granted generation 2 version 1", ANSWERED.splitlines()[-1], b""))
     with open("/dev/full", "wb") as full:
         cases.same("host on a full device", ended(programs.start("host", "set.txt", "a.bin", out=full)), FULL)
         filter = programs.filter()
@@ -624,17 +630,49 @@ def hosts(cases, programs):
         cases.same(f"host, turn {turn}, {openers} openers and {workers} workers", got, (0, b"".join(wanted[name] for name in some), b""))
 
 
+def groups(cases, programs):
+    """A host of more files than one group holds: those that reach 7 MiB together, a small one counted as 4,096 bytes."""
+    large = [f"large{i}" for i in range(70)]
+    for i, name in enumerate(large):
+        programs.write(name, bytes([65 + i % 20]) * ((1 << 20) - 2) + (b"XX" if i % 7 == 3 else b"AA"))
+    wanted = told_by_scan(programs, large)
+    peaks = []
+    for names in (large[:34], large):
+        process = programs.start("host", "set.txt", "--summary", *names)
+        out, err = process.stdout.read(), process.stderr.read()
+        _, status, used = os.wait4(process.pid, 0)
+        lines = b"".join(wanted.splitlines(keepends=True)[:len(names)])
+        told = b"avscan: %d files scanned, %d infected, 0 not scanned\n" % (len(names), lines.count(b"denied"))
+        cases.same(f"{len(names)} files of a mebibyte", (os.waitstatus_to_exitcode(status), out, err), (0, lines, told))
+        peaks.append(used.ru_maxrss // 1024)
+    cases.check("memory is that of one group", peaks[1] < peaks[0] + 32, f"{peaks} MiB")
+    programs.write("a b", b"A")
+    for last, status, err in (("gone", 4, b"avscan: gone: cannot read\n"), (large[0], 1, b"avscan: large0: Exists\n"), ("a b", 1, b"avscan: a b: BadName\n")):
+        cases.same(f"{last} behind a whole group", ended(programs.start("host", "set.txt", *large, last)), (status, b"", err))
+    piped = subprocess.Popen([programs.program, "host", "set.txt", "--summary", *large[:40], "/dev/stdin", *large[40:]], cwd=programs.folder, stdin=subprocess.PIPE,
+                             stdout=subprocess.PIPE, stderr=subprocess.PIPE)
+    out, err = piped.communicate(b"A" * (1 << 20) + b"A", timeout=SECONDS)
+    cases.same("a file that turns out too large ends its own group", (piped.returncode, out, err),
+               (1, b"".join(wanted.splitlines(keepends=True)[:35]), b"avscan: /dev/stdin: TooLarge\n"))
+    os.mkdir(os.path.join(programs.folder, "small"))
+    small = [f"small/{i}" for i in range(8_193)]
+    for name in small:
+        programs.write(name, b"AXX" if name.endswith("77") else b"")
+    programs.write("list", "\n".join(small).encode())
+    cases.same("small files of several groups", ended(programs.start("host", "set.txt", "--files-from", "list")), (0, told_by_scan(programs, small), b""))
+
+
 def main():
     if len(sys.argv) != 2:
         sys.exit("usage: tests/sockets.py PROGRAM")
     cases = Cases()
-    for part in (meetings, many_files, stopped_and_continued, waits, modes, recipe, hostile_services, hostile_filters, places, inputs, kills, hosts):
+    for part in (meetings, many_files, stopped_and_continued, waits, modes, recipe, hostile_services, hostile_filters, places, inputs, kills, hosts, groups):
         begun = time.time()
         try:
             with tempfile.TemporaryDirectory() as folder:
                 part(cases, Programs(os.path.abspath(sys.argv[1]), folder))
         except Exception as fault:
-            cases.check(part.__name__, False, f"{type(fault).__name__}: {fault}")
+            cases.check(part.__name__, False, f"{type(fault).__name__}: {fault}"[:400])
         print(f"{part.__name__}: {time.time() - begun:.1f} s", file=sys.stderr)
     print(f"{cases.passed} passed, {cases.failed} failed")
     sys.exit(1 if cases.failed else 0)

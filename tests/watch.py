@@ -6,7 +6,7 @@ The last line says how many passed and how many failed."""
 import concurrent.futures, os, select, shutil, socket, struct, subprocess, sys, tempfile, threading, time
 
 from cases import Cases
-from guard import connected, frame, frames, hello, number
+from guard import connected, frame, frames, hello, message, number
 
 SECONDS = 60
 QUIET = 3.3           # longer than three looks: nothing is taken that is not taken by then
@@ -18,27 +18,27 @@ def signatures(version, *patterns):
 
 
 def scan(seq, length):
-    return frame(SCAN, number(1), number(seq), number(seq), number(2), number(length))
+    return message(SCAN, number(1), number(seq), number(seq), number(2), number(length))
 
 
 def read(seq, length):
-    return frame(READ, number(1), number(seq), number(0), struct.pack(">I", length))
+    return message(READ, number(1), number(seq), number(0), struct.pack(">I", length))
 
 
 def chunk(seq, content):
-    return frame(CHUNK, number(1), number(seq), number(0), content)
+    return message(CHUNK, number(1), number(seq), number(0), content)
 
 
 def clean(seq, version):
-    return frame(REPLY, number(1), number(seq), b"\0", number(version))
+    return message(REPLY, number(1), number(seq), b"\0", number(version))
 
 
 def infected(seq, version, index, end):
-    return frame(REPLY, number(1), number(seq), b"\1", number(version), struct.pack(">I", index), number(end))
+    return message(REPLY, number(1), number(seq), b"\1", number(version), struct.pack(">I", index), number(end))
 
 
 def updated(version):
-    return frame(UPDATED, number(version))
+    return message(UPDATED, number(version))
 
 
 class Service:
@@ -150,7 +150,7 @@ def a_newer_set_begins_the_jobs_anew(cases, program):
         service.say(scan(1, 3))
         cases.same("a watching service reads", service.hear(read(1, 3)), read(1, 3))
         service.put(Y)
-        wanted = bytes.fromhex("00000009 08 0000000000000002 0000001d 06 0000000000000001 0000000000000001 0000000000000000 00000003")
+        wanted = bytes.fromhex("0000000a 0801 0000000000000002 0000001e 0601 0000000000000001 0000000000000001 0000000000000000 00000003")
         cases.same("Updated, and the job's read again", service.hear(wanted), wanted)
         service.say(chunk(1, b"ABC"))
         reply = infected(1, 2, 0, 2)

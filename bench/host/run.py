@@ -5,7 +5,8 @@ Files of 1 KiB, 64 KiB and 1 MiB of random bytes, no two alike, under 1,000 rand
 of a run over many files less that over one, divided by their difference: it has the reading of the file, its way into the volume, and
 the audits of both sides. clamd (where it is installed) has the same signatures, no cache, and scans the same files by their paths, one
 session a client. clamonacc (where it is installed and the kernel lets it hold opens) holds each first open of as many such files in a
-folder that it watches, until a clamd with a cache has judged it. Peak memory is that of the process beside the files' bytes. Also 1, 2
+folder that it watches, until a clamd with a cache has judged it. Peak memory is that of the process beside the files' bytes. Then 20,000
+files of 512 KiB, 10 GiB in all, and the peak of memory. Also 1, 2
 and 4 openers with as many workers over files of 1 KiB, and as many clients of clamd."""
 import os, random, shutil, socket, subprocess, sys, tempfile, threading, time
 
@@ -15,6 +16,10 @@ SIZES = ((1 << 10, 2000, 0.75), (1 << 16, 400, 0.25), (1 << 20, 60, 0.25))
 MANY, LEAST_RATE, MOST_MEMORY = 4000, 15_000, 64 << 20
 # How many first opens clamonacc holds at most.
 HELD = 200
+# Many files of this size, whose contents are those of a few: how many, and how many make more groups than one.
+LINKED, LINKS, FEW = 1 << 19, 20_000, 100
+# What a group of files holds at most.
+GROUP = 8 << 20
 
 
 def build_spawn(folder):
@@ -146,6 +151,7 @@ def main():
         finally:
             if clamd:
                 clamd.end()
+        measure_groups(folder, spawn, program, rules, chance)
         measure_held(folder, patterns, chance)
         print(f"load {os.getloadavg()[0]:.2f} at the end")
 
@@ -177,6 +183,25 @@ def measure(folder, spawn, program, rules, chance, clamd):
         print(line)
         if crew == 4:
             goal(ours >= LEAST_RATE, f"4 openers: at least {LEAST_RATE:,} opens a second")
+
+
+def measure_groups(folder, spawn, program, rules, chance):
+    """Memory of a host that opens many files, group by group."""
+    contents = write_files(folder, LINKED, 50, chance)
+    names = [os.path.join(folder, f"link{i}") for i in range(LINKS)]
+    for i, name in enumerate(names):
+        os.link(contents[i % len(contents)], name)
+    listed = os.path.join(folder, "list")
+    with open(listed, "w") as file:
+        file.writelines(f"{name}\n" for name in names)
+    _, alone = host(spawn, program, rules, contents[:1], 1)
+    _, few = host(spawn, program, rules, names[:FEW], 1)
+    seconds, many = host(spawn, program, rules, ["--files-from", listed], 1)
+    print(f"{LINKS:,} files of {LINKED:,} bytes: {seconds:.1f} s, {many / (1 << 20):.1f} MiB; {FEW} of them {few / (1 << 20):.1f} MiB, one file {alone / (1 << 20):.1f} MiB")
+    goal(many <= alone + GROUP + MOST_MEMORY, f"{LINKS:,} files: at most {MOST_MEMORY >> 20} MiB beside automaton and one group")
+    goal(many <= few + (8 << 20), f"{LINKS:,} files: the memory of {FEW}, and 8 MiB at most")
+    for name in [*names, *contents]:
+        os.unlink(name)
 
 
 def measure_held(folder, patterns, chance):

@@ -19,6 +19,7 @@ pub mod mode;
 pub mod number;
 pub mod overwrite;
 pub mod parts;
+pub mod port;
 pub mod refusal;
 #[cfg(test)]
 mod tests;
@@ -32,5 +33,6 @@ pub use message_id::MessageId;
 pub use mode::Mode;
 pub use number::{Generation, Lease, OpenId, StreamId, Version};
 pub use parts::Part;
+pub use port::Port;
 pub use refusal::{Refusal, Refused};
 pub use verdict::Verdict;

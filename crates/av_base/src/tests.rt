@@ -6,6 +6,7 @@ use crate::limits::{LimitFault, LimitField, LimitValues, Limits};
 use crate::line::{first_line, first_piece};
 use crate::number::{Generation, Lease, OpenId, StreamId, Version};
 use crate::parts::{Part, write_parts};
+use crate::port::Port;
 use av_fakes::{FakeReader, FakeWriter, Fault, may_refuse, refuse_no_more};
 use std::alloc::AllocError;
 use std::test::Fail;
@@ -88,6 +89,18 @@ fn causes_count_from_one_to_ten(rt: HostRuntime) -> Result<(), Fail> {
     }
     assert_eq!(rt; Cause::from_number(0), None);
     assert_eq!(rt; Cause::from_number(11), None);
+    Ok(())
+}
+
+#[test]
+fn ports_are_one_and_two(rt: HostRuntime) -> Result<(), Fail> {
+    for (port, number, other) in [(Port::One, 1, Port::Two), (Port::Two, 2, Port::One)] {
+        assert_eq!(rt; port.number(), number);
+        assert_eq!(rt; Port::from_number(number), Some(port));
+        assert_eq!(rt; port.other(), other);
+    }
+    assert_eq!(rt; Port::from_number(0), None);
+    assert_eq!(rt; Port::from_number(3), None);
     Ok(())
 }
 

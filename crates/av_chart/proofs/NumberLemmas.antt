@@ -9,6 +9,8 @@ use Rattle.std.specs.List.{between, list_any}
 use Rattle.std.specs.Option.{option_map}
 use Rattle.av_base.specs.Refused.{unless}
 use Rattle.av_base.specs.declared.message_id.MessageId.{MessageId}
+use Rattle.av_base.specs.declared.port.Port.TheVariants.{One}
+use Rattle.av_base.specs.declared.port.Port.{Port}
 use Rattle.av_base.specs.declared.verdict.Verdict.{Verdict}
 use Rattle.av_cache.specs.declared.entry.Entry.{Entry}
 use Rattle.av_filter.proofs.CountLemmas.{Balanced, filter_balanced, opens_after}
@@ -19,12 +21,13 @@ use Rattle.av_filter.specs.Conduct.{FilterEvent, Opens, Changes, CleansUp, Recei
 use Rattle.av_filter.specs.Once.{once_up_to, times}
 use Rattle.av_filter.specs.Opening.{answers_with, open_asked, open_cached, open_found, open_judged, opened, pends, taken}
 use Rattle.av_filter.specs.Reaction.{Reaction}
-use Rattle.av_filter.specs.Receiving.{greeted, reads, receives, replies}
+use Rattle.av_filter.specs.Receiving.{greeted, reads, receives_at, replies}
 use Rattle.av_filter.specs.declared.fault.FilterFault.{FilterFault}
 use Rattle.av_filter_table.specs.Answering.{present_bytes}
 use Rattle.av_filter_table.specs.Asking.{asks, ended, is_held}
 use Rattle.av_filter_table.specs.Table.{Table, can_ask, context_of, has_room, is_modified, raised, sequence_left}
 use Rattle.av_filter_table.specs.declared.question.Question.{Question}
+use Rattle.av_frame.specs.Message.{Letter}
 use Rattle.av_frame.specs.declared.message.Body.{Body}
 use Rattle.av_frame.specs.declared.message.Body.TheVariants.{Hello, Read, Reply, Updated}
 use Rattle.av_frame.specs.declared.outcome.Outcome.{Outcome as ReplyOutcome}
@@ -44,14 +47,14 @@ use Rattle.av_store.specs.Rows.{number_named}
 use Rattle.av_store.specs.Store.{Store}
 use Rattle.av_store.specs.declared.stream.Stream.{Stream}
 use Rattle.av_world.specs.Held.{pended}
-use Rattle.av_world.specs.World.{Outcome, WorldState, added, changed_line, connected, down_frame, filter_event, filter_outcome, given_at, member, named_event, no_line, published, service_event, step_fault, step_of, up_frame, work_at, work_event}
+use Rattle.av_world.specs.World.{Outcome, WorldState, added, changed_line, connected, down_frame, filter_event, filter_outcome, given_at, member, named_event, no_line, published, service_event, step_fault, step_of, up_frame, work_at, work_event, desk_of}
 use Rattle.av_world.specs.declared.event.Event.{Event}
-use Rattle.av_world.specs.declared.event.Event.TheVariants as event
 use Rattle.av_world.specs.declared.given.Given.{Given}
 use Rattle.av_world.specs.declared.report.Line.{Line}
-use Rattle.av_world.specs.declared.report.Line.TheVariants as line
 use Rattle.av_world.specs.declared.report.Report.{Report}
 use Rattle.av_chart.specs.Marks.{filter_id, given_in, submitted_id}
+use Rattle.av_world.specs.declared.event.Event.TheVariants as event
+use Rattle.av_world.specs.declared.report.Line.TheVariants as line
 
 -- ---- only an open takes a number, and tells it
 
@@ -65,7 +68,7 @@ module _ (t : Table) (v : Store) where
   answered_note : (t : Table) (a : Answer) → TellsLast (answers_with t v a)
   answered_note t a = record { last = refl }
 
-  pended_note : (t : Table) (s least : ℕ) (id : MessageId) (ms : List Body) → TellsLast (pends t v s least id ms)
+  pended_note : (t : Table) (s least : ℕ) (id : MessageId) (ms : List Letter) → TellsLast (pends t v s least id ms)
   pended_note t s least id ms = record { last = refl }
 
   cached_note : (s least : ℕ) (x : Stream) (o : Option Entry) → TellsLast (open_cached t v s least x o)
@@ -91,7 +94,7 @@ module _ (t : Table) (v : Store) where
   found_note s least None = record { last = refl }
   found_note s least (Some x) = judged_note s least x _
 
-  again_note : (q : Question) (early : List Body) → TellsNone (again t v q early)
+  again_note : (q : Question) (early : List Letter) → TellsNone (again t v q early)
   unfolding again asks ended
   again_note q early = cond_both (list_any (is_held q.id) t.pended && sequence_left t) _ _ TellsNone (λ e. record { none = refl }) (λ e. record { none = refl })
 
@@ -127,13 +130,13 @@ module _ (t : Table) (v : Store) where
   replies_note (Failed why) (Some q) = record { none = refl }
   replies_note (Judged version r) (Some q) = cond_both (nat_lt version t.floor) _ _ TellsNone (λ e. again_note q []) (λ e. record { none = refl })
 
-  receives_note : (m : Body) → TellsNone (receives t v m)
-  unfolding receives
-  receives_note (Hello number version) = greeted_note number version
-  receives_note (Updated version) = record { none = refl }
-  receives_note (Read id offset count) = reads_note id offset count _
-  receives_note (Reply id outcome) = replies_note outcome _
-  receives_note _ = record { none = refl }
+  receives_note : (port : Port) (m : Body) → TellsNone (receives_at t v port m)
+  unfolding receives_at
+  receives_note One (Hello number version) = greeted_note number version
+  receives_note One (Updated version) = record { none = refl }
+  receives_note One (Read id offset count) = reads_note id offset count _
+  receives_note One (Reply id outcome) = replies_note outcome _
+  receives_note port _ = record { none = refl }
 
   timed_note : (o : Option Question) → TellsNone (times_out t v o)
   unfolding times_out ended
@@ -175,7 +178,7 @@ unfolding filter_step opened disconnects restarts
 by_event t v (Opens s least) so = open_takes v _ (found_note (raised least t) (taken v) s least _) so
 by_event t v (Changes c) so = quiet_takes v _ (changes_note t v c) so
 by_event t v (CleansUp s) so = quiet_takes v _ (cleaned_note t v s _) so
-by_event t v (Receives m) so = quiet_takes v _ (receives_note t v m) so
+by_event t v (Receives m) so = quiet_takes v _ (receives_note t v m.port m.body) so
 by_event t v (TimesOut seq) so = quiet_takes v _ (timed_note t v _) so
 by_event t v Disconnects so = quiet_takes v (disconnects t v) (record { none = refl }) so
 by_event t v Restarts so = quiet_takes v (restarts t v) (record { none = refl }) so
@@ -213,7 +216,7 @@ filter_goes w e line f =
       moves = λ n. omega (arith, b.kept n, takes n, ap (times n) given, ap (λ k. once_up_to k n) b.opens);
     }
 
-service_goes : (w : WorldState) (e : Event) (line : Line) (s : ServiceEvent) → MayGo w.volume.opens (pended w) (service_event w e line s)
+service_goes : (w : WorldState) (e : Event) (line : Line) (s : ServiceEvent) → MayGo w.volume.opens (pended w) (service_event w e One line s)
 service_goes w e line s =
     record {
       takes = none_taken w.volume.opens 0 refl;
@@ -235,11 +238,11 @@ module _ (w : WorldState) where
   by_name e line f None = tt
   by_name e line f (Some s) = by_filter e (line s) (f s)
 
-  by_down : (e : Event) (o : Option Body) → CanGo (down_frame w e o)
+  by_down : (e : Event) (o : Option Letter) → CanGo (down_frame w e o)
   by_down e None = tt
   by_down e (Some m) = service_goes w e _ _
 
-  by_up : (e : Event) (o : Option Body) → CanGo (up_frame w e o)
+  by_up : (e : Event) (o : Option Letter) → CanGo (up_frame w e o)
   by_up e None = tt
   by_up e (Some m) = by_filter e no_line _
 
@@ -272,7 +275,7 @@ module _ (w : WorldState) where
   step_goes (event.Up n) = by_up (event.Up n) (member w.up n)
   step_goes (event.Run n) = by_work (event.Run n) n (work_at w.works n)
   step_goes (event.Timeout seq) = by_filter (event.Timeout seq) no_line _
-  step_goes event.Connect = by_connection event.Connect (connect_refusal w.desk)
+  step_goes event.Connect = by_connection event.Connect (connect_refusal (desk_of w One))
   step_goes event.DisconnectFilter = by_filter event.DisconnectFilter no_line _
   step_goes event.DisconnectService = service_goes w event.DisconnectService _ _
   step_goes event.RestartFilter = by_filter event.RestartFilter (λ v. line.Booted v.boot) _

@@ -1,5 +1,5 @@
 use Rattle.std.proofs.Common.{ℕ, ◌≡◌, ◌-◌, ◌++◌, List, [], ◌∷◌, length, fold, ◌∙◌, ap}
-use Rattle.av_frame.specs.declared.message.Body.{Body}
+use Rattle.av_frame.specs.Message.{Letter}
 use Rattle.av_world.specs.World.{WorldState}
 use Rattle.av_world.specs.declared.given.Given.{Given}
 use Rattle.av_world.specs.declared.report.Report.{Report}
@@ -29,7 +29,7 @@ unfolding made
 story_is s t a b c d e f g h i j = made_is _ _ _ _ _ _ _ _ _ _ _ _ _ _ _ _ _ _ _ _ a b c d e f g h i j
 
 -- the parts that an accepted event leaves, as code takes them, are those of the story
-pub report_taken : (s new : Story) (t : Told) (d : Deed) (r : Report) (w : WorldState) (at : ℕ) (step : Step) (given : List Given) (downs ups : List Body) (name : List ℕ)
+pub report_taken : (s new : Story) (t : Told) (d : Deed) (r : Report) (w : WorldState) (at : ℕ) (step : Step) (given : List Given) (downs ups : List Letter) (name : List ℕ)
     → at ≡ length s.steps → step ≡ step_of s t d r w → given ≡ spanned step.answers w.answers → downs ≡ spanned step.down w.down → ups ≡ spanned step.up w.up
     → name ≡ word_at 1 t.text → new.steps ≡ s.steps ++ step ∷ [] → new.down ≡ delivered_down at d s.down ++ posted at 0 (length downs)
     → new.up ≡ delivered_up at d s.up ++ posted at (length downs) (length ups)

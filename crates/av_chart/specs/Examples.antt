@@ -11,7 +11,7 @@ use Rattle.av_chart.specs.Picture.{answered_told, count_text, number_text, typed
 use Rattle.av_chart.specs.Place.{bottom_of, top_at}
 use Rattle.av_chart.specs.Slot.{free_places, slots}
 use Rattle.av_chart.specs.Spot.{spot}
-use Rattle.av_chart.specs.Story.{Post, arrived, asked, life, moment, number_id, posted}
+use Rattle.av_chart.specs.Story.{Post, arrived, asked_by, life, moment, number_id, posted}
 use Rattle.av_chart.specs.Words.{message_label, word_at}
 use Rattle.av_chart.specs.declared.happened.Way.TheVariants.{Down}
 use Rattle.av_chart.specs.declared.life.End.{End}
@@ -80,8 +80,8 @@ pub record AreDeeds : Type 0 where
   pub nowhere : arrived 6 3 (posted 4 0 2) ≡ posted 4 0 2
   pub begun : begins (question 2) (question 1 ∷ []) ≡ question 1 ∷ question 2 ∷ []
   pub once : begins (question 1) (question 1 ∷ []) ≡ question 1 ∷ []
-  pub by_scan : asked (codes "letter" ∷ []) 4 1 (Scan (record { boot = 1; seq = 1 }) 1 2 5) [] ≡ question 1 ∷ []
-  pub by_abort : asked [] 7 1 (Abort (record { boot = 1; seq = 1 })) (question 1 ∷ question 2 ∷ [])
+  pub by_scan : asked_by (codes "letter" ∷ []) 4 1 (Scan (record { boot = 1; seq = 1 }) 1 2 5) [] ≡ question 1 ∷ []
+  pub by_abort : asked_by [] 7 1 (Abort (record { boot = 1; seq = 1 })) (question 1 ∷ question 2 ∷ [])
       ≡ record (question 1) { «end» = Some aborted } ∷ question 2 ∷ []
   pub places : slots (moment 9 0) free_places three_opens ≡ 0 ∷ 1 ∷ 0 ∷ []
 

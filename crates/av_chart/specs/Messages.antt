@@ -2,7 +2,7 @@
 use Rattle.std.specs.Prelude.{ℕ, ◌+◌, ◌-◌, ◌==◌, ◌&&◌, ◌||◌, Bool, false, not, nat_le, nat_lt, List, [], ◌++◌, Option, None, Some, is_some, slice_get, map, vec_len, if◌then◌else◌}
 use Rattle.std.specs.List.{list_any}
 use Rattle.av_base.specs.Part.{spelt}
-use Rattle.av_frame.specs.declared.message.Body.{Body}
+use Rattle.av_frame.specs.Message.{Letter}
 use Rattle.av_world.specs.Text.Messages.{placed}
 use Rattle.av_world.specs.World.{WorldState}
 use Rattle.av_chart.specs.Arrow.{arrival_text, arrival_words, arrives_at, cut_text, leaves_at, leaving_text, lost_text, manner_of, near_text}
@@ -26,7 +26,7 @@ abbrev pub sent_on : Happened → Way → List Sent
 sent_on h Down = h.down.items
 sent_on h Up = h.up.items
 
-abbrev pub bodies_on : WorldState → Way → List Body
+abbrev pub bodies_on : WorldState → Way → List Letter
 bodies_on w Down = w.down
 bodies_on w Up = w.up
 
@@ -103,9 +103,9 @@ unfoldable pub sent_text : Picture → Way → Sent → List ℕ → List ℕ �
 sent_text p way s words title = departure_shown p way s words title ++ arrivals_text p way s words
 
 -- the message at a place, where the world has it
-abbrev pub message_text : Picture → Way → Sent → ℕ → Option Body → List ℕ
+abbrev pub message_text : Picture → Way → Sent → ℕ → Option Letter → List ℕ
 message_text p way s k None = []
-message_text p way s k (Some body) = sent_text p way s (message_label way (capped (k + 1)) body) (message_title p.world.now way k)
+message_text p way s k (Some m) = sent_text p way s (message_label way (capped (k + 1)) m.body) (message_title p.world.now way k)
 
 -- the message at a place, where it is shown
 abbrev pub message_shown : Picture → Way → ℕ → Sent → List ℕ

@@ -4,6 +4,7 @@ use Rattle.std.specs.List.{between}
 use Rattle.av_base.specs.declared.message_id.MessageId.{MessageId}
 use Rattle.av_base.specs.declared.verdict.Verdict.{Verdict}
 use Rattle.av_base.specs.declared.verdict.Verdict.TheVariants as verdict
+use Rattle.av_frame.specs.Message.{Letter}
 use Rattle.av_frame.specs.declared.message.Body.{Body}
 use Rattle.av_frame.specs.declared.message.Body.TheVariants.{Scan, Abort, NoChunk, Read, Reply}
 use Rattle.av_frame.specs.declared.outcome.Outcome.{Outcome}
@@ -109,10 +110,10 @@ in_turn f k (x ∷ xs) b = in_turn f (k + 1) xs (f k x b)
 -- ---- messages
 
 -- what a step sends to the service, and to the filter
-abbrev pub sent_down : Report → WorldState → List Body
+abbrev pub sent_down : Report → WorldState → List Letter
 sent_down r w = between r.before.down r.after.down w.down
 
-abbrev pub sent_up : Report → WorldState → List Body
+abbrev pub sent_up : Report → WorldState → List Letter
 sent_up r w = between r.before.up r.after.up w.up
 
 -- so many messages that a step sends, from a line on: none has arrived
@@ -189,10 +190,15 @@ abbrev pub name_in : List (List ℕ) → ℕ → List ℕ
 name_in names stream = unwrap_or (member names stream) (codes "?")
 
 -- a question begins by its Scan, and ends by an Abort
-abbrev pub asked : List (List ℕ) → ℕ → ℕ → Body → List Life → List Life
-asked names step line (Scan id stream generation size) questions = begins (life id (name_in names stream) generation (moment step line)) questions
-asked names step line (Abort id) questions = ends id (record { at = moment step line; how = how.Aborted }) questions
-asked names step line _ questions = questions
+abbrev pub asked_by : List (List ℕ) → ℕ → ℕ → Body → List Life → List Life
+asked_by names step line (Scan id stream generation size) questions =
+    begins (life id (name_in names stream) generation (moment step line)) questions
+asked_by names step line (Abort id) questions = ends id (record { at = moment step line; how = how.Aborted }) questions
+asked_by names step line _ questions = questions
+
+-- the same of a message
+abbrev pub asked : List (List ℕ) → ℕ → ℕ → Letter → List Life → List Life
+asked names step line m questions = asked_by names step line m.body questions
 
 -- how a question ended, and a job, as a reply tells
 abbrev pub how_judged : Verdict → How
@@ -212,9 +218,14 @@ how_worked (outcome.Judged version verdict) = how_found verdict
 how_worked (outcome.Failed cause) = how.Failed
 
 -- a question ends by the reply that arrives
-abbrev pub reply_ends : ℕ → Option Body → List Life → List Life
-reply_ends step (Some (Reply id outcome)) questions = ends id (record { at = moment step 0; how = how_replied outcome }) questions
-reply_ends step _ questions = questions
+abbrev pub ended_by : ℕ → Body → List Life → List Life
+ended_by step (Reply id outcome) questions = ends id (record { at = moment step 0; how = how_replied outcome }) questions
+ended_by step _ questions = questions
+
+-- the same of a message, if one arrives
+abbrev pub reply_ends : ℕ → Option Letter → List Life → List Life
+reply_ends step None questions = questions
+reply_ends step (Some m) questions = ended_by step m.body questions
 
 -- and all of them where the filter loses the service or is mounted anew
 abbrev pub questions_over : WorldState → ℕ → Said → Deed → List Life → List Life
@@ -224,16 +235,25 @@ questions_over w step note deed.RestartFilter questions = ends_all (record { at 
 questions_over w step note _ questions = questions
 
 -- a job begins by its first Read, and ends by its Reply
-abbrev pub worked : ℕ → ℕ → Body → List Life → List Life
-worked step line (Read id offset count) jobs = begins (life id [] 0 (moment step line)) jobs
-worked step line (Reply id outcome) jobs = ends id (record { at = moment step line; how = how_worked outcome }) jobs
-worked step line _ jobs = jobs
+abbrev pub worked_by : ℕ → ℕ → Body → List Life → List Life
+worked_by step line (Read id offset count) jobs = begins (life id [] 0 (moment step line)) jobs
+worked_by step line (Reply id outcome) jobs = ends id (record { at = moment step line; how = how_worked outcome }) jobs
+worked_by step line _ jobs = jobs
+
+-- the same of a message
+abbrev pub worked : ℕ → ℕ → Letter → List Life → List Life
+worked step line m jobs = worked_by step line m.body jobs
 
 -- it is dropped by an Abort or a NoChunk that arrives
-abbrev pub message_drops : ℕ → Option Body → List Life → List Life
-message_drops step (Some (Abort id)) jobs = ends id (record { at = moment step 0; how = how.Dropped }) jobs
-message_drops step (Some (NoChunk id offset cause)) jobs = ends id (record { at = moment step 0; how = how.Dropped }) jobs
-message_drops step _ jobs = jobs
+abbrev pub dropped_by : ℕ → Body → List Life → List Life
+dropped_by step (Abort id) jobs = ends id (record { at = moment step 0; how = how.Dropped }) jobs
+dropped_by step (NoChunk id offset cause) jobs = ends id (record { at = moment step 0; how = how.Dropped }) jobs
+dropped_by step _ jobs = jobs
+
+-- the same of a message, if one arrives
+abbrev pub message_drops : ℕ → Option Letter → List Life → List Life
+message_drops step None jobs = jobs
+message_drops step (Some m) jobs = dropped_by step m.body jobs
 
 -- and all of them where the service loses the filter or is started anew
 abbrev pub jobs_over : WorldState → ℕ → Said → Deed → List Life → List Life

@@ -1,3 +1,9 @@
+ghost use Rattle.std.specs.Prelude.{◌≡◌, ◌≤◌, ◌+◌, ◌-◌, ◌<◌, [], length, take, vec_len, IfErr, IfOk, IsSome, OnErr, OnOk};
+ghost use Rattle.std.specs.List.{All};
+ghost use Rattle.std.specs.Vec.{vec_capacity};
+ghost use Rattle.av_asks.specs.Spelling.{ask_frame};
+ghost use Rattle.av_daemon.specs.Asking.{IsGuardless, IsKept, IsOwedEach, ask_of, told_of};
+
 use av_asks::{AnswerFeed, OpenAnswer, put_ask};
 use av_base::{OpenId, Refusal, StreamId, Version};
 use av_pend::Answer;
@@ -44,7 +50,10 @@ impl<'a, R: Net + Clock> Asker<'a, R> {
         rt: &'a R,
         alloc: Global,
         meeting: Meeting<'_>,
-    ) -> Result<Asker<'a, R>, SocketFault> {
+    ) -> Result<Asker<'a, R>, SocketFault>
+        ensures none { IfOk result (λ asker. (asker.answers.items ≡ []) × (asker.owed ≡ 0)) }
+        ensures fault { IfErr result IsGuardless }
+    {
         match connect(rt, alloc, meeting) {
             Ok(duplex) => Ok(Asker {
                 duplex,
@@ -60,40 +69,75 @@ impl<'a, R: Net + Clock> Asker<'a, R> {
     }
 
     /// Asks about a content, whose name the guard is told as far as it has room for it. The answer may come later.
-    pub fn ask(&mut self, name: &str, content: &[u8]) -> Result<(), AskingFault> {
-        let label = name.as_bytes();
-        let label = label.get(..MOST_LABEL).unwrap_or(label);
-        self.room.clear();
-        match put_ask(&mut self.room, self.answers.len() as u64, label, content) {
-            Ok(()) => {}
-            Err(Refusal::Fault(_)) => return Err(AskingFault::TooLarge),
-            Err(Refusal::NoMemory) => return Err(AskingFault::Memory),
-        }
-        if self.answers.push(None).is_err() {
-            return Err(AskingFault::Memory);
-        }
+    #[tactic(auto, using(crate::proofs::OwedLemmas::asked_each))]
+    pub fn ask(&mut self, name: &str, content: &[u8]) -> Result<(), AskingFault>
+        ensures place { OnOk result (length self.new.answers.items ≡ length self.old.answers.items + 1) }
+        ensures fewer { OnOk result (self.new.owed < 128) }
+        ensures small { OnOk result (length content.now ≤ 1_048_576) }
+        ensures frame { OnOk result (self.new.room.items ≡ ask_frame (ask_of (length self.old.answers.items) name.now content.now)) }
+        ensures large { result ≡ Err AskingFault.TooLarge → 1_048_576 < length content.now }
+        ensures each { IsOwedEach self.old.owed self.old.answers.items → IsOwedEach self.new.owed self.new.answers.items }
+    {
+        self.put(name, content)?;
         let mut saying = Saying {
             duplex: &self.duplex,
         };
         if saying.write(self.room.as_slice()).is_err() {
             return Err(AskingFault::Lost);
         }
+        self.answers.push_reserved(None);
         self.owed = self.owed.saturating_add(1);
         self.hear_until(MOST_OWED)
     }
 
+    // Puts the frame of a content's ask into the room, and makes room for its answer.
+    #[tactic(auto, using(crate::proofs::AskLemmas::too_large))]
+    fn put(&mut self, name: &str, content: &[u8]) -> Result<(), AskingFault>
+        ensures frame { OnOk result (self.new.room.items ≡ ask_frame (ask_of (length self.old.answers.items) name.now content.now)) }
+        ensures reserved { OnOk result (vec_len self.new.answers < vec_capacity self.new.answers) }
+        ensures small { OnOk result (length content.now ≤ 1_048_576) }
+        ensures large { result ≡ Err AskingFault.TooLarge → 1_048_576 < length content.now }
+        ensures same { (self.new.answers.items ≡ self.old.answers.items) × (self.new.owed ≡ self.old.owed) }
+    {
+        self.room.clear();
+        let tag = self.answers.len() as u64;
+        match put_ask(&mut self.room, tag, label_of(name), content) {
+            Ok(()) => {}
+            Err(Refusal::Fault(_)) => return Err(AskingFault::TooLarge),
+            Err(Refusal::NoMemory) => return Err(AskingFault::Memory),
+        }
+        match self.answers.reserve(1) {
+            Ok(()) => Ok(()),
+            Err(_) => Err(AskingFault::Memory),
+        }
+    }
+
     /// Waits until all is answered.
-    pub fn finish(&mut self) -> Result<(), AskingFault> {
+    #[tactic(auto, using(crate::proofs::OwedLemmas::none_left))]
+    pub fn finish(&mut self) -> Result<(), AskingFault>
+        ensures none { OnOk result (self.new.owed ≡ 0) }
+        ensures each { IsOwedEach self.old.owed self.old.answers.items → IsOwedEach self.new.owed self.new.answers.items }
+        ensures all { IsOwedEach self.old.owed self.old.answers.items → OnOk result (All IsSome self.new.answers.items) }
+        ensures places { length self.new.answers.items ≡ length self.old.answers.items }
+    {
         self.hear_until(1)
     }
 
     /// The answers to what was asked about, in that order, where they have come.
-    pub fn answers(&self) -> &[Option<Answer>] {
+    pub fn answers(&self) -> &[Option<Answer>]
+        ensures { result.now ≡ self.now.answers.items }
+    {
         self.answers.as_slice()
     }
 
     // Waits until fewer answers than these are owed.
-    fn hear_until(&mut self, count: usize) -> Result<(), AskingFault> {
+    fn hear_until(&mut self, count: usize) -> Result<(), AskingFault>
+        ensures fewer { OnOk result (self.new.owed < count) }
+        ensures room { self.new.room.items ≡ self.old.room.items }
+        ensures large { ¬ (result ≡ Err AskingFault.TooLarge) }
+        ensures places { length self.new.answers.items ≡ length self.old.answers.items }
+        ensures each { IsOwedEach self.old.owed self.old.answers.items → IsOwedEach self.new.owed self.new.answers.items }
+    {
         let mut piece = [0u8; PIECE];
         'pieces: for _ in 0..u64::MAX {
             if self.owed < count {
@@ -114,7 +158,12 @@ impl<'a, R: Net + Clock> Asker<'a, R> {
     }
 
     // Takes the answers that are whole.
-    fn take(&mut self, piece: &[u8]) -> Result<(), AskingFault> {
+    fn take(&mut self, piece: &[u8]) -> Result<(), AskingFault>
+        ensures room { self.new.room.items ≡ self.old.room.items }
+        ensures large { ¬ (result ≡ Err AskingFault.TooLarge) }
+        ensures places { length self.new.answers.items ≡ length self.old.answers.items }
+        ensures each { IsOwedEach self.old.owed self.old.answers.items → IsOwedEach self.new.owed self.new.answers.items }
+    {
         if self.feed.push(piece).is_err() {
             return Err(AskingFault::Lost);
         }
@@ -129,7 +178,13 @@ impl<'a, R: Net + Clock> Asker<'a, R> {
     }
 
     // Keeps an answer, where one is owed to its tag.
-    fn keep(&mut self, answer: OpenAnswer) -> Result<(), AskingFault> {
+    fn keep(&mut self, answer: OpenAnswer) -> Result<(), AskingFault>
+        ensures kept { OnOk result (IsKept self.old.answers.items self.new.answers.items (told_of answer)) }
+        ensures owed { OnOk result (self.new.owed ≡ self.old.owed - 1) }
+        ensures err { OnErr result ((self.new.answers.items ≡ self.old.answers.items) × (self.new.owed ≡ self.old.owed)) }
+        ensures room { self.new.room.items ≡ self.old.room.items }
+        ensures large { ¬ (result ≡ Err AskingFault.TooLarge) }
+    {
         let (tag, answer) = told(answer);
         let Ok(place) = usize::try_from(tag) else {
             return Err(AskingFault::Lost);
@@ -143,8 +198,23 @@ impl<'a, R: Net + Clock> Asker<'a, R> {
     }
 }
 
+// As much of a name as goes along with a content.
+fn label_of(name: &str) -> &[u8]
+    ensures label { result.now ≡ take 255 name.now }
+    ensures short { length result.now ≤ 255 }
+{
+    let label = name.as_bytes();
+    if label.len() > MOST_LABEL {
+        &label[..MOST_LABEL]
+    } else {
+        label
+    }
+}
+
 // An answer as an open's, under the tag as the open's number.
-fn told(answer: OpenAnswer) -> (u64, Answer) {
+fn told(answer: OpenAnswer) -> (u64, Answer)
+    ensures { result ≡ told_of answer }
+{
     match answer {
         OpenAnswer::Granted {
             tag,

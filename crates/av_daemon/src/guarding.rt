@@ -1,3 +1,6 @@
+ghost use Rattle.std.specs.Prelude.{IfErr};
+ghost use Rattle.av_daemon.specs.Guarding.{IsFailed};
+
 use crate::daemon::{Daemon, Stop};
 use av_base::Mode;
 use av_guard::Guard;
@@ -48,7 +51,9 @@ pub fn guard_at<R: Files + Net + Clock, E: Write>(
     alloc: Global,
     asked: Guarding<'_>,
     err: &mut E,
-) -> Status {
+) -> Status
+    ensures { IsFailed result }
+{
     let opens = match listen_at(rt, alloc, asked.doors.opens, asked.rights, err) {
         Ok(door) => door,
         Err(status) => return status,
@@ -71,7 +76,9 @@ fn listen_at<R: Files + Net + Clock, E: Write>(
     path: &str,
     rights: u32,
     err: &mut E,
-) -> Result<Standing, Status> {
+) -> Result<Standing, Status>
+    ensures { IfErr result IsFailed }
+{
     match listen(rt, alloc, path, rights) {
         Ok((listener, node)) => Ok(Standing {
             listener: UnixListener::from_std(listener),
@@ -88,7 +95,9 @@ fn guard_with<R: Files + Net + Clock, E: Write>(
     asked: Guarding<'_>,
     opens: UnixListener,
     err: &mut E,
-) -> Status {
+) -> Status
+    ensures { IsFailed result }
+{
     let service = match listen_at(rt, alloc, asked.doors.service, asked.rights, err) {
         Ok(door) => door,
         Err(status) => return status,
@@ -118,7 +127,9 @@ fn guard_over<R: Files + Net + Clock, E: Write>(
     service: UnixListener,
     clamd: Option<UnixListener>,
     err: &mut E,
-) -> Status {
+) -> Status
+    ensures { IsFailed result }
+{
     let Ok(mut guard) = Guard::new(alloc, asked.mode, asked.keep, asked.questions) else {
         return out_of_memory(err);
     };

@@ -1,3 +1,6 @@
+ghost use Rattle.std.specs.Prelude.{◌≡◌, ◌≤◌, [], false, length, max, true, vec_len, None};
+ghost use Rattle.av_daemon.specs.Line.{IsEndOf, IsWithin, has_more, may_send, noted, nowhere, since_of, unsent, watched_since};
+
 use mio::event::Event;
 use mio::net::UnixStream;
 use mio::{Interest, Registry, Token};
@@ -13,7 +16,8 @@ const MANY: usize = 65_536;
 #[derive(Drop)]
 pub struct Line {
     stream: UnixStream,
-    waiting: Vec<u8>,
+    /// The bytes that wait to go out, to put more behind them.
+    pub waiting: Vec<u8>,
     // How many of the waiting bytes have gone out.
     sent: usize,
     // Since when the other side has taken nothing of what waits.
@@ -36,7 +40,9 @@ pub struct Turns {
 
 impl Turns {
     /// Nowhere.
-    pub fn none() -> Turns {
+    pub fn none() -> Turns
+        ensures { result ≡ nowhere }
+    {
         Turns {
             is_ready: false,
             is_sending: false,
@@ -45,7 +51,9 @@ impl Turns {
     }
 
     /// Since when it is waited for, where that is and no time is set for it; one is then.
-    pub fn to_be_watched(&mut self, since: Option<Duration>) -> Option<Duration> {
+    pub fn to_be_watched(&mut self, since: Option<Duration>) -> Option<Duration>
+        ensures { (result, self.new) ≡ watched_since since self.old }
+    {
         if since.is_none() || self.is_watched {
             return None;
         }
@@ -67,7 +75,11 @@ pub enum Came {
 
 impl Line {
     /// Over a connection that does not block.
-    pub fn new(alloc: Global, stream: UnixStream) -> Line {
+    pub fn new(alloc: Global, stream: UnixStream) -> Line
+        ensures empty { unsent result ≡ [] }
+        ensures taken { result.since ≡ None }
+        ensures open { (result.may_read ≡ true) × (result.is_closed ≡ false) }
+    {
         Line {
             stream,
             waiting: Vec::new(alloc),
@@ -79,13 +91,18 @@ impl Line {
     }
 
     /// Has changes told under this number.
-    pub fn register(&mut self, registry: &Registry, number: u64) -> io::Result<()> {
+    pub fn register(&mut self, registry: &Registry, number: u64) -> io::Result<()>
+        ensures { self.new ≡ record self.old { stream = self.new.stream } }
+    {
         let both = Interest::READABLE | Interest::WRITABLE;
         registry.register(&mut self.stream, Token(number as usize), both)
     }
 
     /// A change was told. Whether what waits may go out now.
-    pub fn note(&mut self, event: &Event) -> bool {
+    pub fn note(&mut self, event: &Event) -> bool
+        ensures line { self.new ≡ noted event.now self.old }
+        ensures sends { result ≡ may_send event.now self.old }
+    {
         if event.is_readable() || event.is_read_closed() || event.is_error() {
             self.may_read = true;
         }
@@ -96,32 +113,38 @@ impl Line {
     }
 
     /// Whether the other side was seen to take no more.
-    pub fn is_closed(&self) -> bool {
+    pub fn is_closed(&self) -> bool
+        ensures { result ≡ self.now.is_closed }
+    {
         self.is_closed
     }
 
     /// Whether a read may come to anything.
-    pub fn may_read(&self) -> bool {
+    pub fn may_read(&self) -> bool
+        ensures { result ≡ self.now.may_read }
+    {
         self.may_read
     }
 
     /// How many bytes wait to go out.
-    pub fn waiting(&self) -> usize {
+    pub fn waiting(&self) -> usize
+        ensures { result ≡ length (unsent self.now) }
+    {
         self.waiting.len().saturating_sub(self.sent)
     }
 
-    /// The bytes that wait to go out, to put more behind them.
-    pub fn out(&mut self) -> &mut Vec<u8> {
-        &mut self.waiting
-    }
-
     /// Since when the other side has taken nothing, though something waits for it.
-    pub fn since(&self) -> Option<Duration> {
+    pub fn since(&self) -> Option<Duration>
+        ensures { result ≡ self.now.since }
+    {
         self.since
     }
 
     /// Reads a piece.
-    pub fn read(&mut self, buffer: &mut [u8]) -> Came {
+    pub fn read(&mut self, buffer: &mut [u8]) -> Came
+        ensures within { IsWithin result buffer.new }
+        ensures line { self.new ≡ record self.old { may_read = has_more result self.old.may_read } }
+    {
         'reads: for _ in 0..u64::MAX {
             match self.stream.read(buffer) {
                 Ok(0) => break,
@@ -141,7 +164,11 @@ impl Line {
     }
 
     /// Sends as much as the other side takes, and says whether the connection still stands.
-    pub fn send(&mut self, now: Duration) -> bool {
+    pub fn send(&mut self, now: Duration) -> bool
+        ensures rest { IsEndOf (unsent self.new) (unsent self.old) }
+        ensures since { self.new.since ≡ since_of now (unsent self.old) (unsent self.new) self.old.since }
+        ensures same { (self.new.may_read ≡ self.old.may_read) × (self.new.is_closed ≡ self.old.is_closed) }
+    {
         let before = self.sent;
         let stands = self.send_all();
         if self.waiting() == 0 {
@@ -153,7 +180,11 @@ impl Line {
         stands
     }
 
-    fn send_all(&mut self) -> bool {
+    fn send_all(&mut self) -> bool
+        ensures same { self.new ≡ record self.old { sent = self.new.sent } }
+        ensures forth { self.old.sent ≤ self.new.sent }
+        ensures within { self.new.sent ≤ max self.old.sent (vec_len self.old.waiting) }
+    {
         'writes: for _ in 0..u64::MAX {
             let rest = self.waiting.get(self.sent..).unwrap_or(b"".as_slice());
             if rest.is_empty() {
@@ -173,7 +204,10 @@ impl Line {
     }
 
     // Lets go of what has gone out.
-    fn tidy(&mut self) {
+    fn tidy(&mut self)
+        ensures unsent { unsent self.new ≡ unsent self.old }
+        ensures same { (self.new.since ≡ self.old.since) × (self.new.may_read ≡ self.old.may_read) × (self.new.is_closed ≡ self.old.is_closed) }
+    {
         if self.sent >= self.waiting.len() {
             self.waiting.clear();
             self.sent = 0;

@@ -1,3 +1,7 @@
+ghost use Rattle.std.specs.Prelude.{◌≡◌, false, None};
+ghost use Rattle.std.specs.Option.{option_copied};
+ghost use Rattle.av_daemon.specs.Names.{has, is_missing, name_at, name_of};
+
 use av_base::Version;
 use av_base::device::read_whole;
 use av_files::{MAX_FILE, TURNS};
@@ -19,7 +23,9 @@ pub struct Names<'a> {
 
 impl<'a> Names<'a> {
     /// Those of the set in this file, where one was named.
-    pub fn new(path: Option<&'a str>) -> Names<'a> {
+    pub fn new(path: Option<&'a str>) -> Names<'a>
+        ensures { result ≡ record { path = path.entry; set = None; looked = None } }
+    {
         Names {
             path,
             set: None,
@@ -27,36 +33,43 @@ impl<'a> Names<'a> {
         }
     }
 
+    /// Reads the file again, where an answer names a signature of a set that isn't there.
+    pub fn look<R: Files>(&mut self, rt: &R, alloc: Global, answer: Answered)
+        ensures { is_missing answer self.old.set ≡ false → self.new ≡ self.old }
+    {
+        match answer {
+            Answered::Infected { version, .. } if !self.has(version) => self.read(rt, alloc),
+            _ => {}
+        }
+    }
+
     /// The name of the signature that an answer names, where it names one and the set of its version is there.
-    pub fn name_in<R: Files>(&mut self, rt: &R, alloc: Global, answer: Answered) -> Option<&[u8]> {
+    pub fn name_in(&self, answer: Answered) -> Option<&[u8]>
+        ensures { option_copied result ≡ name_of answer self.now.set }
+    {
         match answer {
             Answered::Infected {
                 version,
                 signature,
                 ..
-            } => self.name_of(rt, alloc, version, u64::from(signature)),
+            } => self.name_of(version, signature),
             _ => None,
         }
     }
 
     // The name of the signature at this place of the set of this version.
-    fn name_of<R: Files>(
-        &mut self,
-        rt: &R,
-        alloc: Global,
-        version: Version,
-        place: u64,
-    ) -> Option<&[u8]> {
-        if !self.has(version) {
-            self.read(rt, alloc);
+    fn name_of(&self, version: Version, place: u32) -> Option<&[u8]>
+        ensures { option_copied result ≡ name_at version place self.now.set }
+    {
+        match &self.set {
+            Some(set) if set.version() == version => set.name(place as usize),
+            _ => None,
         }
-        if !self.has(version) {
-            return None;
-        }
-        self.set.as_ref()?.name(usize::try_from(place).ok()?)
     }
 
-    fn has(&self, version: Version) -> bool {
+    fn has(&self, version: Version) -> bool
+        ensures { result ≡ has version self.now.set }
+    {
         match &self.set {
             Some(set) => set.version() == version,
             None => false,

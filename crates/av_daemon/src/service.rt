@@ -1,5 +1,10 @@
+ghost use Rattle.std.specs.Prelude.{ℕ, ◌≡◌, ◌≤◌, ◌++◌, length, take, OnOk};
+ghost use Rattle.av_daemon.specs.Line.{watched_since};
+ghost use Rattle.av_daemon.specs.Service.{GivesMessage, came, earlier, goes_on, greeting_of, waited_since};
+ghost use Rattle.av_sockets.specs.Place.{passed_at};
+
 use crate::line::{Came, Line, Turns};
-use av_base::Version;
+use av_base::{Port, Version};
 use av_frame::{Body, Feed, Message};
 use av_sockets::Arriving;
 use std::alloc::Global;
@@ -23,7 +28,9 @@ pub struct Gone;
 
 impl Service {
     /// One that came just now.
-    pub fn new(alloc: Global, line: Line, now: Duration) -> Service {
+    pub fn new(alloc: Global, line: Line, now: Duration) -> Service
+        ensures { result ≡ came line now }
+    {
         Service {
             line,
             feed: Feed::new(alloc),
@@ -33,43 +40,60 @@ impl Service {
     }
 
     /// Whether it may be read on.
-    pub fn goes_on(&self) -> bool {
+    pub fn goes_on(&self) -> bool
+        ensures { result ≡ goes_on self.now }
+    {
         self.line.may_read() && self.line.waiting() < MOST_WAITING
     }
 
     /// Since when it is waited for: to take what it is sent, to greet, or to send the rest of a frame.
-    pub fn since(&self) -> Option<Duration> {
+    pub fn since(&self) -> Option<Duration>
+        ensures { result ≡ waited_since self.now }
+    {
         match (self.line.since(), self.arriving.begun()) {
-            (Some(taking), Some(saying)) => Some(taking.min(saying)),
+            (Some(taking), Some(saying)) => Some(earlier(taking, saying)),
             (since, None) => since,
             (None, since) => since,
         }
     }
 
     /// The same, where no time is set at which it is looked at.
-    pub fn to_be_watched(&mut self) -> Option<Duration> {
+    pub fn to_be_watched(&mut self) -> Option<Duration>
+        ensures turns { (result, self.new.turns) ≡ watched_since (waited_since self.old) self.old.turns }
+        ensures same { self.new ≡ record self.old { turns = self.new.turns } }
+    {
         let since = self.since();
         self.turns.to_be_watched(since)
     }
 
     /// Reads a piece.
-    pub fn hear(&mut self, buffer: &mut [u8], now: Duration) -> Result<(), Gone> {
+    pub fn hear(&mut self, buffer: &mut [u8], now: Duration) -> Result<(), Gone>
+        ensures { OnOk result ((count : ℕ) × (count ≤ length buffer.new) × (self.new.feed.rest ≡ self.old.feed.rest ++ take count buffer.new)) }
+    {
         match self.line.read(buffer) {
             Came::Nothing => Ok(()),
             Came::End => Err(Gone),
-            Came::Bytes(count) => {
-                let piece = buffer.get(..count).unwrap_or(b"".as_slice());
-                self.arriving.pass(piece, now);
-                match self.feed.push(piece) {
-                    Ok(()) => Ok(()),
-                    Err(_) => Err(Gone),
-                }
-            }
+            Came::Bytes(count) => self.take(buffer.get(..count).unwrap_or(b"".as_slice()), now),
+        }
+    }
+
+    // Takes bytes that came.
+    fn take(&mut self, piece: &[u8], now: Duration) -> Result<(), Gone>
+        ensures rest { OnOk result (self.new.feed.rest ≡ self.old.feed.rest ++ piece.now) }
+        ensures arriving { self.new.arriving ≡ passed_at now piece.now self.old.arriving }
+    {
+        self.arriving.pass(piece, now);
+        match self.feed.push(piece) {
+            Ok(()) => Ok(()),
+            Err(_) => Err(Gone),
         }
     }
 
     /// Its next message.
-    pub fn next(&mut self) -> Result<Option<Message>, Gone> {
+    pub fn next(&mut self) -> Result<Option<Message>, Gone>
+        ensures message { GivesMessage self.old.feed self.new.feed result }
+        ensures same { self.new ≡ record self.old { feed = self.new.feed } }
+    {
         match self.feed.next() {
             Ok(message) => Ok(message),
             Err(_) => Err(Gone),
@@ -77,10 +101,18 @@ impl Service {
     }
 }
 
-/// The version of a greeting.
-pub fn greeting_of(message: &Message) -> Option<Version> {
+fn earlier(a: Duration, b: Duration) -> Duration
+    ensures { result ≡ earlier a b }
+{
+    if b.as_nanos() < a.as_nanos() { b } else { a }
+}
+
+/// The version of a greeting, which comes at the first port.
+pub fn greeting_of(message: &Message) -> Option<Version>
+    ensures { result ≡ greeting_of message.now }
+{
     match message.body() {
-        Body::Hello { version, .. } => Some(*version),
+        Body::Hello { version, .. } if message.port() == Port::One => Some(*version),
         _ => None,
     }
 }

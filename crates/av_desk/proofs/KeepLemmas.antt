@@ -3,6 +3,7 @@ use Rattle.std.proofs.Common.{◌≡◌, ℕ, ◌<◌, ◌≤◌, ◌==◌, true
 use Rattle.std.proofs.lemmas.List.{length-map}
 use Rattle.std.proofs.lemmas.Bool.Decides.{nat_tests}
 use Rattle.av_base.specs.declared.limits.LimitValues.{LimitValues}
+use Rattle.av_base.specs.declared.port.Port.{Port}
 use Rattle.av_desk.proofs.CatalogueLemmas.{all_opened, latest_of, opened_more}
 use Rattle.av_desk.specs.Book.{Book, IsKept, entry, first_desk, given, new_book, opened, opened_at, sets_end, state_of, with_event, book}
 use Rattle.av_service.proofs.LendLemmas
@@ -81,8 +82,8 @@ kept_with_event b desk call kept room ok =
     record {
       leads =
           ap (λ (d : Desk). (respond d call).desk) kept.leads ∙ sym (desk_end-append (first_desk b) b.events one)
-          ∙ ap (λ (sets : List Publication). desk_end (just_started b.volume_number b.limits (latest_as sets)) all) (sym same);
-      legal = subst (λ (sets : List Publication). IsServiceAudit sets (just_started b.volume_number b.limits (latest_as sets)) all) (sym same) (audit-append (opened b) (first_desk b) b.events one kept.legal lone);
+          ∙ ap (λ (sets : List Publication). desk_end (just_started b.volume_number b.port b.limits (latest_as sets)) all) (sym same);
+      legal = subst (λ (sets : List Publication). IsServiceAudit sets (just_started b.volume_number b.port b.limits (latest_as sets)) all) (sym same) (audit-append (opened b) (first_desk b) b.events one kept.legal lone);
       catalogue = subst IsCatalogue (sym same) kept.catalogue;
       sets =
           ap (λ (sets : List Publication). sets_after sets call) kept.sets ∙ sym (sets_end-append (opened b) b.events one)
@@ -113,11 +114,11 @@ added_by b desk next call out events kept h is =
     ap (λ (xs : List ServiceEntry). record b { sets = sets_after b.sets call; events = xs }) there
 
 -- a book of no event, over a catalogue
-pub kept_new : (number : ℕ) (limits : LimitValues) (sets : List Publication) → IsCatalogue sets → IsKept (new_book number limits sets) (just_started number limits (latest_as sets))
-kept_new number limits sets is =
+pub kept_new : (number : ℕ) (port : Port) (limits : LimitValues) (sets : List Publication) → IsCatalogue sets → IsKept (new_book number port limits sets) (just_started number port limits (latest_as sets))
+kept_new number port limits sets is =
     let all = all_opened sets in
     record {
-      leads = ap (λ (s : List Publication). just_started number limits (latest_as s)) (sym all);
+      leads = ap (λ (s : List Publication). just_started number port limits (latest_as s)) (sym all);
       legal = tt;
       catalogue = subst IsCatalogue (sym all) is;
       sets = sym all;
@@ -128,10 +129,10 @@ kept_new number limits sets is =
       behind = omega arith;
     }
 
-pub kept_first : (number : ℕ) (limits : LimitValues) (sets : List NumberedSet) (opening : ℕ) (events : List ServiceEntry) (desk : Desk) → IsCatalogue (map publication_of sets) → opening ≡ length sets → events ≡ []
-    → desk ≡ just_started number limits (latest sets) → IsKept (book number limits sets opening events 0) desk
-kept_first number limits sets opening events desk is long none started =
-    let new = kept_new number limits (map publication_of sets) is in
+pub kept_first : (number : ℕ) (port : Port) (limits : LimitValues) (sets : List NumberedSet) (opening : ℕ) (events : List ServiceEntry) (desk : Desk) → IsCatalogue (map publication_of sets) → opening ≡ length sets → events ≡ []
+    → desk ≡ just_started number port limits (latest sets) → IsKept (book number port limits sets opening events 0) desk
+kept_first number port limits sets opening events desk is long none started =
+    let new = kept_new number port limits (map publication_of sets) is in
     let size : opening ≡ length (map publication_of sets) = long ∙ sym (length-map sets publication_of) in
-    let desk_is : desk ≡ just_started number limits (latest_as (map publication_of sets)) = started ∙ ap (λ v. just_started number limits v) (sym (latest_of sets)) in
+    let desk_is : desk ≡ just_started number port limits (latest_as (map publication_of sets)) = started ∙ ap (λ v. just_started number port limits v) (sym (latest_of sets)) in
     rw (size, none, desk_is) new

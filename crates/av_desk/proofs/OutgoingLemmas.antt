@@ -4,10 +4,10 @@ use Rattle.std.proofs.lemmas.List.{take_more}
 use Rattle.std.proofs.lemmas.List.{flat_map_more}
 use Rattle.std.specs.List.{AppendsClones, each_same}
 use Rattle.av_desk.specs.Book.{messages_of}
-use Rattle.av_frame.specs.declared.message.Body.{Body}
+use Rattle.av_frame.specs.Message.{Letter}
 use Rattle.av_service.specs.Audit.{ServiceEntry}
 
-pub one_more : (xs : List ServiceEntry) (i : ℕ) (x : ServiceEntry) (old new : List Body) → i < length xs → x ≡ get_or xs i x → old ≡ messages_of (take i xs) → AppendsClones (λ v w. w ≡ v) old new x.messages
+pub one_more : (xs : List ServiceEntry) (i : ℕ) (x : ServiceEntry) (old new : List Letter) → i < length xs → x ≡ get_or xs i x → old ≡ messages_of (take i xs) → AppendsClones (λ v w. w ≡ v) old new x.messages
     → new ≡ messages_of (take (i + 1) xs)
 one_more xs i x old new within is so_far more =
     let copied : new ≡ old ++ x.messages = more.1 ∙ ap (λ ys. old ++ ys) (each_same x.messages more.0 more.2) in

@@ -11,4 +11,4 @@ opened_by a = opened_at a.opening (map publication_of a.catalogue.sets)
 
 -- the service that an audit begins with
 abbrev pub started_by : Audit → Desk
-started_by a = just_started a.volume_number a.limits (latest_as (opened_by a))
+started_by a = just_started a.volume_number a.port a.limits (latest_as (opened_by a))

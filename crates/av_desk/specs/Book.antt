@@ -3,7 +3,8 @@ use Rattle.std.specs.Prelude.{ℕ, ◌≡◌, ◌≤◌, ◌-◌, true, List, []
 use Rattle.std.specs.List.{flat_map}
 use Rattle.std.specs.Option.{option_to_list}
 use Rattle.av_base.specs.declared.limits.LimitValues.{LimitValues}
-use Rattle.av_frame.specs.declared.message.Body.{Body}
+use Rattle.av_base.specs.declared.port.Port.{Port}
+use Rattle.av_frame.specs.Message.{Letter}
 use Rattle.av_match.specs.Scanning.{Compiled}
 use Rattle.av_service.specs.Audit.{Call, IsCatalogue, IsServiceAudit, ServiceEntry, desk_end, respond, sets_after}
 use Rattle.av_service.specs.Desk.{Desk, just_started}
@@ -15,6 +16,7 @@ use Rattle.av_sigset.specs.Set.{NumberedSet}
 -- what a desk keeps under its lock
 pub record Book : Type 0 where
   pub volume_number : ℕ
+  pub port : Port
   pub limits : LimitValues
   pub sets : List Publication  -- of the catalogue, the newest first
   pub opening : ℕ  -- how many of them were there at first
@@ -22,10 +24,11 @@ pub record Book : Type 0 where
   pub sent : ℕ  -- of how many events the messages were taken out
 
 -- what the code keeps, as a book; and one that was just opened
-abbrev pub book : ℕ → LimitValues → List NumberedSet → ℕ → List ServiceEntry → ℕ → Book
-book number limits sets opening events sent =
+abbrev pub book : ℕ → Port → LimitValues → List NumberedSet → ℕ → List ServiceEntry → ℕ → Book
+book number port limits sets opening events sent =
     record {
       volume_number = number;
+      port = port;
       limits = limits;
       sets = map publication_of sets;
       opening = opening;
@@ -34,9 +37,9 @@ book number limits sets opening events sent =
     }
 
 -- the book of a desk that just opened over these sets
-abbrev pub new_book : ℕ → LimitValues → List Publication → Book
-new_book number limits sets =
-    record { volume_number = number; limits = limits; sets = sets; opening = length sets; events = []; sent = 0 }
+abbrev pub new_book : ℕ → Port → LimitValues → List Publication → Book
+new_book number port limits sets =
+    record { volume_number = number; port = port; limits = limits; sets = sets; opening = length sets; events = []; sent = 0 }
 
 -- of these publications the oldest, so many
 abbrev pub opened_at : ℕ → List Publication → List Publication
@@ -48,7 +51,7 @@ opened b = opened_at b.opening b.sets
 
 -- the service that a book begins with
 abbrev pub first_desk : Book → Desk
-first_desk b = just_started b.volume_number b.limits (latest_as (opened b))
+first_desk b = just_started b.volume_number b.port b.limits (latest_as (opened b))
 
 -- where the events lead
 abbrev pub state_of : Book → Desk
@@ -72,11 +75,11 @@ abbrev pub with_event : Book → Call → Book
 with_event b call = record b { sets = sets_after b.sets call; events = b.events ++ entry call (respond (state_of b) call) ∷ [] }
 
 -- the messages that these events sent, and those that wait to be taken out
-abbrev pub messages_of : List ServiceEntry → List Body
+abbrev pub messages_of : List ServiceEntry → List Letter
 messages_of xs = flat_map (λ x. x.messages) xs
 
 -- the messages that were not taken yet
-abbrev pub waiting_of : Book → List Body
+abbrev pub waiting_of : Book → List Letter
 waiting_of b = messages_of (drop b.sent b.events)
 
 -- what an automaton of a publication is built of

@@ -1,5 +1,5 @@
 use crate::entry::Entry;
-use av_base::Limits;
+use av_base::{Limits, Port};
 use av_sigset::Catalogue;
 
 /// What a desk that was closed gives: where it was opened, and each event in order with its arguments and what it gave
@@ -7,6 +7,7 @@ use av_sigset::Catalogue;
 #[derive(Drop)]
 pub struct Audit {
     pub volume_number: u64,
+    pub port: Port,
     pub limits: Limits,
     pub catalogue: Catalogue,
     pub opening: usize,

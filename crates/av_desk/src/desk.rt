@@ -9,12 +9,12 @@ use crate::fault::DeskFault;
 use crate::lent::Taken;
 use crate::locked::Locked;
 use crate::shared::SharedAutomaton;
-use av_base::{Limits, Refusal, Refused};
+use av_base::{Limits, Port, Refusal, Refused};
 use av_frame::Message;
 use av_service::{Done, Note};
 use av_sigset::{Catalogue, SignatureSet};
 use std::alloc::{AllocError, AllocFailed, Global};
-use std::sync::{Condvar, Mutex, Wait};
+use std::sync::{Condvar, Mutex, MutexGuard, Wait};
 
 // What lies under the lock.
 #[derive(Drop)]
@@ -31,17 +31,18 @@ pub struct Desk {
 }
 
 impl Desk {
-    /// A service just started over this catalogue. Builds the automaton of the set published last. Where memory is
+    /// A service just started at this port over this catalogue. Builds the automaton of the set published last. Where memory is
     /// refused, the catalogue is handed back.
     pub fn new(
         alloc: Global,
         volume_number: u64,
+        port: Port,
         catalogue: Catalogue,
         limits: Limits,
     ) -> Result<Desk, AllocFailed<Catalogue>>
         ensures { IfErr result (λ e. e.value ≡ catalogue) }
     {
-        match Locked::new(alloc, volume_number, catalogue, limits) {
+        match Locked::new(alloc, volume_number, port, catalogue, limits) {
             Ok(locked) => Ok(Desk {
                 inner: Mutex::new(Inner {
                     locked,
@@ -77,6 +78,18 @@ impl Desk {
         taken
     }
 
+    /// The same, and wakes nobody who waits for messages: what it sent is for the caller to take out.
+    pub fn message_quietly<R: Wait>(
+        &self,
+        rt: &R,
+        alloc: Global,
+        message: Message,
+    ) -> Result<Taken, Refused<Message, DeskFault>>
+        ensures { IfErr result (λ refused. refused.value ≡ message) }
+    {
+        self.inner.lock(rt).locked.message(alloc, message)
+    }
+
     /// Takes back a work that was run: AuditFull, the work handed back.
     pub fn finish<R: Wait>(
         &self,
@@ -90,6 +103,18 @@ impl Desk {
         let note = inner.locked.finish(alloc, done);
         self.wake(&mut inner.locked);
         note
+    }
+
+    /// The same, and wakes nobody who waits for messages: what it sent is for the caller to take out.
+    pub fn finish_quietly<R: Wait>(
+        &self,
+        rt: &R,
+        alloc: Global,
+        done: Done,
+    ) -> Result<Note, Refused<Done, DeskFault>>
+        ensures { IfErr result (λ refused. refused.value ≡ done) }
+    {
+        self.inner.lock(rt).locked.finish(alloc, done)
     }
 
     /// Publishes a set: AuditFull, OldVersion, CatalogueFull, the set handed back. Every scan begins anew under it. Its
@@ -143,14 +168,25 @@ impl Desk {
     ) -> Result<Option<Vec<Message>>, AllocError>
         ensures some { IfOk result (λ waited. IfSome waited (λ messages. messages.items ≢ [])) }
     {
-        let mut inner = self.came.wait_while(rt, self.inner.lock(rt), |inner| {
-            !inner.is_stopped && !inner.locked.has_outgoing()
-        });
+        let mut inner = self.await_messages(rt);
         let messages = inner.locked.take_outgoing(alloc)?;
         Ok(if messages.is_empty() {
             None
         } else {
             Some(messages)
+        })
+    }
+
+    /// Waits for messages and leaves them: whether some wait. They don't once the desk was stopped and none is left. So a caller
+    /// may take a lock of its own before it takes them out, and somebody else may have taken them by then.
+    pub fn await_outgoing<R: Wait>(&self, rt: &R) -> bool {
+        self.await_messages(rt).locked.has_outgoing()
+    }
+
+    // Waits for messages, or until the desk is stopped.
+    fn await_messages<R: Wait>(&self, rt: &R) -> MutexGuard<'_, Inner> {
+        self.came.wait_while(rt, self.inner.lock(rt), |inner| {
+            !inner.is_stopped && !inner.locked.has_outgoing()
         })
     }
 

@@ -2,7 +2,7 @@
 //! all that it was asked and gave out; and works that go out with the automaton of their version.
 //!
 //! ```text
-//! let desk = Desk::new(alloc, 1, catalogue, limits)?;
+//! let desk = Desk::new(alloc, 1, Port::One, catalogue, limits)?;
 //! desk.connect(&rt, alloc)?;                        // Hello waits for `wait_outgoing`
 //! let taken = desk.message(&rt, alloc, chunk)?;     // a `Lent`, for whichever thread
 //! desk.finish(&rt, alloc, lent.run())?;             // Read, or Reply

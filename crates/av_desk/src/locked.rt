@@ -12,7 +12,7 @@ ghost use Rattle.av_sigset.specs.Publication.{publication_of};
 use crate::audit::Audit;
 use crate::entry::Entry;
 use crate::shared::SharedAutomaton;
-use av_base::Limits;
+use av_base::{Limits, Port};
 use av_service::Service;
 use av_sigset::Catalogue;
 use std::alloc::{AllocError, AllocFailed, Global};
@@ -23,6 +23,7 @@ use std::marker::Model;
 #[derive(Drop)]
 pub struct Locked {
     volume_number: u64,
+    port: Port,
     limits: Limits,
     catalogue: Catalogue,
     // How many sets the catalogue had at first.
@@ -42,34 +43,36 @@ impl Model for Locked {
 
     ghost Value = { Book };
 
-    ghost view = { λ s. book s.volume_number s.limits s.catalogue.sets s.opening s.events.items s.sent };
+    ghost view = { λ s. book s.volume_number s.port s.limits s.catalogue.sets s.opening s.events.items s.sent };
 
     ghost invariant = { λ s.
-        IsKept (book s.volume_number s.limits s.catalogue.sets s.opening s.events.items s.sent) s.service
+        IsKept (book s.volume_number s.port s.limits s.catalogue.sets s.opening s.events.items s.sent) s.service.desk
         × IsBuilt (map publication_of s.catalogue.sets) s.automaton };
 }
 
 impl Locked {
-    /// A service just started over this catalogue, with no event. Builds the automaton of the set published last. Where
+    /// A service just started at this port over this catalogue, with no event. Builds the automaton of the set published last. Where
     /// memory is refused, the catalogue is handed back.
     pub fn new(
         alloc: Global,
         volume_number: u64,
+        port: Port,
         catalogue: Catalogue,
         limits: Limits,
     ) -> Result<Locked, AllocFailed<Catalogue>>
-        ensures ok { IfOk result (λ l. l ≡ new_book volume_number limits (map publication_of catalogue.sets)) }
+        ensures ok { IfOk result (λ l. l ≡ new_book volume_number port limits (map publication_of catalogue.sets)) }
         ensures err { IfErr result (λ e. e.value ≡ catalogue) }
     {
         let Ok(automaton) = newest_built(alloc, &catalogue) else {
             return Err(AllocFailed { value: catalogue });
         };
-        let Ok(service) = Service::start(alloc, volume_number, &catalogue, limits) else {
+        let Ok(service) = Service::start(alloc, volume_number, port, &catalogue, limits) else {
             return Err(AllocFailed { value: catalogue });
         };
         let opening = catalogue.len();
         Ok(Locked {
             volume_number,
+            port,
             limits,
             catalogue,
             opening,
@@ -89,7 +92,7 @@ impl Locked {
 
     /// The audit. Takes no memory.
     pub fn into_audit(self) -> Audit
-        ensures audit { (result.volume_number ≡ self.volume_number) × (result.limits ≡ self.limits)
+        ensures audit { (result.volume_number ≡ self.volume_number) × (result.port ≡ self.port) × (result.limits ≡ self.limits)
             × (map publication_of result.catalogue.sets ≡ self.sets) × (result.opening ≡ self.opening)
             × (result.events.items ≡ self.events) }
         ensures legal { IsServiceAudit (opened_by result) (started_by result) result.events.items }
@@ -98,6 +101,7 @@ impl Locked {
     {
         let Locked {
             volume_number,
+            port,
             limits,
             catalogue,
             opening,
@@ -108,6 +112,7 @@ impl Locked {
         } = self;
         Audit {
             volume_number,
+            port,
             limits,
             catalogue,
             opening,

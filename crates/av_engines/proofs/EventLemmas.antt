@@ -9,14 +9,14 @@ use Rattle.av_filter.specs.Opening.{opened}
 use Rattle.av_filter.specs.Receiving.{receives}
 use Rattle.av_filter.specs.declared.out.Out.{Out}
 use Rattle.av_filter_table.specs.Table.{Table}
-use Rattle.av_frame.specs.declared.message.Body.{Body}
+use Rattle.av_frame.specs.Message.{Letter}
 use Rattle.av_store.specs.Store.{Store}
 
 few : (out : Out) (t t' : Table) (v v' : Store) (e : FilterEvent) → Reacts out t' v' (filter_step t v e) → length out.answers.items ≤ length t.pended + 1
 few out t t' v v' e reacts = let small = small_reaction t v e in let same = ap length reacts.answers in omega (arith, small.answers, same)
 
 -- the same of the events by their own names
-pub few_received : (out : Out) (t t' : Table) (v v' : Store) (m : Body) → Reacts out t' v' (receives t v m) → length out.answers.items ≤ length t.pended + 1
+pub few_received : (out : Out) (t t' : Table) (v v' : Store) (m : Letter) → Reacts out t' v' (receives t v m) → length out.answers.items ≤ length t.pended + 1
 unfolding filter_step
 few_received out t t' v v' m reacts = few out t t' v v' (Receives m) reacts
 
@@ -28,7 +28,7 @@ pub few_disconnected : (out : Out) (t t' : Table) (v v' : Store) → Reacts out 
 unfolding filter_step
 few_disconnected out t t' v v' reacts = few out t t' v v' Disconnects reacts
 
-pub few_told : {E : Type 0} (r : Result Out E) (t t' : Table) (v v' : Store) (m : Body) → MeetsAlways t v t' v' r (receives t v m) → IfOk r (λ out. length out.answers.items ≤ length t.pended + 1)
+pub few_told : {E : Type 0} (r : Result Out E) (t t' : Table) (v v' : Store) (m : Letter) → MeetsAlways t v t' v' r (receives t v m) → IfOk r (λ out. length out.answers.items ≤ length t.pended + 1)
 few_told (Ok out) t t' v v' m reacts = few_received out t t' v v' m reacts
 few_told (Err e) t t' v v' m reacts = tt
 

@@ -1,6 +1,6 @@
 -- The engine of a scanning service to which newer sets come, step by step.
-use Rattle.std.proofs.Common.{ℕ, ◌≡◌, ◌≤◌, List, [], ◌∷◌, ◌++◌, arith, inl, inr, refl, sym, ap, subst, ◌∙◌, append_assoc, append-nil}
-use Rattle.std.specs.Prelude.{Option, Some, None, IfSome, Result, Ok, Err, ◌⊎◌}
+use Rattle.std.proofs.Common.{ℕ, ◌≡◌, List, [], ◌∷◌, ◌++◌, arith, inl, inr, refl, sym, ap, subst, ◌∙◌, append_assoc, append-nil}
+use Rattle.std.specs.Prelude.{Option, Some, None, IfSome, Result, Ok, ◌⊎◌}
 use Rattle.std.specs.Io.KnownBytes.{Appends}
 use Rattle.std.specs.List.{flat_map}
 use Rattle.std.specs.declared.alloc.AllocError.{AllocError}
@@ -9,12 +9,11 @@ use Rattle.std.proofs.lemmas.Grind.{flat_map-append}
 use Rattle.av_base.proofs.DeviceLemmas.{prefix_whole as front_written}
 use Rattle.av_base.specs.Device.{AppendsPrefix}
 use Rattle.av_frame.specs.Laws.{FaultStays}
-use Rattle.av_frame.specs.declared.message.Body.{Body}
+use Rattle.av_frame.specs.Message.{Letter}
 use Rattle.av_frame.specs.Spelling.{frame}
 use Rattle.av_service.specs.Conduct.{Connects, Publishes, Receives, service_step}
 use Rattle.av_service.specs.Desk.{Desk}
 use Rattle.av_service.specs.Sound.{LendsUnderItsVersion}
-use Rattle.av_sigset.specs.Catalogue.{latest}
 use Rattle.av_sigset.specs.Set.{NumberedSet}
 use Rattle.av_sigset.specs.declared.signature.Pattern.{Pattern}
 use Rattle.av_engines.specs.declared.end.End.{End}
@@ -24,7 +23,7 @@ use Rattle.av_engines.specs.Exchange.{Passes, StopsAs}
 use Rattle.av_engines.specs.Fresh.{Happening, Comes, Renews, Refuses, Gives, AllMayHappen, all_gone_by, all_published, fresh_run, fresh_text, gone_by, messages_of, published_by, sets_of}
 use Rattle.av_engines.specs.FreshEnd.{Freshens, HearsFresh, IsUnserved, RunsFresh, ServesFresh}
 use Rattle.av_engines.specs.Incoming.{Received, Takes, listed, unread}
-use Rattle.av_engines.specs.Serving.{Served, gone_on, heard, heard_all, patterns_at, service_run, service_text, unserved}
+use Rattle.av_engines.specs.Serving.{Served, gone_on, heard, heard_all, patterns_at, unserved}
 use Rattle.av_engines.specs.ServiceEnd.{IsAmid, IsLed, IsLeft, IsRefused, IsWithin, Puts, ServesTo, always}
 use Rattle.av_engines.specs.Spelled.{CameIn, IsSent, SpellsFirst}
 use Rattle.av_engines.proofs.IncomingLemmas.{takes_few, takes_none, takes_then}
@@ -68,20 +67,20 @@ gives_then (Some k) (Some l) None xs ys first second = absurd second
 gives_then (Some k) (Some l) (Some m) xs ys first second = first ∙ ap (λ z. xs ++ z) second ∙ sym (append_assoc xs ys m)
 
 -- what was sent before stays in front
-gone_front : (sets : List NumberedSet) (d : Desk) (front back : List Body) (h : Happening)
+gone_front : (sets : List NumberedSet) (d : Desk) (front back : List Letter) (h : Happening)
     → gone_by sets (record { desk = d; sent = front ++ back }) h ≡ record { desk = (gone_by sets (record { desk = d; sent = back }) h).desk; sent = front ++ (gone_by sets (record { desk = d; sent = back }) h).sent }
 gone_front sets d front back (Comes m) = heard_front (patterns_at sets) d front back m
 gone_front sets d front back (Renews s) = let r = service_step d (Publishes s.version) in ap (λ l. record { desk = r.desk; sent = l }) (append_assoc front back r.messages)
 gone_front sets d front back (Refuses s why) = refl
 
-all_front : (sets : List NumberedSet) (d : Desk) (front back : List Body) (hs : List Happening)
+all_front : (sets : List NumberedSet) (d : Desk) (front back : List Letter) (hs : List Happening)
     → all_gone_by sets (record { desk = d; sent = front ++ back }) hs ≡ record { desk = (all_gone_by sets (record { desk = d; sent = back }) hs).desk; sent = front ++ (all_gone_by sets (record { desk = d; sent = back }) hs).sent }
 all_front sets d front back [] = refl
 all_front sets d front back (h ∷ hs) =
     let next = gone_by sets (record { desk = d; sent = back }) h in
     ap (λ s. all_gone_by (published_by sets h) s hs) (gone_front sets d front back h) ∙ all_front (published_by sets h) next.desk front next.sent hs
 
-all_behind : (sets : List NumberedSet) (d : Desk) (front : List Body) (hs : List Happening)
+all_behind : (sets : List NumberedSet) (d : Desk) (front : List Letter) (hs : List Happening)
     → all_gone_by sets (record { desk = d; sent = front }) hs ≡ record { desk = (all_gone_by sets (unserved d) hs).desk; sent = front ++ (all_gone_by sets (unserved d) hs).sent }
 all_behind sets d front hs = ap (λ l. all_gone_by sets (record { desk = d; sent = l }) hs) (sym (append-nil front)) ∙ all_front sets d front [] hs
 
@@ -169,7 +168,7 @@ goes_freshened sets sets' d e had has r waited waits a w f =
     subst (λ l. Goes sets sets' d e had has r r waited l a a w w) (sym f.sent) (goes_told sets sets' d e had has r waited waits a w (Ok tt) f)
 
 -- what a look gave, by another name
-pub looked : {x y : Exchange} {b c v u : Option (List ℕ)} (o p : Option Body) → o ≡ p → Passes x y b c v u (listed o) → Passes x y b c v u (listed p)
+pub looked : {x y : Exchange} {b c v u : Option (List ℕ)} (o p : Option Letter) → o ≡ p → Passes x y b c v u (listed o) → Passes x y b c v u (listed p)
 looked {x = x} {y = y} {b = b} {c = c} {v = v} {u = u} o p same passes = subst (λ k. Passes x y b c v u (listed k)) same passes
 
 -- what waited went out, and no message came
@@ -187,7 +186,7 @@ goes_passed sets d had x y b c v u passes = record {
 }
 
 -- what waited went out, and a message came: what it is answered would wait
-goes_answered : LendsUnderItsVersion → (sets : List NumberedSet) (d : Desk) (ps : List Pattern) (had : Option (List NumberedSet)) (x y : Exchange) (b c v u : Option (List ℕ)) (m : Body)
+goes_answered : LendsUnderItsVersion → (sets : List NumberedSet) (d : Desk) (ps : List Pattern) (had : Option (List NumberedSet)) (x y : Exchange) (b c v u : Option (List ℕ)) (m : Letter)
     → ps ≡ patterns_at sets d.version → Passes x y b c v u (m ∷ [])
     → Goes sets sets d (heard (always ps) (unserved d) m).desk had had x.incoming y.incoming x.outgoing (flat_map frame (heard (always ps) (unserved d) m).sent) b c v u
 goes_answered law sets d ps had x y b c v u m same passes =
@@ -204,7 +203,7 @@ goes_answered law sets d ps had x y b c v u m same passes =
       text = ap (λ (s : Served). x.outgoing ++ flat_map frame s.sent) (sym alike.0);
     }
 
-pub goes_heard : LendsUnderItsVersion → (sets : List NumberedSet) (d e : Desk) (ps : List Pattern) (had : Option (List NumberedSet)) (x y : Exchange) (b c v u : Option (List ℕ)) (m : Body) (waits : List ℕ)
+pub goes_heard : LendsUnderItsVersion → (sets : List NumberedSet) (d e : Desk) (ps : List Pattern) (had : Option (List NumberedSet)) (x y : Exchange) (b c v u : Option (List ℕ)) (m : Letter) (waits : List ℕ)
     → ps ≡ patterns_at sets d.version → Passes x y b c v u (m ∷ []) → Puts (heard (always ps) (unserved d) m) e y.outgoing waits
     → Goes sets sets d e had had x.incoming y.incoming x.outgoing waits b c v u
 goes_heard law sets d e ps had x y b c v u m waits same passes puts =
@@ -213,7 +212,7 @@ goes_heard law sets d e ps had x y b c v u m waits same passes puts =
     (subst (λ k. Goes sets sets d k had had x.incoming y.incoming x.outgoing (flat_map frame (heard (always ps) (unserved d) m).sent) b c v u) (sym puts.desk) (goes_answered law sets d ps had x y b c v u m same passes))
 
 -- the version stays
-pub heard_version : LendsUnderItsVersion → (d e : Desk) (ps : List Pattern) (m : Body) (waited waits : List ℕ) → Puts (heard (always ps) (unserved d) m) e waited waits → e.version ≡ d.version
+pub heard_version : LendsUnderItsVersion → (d e : Desk) (ps : List Pattern) (m : Letter) (waited waits : List ℕ) → Puts (heard (always ps) (unserved d) m) e waited waits → e.version ≡ d.version
 heard_version law d e ps m waited waits puts = ap (λ (k : Desk). k.version) puts.desk ∙ (heard_alike law (always ps) (always ps) d m refl).1
 
 -- ---- ends of the engine
@@ -261,7 +260,7 @@ hearing_stops stays e sets sets' old d had has from waited x y a b c w v u none 
 }
 
 -- memory was refused to the message that came last: it is one of those that were handled where all that it lent came back
-pub hearing_fails : LendsUnderItsVersion → (sets sets' : List NumberedSet) (old d e : Desk) (ps : List Pattern) (had has : Option (List NumberedSet)) (from : Received) (waited : List ℕ) (x y : Exchange) (a b c w v u : Option (List ℕ)) (m : Body) → unread from ≡ []
+pub hearing_fails : LendsUnderItsVersion → (sets sets' : List NumberedSet) (old d e : Desk) (ps : List Pattern) (had has : Option (List NumberedSet)) (from : Received) (waited : List ℕ) (x y : Exchange) (a b c w v u : Option (List ℕ)) (m : Letter) → unread from ≡ []
     → ps ≡ patterns_at sets' d.version
     → Goes sets sets' old d had has from x.incoming waited x.outgoing a b w v → Passes x y b c v u (m ∷ []) → IsAmid (always ps) d m e → HearsFresh sets sets' old e had has waited a w u from.turns Memory
 hearing_fails law sets sets' old d e ps had has from waited x y a b c w v u m none same f passes amid = go amid

@@ -4,8 +4,7 @@ use Rattle.std.specs.Prelude.{Option, Some}
 use Rattle.std.specs.List.{flat_map, AllByRecursion}
 use Rattle.std.proofs.KnownBytes.{Consumes-nil, Consumes-trans}
 use Rattle.std.proofs.lemmas.Grind.{flat_map-append}
-use Rattle.av_frame.specs.declared.message.Body.{Body}
-use Rattle.av_frame.specs.Message.{IsInRange}
+use Rattle.av_frame.specs.Message.{IsLetter, Letter}
 use Rattle.av_frame.specs.Spelling.{frame, field4}
 use Rattle.av_engines.specs.Incoming.{Received, Takes, Reads, GivesFront, unread, budget}
 use Rattle.av_engines.specs.Spelled.{CameIn}
@@ -14,12 +13,12 @@ use Rattle.av_engines.specs.Spelled.{CameIn}
 pub takes_none : (r : Received) (a : Option (List ℕ)) → Takes r r a a []
 takes_none r a = record { bytes = []; came = Consumes-nil a; whole = append-nil (unread r); in_range = tt; few = omega arith }
 
-all_more : (xs ys : List Body) → AllByRecursion IsInRange xs → AllByRecursion IsInRange ys → AllByRecursion IsInRange (xs ++ ys)
+all_more : (xs ys : List Letter) → AllByRecursion IsLetter xs → AllByRecursion IsLetter ys → AllByRecursion IsLetter (xs ++ ys)
 all_more [] ys first second = second
 all_more (x ∷ xs) ys first second = (first.0, all_more xs ys first.1 second)
 
 -- messages were taken, and then others
-pub takes_then : (r s t : Received) (a b c : Option (List ℕ)) (ms ns : List Body) → Takes r s a b ms → Takes s t b c ns → Takes r t a c (ms ++ ns)
+pub takes_then : (r s t : Received) (a b c : Option (List ℕ)) (ms ns : List Letter) → Takes r s a b ms → Takes s t b c ns → Takes r t a c (ms ++ ns)
 takes_then r s t a b c ms ns first second = record {
   bytes = first.bytes ++ second.bytes;
   came = Consumes-trans a b c first.bytes second.bytes first.came second.came;
@@ -39,7 +38,7 @@ pub takes_settled : (r s : Received) (a : Option (List ℕ)) → unread s ≡ un
 takes_settled r s a same turns = record { bytes = []; came = Consumes-nil a; whole = append-nil (unread r) ∙ sym same; in_range = tt; few = omega (arith, turns) }
 
 -- a message was taken off the front
-pub takes_front : (r s : Received) (a : Option (List ℕ)) (m : Body) → GivesFront r s (Some m) → Takes r s a a (m ∷ [])
+pub takes_front : (r s : Received) (a : Option (List ℕ)) (m : Letter) → GivesFront r s (Some m) → Takes r s a a (m ∷ [])
 takes_front r s a m given = record {
   bytes = [];
   came = Consumes-nil a;
@@ -59,19 +58,19 @@ takes_read r s a b none reads = record {
 }
 
 -- the frames that were taken off came in as many reads as are made
-pub takes_few : (r s : Received) (a b : Option (List ℕ)) (ms : List Body) → unread r ≡ [] → Takes r s a b ms → CameIn r.turns ms
+pub takes_few : (r s : Received) (a b : Option (List ℕ)) (ms : List Letter) → unread r ≡ [] → Takes r s a b ms → CameIn r.turns ms
 takes_few r s a b ms none takes =
     let size = ap length takes.whole in
     let left = length-append (unread r) takes.bytes in
     let right = length-append (flat_map frame ms) (unread s) in
     omega (arith, size, left, right, ap length none, takes.few)
 
-length-frame : (m : Body) → 4 ≤ length (frame m)
+length-frame : (m : Letter) → 4 ≤ length (frame m)
 unfolding field4
 length-frame m = omega arith
 
 -- with each message less is left to come
-pub takes_less : (r s : Received) (a b : Option (List ℕ)) (m : Body) → Takes r s a b (m ∷ []) → budget s < budget r
+pub takes_less : (r s : Received) (a b : Option (List ℕ)) (m : Letter) → Takes r s a b (m ∷ []) → budget s < budget r
 takes_less r s a b m takes =
     let size = ap length takes.whole in
     let left = length-append (unread r) takes.bytes in

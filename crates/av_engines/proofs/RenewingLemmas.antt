@@ -1,11 +1,11 @@
 -- A newer set comes to a service that runs.
 use Rattle.std.proofs.Common.{ℕ, ◌≡◌, ◌<◌, ◌≤◌, ◌==◌, Bool, true, false, List, [], ◌∷◌, ◌++◌, arith, inl, inr, refl, sym, ap, ◌∙◌, eq-eqb, append-nil}
-use Rattle.std.specs.Prelude.{Option, Some, None, IsSome, Result, Ok, Err, OnOk, ◌⊎◌, if◌then◌else◌}
+use Rattle.std.specs.Prelude.{Option, Some, IsSome, Result, Ok, Err, OnOk, ◌⊎◌, if◌then◌else◌}
 use Rattle.std.proofs.lemmas.Bool.Decides.{eqb_tells}
 use Rattle.std.specs.List.{AllByRecursion, flat_map}
 use Rattle.std.specs.declared.alloc.AllocError.{AllocError}
 use Rattle.av_base.specs.declared.refusal.Refusal.{Refusal}
-use Rattle.av_frame.specs.declared.message.Body.{Body}
+use Rattle.av_frame.specs.Message.{Letter}
 use Rattle.av_frame.specs.Spelling.{frame}
 use Rattle.av_service.specs.Conduct.{Publishes}
 use Rattle.av_service.specs.Desk.{Desk}
@@ -47,7 +47,7 @@ on_ok (Ok done) f h = f h
 on_ok (Err e) f h = tt
 
 -- it is published, and what the filter is told of it was put, or memory was refused to that
-pub renewed : (sets sets' : List NumberedSet) (d e : Desk) (had mid has : Option (List NumberedSet)) (waited waits : List ℕ) (told : Result (Unit {0}) AllocError) (set : NumberedSet) (messages : List Body) (patterns : List Pattern)
+pub renewed : (sets sets' : List NumberedSet) (d e : Desk) (had mid has : Option (List NumberedSet)) (waited waits : List ℕ) (told : Result (Unit {0}) AllocError) (set : NumberedSet) (messages : List Letter) (patterns : List Pattern)
     → IsPublished sets sets' d e set messages patterns → Gives had mid (set ∷ []) → has ≡ mid → OnOk told (waits ≡ waited ++ flat_map frame messages) → Freshens sets sets' d e had has waited waits told
 renewed sets sets' d e had mid has waited waits told set messages patterns is given same put = record {
   happenings = Renews set ∷ [];
@@ -59,7 +59,7 @@ renewed sets sets' d e had mid has waited waits told set messages patterns is gi
   sent = on_ok told (λ e. e ∙ ap (λ ms. waited ++ flat_map frame ms) is.sent) put;
 }
 
-pub renewed_newest : LendsUnderItsVersion → (sets sets' : List NumberedSet) (d e : Desk) (set : NumberedSet) (messages : List Body) (patterns : List Pattern)
+pub renewed_newest : LendsUnderItsVersion → (sets sets' : List NumberedSet) (d e : Desk) (set : NumberedSet) (messages : List Letter) (patterns : List Pattern)
     → IsPublished sets sets' d e set messages patterns → e.version ≤ latest sets'
 renewed_newest law sets sets' d e set messages patterns is =
     let version : e.version ≡ set.version = ap (λ (k : Desk). k.version) is.desk ∙ law.version d (Publishes set.version) in
@@ -70,7 +70,7 @@ found : (s : NumberedSet) (sets : List NumberedSet) → set_at (s ∷ sets) s.ve
 unfolding set_at
 found s sets = rw (eq-eqb s.version s.version refl) refl
 
-pub renewed_patterns : LendsUnderItsVersion → (sets sets' : List NumberedSet) (d e : Desk) (set : NumberedSet) (messages : List Body) (patterns : List Pattern)
+pub renewed_patterns : LendsUnderItsVersion → (sets sets' : List NumberedSet) (d e : Desk) (set : NumberedSet) (messages : List Letter) (patterns : List Pattern)
     → IsPublished sets sets' d e set messages patterns → patterns ≡ patterns_at sets' e.version
 renewed_patterns law sets sets' d e set messages patterns is =
     let version : e.version ≡ set.version = ap (λ (k : Desk). k.version) is.desk ∙ law.version d (Publishes set.version) in

@@ -1,7 +1,7 @@
 -- The engine of a scanning service, message by message.
 use Rattle.std.proofs.Common.{ℕ, ◌≡◌, List, [], ◌∷◌, ◌++◌, true, refl, sym, ap, ◌∙◌, append_assoc}
 use Rattle.std.specs.List.{AllByRecursion}
-use Rattle.av_frame.specs.declared.message.Body.{Body}
+use Rattle.av_frame.specs.Message.{Letter}
 use Rattle.av_match.specs.Scanning.{fitting, if_found, run}
 use Rattle.av_service.specs.Conduct.{Finishes, Receives, service_step}
 use Rattle.av_service.specs.Desk.{Desk}
@@ -11,7 +11,7 @@ use Rattle.av_sigset.specs.declared.signature.Pattern.{Pattern}
 use Rattle.av_engines.specs.Serving.{Served, gone_on, finish_of, worked, heard, unserved}
 
 -- what was sent before works come back stays in front
-worked_behind : (p : ℕ → List Pattern) (d : Desk) (front back : List Body) (ws : List WorkState)
+worked_behind : (p : ℕ → List Pattern) (d : Desk) (front back : List Letter) (ws : List WorkState)
     → worked p (record { desk = d; sent = front ++ back }) ws ≡ record { desk = (worked p (record { desk = d; sent = back }) ws).desk; sent = front ++ (worked p (record { desk = d; sent = back }) ws).sent }
 worked_behind p d front back [] = refl
 worked_behind p d front back (w ∷ ws) =
@@ -35,13 +35,13 @@ under d v here [] all = tt
 under d v here (w ∷ ws) all = (all.0.0 ∙ here, under d v here ws all.1)
 
 -- a message is handled alike under patterns that agree on the present version, and leaves the version
-pub heard_alike : LendsUnderItsVersion → (p q : ℕ → List Pattern) (d : Desk) (m : Body) → p d.version ≡ q d.version → (heard p (unserved d) m ≡ heard q (unserved d) m) × ((heard q (unserved d) m).desk.version ≡ d.version)
+pub heard_alike : LendsUnderItsVersion → (p q : ℕ → List Pattern) (d : Desk) (m : Letter) → p d.version ≡ q d.version → (heard p (unserved d) m ≡ heard q (unserved d) m) × ((heard q (unserved d) m).desk.version ≡ d.version)
 heard_alike law p q d m same =
     let r = service_step d (Receives m) in
     worked_alike law p q d.version same (gone_on (unserved d) r) r.works (law.version d (Receives m)) (under d d.version refl r.works (law.works d (Receives m)))
 
 -- what was sent before a message comes stays in front
-pub heard_front : (p : ℕ → List Pattern) (d : Desk) (front back : List Body) (m : Body)
+pub heard_front : (p : ℕ → List Pattern) (d : Desk) (front back : List Letter) (m : Letter)
     → heard p (record { desk = d; sent = front ++ back }) m ≡ record { desk = (heard p (record { desk = d; sent = back }) m).desk; sent = front ++ (heard p (record { desk = d; sent = back }) m).sent }
 heard_front p d front back m =
     let r = service_step d (Receives m) in

@@ -13,7 +13,7 @@ use Rattle.av_filter.specs.Conduct.{FilterEvent, Disconnects, Opens, Receives, f
 use Rattle.av_filter.specs.declared.out.Out.{Out}
 use Rattle.av_filter_table.specs.Table.{Table}
 use Rattle.av_frame.specs.Laws.{FaultStays}
-use Rattle.av_frame.specs.declared.message.Body.{Body}
+use Rattle.av_frame.specs.Message.{Letter}
 use Rattle.av_frame.specs.Spelling.{frame}
 use Rattle.av_pend.specs.declared.answer.Answer.{Answer}
 use Rattle.av_store.specs.Store.{Store}
@@ -40,7 +40,7 @@ behind w x = record { table = x.table; volume = x.volume; sent = w.sent ++ x.sen
 abbrev pub restarted : Led → Led
 restarted w = unled w.table w.volume w.answers
 
-happened_behind : (t : Table) (v : Store) (front back : List Body) (answers : List Answer) (es : List FilterEvent)
+happened_behind : (t : Table) (v : Store) (front back : List Letter) (answers : List Answer) (es : List FilterEvent)
     → all_happened (record { table = t; volume = v; sent = front ++ back; answers = answers }) es
     ≡ record {
       table = (all_happened (record { table = t; volume = v; sent = back; answers = answers }) es).table;
@@ -162,7 +162,7 @@ amid_event e out t t' v v' answers mid given reacts same kept = record {
 }
 
 -- memory was refused to one of the opens behind a message
-pub amid_joined : (opens : List ℕ) (s : Standing) (m : Body) (t t' : Table) (v v' : Store) (answers answers' : List Answer) (before : Bool)
+pub amid_joined : (opens : List ℕ) (s : Standing) (m : Letter) (t t' : Table) (v v' : Store) (answers answers' : List Answer) (before : Bool)
     → IsAt (happened s.led (Receives m)) t v answers → before ≡ s.submitted
     → IsAmid (unled t v answers) (due opens before t) t' v' answers' → IsAmid s.led (events_of opens s m) t' v' answers'
 amid_joined opens s m t t' v v' answers answers' before first same second =
@@ -171,7 +171,7 @@ amid_joined opens s m t t' v v' answers answers' before first same second =
     amid_then s.led (Receives m ∷ []) _ t t' v v' answers answers' first (subst (λ es. IsAmid (unled t v answers) es t' v' answers') all second)
 
 -- or to the message
-pub amid_received : (opens : List ℕ) (s : Standing) (m : Body) (t' : Table) (v' : Store) (answers' : List Answer) → IsAmid s.led (Receives m ∷ []) t' v' answers' → IsAmid s.led (events_of opens s m) t' v' answers'
+pub amid_received : (opens : List ℕ) (s : Standing) (m : Letter) (t' : Table) (v' : Store) (answers' : List Answer) → IsAmid s.led (Receives m ∷ []) t' v' answers' → IsAmid s.led (events_of opens s m) t' v' answers'
 amid_received opens s m t' v' answers' amid =
     amid_more s.led (Receives m ∷ []) (due opens s.submitted (happened s.led (Receives m)).table) (events_of opens s m) t' v' answers' refl amid
 
@@ -188,7 +188,7 @@ joined_by true submitted es w x = ap (λ k. record { led = k; submitted = true }
 joined_by false submitted es w x = refl
 
 -- what joins behind a message
-pub hears_joined : (opens : List ℕ) (s : Standing) (m : Body) (t t' : Table) (v v' : Store) (answers answers' : List Answer) (waited waits more : List ℕ) (before submitted : Bool)
+pub hears_joined : (opens : List ℕ) (s : Standing) (m : Letter) (t t' : Table) (v v' : Store) (answers answers' : List Answer) (waited waits more : List ℕ) (before submitted : Bool)
     → Puts (happened s.led (Receives m)) t v answers waited waits → before ≡ s.submitted
     → Hears (joined opens before (unled t v answers)) t' v' answers' submitted waits more → Hears (heard opens s m) t' v' answers' submitted waited more
 hears_joined opens s m t t' v v' answers answers' waited waits more before submitted first same second =
@@ -212,7 +212,7 @@ hears_joined opens s m t t' v v' answers answers' waited waits more before submi
     })
 
 -- a message, behind what happened before
-heard_from : (opens : List ℕ) (s : Standing) (m : Body) → heard opens s m ≡ behind_all s.led (heard opens (record { led = restarted s.led; submitted = s.submitted }) m)
+heard_from : (opens : List ℕ) (s : Standing) (m : Letter) → heard opens s m ≡ behind_all s.led (heard opens (record { led = restarted s.led; submitted = s.submitted }) m)
 heard_from opens s m =
     let x = happened (restarted s.led) (Receives m) in
     ap (joined opens s.submitted) (happened_from s.led (Receives m ∷ []))
@@ -223,7 +223,7 @@ by_case : (b : Bool) (s x y : Standing) (H : Standing → Standing) (P : Standin
 by_case true s x y H P e h f = absurd cc
 by_case false s x y H P e h f = f h
 
-heard_more : (opens : List ℕ) (first : ℕ) (s : Standing) (ms : List Body) (m : Body) → is_done first (length opens) (heard_all opens first s ms) ≡ false
+heard_more : (opens : List ℕ) (first : ℕ) (s : Standing) (ms : List Letter) (m : Letter) → is_done first (length opens) (heard_all opens first s ms) ≡ false
     → heard_all opens first s (ms ++ m ∷ []) ≡ heard opens (heard_all opens first s ms) m
 heard_more opens first s [] m left = rw left refl
 heard_more opens first s (k ∷ ms) m left =
@@ -232,7 +232,7 @@ heard_more opens first s (k ∷ ms) m left =
 
 -- Some messages were handled. The frames that were written, and those that wait to go out, are the text of them.
 pub record IsWatching (opens : List ℕ) (old : Table) (store : Store) (from now : Received) (waits : List ℕ) (a b w u : Option (List ℕ)) (t : Table) (v : Store) (answers : List Answer) (submitted : Bool) : Type 0 where
-  pub messages : List Body
+  pub messages : List Letter
   pub taken : Takes from now a b messages
   pub at : IsAt (filter_run old store opens messages).led t v answers
   pub submitted_is : submitted ≡ (filter_run old store opens messages).submitted
@@ -266,7 +266,7 @@ done_is opens old store from now waits a b w u t v answers submitted first answe
     ap (λ n. nat_eq n (length opens)) (sym (counted ∙ all ∙ ap (λ n. later n (filter_run old store opens h.messages).led.answers) same))
 
 pub watching_goes_on : (opens : List ℕ) (old : Table) (store : Store) (from : Received) (x y : Exchange) (a b c w v u : Option (List ℕ))
-    (t t' : Table) (k k' : Store) (answers answers' : List Answer) (submitted submitted' : Bool) (m : Body) (waits : List ℕ)
+    (t t' : Table) (k k' : Store) (answers answers' : List Answer) (submitted submitted' : Bool) (m : Letter) (waits : List ℕ)
     → (h : IsWatching opens old store from x.incoming x.outgoing a b w v t k answers submitted)
     → is_done store.opens (length opens) (filter_run old store opens h.messages) ≡ false
     → Passes x y b c v u (m ∷ [])
@@ -322,7 +322,7 @@ watching_stops stays e opens old store from x y a b c w v u t k answers submitte
 
 -- memory was refused to the message that came last
 pub watching_fails : (opens : List ℕ) (old : Table) (store : Store) (from : Received) (x y : Exchange) (a b c w v u : Option (List ℕ))
-    (t t' : Table) (k k' : Store) (answers answers' : List Answer) (submitted : Bool) (m : Body) → unread from ≡ []
+    (t t' : Table) (k k' : Store) (answers answers' : List Answer) (submitted : Bool) (m : Letter) → unread from ≡ []
     → (h : IsWatching opens old store from x.incoming x.outgoing a b w v t k answers submitted)
     → is_done store.opens (length opens) (filter_run old store opens h.messages) ≡ false
     → Passes x y b c v u (m ∷ []) → IsAmid (unled t k answers) (events_of opens (standing t k answers submitted) m) t' k' answers' → RunsTo opens old store t' k' answers' a w u from.turns Memory
@@ -365,16 +365,16 @@ watching_breaks opens old store from now waits a b w v u t k answers submitted n
 
 -- ---- the disconnection at the end
 
-first_of_all : (messages : List Body) (a : Option (List ℕ)) → IfSome a (SpellsAll messages) → IfSome a (SpellsFirst messages)
+first_of_all : (messages : List Letter) (a : Option (List ℕ)) → IfSome a (SpellsAll messages) → IfSome a (SpellsFirst messages)
 first_of_all messages None all = tt
 first_of_all messages (Some xs) all = record { more = all.0; whole = all.1.whole; in_range = all.1.in_range }
 
-first_to_fault : (messages : List Body) (a : Option (List ℕ)) → IfSome a (SpellsUpToFault messages) → IfSome a (SpellsFirst messages)
+first_to_fault : (messages : List Letter) (a : Option (List ℕ)) → IfSome a (SpellsUpToFault messages) → IfSome a (SpellsFirst messages)
 first_to_fault messages None all = tt
 first_to_fault messages (Some xs) all = record { more = all.0; whole = all.2.whole; in_range = all.2.in_range }
 
 -- what holds of another end holds of Memory
-refused_spelled : (e : End) (messages : List Body) (a : Option (List ℕ)) → AreSpelled e a messages → AreSpelled Memory a messages
+refused_spelled : (e : End) (messages : List Letter) (a : Option (List ℕ)) → AreSpelled e a messages → AreSpelled Memory a messages
 refused_spelled Done messages a spelled = spelled
 refused_spelled ReadFault messages a spelled = spelled
 refused_spelled WriteFault messages a spelled = spelled
@@ -399,7 +399,7 @@ left_at w t t' v answers answers' first second = at_then w t t' v v answers answ
 kept_at : (w : Led) (t t' : Table) (v : Store) (answers answers' : List Answer) → IsAt w t v answers → t' ≡ t → answers' ≡ answers → IsAt w t' v answers'
 kept_at w t t' v answers answers' at table same = record { table = table ∙ at.table; volume = at.volume; answered = same ∙ at.answered }
 
-kept_within : (opens : List ℕ) (from : Led) (a : Option (List ℕ)) (messages : List Body) (s : Standing) (t t' : Table) (v : Store) (answers answers' : List Answer) → t' ≡ t → answers' ≡ answers
+kept_within : (opens : List ℕ) (from : Led) (a : Option (List ℕ)) (messages : List Letter) (s : Standing) (t t' : Table) (v : Store) (answers answers' : List Answer) → t' ≡ t → answers' ≡ answers
     → IsWithin opens from a messages s t v answers → IsWithin opens from a messages s t' v answers'
 kept_within opens from a messages s t t' v answers answers' table same within = subst (λ k. IsWithin opens from a messages s k v answers') (sym table) (subst (IsWithin opens from a messages s t v) (sym same) within)
 

@@ -6,10 +6,10 @@ use Rattle.av_engines.specs.declared.end.End.{End}
 use Rattle.av_engines.specs.declared.end.End.TheVariants.{WriteFault}
 use Rattle.av_engines.specs.declared.exchange.Exchange.{Exchange}
 use Rattle.av_engines.specs.Incoming.{EndsAs, Takes}
-use Rattle.av_frame.specs.declared.message.Body.{Body}
+use Rattle.av_frame.specs.Message.{Letter}
 
 -- What waited to go out went out, and then these messages were taken off. The reader had and has these bytes, and the writer.
-pub record Passes (old new : Exchange) (had has held holds : Option (List ℕ)) (messages : List Body) : Type 0 where
+pub record Passes (old new : Exchange) (had has held holds : Option (List ℕ)) (messages : List Letter) : Type 0 where
   pub sent : Appends held holds old.outgoing
   pub empty : new.outgoing ≡ []
   pub taken : Takes old.incoming new.incoming had has messages

@@ -7,7 +7,7 @@ use Rattle.av_engines.specs.Spelled.{AreSpelled, CameIn, IsSent, SpellsFirst}
 use Rattle.av_engines.specs.Watching.{Led, Standing, all_happened, due, events_of, filter_run, filter_text, happened, is_done, unled}
 use Rattle.av_filter.specs.Conduct.{FilterEvent, Disconnects}
 use Rattle.av_filter_table.specs.Table.{Table}
-use Rattle.av_frame.specs.declared.message.Body.{Body}
+use Rattle.av_frame.specs.Message.{Letter}
 use Rattle.av_frame.specs.Spelling.{frame}
 use Rattle.av_pend.specs.declared.answer.Answer.{Answer}
 use Rattle.av_store.specs.Store.{Store}
@@ -28,11 +28,11 @@ pub record IsAmid (w : Led) (all : List FilterEvent) (t : Table) (v : Store) (an
 -- What a want of memory leaves behind messages of the input: what they led to; where opens are left to be answered, what
 -- the first of the events led to that the input's next message brings; or, before any message, what the first opens led to
 -- of a filter that was connected.
-pub data IsWithin (opens : List ℕ) (from : Led) (input : Option (List ℕ)) (messages : List Body) (s : Standing)
+pub data IsWithin (opens : List ℕ) (from : Led) (input : Option (List ℕ)) (messages : List Letter) (s : Standing)
     (t : Table) (v : Store) (answers : List Answer) : Type 0 where
   begun : messages ≡ [] → IsAmid from (due opens false from.table) t v answers → IsWithin opens from input messages s t v answers
   between : IsAt s.led t v answers → IsWithin opens from input messages s t v answers
-  amid : (next : Body) → IfSome input (SpellsFirst (messages ++ next ∷ [])) → is_done from.volume.opens (length opens) s ≡ false
+  amid : (next : Letter) → IfSome input (SpellsFirst (messages ++ next ∷ [])) → is_done from.volume.opens (length opens) s ≡ false
       → IsAmid s.led (events_of opens s next) t v answers → IsWithin opens from input messages s t v answers
 
 -- Where the run of the messages is left: as it is, where all opens are answered; disconnected, where the input ended or
@@ -47,7 +47,7 @@ IsLeft _ within done w t v answers = (done ≡ false) × IsAt (happened w Discon
 -- answered as its conduct does
 pub record WatchesTo (opens : List ℕ) (t : Table) (v : Store) (t' : Table) (v' : Store) (answers : List Answer)
     (input held holds : Option (List ℕ)) (turns : ℕ) (end : End) : Type 0 where
-  pub messages : List Body
+  pub messages : List Letter
   pub spelled : AreSpelled end input messages
   pub few : CameIn turns messages
   pub sent : IsSent end held holds (filter_text t v opens messages)
@@ -64,7 +64,7 @@ IsStill _ within done w t v answers = (done ≡ false) × IsAt w t v answers
 -- the same before the filter is disconnected
 pub record RunsTo (opens : List ℕ) (t : Table) (v : Store) (t' : Table) (v' : Store) (answers : List Answer)
     (input held holds : Option (List ℕ)) (turns : ℕ) (end : End) : Type 0 where
-  pub messages : List Body
+  pub messages : List Letter
   pub spelled : AreSpelled end input messages
   pub few : CameIn turns messages
   pub sent : IsSent end held holds (filter_text t v opens messages)

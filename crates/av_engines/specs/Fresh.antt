@@ -3,7 +3,7 @@ use Rattle.std.specs.Prelude.{ℕ, ◌≡◌, List, [], ◌∷◌, ◌++◌, Opt
 use Rattle.std.specs.List.{flat_map}
 use Rattle.av_base.specs.declared.refusal.Refusal.{Refusal}
 use Rattle.av_base.specs.declared.refusal.Refusal.TheVariants.{Fault, NoMemory}
-use Rattle.av_frame.specs.declared.message.Body.{Body}
+use Rattle.av_frame.specs.Message.{Letter}
 use Rattle.av_frame.specs.Spelling.{frame}
 use Rattle.av_service.specs.Conduct.{Connects, Publishes, service_step}
 use Rattle.av_service.specs.Desk.{Desk}
@@ -15,7 +15,7 @@ use Rattle.av_engines.specs.Serving.{Served, gone_on, heard, patterns_at, unserv
 -- What happens to a service that runs: a message comes; a newer set comes and is published; or a set comes and isn't, for
 -- this reason.
 pub data Happening : Type 0 where
-  Comes : (message : Body) → Happening
+  Comes : (message : Letter) → Happening
   Renews : (set : NumberedSet) → Happening
   Refuses : (set : NumberedSet) (why : Refusal CatalogueFault) → Happening
 
@@ -54,7 +54,7 @@ AllMayHappen sets [] = Unit {0}
 AllMayHappen sets (h ∷ hs) = MayHappen sets h × AllMayHappen (published_by sets h) hs
 
 -- the messages among what happened
-abbrev pub messages_of : List Happening → List Body
+abbrev pub messages_of : List Happening → List Letter
 messages_of [] = []
 messages_of (Comes m ∷ hs) = m ∷ messages_of hs
 messages_of (Renews s ∷ hs) = messages_of hs

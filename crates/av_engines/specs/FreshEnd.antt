@@ -7,7 +7,7 @@ use Rattle.av_engines.specs.Fresh.{Gives, Happening, AllMayHappen, all_gone_by, 
 use Rattle.av_engines.specs.ServiceEnd.{IsLed, IsLeft, IsWithin}
 use Rattle.av_engines.specs.Serving.{unserved}
 use Rattle.av_engines.specs.Spelled.{AreSpelled, CameIn, IsSent}
-use Rattle.av_frame.specs.declared.message.Body.{Body}
+use Rattle.av_frame.specs.Message.{Letter}
 use Rattle.av_frame.specs.Spelling.{frame}
 use Rattle.av_service.specs.Conduct.{Publishes, service_step}
 use Rattle.av_service.specs.Desk.{Desk}
@@ -72,7 +72,7 @@ pub record Freshens (sets sets' : List NumberedSet) (old new : Desk) (had has : 
   pub sent : OnOk told (waits ≡ waited ++ flat_map frame (all_gone_by sets (unserved old) happenings).sent)
 
 -- a set was published to a service, which sends these messages, and it is judged under the set's patterns from then on
-pub record IsPublished (sets sets' : List NumberedSet) (old new : Desk) (set : NumberedSet) (messages : List Body)
+pub record IsPublished (sets sets' : List NumberedSet) (old new : Desk) (set : NumberedSet) (messages : List Letter)
     (patterns : List Pattern) : Type 0 where
   pub may : may_publish sets set.version ≡ Ok tt
   pub published : sets' ≡ set ∷ sets

@@ -6,10 +6,9 @@ use Rattle.av_engines.specs.declared.end.End.{End}
 use Rattle.av_engines.specs.declared.end.End.TheVariants.{ReadFault, Frame, Closed, Memory}
 use Rattle.av_engines.specs.declared.incoming.TheConstants.{PIECE}
 use Rattle.av_frame.specs.declared.fault.FrameFault.{FrameFault}
-use Rattle.av_frame.specs.declared.message.Body.{Body}
 use Rattle.av_frame.specs.Feed.{Fed}
 use Rattle.av_frame.specs.Frames.{Ends}
-use Rattle.av_frame.specs.Message.{IsInRange}
+use Rattle.av_frame.specs.Message.{IsLetter, Letter}
 use Rattle.av_frame.specs.Spelling.{frame}
 
 -- what came of a stream and was not taken yet: a feed, and bytes that were read and not pushed into it; and how many reads
@@ -29,11 +28,11 @@ unread r = r.fed.rest ++ r.waiting
 
 -- These messages were taken off. What was unread and what came from the reader meanwhile, in pieces of at most 8,192 bytes a
 -- read, are their frames and what is unread now.
-pub record Takes (old new : Received) (before after : Option (List ℕ)) (messages : List Body) : Type 0 where
+pub record Takes (old new : Received) (before after : Option (List ℕ)) (messages : List Letter) : Type 0 where
   pub bytes : List ℕ
   pub came : Consumes before after bytes
   pub whole : unread old ++ bytes ≡ flat_map frame messages ++ unread new
-  pub in_range : AllByRecursion IsInRange messages
+  pub in_range : AllByRecursion IsLetter messages
   pub few : length bytes + PIECE * new.turns ≤ PIECE * old.turns
 
 -- how the messages end: behind a whole frame that is none of a message; or with no whole frame left, at the end of the input
@@ -66,13 +65,13 @@ abbrev pub to_come : Received → ℕ
 to_come r = budget r + r.turns
 
 -- the message that a look gave, if any
-abbrev pub listed : Option Body → List Body
+abbrev pub listed : Option Letter → List Letter
 listed None = []
 listed (Some m) = m ∷ []
 
 -- what a look at the front of a stream of which nothing waits leaves: a message is taken off, or no frame is whole
-abbrev pub GivesFront : Received → Received → Option Body → Type 0
-GivesFront old new (Some m) = (unread old ≡ frame m ++ unread new) × IsInRange m × (new.turns ≡ old.turns)
+abbrev pub GivesFront : Received → Received → Option Letter → Type 0
+GivesFront old new (Some m) = (unread old ≡ frame m ++ unread new) × IsLetter m × (new.turns ≡ old.turns)
 GivesFront old new None = (new ≡ old) × (old.fed.broken ≡ false) × Ends (unread old) None
 
 -- the same where it gives nothing
@@ -80,6 +79,18 @@ abbrev pub HasNoFront : End → Received → Received → Type 0
 HasNoFront Frame old new = (unread new ≡ unread old) × (new.turns ≡ old.turns) × ((f : FrameFault) × Ends (unread new) (Some f))
 HasNoFront Memory old new = new ≡ old
 HasNoFront _ old new = ⊥
+
+-- what has come of a stream: its next message is taken off, or it is not whole yet
+abbrev pub HasArrived : Received → Received → Option Letter → Type 0
+HasArrived old new (Some m) = (unread old ≡ frame m ++ unread new) × IsLetter m × (new.turns ≡ old.turns)
+HasArrived old new None = (unread new ≡ unread old) × (new.turns ≡ old.turns) × (new.waiting ≡ []) × (new.fed.broken ≡ false)
+    × Ends (unread new) None
+
+-- the same where it gives nothing: behind a whole frame that is none of a message, or for want of memory
+abbrev pub HasNoneFor : End → Received → Received → Type 0
+HasNoneFor Frame old new = (unread new ≡ unread old) × (new.turns ≡ old.turns) × ((f : FrameFault) × Ends (unread new) (Some f))
+HasNoneFor Memory old new = (unread new ≡ unread old) × (new.turns ≡ old.turns)
+HasNoneFor _ old new = ⊥
 
 -- a read that gave these bytes
 pub record Reads (old new : Received) (before after : Option (List ℕ)) : Type 0 where

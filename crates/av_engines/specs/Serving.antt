@@ -2,7 +2,7 @@
 -- message that lent it.
 use Rattle.std.specs.Prelude.{ℕ, List, [], ◌∷◌, ◌++◌, Option, Some, None}
 use Rattle.std.specs.List.{flat_map}
-use Rattle.av_frame.specs.declared.message.Body.{Body}
+use Rattle.av_frame.specs.Message.{Letter}
 use Rattle.av_frame.specs.Spelling.{frame}
 use Rattle.av_match.specs.Scanning.{fitting, if_found, run}
 use Rattle.av_service.specs.Conduct.{Connects, Finishes, Receives, service_step}
@@ -25,7 +25,7 @@ patterns_at sets version = patterns_in (set_at sets version)
 -- where events led a service, and what it sent meanwhile
 pub record Served : Type 0 where
   pub desk : Desk
-  pub sent : List Body
+  pub sent : List Letter
 
 -- the service after one more event
 abbrev pub gone_on : Served → Response → Served
@@ -43,11 +43,11 @@ worked patterns s [] = s
 worked patterns s (w ∷ ws) = worked patterns (gone_on s (finish_of patterns s.desk w)) ws
 
 -- a message comes, and what it lent comes back
-abbrev pub heard : (ℕ → List Pattern) → Served → Body → Served
+abbrev pub heard : (ℕ → List Pattern) → Served → Letter → Served
 heard patterns s m = let r = service_step s.desk (Receives m) in worked patterns (gone_on s r) r.works
 
 -- messages come in turn
-abbrev pub heard_all : (ℕ → List Pattern) → Served → List Body → Served
+abbrev pub heard_all : (ℕ → List Pattern) → Served → List Letter → Served
 heard_all patterns s [] = s
 heard_all patterns s (m ∷ ms) = heard_all patterns (heard patterns s m) ms
 
@@ -56,9 +56,9 @@ abbrev pub unserved : Desk → Served
 unserved d = record { desk = d; sent = [] }
 
 -- the service connects, and then these messages come
-abbrev pub service_run : (ℕ → List Pattern) → Desk → List Body → Served
+abbrev pub service_run : (ℕ → List Pattern) → Desk → List Letter → Served
 service_run patterns d ms = heard_all patterns (gone_on (unserved d) (service_step d Connects)) ms
 
 -- what is written meanwhile
-abbrev pub service_text : (ℕ → List Pattern) → Desk → List Body → List ℕ
+abbrev pub service_text : (ℕ → List Pattern) → Desk → List Letter → List ℕ
 service_text patterns d ms = flat_map frame (service_run patterns d ms).sent

@@ -7,36 +7,35 @@ use Rattle.av_engines.specs.declared.end.End.{End}
 use Rattle.av_engines.specs.declared.end.End.TheVariants.{WriteFault, Frame, Closed, Memory, AuditFull}
 use Rattle.av_engines.specs.declared.incoming.TheConstants.{PIECE}
 use Rattle.av_frame.specs.declared.fault.FrameFault.{FrameFault}
-use Rattle.av_frame.specs.declared.message.Body.{Body}
 use Rattle.av_frame.specs.Frames.{AreFrames}
-use Rattle.av_frame.specs.Message.{IsInRange}
+use Rattle.av_frame.specs.Message.{IsLetter, Letter}
 use Rattle.av_frame.specs.Spelling.{frame}
 
 -- bytes spell these messages first
-pub record SpellsFirst (messages : List Body) (bytes : List ℕ) : Type 0 where
+pub record SpellsFirst (messages : List Letter) (bytes : List ℕ) : Type 0 where
   pub more : List ℕ
   pub whole : bytes ≡ flat_map frame messages ++ more
-  pub in_range : AllByRecursion IsInRange messages
+  pub in_range : AllByRecursion IsLetter messages
 
 -- bytes spell these messages, and behind them no whole frame
-abbrev pub SpellsAll : List Body → List ℕ → Type 0
+abbrev pub SpellsAll : List Letter → List ℕ → Type 0
 SpellsAll messages bytes = (rest : List ℕ) × AreFrames bytes (record { messages = messages; rest = rest; fault = None })
 
 -- bytes spell these messages, and behind them there is a fault
-abbrev pub SpellsUpToFault : List Body → List ℕ → Type 0
+abbrev pub SpellsUpToFault : List Letter → List ℕ → Type 0
 SpellsUpToFault messages bytes =
     (rest : List ℕ) × (f : FrameFault) × AreFrames bytes (record { messages = messages; rest = rest; fault = Some f })
 
 -- The messages that were handled are the first that the input spells, where the input is known: all of them where it ended,
 -- and all before a fault.
-abbrev pub AreSpelled : End → Option (List ℕ) → List Body → Type 0
+abbrev pub AreSpelled : End → Option (List ℕ) → List Letter → Type 0
 AreSpelled Closed input messages = IfSome input (SpellsAll messages)
 AreSpelled Frame input messages = IfSome input (SpellsUpToFault messages)
 AreSpelled AuditFull input messages = ⊥
 AreSpelled _ input messages = IfSome input (SpellsFirst messages)
 
 -- the frames of these messages came in at most so many reads
-abbrev pub CameIn : ℕ → List Body → Type 0
+abbrev pub CameIn : ℕ → List Letter → Type 0
 CameIn turns messages = length (flat_map frame messages) ≤ PIECE * turns
 
 -- the text went out; a front of it where a write failed or memory was refused

@@ -5,7 +5,7 @@ use Rattle.std.specs.List.{count_by, flat_map}
 use Rattle.av_filter.specs.Conduct.{FilterEvent, Opens, Receives, filter_step}
 use Rattle.av_filter.specs.Reaction.{Reaction}
 use Rattle.av_filter_table.specs.Table.{Table}
-use Rattle.av_frame.specs.declared.message.Body.{Body}
+use Rattle.av_frame.specs.Message.{Letter}
 use Rattle.av_frame.specs.Spelling.{frame}
 use Rattle.av_pend.specs.declared.answer.Answer.{Answer}
 use Rattle.av_pend.specs.Pend.{open_of}
@@ -15,7 +15,7 @@ use Rattle.av_store.specs.Store.{Store}
 pub record Led : Type 0 where
   pub table : Table
   pub volume : Store
-  pub sent : List Body
+  pub sent : List Letter
   pub answers : List Answer
 
 -- the filter after one more event
@@ -51,11 +51,11 @@ abbrev pub due : List ℕ → Bool → Table → List FilterEvent
 due opens submitted t = if t.connected && not submitted then opens_of opens else []
 
 -- a message comes
-abbrev pub heard : List ℕ → Standing → Body → Standing
+abbrev pub heard : List ℕ → Standing → Letter → Standing
 heard opens s m = joined opens s.submitted (happened s.led (Receives m))
 
 -- what a message brings: it comes, and where it is the first that leaves the filter connected the opens are submitted
-abbrev pub events_of : List ℕ → Standing → Body → List FilterEvent
+abbrev pub events_of : List ℕ → Standing → Letter → List FilterEvent
 events_of opens s m = Receives m ∷ due opens s.submitted (happened s.led (Receives m)).table
 
 -- how many answers are to opens of a later number than this one
@@ -67,7 +67,7 @@ abbrev pub is_done : ℕ → ℕ → Standing → Bool
 is_done first count s = later first s.led.answers == count
 
 -- messages come in turn, as long as opens are left to be answered
-abbrev pub heard_all : List ℕ → ℕ → Standing → List Body → Standing
+abbrev pub heard_all : List ℕ → ℕ → Standing → List Letter → Standing
 heard_all opens first s [] = s
 heard_all opens first s (m ∷ ms) = if is_done first (length opens) s then s else heard_all opens first (heard opens s m) ms
 
@@ -80,9 +80,9 @@ abbrev pub standing : Table → Store → List Answer → Bool → Standing
 standing t v answers submitted = record { led = unled t v answers; submitted = submitted }
 
 -- where messages lead an engine
-abbrev pub filter_run : Table → Store → List ℕ → List Body → Standing
+abbrev pub filter_run : Table → Store → List ℕ → List Letter → Standing
 filter_run t v opens ms = heard_all opens v.opens (joined opens false (unled t v [])) ms
 
 -- what is written meanwhile
-abbrev pub filter_text : Table → Store → List ℕ → List Body → List ℕ
+abbrev pub filter_text : Table → Store → List ℕ → List Letter → List ℕ
 filter_text t v opens ms = flat_map frame (filter_run t v opens ms).led.sent

@@ -1,5 +1,5 @@
 ghost use Rattle.std.specs.Prelude.{◌≡◌, ◌∷◌, ◌<◌, ◌≤◌, [], false, IfErr, IfOk, OnErr, OnOk};
-ghost use Rattle.av_engines.specs.Incoming.{EndsAs, GivesFront, HasNoFront, IsDue, Reads, ReadsNothing, Takes, listed, nothing_yet, to_come, unread};
+ghost use Rattle.av_engines.specs.Incoming.{EndsAs, GivesFront, HasArrived, HasNoFront, HasNoneFor, IsDue, Reads, ReadsNothing, Takes, listed, nothing_yet, to_come, unread};
 ghost use Rattle.av_engines.specs.declared.end.End.TheVariants.{Memory};
 
 use crate::end::End;
@@ -92,14 +92,22 @@ impl Incoming {
         ensures less { OnOk result (to_come self.new < to_come self.old) }
         ensures turns { self.new.turns ≤ self.old.turns }
     {
-        self.settle()?;
-        match self.front()? {
+        match self.arrived()? {
             Some(message) => Ok(Some(message)),
             None => {
                 self.read(reader, patience)?;
                 Ok(None)
             }
         }
+    }
+
+    /// The next message where it has come whole, as `next` gives it. No read is made: Frame, Memory.
+    pub fn arrived(&mut self) -> Result<Option<Message>, End>
+        ensures given { IfOk result (λ o. HasArrived self.old self.new o) }
+        ensures err { IfErr result (λ e. HasNoneFor e self.old self.new) }
+    {
+        self.settle()?;
+        self.front()
     }
 
     // Puts what waits into the feed.

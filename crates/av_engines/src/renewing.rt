@@ -23,12 +23,12 @@ pub fn refresh<F: Fresh>(
     outgoing: &mut Outgoing,
     fresh: &mut F,
 ) -> Result<(), AllocError>
-    requires newest { service.old.version ≤ latest catalogue.old.sets }
-    requires patterns { automaton.old.patterns ≡ patterns_at catalogue.old.sets service.old.version }
-    ensures freshens { Freshens catalogue.old.sets catalogue.new.sets service.old service.new (F.coming fresh.old)
+    requires newest { service.old.desk.version ≤ latest catalogue.old.sets }
+    requires patterns { automaton.old.patterns ≡ patterns_at catalogue.old.sets service.old.desk.version }
+    ensures freshens { Freshens catalogue.old.sets catalogue.new.sets service.old.desk service.new.desk (F.coming fresh.old)
         (F.coming fresh.new) outgoing.old outgoing.new result }
-    ensures newest { service.new.version ≤ latest catalogue.new.sets }
-    ensures patterns { automaton.new.patterns ≡ patterns_at catalogue.new.sets service.new.version }
+    ensures newest { service.new.desk.version ≤ latest catalogue.new.sets }
+    ensures patterns { automaton.new.patterns ≡ patterns_at catalogue.new.sets service.new.desk.version }
 {
     works_are_lent_under_the_present_version();
     let Some(set) = fresh.next() else {
@@ -55,11 +55,11 @@ fn publish(
     automaton: &mut Automaton,
     set: SignatureSet,
 ) -> Result<ServiceOut, Refusal<CatalogueFault>>
-    requires { service.old.version ≤ latest catalogue.old.sets }
-    ensures ok { IfOk result (λ out. IsPublished catalogue.old.sets catalogue.new.sets service.old service.new set
+    requires { service.old.desk.version ≤ latest catalogue.old.sets }
+    ensures ok { IfOk result (λ out. IsPublished catalogue.old.sets catalogue.new.sets service.old.desk service.new.desk set
         out.messages.items automaton.new.patterns) }
     ensures err { IfErr result (λ why. MayHappen catalogue.old.sets (Refuses set why)) }
-    ensures kept { IfErr result (λ why. (service.new ≡ service.old) × (catalogue.new.sets ≡ catalogue.old.sets)
+    ensures kept { IfErr result (λ why. (service.new.desk ≡ service.old.desk) × (catalogue.new.sets ≡ catalogue.old.sets)
         × (automaton.new ≡ automaton.old)) }
 {
     let version = set.version();

@@ -35,10 +35,10 @@ pub fn serve_service<R: Read, W: Write>(
     writer: &mut W,
     turns: u64,
 ) -> End
-    requires idle { service.old.connected ≡ false }
-    requires version { 1 ≤ service.old.version }
-    requires set { IsSome (set_at catalogue.old.sets service.old.version) }
-    ensures serves { ServesTo catalogue.old.sets service.old service.new (R.remaining reader.old) (W.contents writer.old)
+    requires idle { service.old.desk.connected ≡ false }
+    requires version { 1 ≤ service.old.desk.version }
+    requires set { IsSome (set_at catalogue.old.sets service.old.desk.version) }
+    ensures serves { ServesTo catalogue.old.sets service.old.desk service.new.desk (R.remaining reader.old) (W.contents writer.old)
         (W.contents writer.new) turns result }
     ensures kept { catalogue.new.sets ≡ catalogue.old.sets }
 {
@@ -58,10 +58,10 @@ pub fn serve_fresh<R: Read, W: Write, F: Fresh>(
     turns: u64,
     fresh: &mut F,
 ) -> End
-    requires idle { service.old.connected ≡ false }
-    requires version { 1 ≤ service.old.version }
-    requires set { IsSome (set_at catalogue.old.sets service.old.version) }
-    ensures { ServesFresh catalogue.old.sets catalogue.new.sets service.old service.new (F.coming fresh.old)
+    requires idle { service.old.desk.connected ≡ false }
+    requires version { 1 ≤ service.old.desk.version }
+    requires set { IsSome (set_at catalogue.old.sets service.old.desk.version) }
+    ensures { ServesFresh catalogue.old.sets catalogue.new.sets service.old.desk service.new.desk (F.coming fresh.old)
         (F.coming fresh.new) (R.remaining reader.old) (W.contents writer.old) (W.contents writer.new) turns result }
 {
     let end = serve(alloc, service, catalogue, reader, writer, turns, fresh);
@@ -81,10 +81,10 @@ fn serve<R: Read, W: Write, F: Fresh>(
     turns: u64,
     fresh: &mut F,
 ) -> End
-    requires idle { service.old.connected ≡ false }
-    requires version { 1 ≤ service.old.version }
-    requires set { IsSome (set_at catalogue.old.sets service.old.version) }
-    ensures { RunsFresh catalogue.old.sets catalogue.new.sets service.old service.new (F.coming fresh.old)
+    requires idle { service.old.desk.connected ≡ false }
+    requires version { 1 ≤ service.old.desk.version }
+    requires set { IsSome (set_at catalogue.old.sets service.old.desk.version) }
+    ensures { RunsFresh catalogue.old.sets catalogue.new.sets service.old.desk service.new.desk (F.coming fresh.old)
         (F.coming fresh.new) (R.remaining reader.old) (W.contents writer.old) (W.contents writer.new) turns result }
 {
     works_are_lent_under_the_present_version();
@@ -115,10 +115,10 @@ fn automaton_of(
     service: &Service,
     catalogue: &Catalogue,
 ) -> Result<Automaton, AllocError>
-    requires version { 1 ≤ service.now.version }
-    requires set { IsSome (set_at catalogue.now.sets service.now.version) }
-    ensures patterns { IfOk result (λ a. a.patterns ≡ patterns_at catalogue.now.sets service.now.version) }
-    ensures newest { IfOk result (λ a. service.now.version ≤ latest catalogue.now.sets) }
+    requires version { 1 ≤ service.now.desk.version }
+    requires set { IsSome (set_at catalogue.now.sets service.now.desk.version) }
+    ensures patterns { IfOk result (λ a. a.patterns ≡ patterns_at catalogue.now.sets service.now.desk.version) }
+    ensures newest { IfOk result (λ a. service.now.desk.version ≤ latest catalogue.now.sets) }
 {
     let Some(version) = service.version() else {
         unreachable!()
@@ -131,11 +131,11 @@ fn automaton_of(
 
 // Connects, and puts the greeting.
 fn greet(alloc: Global, service: &mut Service, outgoing: &mut Outgoing) -> Result<(), AllocError>
-    requires { connect_refusal service.old ≡ None }
+    requires { connect_refusal service.old.desk ≡ None }
     ensures ok { OnOk result
-        (Puts (gone_on (unserved service.old) (service_step service.old Connects)) service.new outgoing.old outgoing.new) }
+        (Puts (gone_on (unserved service.old.desk) (service_step service.old.desk Connects)) service.new.desk outgoing.old outgoing.new) }
     ensures err { OnErr result
-        ((service.new ≡ service.old) ⊎ (service.new ≡ (service_step service.old Connects).desk)) }
+        ((service.new.desk ≡ service.old.desk) ⊎ (service.new.desk ≡ (service_step service.old.desk Connects).desk)) }
 {
     match service.connect(alloc) {
         Ok(out) => put_plain(outgoing, out),
@@ -156,9 +156,9 @@ fn hear_all<R: Read, W: Write, F: Fresh>(
     fresh: &mut F,
 ) -> End
     requires unread { unread exchange.old.incoming ≡ [] }
-    requires newest { service.old.version ≤ latest catalogue.old.sets }
-    requires patterns { automaton.old.patterns ≡ patterns_at catalogue.old.sets service.old.version }
-    ensures { HearsFresh catalogue.old.sets catalogue.new.sets service.old service.new (F.coming fresh.old)
+    requires newest { service.old.desk.version ≤ latest catalogue.old.sets }
+    requires patterns { automaton.old.patterns ≡ patterns_at catalogue.old.sets service.old.desk.version }
+    ensures { HearsFresh catalogue.old.sets catalogue.new.sets service.old.desk service.new.desk (F.coming fresh.old)
         (F.coming fresh.new) exchange.old.outgoing (R.remaining reader.old) (W.contents writer.old)
         (W.contents writer.new) exchange.old.incoming.turns result }
 {
@@ -190,8 +190,8 @@ fn hear(
     message: &Message,
 ) -> Result<(), AllocError>
     ensures ok { OnOk result
-        (Puts (heard (always automaton.now.patterns) (unserved service.old) message.now) service.new outgoing.old outgoing.new) }
-    ensures err { OnErr result (IsAmid (always automaton.now.patterns) service.old message.now service.new) }
+        (Puts (heard (always automaton.now.patterns) (unserved service.old.desk) message.now) service.new.desk outgoing.old outgoing.new) }
+    ensures err { OnErr result (IsAmid (always automaton.now.patterns) service.old.desk message.now service.new.desk) }
 {
     let out = service.message(alloc, message)?;
     let ServiceOut {
@@ -220,10 +220,10 @@ fn bring_back(
     work: Work,
 ) -> Result<(), AllocError>
     ensures ok { OnOk result
-        (Puts (worked (always automaton.now.patterns) (unserved service.old) (work ∷ [])) service.new outgoing.old outgoing.new) }
+        (Puts (worked (always automaton.now.patterns) (unserved service.old.desk) (work ∷ [])) service.new.desk outgoing.old outgoing.new) }
     ensures err { OnErr result
-        ((service.new ≡ service.old)
-        ⊎ (service.new ≡ (worked (always automaton.now.patterns) (unserved service.old) (work ∷ [])).desk)) }
+        ((service.new.desk ≡ service.old.desk)
+        ⊎ (service.new.desk ≡ (worked (always automaton.now.patterns) (unserved service.old.desk) (work ∷ [])).desk)) }
 {
     match service.finish(alloc, work.run(automaton)) {
         Ok(out) => put_plain(outgoing, out),
@@ -251,7 +251,7 @@ pub fn put_plain(outgoing: &mut Outgoing, out: ServiceOut) -> Result<(), AllocEr
 
 // Disconnects the service.
 fn leave(alloc: Global, service: &mut Service)
-    ensures { service.new ≡ (service_step service.old Disconnects).desk }
+    ensures { service.new.desk ≡ (service_step service.old.desk Disconnects).desk }
 {
     let out = service.disconnect(alloc);
     let ServiceOut {

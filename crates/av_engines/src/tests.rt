@@ -27,25 +27,25 @@ use std::test::Fail;
 // The end of a run of the filter's engine with one open, how many of the worked bytes are out, and nothing else, and what the
 // open was told.
 fn is_watched(watched: &Watched, writer: &FakeWriter, end: End, out: usize, told: Told) -> bool {
-    watched.end == end && writer.taken() == &DOWN[..out.min(77)] && told.is(&watched.answers)
+    watched.end == end && writer.taken() == &DOWN[..out.min(79)] && told.is(&watched.answers)
 }
 
 // What the worked input leaves of which so many bytes came: how many bytes are out, and what open 1 was told.
 fn left_by(came: usize) -> (usize, Told) {
     match came {
-        0..=20 => (0, Told::Nothing),
-        21..=53 => (45, LOST),
-        _ => (77, LOST),
+        0..=21 => (0, Told::Nothing),
+        22..=55 => (46, LOST),
+        _ => (79, LOST),
     }
 }
 
 #[test]
 fn the_worked_run_is_written_byte_by_byte_however_it_is_cut(rt: HostRuntime) -> Result<(), Fail> {
-    let cuts: [&[usize]; 5] = [&[], &[2], &[23], &[56], &[2, 23, 56]];
+    let cuts: [&[usize]; 5] = [&[], &[2], &[24], &[58], &[2, 24, 58]];
     for cut in cuts {
         assert!(rt; runs_cut(rt.alloc(), cut)?);
     }
-    for piece in [1, 7, 84, 8_192] {
+    for piece in [1, 7, 87, 8_192] {
         assert!(rt; runs_in_pieces(rt.alloc(), piece)?, "in pieces of {piece}");
     }
     Ok(())
@@ -55,7 +55,7 @@ fn runs_cut(alloc: Global, cuts: &[usize]) -> Result<bool, Fail> {
     let mut reader = CutReader::new(&UP, cuts);
     let mut writer = FakeWriter::new(alloc);
     let run = watched(alloc, &mut reader, &mut writer, 1_000)?;
-    let watched = is_watched(&run, &writer, End::Done, 77, Told::Granted(1));
+    let watched = is_watched(&run, &writer, End::Done, 79, Told::Granted(1));
     let mut back = CutReader::new(&DOWN, cuts);
     let mut answer = FakeWriter::new(alloc);
     let end = served(alloc, &mut back, &mut answer, 1_000)?;
@@ -66,7 +66,7 @@ fn runs_in_pieces(alloc: Global, piece: usize) -> Result<bool, Fail> {
     let mut reader = FakeReader::new(&UP).in_pieces_of(piece);
     let mut writer = FakeWriter::new(alloc);
     let run = watched(alloc, &mut reader, &mut writer, 1_000)?;
-    let watched = is_watched(&run, &writer, End::Done, 77, Told::Granted(1));
+    let watched = is_watched(&run, &writer, End::Done, 79, Told::Granted(1));
     let mut back = FakeReader::new(&DOWN).in_pieces_of(piece);
     let mut answer = FakeWriter::new(alloc);
     let end = served(alloc, &mut back, &mut answer, 1_000)?;
@@ -89,7 +89,7 @@ fn a_filter_that_is_connected_submits_at_once(rt: HostRuntime) -> Result<(), Fai
         asked.answers.as_slice(),
         [denied(2, Cause::PortDisconnected)].as_slice()
     );
-    let scan = bytes_of(alloc, &["00000029 01 [1] [2] [2] [2] [3]"])?;
+    let scan = bytes_of(alloc, &["0000002a 0101 [1] [2] [2] [2] [3]"])?;
     assert_eq!(rt; writer.taken(), scan.as_slice());
     Ok(())
 }
@@ -98,7 +98,7 @@ fn a_filter_that_is_connected_submits_at_once(rt: HostRuntime) -> Result<(), Fai
 fn an_input_that_ends_anywhere_closes_and_answers_what_was_submitted(
     rt: HostRuntime,
 ) -> Result<(), Fail> {
-    for came in 0..84usize {
+    for came in 0..87usize {
         assert!(rt;
             closes_after(rt.alloc(), came, 8_192)?,
             "after {came} bytes"
@@ -112,7 +112,7 @@ fn an_input_that_ends_anywhere_closes_and_answers_what_was_submitted(
 }
 
 fn closes_after(alloc: Global, came: usize, piece: usize) -> Result<bool, Fail> {
-    let mut reader = FakeReader::new(&UP[..came.min(84)]).in_pieces_of(piece);
+    let mut reader = FakeReader::new(&UP[..came.min(87)]).in_pieces_of(piece);
     let mut writer = FakeWriter::new(alloc);
     let run = watched(alloc, &mut reader, &mut writer, 1_000)?;
     let (out, told) = left_by(came);
@@ -121,10 +121,10 @@ fn closes_after(alloc: Global, came: usize, piece: usize) -> Result<bool, Fail> 
 
 #[test]
 fn a_read_that_fails_anywhere_leaves_what_came_before_it(rt: HostRuntime) -> Result<(), Fail> {
-    for read in 1..85u64 {
+    for read in 1..88u64 {
         assert!(rt; fails_at_read(rt.alloc(), read, 1_000)?, "at read {read}");
         assert!(rt;
-            fails_at_read(rt.alloc(), 1_000, read)? || read == 84,
+            fails_at_read(rt.alloc(), 1_000, read)? || read == 87,
             "at {read} reads"
         );
     }
@@ -144,7 +144,7 @@ fn fails_at_read(alloc: Global, read: u64, turns: u64) -> Result<bool, Fail> {
 fn a_write_that_fails_anywhere_leaves_what_was_written_before_it(
     rt: HostRuntime,
 ) -> Result<(), Fail> {
-    for write in 1..78u64 {
+    for write in 1..80u64 {
         assert!(rt;
             breaks_at(rt.alloc(), write, Fault::Fails { write })?,
             "write {write} fails"
@@ -168,7 +168,7 @@ fn breaks_at(alloc: Global, write: u64, fault: Fault) -> Result<bool, Fail> {
 fn a_writer_that_cannot_be_flushed_is_a_write_fault(rt: HostRuntime) -> Result<(), Fail> {
     let mut writer = FakeWriter::new(rt.alloc()).with(Fault::KeepsUnflushed);
     let run = watched(rt.alloc(), &mut FakeReader::new(&UP), &mut writer, 1_000)?;
-    assert!(rt; is_watched(&run, &writer, End::WriteFault, 45, LOST));
+    assert!(rt; is_watched(&run, &writer, End::WriteFault, 46, LOST));
     let end = served(rt.alloc(), &mut FakeReader::new(&DOWN), &mut writer, 1_000)?;
     assert!(rt; end == End::WriteFault);
     Ok(())
@@ -178,7 +178,7 @@ fn a_writer_that_cannot_be_flushed_is_a_write_fault(rt: HostRuntime) -> Result<(
 fn what_was_sent_is_flushed(rt: HostRuntime) -> Result<(), Fail> {
     let mut writer = FakeWriter::new(rt.alloc());
     let _ = watched(rt.alloc(), &mut FakeReader::new(&UP), &mut writer, 1_000)?;
-    assert!(rt; writer.flushed() == 77);
+    assert!(rt; writer.flushed() == 79);
     Ok(())
 }
 
@@ -186,11 +186,11 @@ fn what_was_sent_is_flushed(rt: HostRuntime) -> Result<(), Fail> {
 fn a_wrong_frame_ends_an_engine(rt: HostRuntime) -> Result<(), Fail> {
     let empty = [0u8; 4];
     assert!(rt; frame_fault(rt.alloc(), &empty, 0, Told::Nothing)?);
-    let mut greeted = [0u8; 26];
-    greeted[..21].copy_from_slice(&UP[..21]);
-    greeted[24] = 1;
-    greeted[25] = 9;
-    assert!(rt; frame_fault(rt.alloc(), &greeted, 45, LOST)?);
+    let mut greeted = [0u8; 27];
+    greeted[..22].copy_from_slice(&UP[..22]);
+    greeted[25] = 1;
+    greeted[26] = 9;
+    assert!(rt; frame_fault(rt.alloc(), &greeted, 46, LOST)?);
     Ok(())
 }
 
@@ -202,7 +202,7 @@ fn frame_fault(alloc: Global, input: &[u8], out: usize, told: Told) -> Result<bo
 
 #[test]
 fn a_service_answers_what_came_before_its_input_ended(rt: HostRuntime) -> Result<(), Fail> {
-    for came in 0..78usize {
+    for came in 0..80usize {
         assert!(rt; serves_until(rt.alloc(), came)?, "after {came} bytes");
     }
     Ok(())
@@ -210,11 +210,11 @@ fn a_service_answers_what_came_before_its_input_ended(rt: HostRuntime) -> Result
 
 fn serves_until(alloc: Global, came: usize) -> Result<bool, Fail> {
     let out = match came {
-        0..=44 => 21,
-        45..=76 => 54,
-        _ => 84,
+        0..=45 => 22,
+        46..=78 => 56,
+        _ => 87,
     };
-    let mut reader = FakeReader::new(&DOWN[..came.min(77)]);
+    let mut reader = FakeReader::new(&DOWN[..came.min(79)]);
     let mut writer = FakeWriter::new(alloc);
     let end = served(alloc, &mut reader, &mut writer, 1_000)?;
     Ok(end == End::Closed && writer.taken() == &UP[..out])

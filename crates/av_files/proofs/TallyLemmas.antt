@@ -6,9 +6,7 @@ use Rattle.av_status.specs.Tally.{concluded, ending_of, no_files, with_scanned}
 use Rattle.av_status.specs.declared.status.Status.TheVariants.{Done, Found}
 use Rattle.av_status.specs.declared.tally.Tally.{Tally}
 use Rattle.av_status.specs.declared.tally.Wishes.{Wishes}
-use Rattle.av_files.specs.Opened as opened
 use Rattle.av_files.specs.Scan as scan
-use Rattle.av_files.specs.declared.opened.Opened.{Opened}
 use Rattle.av_files.specs.declared.scan.Scanned.{Scanned}
 
 done_not_found : Done ≡ Found → ⊥
@@ -49,23 +47,3 @@ found_scanned w ss e = by (list_any infected_file ss) refl
     by : (b : Bool) → list_any infected_file ss ≡ b → list_any infected_file ss ≡ true
     by true is = is
     by false is = let kept = clean_kept ss no_files is in absurd (not_found w (scan.tally_of ss) kept.0 kept.1 e)
-
-step_opened : (g b : Bool) (t : Tally) (os : List Opened) → (b || list_any opened.is_infected os) ≡ false
-    → ((u : Tally) → list_any opened.is_infected os ≡ false → (opened.tally_from u os).infected ≡ u.infected)
-    → (opened.tally_from (if g then with_scanned t false else if b then with_scanned t true else t) os).infected ≡ t.infected
-step_opened g true t os none rest = absurd (true≢false none)
-step_opened true false t os none rest = rest (with_scanned t false) none
-step_opened false false t os none rest = rest t none
-
-opened_kept : (os : List Opened) (t : Tally) → list_any opened.is_infected os ≡ false → (opened.tally_from t os).infected ≡ t.infected
-opened_kept [] t none = refl
-opened_kept (o ∷ os) t none = step_opened (opened.is_granted o.answer) (opened.is_infected o) t os none (λ u e. opened_kept os u e)
-
--- of files that were opened one is infected
-pub found_opened : (w : Wishes) (os : List Opened) (t : Tally) → t.infected ≡ (opened.tally_of os).infected → t.worst ≡ Done → concluded w t ≡ Found
-    → list_any opened.is_infected os ≡ true
-found_opened w os t infected done e = by (list_any opened.is_infected os) refl
-  where
-    by : (b : Bool) → list_any opened.is_infected os ≡ b → list_any opened.is_infected os ≡ true
-    by true is = is
-    by false is = absurd (not_found w t (subst (λ n. t.infected ≡ n) (opened_kept os no_files is) infected) done e)

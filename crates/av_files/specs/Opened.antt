@@ -1,5 +1,5 @@
 -- The lines that opened files print.
-use Rattle.std.specs.Prelude.{ℕ, Bool, false, true, not, if◌then◌else◌, List, [], ◌∷◌, codes, decimal, map}
+use Rattle.std.specs.Prelude.{ℕ, ⊤, ◌-◌, Bool, false, true, not, if◌then◌else◌, List, [], ◌∷◌, codes, decimal, map}
 use Rattle.std.specs.List.{filter}
 use Rattle.av_base.specs.Part.{spelt}
 use Rattle.av_base.specs.Cause.{number_of}
@@ -9,7 +9,10 @@ use Rattle.av_json.specs.File.{opened_tokens}
 use Rattle.av_json.specs.Line.{object_line}
 use Rattle.av_pend.specs.declared.answer.Answer.{Answer}
 use Rattle.av_pend.specs.declared.answer.Answer.TheVariants.{Granted, Unscanned, Denied}
-use Rattle.av_status.specs.Tally.{has_line, no_files, with_scanned}
+use Rattle.av_status.specs.Status.{IsFault}
+use Rattle.av_status.specs.Tally.{has_line, with_scanned}
+use Rattle.av_status.specs.declared.status.Status.{Status}
+use Rattle.av_status.specs.declared.status.Status.TheVariants.{Done}
 use Rattle.av_status.specs.declared.tally.Form.{Form}
 use Rattle.av_status.specs.declared.tally.Form.TheVariants.{Lines, Json}
 use Rattle.av_status.specs.declared.tally.Shown.{Shown}
@@ -64,6 +67,11 @@ is_infected_answer (Denied number cause) = is_infection cause
 abbrev pub is_infected : Opened → Bool
 is_infected o = is_infected_answer o.answer
 
+-- all was done, or something failed
+abbrev pub IsDoneOrFault : Status → Type 0
+IsDoneOrFault Done = ⊤
+IsDoneOrFault s = IsFault s
+
 -- the file has a line
 abbrev pub is_shown : Shown → Opened → Bool
 is_shown shown o = has_line shown (not (is_granted o.answer))
@@ -85,6 +93,6 @@ abbrev pub tally_from : Tally → List Opened → Tally
 tally_from t [] = t
 tally_from t (o ∷ opened) = tally_from (with_opened t o) opened
 
--- the files in numbers, as far as they were scanned
-abbrev pub tally_of : List Opened → Tally
-tally_of opened = tally_from no_files opened
+-- of so many files those that were opened are counted, and the opens ended with this status
+abbrev pub ended_tally : Tally → ℕ → Status → Tally
+ended_tally t files ended = record t { missed = files - t.scanned; worst = ended }

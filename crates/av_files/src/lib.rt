@@ -19,8 +19,8 @@ pub mod walk;
 
 pub use listed::{Failing, with_listed};
 pub use object::line_failed;
-pub use opened::{Opened, conclude_opened, print_opened};
+pub use opened::{Opened, conclude_opened, count_opened, print_opened};
 pub use scan::{Scanned, print_one, print_scanned, scan_files};
 pub use scanner::{Input, MAX_FILE, Scanner, read_set};
-pub use streams::{TURNS, VOLUME, add_file, empty_volume};
+pub use streams::{TURNS, VOLUME, add_file, empty_volume, look_at};
 pub use walk::{Met, Walk};

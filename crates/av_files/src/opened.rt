@@ -1,9 +1,8 @@
-ghost use Rattle.std.specs.Prelude.{◌≡◌, true, OnOk};
-ghost use Rattle.std.specs.List.{list_any};
+ghost use Rattle.std.specs.Prelude.{◌≡◌, OnOk};
 ghost use Rattle.std.specs.Io.KnownBytes.{Appends};
-ghost use Rattle.av_files.specs.Opened.{answer_text, denied_text, is_granted, is_infected, line_of, object_of, opened_line, opened_lines, tally_of, unscanned_text};
-ghost use Rattle.av_status.specs.Status.{IsFault};
-ghost use Rattle.av_status.specs.declared.status.Status.TheVariants.{Done, Found};
+ghost use Rattle.av_files.specs.Opened.{answer_text, denied_text, ended_tally, is_granted, IsDoneOrFault, line_of, object_of, opened_line, opened_lines, tally_from, unscanned_text};
+ghost use Rattle.av_status.specs.Tally.{concluded};
+ghost use Rattle.av_status.specs.declared.status.Status.TheVariants.{Done};
 
 use crate::object::{line_failed, new_line};
 use av_base::parts::write_parts;
@@ -31,7 +30,8 @@ pub fn print_opened<W: Write, E: Write>(
     out: &mut W,
     err: &mut E,
 ) -> Status
-    ensures { result ≡ Done → Appends (W.contents out.old) (W.contents out.new) (opened_lines wishes opened.now) }
+    ensures lines { result ≡ Done → Appends (W.contents out.old) (W.contents out.new) (opened_lines wishes opened.now) }
+    ensures ended { IsDoneOrFault result }
 {
     if let Err(fault) = print_lines(alloc, opened, wishes, out) {
         return line_failed(err, fault);
@@ -42,29 +42,10 @@ pub fn print_opened<W: Write, E: Write>(
     Status::Done
 }
 
-/// Ends a run in which so many files were to be opened, these have their answers, and the rest ended with this status. A file
-/// counts as scanned where it was granted, or denied since a signature occurs in it.
-pub fn conclude_opened<E: Write>(
-    opened: &[Opened<'_>],
-    files: usize,
-    ended: Status,
-    wishes: Wishes,
-    err: &mut E,
-) -> Status
-    ensures fault { IsFault ended → result ≡ ended }
-    ensures found { result ≡ Found → ended ≡ Done → list_any is_infected opened.now ≡ true }
+/// Counts files that were opened: one counts as scanned where it was granted, or denied since a signature occurs in it.
+pub fn count_opened(tally: &mut Tally, opened: &[Opened<'_>])
+    ensures { tally.new ≡ tally_from tally.old opened.now }
 {
-    let mut tally = tally_of(opened);
-    tally.missed = (files as u64).saturating_sub(tally.scanned);
-    tally.worst = ended;
-    conclude(err, tally, wishes)
-}
-
-// The files in numbers, as far as they were scanned.
-fn tally_of(opened: &[Opened<'_>]) -> Tally
-    ensures { result ≡ tally_of opened.now }
-{
-    let mut tally = Tally::new();
     for file in opened {
         match file.answer {
             Answer::Granted { .. } => tally.add_scanned(false),
@@ -75,7 +56,24 @@ fn tally_of(opened: &[Opened<'_>]) -> Tally
             _ => {}
         }
     }
-    tally
+}
+
+/// Ends a run in which so many files were to be opened: those that were are counted, and that ended with this status.
+pub fn conclude_opened<E: Write>(
+    tally: Tally,
+    files: usize,
+    ended: Status,
+    wishes: Wishes,
+    err: &mut E,
+) -> Status
+    ensures { result ≡ concluded wishes (ended_tally tally files ended) }
+{
+    let tally = Tally {
+        missed: (files as u64).saturating_sub(tally.scanned),
+        worst: ended,
+        ..tally
+    };
+    conclude(err, tally, wishes)
 }
 
 fn print_lines<W: Write>(

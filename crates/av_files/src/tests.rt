@@ -2,10 +2,12 @@ use crate::listed::{Failing, listed, with_listed};
 use crate::opened::{Opened, print_opened};
 use crate::scan::scan_files;
 use crate::scanner::{Input, Scanner};
+use crate::streams::look_at;
 use av_base::{Cause, Generation, OpenId, StreamId, Verdict, Version};
 use av_fakes::{FakeReader, FakeWriter, Fault};
 use av_pend::Answer;
 use av_status::{Form, Shown, Status, Tally, Wishes};
+use std::collections::BTreeSet;
 use std::test::Fail;
 
 const SET: &[u8] = b"avsig 1\nversion 1\nx 5858\n";
@@ -338,6 +340,40 @@ fn files_that_were_opened_are_told_as_objects(rt: HostRuntime) -> Result<(), Fai
         assert_eq!(rt; ended, Status::Done);
         assert_eq!(rt; out.taken(), lines);
         assert!(rt; err.taken().is_empty());
+    }
+    Ok(())
+}
+
+#[test]
+fn a_look_tells_the_first_fault(rt: HostRuntime) -> Result<(), Fail> {
+    let most = Some(1_048_576);
+    let large = Some(1_048_577);
+    let rows: [(&str, Option<u64>, Result<(), Status>, &[u8]); 9] = [
+        ("a", None, Err(Status::Device), b"avscan: a: cannot read\n"),
+        ("a", most, Ok(()), b""),
+        ("a", None, Err(Status::Device), b"avscan: a: cannot read\n"),
+        (
+            "b b",
+            None,
+            Err(Status::Device),
+            b"avscan: b b: cannot read\n",
+        ),
+        (
+            "b b",
+            large,
+            Err(Status::Refused),
+            b"avscan: b b: BadName\n",
+        ),
+        ("a", large, Err(Status::Refused), b"avscan: a: Exists\n"),
+        ("a", Some(0), Err(Status::Refused), b"avscan: a: Exists\n"),
+        ("b", large, Err(Status::Refused), b"avscan: b: TooLarge\n"),
+        ("b", Some(0), Ok(()), b""),
+    ];
+    let mut seen = BTreeSet::new(rt.alloc());
+    for (name, size, ended, line) in rows {
+        let mut err = FakeWriter::new(rt.alloc());
+        let looked = look_at(rt.alloc(), &mut seen, name, size, &mut err);
+        assert!(&rt; looked == ended && err.taken() == line);
     }
     Ok(())
 }

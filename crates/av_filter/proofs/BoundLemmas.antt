@@ -13,9 +13,12 @@ use Rattle.av_filter.specs.Conduct.{FilterEvent, Opens, Changes, CleansUp, Recei
 use Rattle.av_filter.specs.Opening.{open_asked, open_cached, open_found, open_judged, opened, taken}
 use Rattle.av_filter.specs.Reaction.{Reaction}
 use Rattle.av_filter_table.specs.Answering.{present_bytes}
-use Rattle.av_filter.specs.Receiving.{greeted, reads, receives, replies}
+use Rattle.av_filter.specs.Receiving.{greeted, reads, receives_at, replies}
 use Rattle.av_filter_table.specs.Table.{Table, can_ask, context_of, has_room, is_modified, sequence_left}
 use Rattle.av_filter_table.specs.declared.question.Question.{Question}
+use Rattle.av_base.specs.declared.port.Port.{Port}
+use Rattle.av_base.specs.declared.port.Port.TheVariants.{One}
+use Rattle.av_frame.specs.Message.{Letter}
 use Rattle.av_frame.specs.declared.message.Body.{Body}
 use Rattle.av_frame.specs.declared.message.Body.TheVariants.{Hello, Read, Reply, Updated}
 use Rattle.av_frame.specs.declared.outcome.Outcome.{Outcome}
@@ -32,7 +35,7 @@ use Rattle.av_store.specs.declared.stream.Stream.{Stream}
 abbrev Stays : Store → Reaction → Type 0
 Stays v r = r.volume ≡ v
 
-again_stays : (t : Table) (v : Store) (q : Question) (early : List Body) → Stays v (again t v q early)
+again_stays : (t : Table) (v : Store) (q : Question) (early : List Letter) → Stays v (again t v q early)
 unfolding again
 again_stays t v q early = cond_both (list_any (is_held q.id) t.pended && sequence_left t) _ _ (Stays v) (λ e. refl) (λ e. refl)
 
@@ -78,25 +81,25 @@ unfolding cleaned
 cleaned_stays t v s None = refl
 cleaned_stays t v s (Some x) = cond_both (is_modified (context_of t.contexts s) && can_ask t) _ _ (Stays v) (λ e. refl) (λ e. refl)
 
-receives_stays : (t : Table) (v : Store) (m : Body) → Stays v (receives t v m)
-unfolding receives greeted reads replies
-receives_stays t v (Hello number version) = hello
+receives_stays : (t : Table) (v : Store) (port : Port) (m : Body) → Stays v (receives_at t v port m)
+unfolding receives_at greeted reads replies
+receives_stays t v One (Hello number version) = hello
   where
     hello : Stays v (greeted t v number version)
     hello = cond_both (not (number == v.number)) _ _ (Stays v) (λ e. refl) (λ e. cond_both t.connected _ _ (Stays v) (λ e. refl) (λ e. cond_both (nat_lt version t.floor) _ _ (Stays v) (λ e. refl) (λ e. refl)))
-receives_stays t v (Updated version) = refl
-receives_stays t v (Read id offset count) = go _
+receives_stays t v One (Updated version) = refl
+receives_stays t v One (Read id offset count) = go _
   where
     go : (o : Option Question) → Stays v (reads t v id offset count o)
     go None = refl
     go (Some q) = cond_both (nat_le (length (present_bytes v q.stream)) offset) _ _ (Stays v) (λ e. refl) (λ e. refl)
-receives_stays t v (Reply id outcome) = go outcome _
+receives_stays t v One (Reply id outcome) = go outcome _
   where
     go : (k : Outcome) (o : Option Question) → Stays v (replies t v k o)
     go k None = refl
     go (Failed why) (Some q) = refl
     go (Judged version r) (Some q) = cond_both (nat_lt version t.floor) _ _ (Stays v) (λ e. again_stays t v q _) (λ e. refl)
-receives_stays t v _ = refl
+receives_stays t v port _ = refl
 
 times_out_stays : (t : Table) (v : Store) (o : Option Question) → Stays v (times_out t v o)
 unfolding times_out
@@ -118,7 +121,7 @@ unfolding filter_step opened disconnects restarts
 leads_to t v (Opens s least) = found_stays _ (taken v) s least (stream_at s v.streams)
 leads_to t v (Changes c) = changes_stays t v c
 leads_to t v (CleansUp s) = cleaned_stays t v s _
-leads_to t v (Receives m) = receives_stays t v m
+leads_to t v (Receives m) = receives_stays t v m.port m.body
 leads_to t v (TimesOut seq) = times_out_stays t v _
 leads_to t v Disconnects = refl
 leads_to t v Restarts = refl

@@ -20,12 +20,15 @@ use Rattle.av_filter.specs.Conduct.{FilterEvent, Opens, Changes, CleansUp, Recei
 use Rattle.av_filter.specs.Opening.{answers_with, new_open, open_asked, open_cached, open_found, open_judged, opened, pends, taken}
 use Rattle.av_filter.specs.Reaction.{Reaction}
 use Rattle.av_filter_table.specs.Answering.{judged, present_bytes, refused_now}
-use Rattle.av_filter.specs.Receiving.{greeted, reads, receives, replies}
+use Rattle.av_filter.specs.Receiving.{greeted, reads, receives_at, replies}
 use Rattle.av_filter_table.specs.Table.{Table, can_ask, context_of, has_room, is_modified, next_id, sequence_left, waits_for}
 use Rattle.av_filter.specs.declared.note.Note.{Note}
 use Rattle.av_filter.specs.declared.note.Note.TheVariants.{Quiet}
 use Rattle.av_filter_table.specs.declared.pended.Pended.{Pended}
 use Rattle.av_filter_table.specs.declared.question.Question.{Question}
+use Rattle.av_base.specs.declared.port.Port.{Port}
+use Rattle.av_base.specs.declared.port.Port.TheVariants.{One}
+use Rattle.av_frame.specs.Message.{Letter, via}
 use Rattle.av_frame.specs.declared.message.Body.{Body}
 use Rattle.av_frame.specs.declared.message.Body.TheVariants.{Abort, Hello, Read, Reply, Updated}
 use Rattle.av_frame.specs.declared.outcome.Outcome.{Outcome}
@@ -68,7 +71,7 @@ moved_id : (old new : MessageId) (p : Pended) → id_of (moved old new p) ≡ id
 moved_id old new p = elim (waits_for old p) as (λ b. id_of (if b then again_under new p else p) ≡ id_of p) [ true ↦ refl | false ↦ refl ]
 
 -- a question that ends with all its opens answered
-pub ended_balanced : (t : Table) (v : Store) (q : Question) (c : Option ContextState) (f : Pended → Answer) (ms : List Body) (note : Note) → ((p : Pended) → open_of (f p) ≡ p.held.open_id)
+pub ended_balanced : (t : Table) (v : Store) (q : Question) (c : Option ContextState) (f : Pended → Answer) (ms : List Letter) (note : Note) → ((p : Pended) → open_of (f p) ≡ p.held.open_id)
     → Balanced t v v.opens (record { table = ended t q c; volume = v; answers = map f (filter (waits_for q.id) t.pended); messages = ms; note = note })
 unfolding ended
 ended_balanced t v q c f ms note h = record {
@@ -76,7 +79,7 @@ ended_balanced t v q c f ms note h = record {
   opens = refl;
 }
 
-pub again_balanced : (t : Table) (v : Store) (q : Question) (early : List Body) → Balanced t v v.opens (again t v q early)
+pub again_balanced : (t : Table) (v : Store) (q : Question) (early : List Letter) → Balanced t v v.opens (again t v q early)
 unfolding again asks ended
 again_balanced t v q early =
     cond_both (list_any (is_held q.id) t.pended && sequence_left t) _ _ (Balanced t v v.opens)
@@ -106,7 +109,7 @@ answered_balanced t t' v a same is = record {
   opens = refl;
 }
 
-pub pended_balanced : (t t' : Table) (v : Store) (s least : ℕ) (id : MessageId) (ms : List Body) → t'.pended ≡ t.pended → Balanced t v (v.opens + 1) (pends t' (taken v) s least id ms)
+pub pended_balanced : (t t' : Table) (v : Store) (s least : ℕ) (id : MessageId) (ms : List Letter) → t'.pended ≡ t.pended → Balanced t v (v.opens + 1) (pends t' (taken v) s least id ms)
 pended_balanced t t' v s least id ms same = record {
   kept = λ n. omega (arith, next_once v.opens n, times_map-append id_of n t'.pended (record { question = id; held = new_open (taken v) s least } ∷ []), ap (λ ps. times n (map id_of ps)) same);
   opens = refl;
@@ -153,7 +156,7 @@ rewritten_balanced t v s (Some q) = again_balanced t v q _
 removed_balanced : (t : Table) (v : Store) (s : ℕ) (o : Option Question) → Balanced t v v.opens (removed t v s o)
 unfolding removed
 removed_balanced t v s None = still t v _ refl refl refl
-removed_balanced t v s (Some q) = ended_balanced t v q None (λ p. denied StreamRemoved p.held) (Abort q.id ∷ []) Quiet (λ p. refl)
+removed_balanced t v s (Some q) = ended_balanced t v q None (λ p. denied StreamRemoved p.held) (via One (Abort q.id) ∷ []) Quiet (λ p. refl)
 
 changes_balanced : (t : Table) (u : Store) (c : Change) → Balanced t u u.opens (changes t u c)
 unfolding changes
@@ -188,18 +191,18 @@ replies_balanced t v (Judged version r) (Some q) =
     cond_both (nat_lt version t.floor) _ _ (Balanced t v v.opens) (λ e. again_balanced t v q [])
     (λ e. let b = ended_balanced t v q (Some (context.Judged version r)) (λ p. judged r q.generation version p.held) [] Quiet (λ p. open_of-judged r _ _ _) in record { kept = b.kept; opens = b.opens })
 
-receives_balanced : (t : Table) (v : Store) (m : Body) → Balanced t v v.opens (receives t v m)
-unfolding receives
-receives_balanced t v (Hello number version) = greeted_balanced t v number version
-receives_balanced t v (Updated version) = still t v _ refl refl refl
-receives_balanced t v (Read id offset count) = reads_balanced t v id offset count _
-receives_balanced t v (Reply id outcome) = replies_balanced t v outcome _
-receives_balanced t v _ = still t v _ refl refl refl
+receives_balanced : (t : Table) (v : Store) (port : Port) (m : Body) → Balanced t v v.opens (receives_at t v port m)
+unfolding receives_at
+receives_balanced t v One (Hello number version) = greeted_balanced t v number version
+receives_balanced t v One (Updated version) = still t v _ refl refl refl
+receives_balanced t v One (Read id offset count) = reads_balanced t v id offset count _
+receives_balanced t v One (Reply id outcome) = replies_balanced t v outcome _
+receives_balanced t v port _ = still t v _ refl refl refl
 
 times_out_balanced : (t : Table) (v : Store) (o : Option Question) → Balanced t v v.opens (times_out t v o)
 unfolding times_out
 times_out_balanced t v None = still t v _ refl refl refl
-times_out_balanced t v (Some q) = ended_balanced t v q (Some context.Modified) _ (Abort q.id ∷ []) Quiet (λ p. open_of-refused t.mode _ _ _)
+times_out_balanced t v (Some q) = ended_balanced t v q (Some context.Modified) _ (via One (Abort q.id) ∷ []) Quiet (λ p. open_of-refused t.mode _ _ _)
 
 disconnects_balanced : (t : Table) (v : Store) → Balanced t v v.opens (disconnects t v)
 unfolding disconnects
@@ -225,7 +228,7 @@ unfolding filter_step
 filter_balanced t v (Opens s least) = opened_balanced t v s least
 filter_balanced t v (Changes c) = changes_balanced t v c
 filter_balanced t v (CleansUp s) = cleaned_balanced t v s _
-filter_balanced t v (Receives m) = receives_balanced t v m
+filter_balanced t v (Receives m) = receives_balanced t v m.port m.body
 filter_balanced t v (TimesOut seq) = times_out_balanced t v _
 filter_balanced t v Disconnects = disconnects_balanced t v
 filter_balanced t v Restarts = restarts_balanced t v

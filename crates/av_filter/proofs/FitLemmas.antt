@@ -24,11 +24,14 @@ use Rattle.av_filter.specs.Fit.{AreApart, AreInOrder, Fits, IsAsked, IsGiven, Is
 use Rattle.av_filter.specs.Opening.{new_open, open_asked, open_cached, open_found, open_judged, opened, taken}
 use Rattle.av_filter.specs.Reaction.{Reaction}
 use Rattle.av_filter_table.specs.Answering.{present_bytes, stream_generation}
-use Rattle.av_filter.specs.Receiving.{greeted, reads, receives, replies}
+use Rattle.av_filter.specs.Receiving.{greeted, reads, receives_at, replies}
 use Rattle.av_filter_table.specs.Table.{Table, can_ask, context_of, has_room, is_modified, mounted, next_id, other_opens, question_at, question_of, raised, sequence_left, waits_for, without_question}
 use Rattle.av_filter.specs.declared.fault.FilterFault.TheVariants as filter_fault
 use Rattle.av_filter_table.specs.declared.pended.Pended.{Pended}
 use Rattle.av_filter_table.specs.declared.question.Question.{Question}
+use Rattle.av_base.specs.declared.port.Port.{Port}
+use Rattle.av_base.specs.declared.port.Port.TheVariants.{One}
+use Rattle.av_frame.specs.Message.{Letter}
 use Rattle.av_frame.specs.declared.message.Body.{Body}
 use Rattle.av_frame.specs.declared.message.Body.TheVariants.{Hello, Read, Reply, Updated}
 use Rattle.av_frame.specs.declared.outcome.Outcome.{Outcome}
@@ -212,7 +215,7 @@ module _ (t : Table) (v : Store) (q : Question) (boots : t.boot ≡ v.boot) (a :
   unfolding ended
   cleared_fits = others_fit _ refl refl refl refl (clear t.boot t.sequence t.contexts (without_question q.id t.questions) v.streams q.stream a)
 
-  again_fits : (early : List Body) → question_at q.id t.questions ≡ Some q → IsThere v.streams q.stream → FitsAfter (again t v q early)
+  again_fits : (early : List Letter) → question_at q.id t.questions ≡ Some q → IsThere v.streams q.stream → FitsAfter (again t v q early)
   unfolding again asks
   again_fits early at here =
       let rest : List Question = without_question q.id t.questions in
@@ -412,13 +415,13 @@ module _ (t : Table) (v : Store) (f : Fits t v) where
       fit _ v f.boots (close t.boot t.sequence t.contexts (without_question q.id t.questions) v.streams q.stream (context.Judged version r) here away) (asked_without q.id t.questions t.pended f.asked)
       (each-filter (Least version) (λ p. not (waits_for q.id p)) t.pended (each_weaker (Least t.floor) (Least version) (λ p le. omega arith) t.pended f.leasts)) (each-filter (Taken v.opens) (λ p. not (waits_for q.id p)) t.pended f.taken))
 
-  receives_fits : (m : Body) → FitsAfter (receives t v m)
-  unfolding receives
-  receives_fits (Hello number version) = greeted_fits number version
-  receives_fits (Updated version) = with_floor t.connected (max t.floor version) (omega arith)
-  receives_fits (Read id offset count) = reads_fits id offset count _
-  receives_fits (Reply id outcome) = replies_fits id outcome _ refl
-  receives_fits _ = f
+  receives_fits : (port : Port) (m : Body) → FitsAfter (receives_at t v port m)
+  unfolding receives_at
+  receives_fits One (Hello number version) = greeted_fits number version
+  receives_fits One (Updated version) = with_floor t.connected (max t.floor version) (omega arith)
+  receives_fits One (Read id offset count) = reads_fits id offset count _
+  receives_fits One (Reply id outcome) = replies_fits id outcome _ refl
+  receives_fits port _ = f
 
   times_out_fits : (id : MessageId) (o : Option Question) → question_at id t.questions ≡ o → FitsAfter (times_out t v o)
   unfolding times_out
@@ -449,7 +452,7 @@ unfolding filter_step filter_refusal restarts
 event_fits t v (Opens s least) f ok = opened_fits t v f s least
 event_fits t v (Changes c) f ok = changes_fits t v f c (accepted v c ok)
 event_fits t v (CleansUp s) f ok = cleaned_fits t v f s _ refl
-event_fits t v (Receives m) f ok = receives_fits t v f m
+event_fits t v (Receives m) f ok = receives_fits t v f m.port m.body
 event_fits t v (TimesOut seq) f ok = times_out_fits t v f _ _ refl
 event_fits t v Disconnects f ok = disconnects_fits t v f
 event_fits t v Restarts f ok = mounted_fits t.mode t.limits (booted v)

@@ -28,7 +28,7 @@ use Rattle.av_filter_table.specs.declared.pended.Pended.{Pended}
 use Rattle.av_filter_table.specs.declared.question.Question.{Question}
 use Rattle.av_pend.specs.Pend.{denied, refused, waiting_from}
 use Rattle.av_pend.specs.declared.answer.Answer.{Answer}
-use Rattle.av_frame.specs.declared.message.Body.{Body}
+use Rattle.av_frame.specs.Message.{Letter}
 use Rattle.av_store.specs.Rows.{stream_at}
 use Rattle.av_store.specs.Store.{Store}
 use Rattle.av_store.specs.declared.stream.Stream.{Stream}
@@ -184,7 +184,7 @@ joined out t t1 t2 v a q i unjudged asked runs room added up answers messages no
     subst (Reacts out t2 (taken v)) (sym by) (record { answers = answers; messages = messages; note = note ∙ ap Submitted i.open_id; table = left; volume = refl })
 
 -- an open for which a question is asked
-pub asked : (out : Out) (t t1 t2 : Table) (v : Store) (a : Arrival) (m : Body) (i : IsArrival a t v) → current (context_of t.contexts a.stream) a.floor ≡ None → question_of a.stream t.questions ≡ None
+pub asked : (out : Out) (t t1 t2 : Table) (v : Store) (a : Arrival) (m : Letter) (i : IsArrival a t v) → current (context_of t.contexts a.stream) a.floor ≡ None → question_of a.stream t.questions ≡ None
     → look a.stream a.generation a.floor t.cache ≡ None → has_room t ≡ true → t.connected ≡ true → can_ask t ≡ true
     → t1 ≡ record t {
       sequence = t.sequence + 1;

@@ -12,14 +12,17 @@ use Rattle.av_filter.specs.Changing.{changes, cleaned, removed, rewritten}
 use Rattle.av_filter.specs.Conduct.{FilterEvent, Opens, Changes, CleansUp, Receives, TimesOut, Disconnects, Restarts, disconnects, filter_step, restarts, times_out}
 use Rattle.av_filter.specs.Opening.{open_asked, open_cached, open_found, open_judged, opened, taken}
 use Rattle.av_filter.specs.Reaction.{Reaction}
-use Rattle.av_filter.specs.Receiving.{greeted, reads, receives, replies}
+use Rattle.av_filter.specs.Receiving.{greeted, reads, receives_at, replies}
 use Rattle.av_filter_table.specs.Answering.{present_bytes}
 use Rattle.av_filter_table.specs.Asking.{is_held}
 use Rattle.av_filter_table.specs.Table.{Table, can_ask, current, context_of, has_room, is_modified, question_at, question_of, raised, sequence_left}
 use Rattle.av_filter_table.specs.declared.pended.Pended.{Pended}
 use Rattle.av_filter_table.specs.declared.question.Question.{Question}
+use Rattle.av_base.specs.declared.port.Port.{Port}
+use Rattle.av_base.specs.declared.port.Port.TheVariants.{One}
+use Rattle.av_frame.specs.Message.{Letter, via}
 use Rattle.av_frame.specs.declared.message.Body.{Body}
-use Rattle.av_frame.specs.declared.message.Body.TheVariants.{Abort, Chunk, Hello, NoChunk, Read, Reply, Scan, Updated}
+use Rattle.av_frame.specs.declared.message.Body.TheVariants.{Abort, Hello, Read, Reply, Updated}
 use Rattle.av_frame.specs.declared.outcome.Outcome.{Outcome}
 use Rattle.av_frame.specs.declared.outcome.Outcome.TheVariants.{Failed, Judged}
 use Rattle.av_store.specs.Files.{Change, Create, Write, Cut, Remove}
@@ -59,17 +62,17 @@ told f p ps = let some = passed p ps in let same = length-map (filter p ps) f in
 all_told : {B : Type 0} (f : Pended → B) (ps : List Pended) → length (map f ps) ≤ length ps + 1
 all_told f ps = let same = length-map ps f in omega (arith, same)
 
-small_again : (t : Table) (v : Store) (q : Question) (early : List Body) → length early ≤ 1 → IsSmall (length t.pended) (again t v q early)
+small_again : (t : Table) (v : Store) (q : Question) (early : List Letter) → length early ≤ 1 → IsSmall (length t.pended) (again t v q early)
 unfolding again
 small_again t v q early few =
-    let more : (m : Body) → length (early ++ m ∷ []) ≤ 2 = λ m. let sum = length-append early (m ∷ []) in omega (arith, sum, few) in
+    let more : (m : Letter) → length (early ++ m ∷ []) ≤ 2 = λ m. let sum = length-append early (m ∷ []) in omega (arith, sum, few) in
     let fewer : length early ≤ 2 = omega (arith, few) in
     either (length t.pended) (list_any (is_held q.id) t.pended && sequence_left t) _ _ (record { messages = more (scan_message t v q.stream); answers = told _ _ t.pended }) (record { messages = fewer; answers = told _ _ t.pended })
 
 small_rewritten : (t : Table) (v : Store) (s : ℕ) (o : Option Question) → IsSmall (length t.pended) (rewritten t v s o)
 unfolding rewritten
 small_rewritten t v s None = record { messages = omega (arith); answers = omega (arith) }
-small_rewritten t v s (Some q) = small_again t v q (Abort q.id ∷ []) (omega (arith))
+small_rewritten t v s (Some q) = small_again t v q (via One (Abort q.id) ∷ []) (omega (arith))
 
 small_removed : (t : Table) (v : Store) (s : ℕ) (o : Option Question) → IsSmall (length t.pended) (removed t v s o)
 unfolding removed
@@ -106,16 +109,13 @@ small_replies t v outcome None = record { messages = omega (arith); answers = om
 small_replies t v (Failed why) (Some q) = record { messages = omega (arith); answers = told _ _ t.pended }
 small_replies t v (Judged version r) (Some q) = either (length t.pended) (nat_lt version t.floor) _ _ (small_again t v q [] (none 1)) (record { messages = none 2; answers = told _ _ t.pended })
 
-small_receives : (t : Table) (v : Store) (m : Body) → IsSmall (length t.pended) (receives t v m)
-unfolding receives
-small_receives t v (Hello number version) = small_greeted (length t.pended) t v number version
-small_receives t v (Updated version) = record { messages = omega (arith); answers = omega (arith) }
-small_receives t v (Read id offset count) = small_reads (length t.pended) t v id offset count (question_at id t.questions)
-small_receives t v (Reply id outcome) = small_replies t v outcome (question_at id t.questions)
-small_receives t v (Scan id s g l) = record { messages = omega (arith); answers = omega (arith) }
-small_receives t v (Chunk id offset bytes) = record { messages = omega (arith); answers = omega (arith) }
-small_receives t v (NoChunk id offset why) = record { messages = omega (arith); answers = omega (arith) }
-small_receives t v (Abort id) = record { messages = omega (arith); answers = omega (arith) }
+small_receives : (t : Table) (v : Store) (port : Port) (m : Body) → IsSmall (length t.pended) (receives_at t v port m)
+unfolding receives_at
+small_receives t v One (Hello number version) = small_greeted (length t.pended) t v number version
+small_receives t v One (Updated version) = record { messages = omega (arith); answers = omega (arith) }
+small_receives t v One (Read id offset count) = small_reads (length t.pended) t v id offset count (question_at id t.questions)
+small_receives t v One (Reply id outcome) = small_replies t v outcome (question_at id t.questions)
+small_receives t v port _ = record { messages = omega (arith); answers = omega (arith) }
 
 small_cached : (n : ℕ) (t : Table) (v : Store) (s least : ℕ) (x : Stream) (o : Option Entry) → IsSmall n (open_cached t v s least x o)
 unfolding open_cached
@@ -150,7 +150,7 @@ unfolding filter_step opened disconnects restarts
 small_reaction t v (Opens s least) = small_found (length t.pended) (raised least t) (taken v) s least (stream_at s v.streams)
 small_reaction t v (Changes c) = small_changes t v c
 small_reaction t v (CleansUp s) = small_cleaned t v s (stream_at s v.streams)
-small_reaction t v (Receives m) = small_receives t v m
+small_reaction t v (Receives m) = small_receives t v m.port m.body
 small_reaction t v (TimesOut seq) = small_timeout t v (question_at (record { boot = t.boot; seq = seq }) t.questions)
 small_reaction t v Disconnects = record { messages = omega (arith); answers = all_told _ t.pended }
 small_reaction t v Restarts = record { messages = omega (arith); answers = all_told _ t.pended }

@@ -2,6 +2,7 @@
 use Rattle.std.specs.Prelude.{ℕ, ◌&&◌, List, [], ◌∷◌, ◌++◌, length, map, filter, Some, if◌then◌else◌}
 use Rattle.std.specs.List.{list_any}
 use Rattle.av_base.specs.declared.cause.Cause.TheVariants.{Unsettled}
+use Rattle.av_base.specs.declared.port.Port.TheVariants.{One}
 use Rattle.av_context.specs.declared.context_state.ContextState.TheVariants.{Modified}
 use Rattle.av_filter.specs.declared.note.Note.TheVariants.{Quiet}
 use Rattle.av_filter.specs.Reaction.{Reaction}
@@ -9,17 +10,17 @@ use Rattle.av_filter_table.specs.Answering.{present_generation, present_bytes, r
 use Rattle.av_filter_table.specs.Asking.{again_cause, asked_again, ended, is_held, is_lost}
 use Rattle.av_filter_table.specs.declared.question.Question.{Question}
 use Rattle.av_filter_table.specs.Table.{Table, next_id, sequence_left, opens_of}
-use Rattle.av_frame.specs.declared.message.Body.{Body}
+use Rattle.av_frame.specs.Message.{Letter, via}
 use Rattle.av_frame.specs.declared.message.Body.TheVariants.{Scan}
 use Rattle.av_store.specs.Store.{Store}
 
 -- what asks for the scan of a stream's present content
-abbrev pub scan_message : Table → Store → ℕ → Body
-scan_message t v s = Scan (next_id t) s (present_generation v s) (length (present_bytes v s))
+abbrev pub scan_message : Table → Store → ℕ → Letter
+scan_message t v s = via One (Scan (next_id t) s (present_generation v s) (length (present_bytes v s)))
 
 -- a question ends, and is asked anew for those of its opens that have a rescan left, if a number is; else all its opens are
 -- answered. `early` is sent before
-unfoldable pub again : Table → Store → Question → List Body → Reaction
+unfoldable pub again : Table → Store → Question → List Letter → Reaction
 again t v q early =
     if list_any (is_held q.id) t.pended && sequence_left t
     then record {

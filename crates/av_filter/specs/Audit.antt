@@ -4,7 +4,7 @@ use Rattle.av_filter.specs.Conduct.{FilterEvent, Opens, filter_refusal, filter_s
 use Rattle.av_filter.specs.Reaction.{Reaction}
 use Rattle.av_filter_table.specs.Table.{Table}
 use Rattle.av_filter.specs.declared.note.Note.{Note}
-use Rattle.av_frame.specs.declared.message.Body.{Body}
+use Rattle.av_frame.specs.Message.{Letter}
 use Rattle.av_pend.specs.declared.answer.Answer.{Answer}
 use Rattle.av_store.specs.Store.{Store}
 
@@ -12,7 +12,7 @@ use Rattle.av_store.specs.Store.{Store}
 pub record FilterEntry : Type 0 where
   pub event : FilterEvent
   pub answers : List Answer
-  pub messages : List Body
+  pub messages : List Letter
   pub note : Note
 
 -- an entry has what the reaction gives out
@@ -39,7 +39,7 @@ filter_end t v [] = record { table = t; volume = v }
 filter_end t v (x ∷ xs) = filter_end (filter_step t v x.event).table (filter_step t v x.event).volume xs
 
 -- what it sent, after what had been sent before; what it answered; and how many opens it took
-abbrev pub sent_down : List Body → List FilterEntry → List Body
+abbrev pub sent_down : List Letter → List FilterEntry → List Letter
 sent_down down [] = down
 sent_down down (x ∷ xs) = sent_down (down ++ x.messages) xs
 

@@ -1,6 +1,7 @@
 -- Changes of the volume, and the cleanup that follows some.
 use Rattle.std.specs.Prelude.{ℕ, ◌&&◌, [], ◌∷◌, map, Option, Some, None, if◌then◌else◌}
 use Rattle.av_base.specs.declared.cause.Cause.TheVariants.{StreamRemoved}
+use Rattle.av_base.specs.declared.port.Port.TheVariants.{One}
 use Rattle.av_context.specs.Contexts.{set_at}
 use Rattle.av_context.specs.declared.context_state.ContextState.TheVariants.{Modified}
 use Rattle.av_filter_table.specs.Asking.{asks, ended}
@@ -9,6 +10,7 @@ use Rattle.av_filter.specs.declared.note.Note.TheVariants.{Quiet, NoStream}
 use Rattle.av_filter_table.specs.declared.question.Question.{Question}
 use Rattle.av_filter.specs.Reaction.{Reaction, only, sends}
 use Rattle.av_filter_table.specs.Table.{Table, context_of, is_modified, can_ask, question_of, opens_of}
+use Rattle.av_frame.specs.Message.{via}
 use Rattle.av_frame.specs.declared.message.Body.TheVariants.{Abort}
 use Rattle.av_pend.specs.Pend.{denied}
 use Rattle.av_store.specs.Files.{Change, Create, Write, Cut, Remove}
@@ -23,7 +25,7 @@ changed_volume v c = kept_or v (change_of v c)
 -- a stream was written or cut; v: the volume after it
 unfoldable pub rewritten : Table → Store → ℕ → Option Question → Reaction
 rewritten t v s None = only (record t { contexts = set_at t.contexts s (Some Modified) }) v Quiet
-rewritten t v s (Some q) = again t v q (Abort q.id ∷ [])
+rewritten t v s (Some q) = again t v q (via One (Abort q.id) ∷ [])
 
 -- a stream was removed
 unfoldable pub removed : Table → Store → ℕ → Option Question → Reaction
@@ -33,7 +35,7 @@ removed t v s (Some q) =
       table = ended t q None;
       volume = v;
       answers = map (λ p. denied StreamRemoved p.held) (opens_of q.id t.pended);
-      messages = Abort q.id ∷ [];
+      messages = via One (Abort q.id) ∷ [];
       note = Quiet;
     }
 

@@ -2,6 +2,7 @@
 use Rattle.std.specs.Prelude.{ℕ, ◌+◌, false, ◌==◌, [], ◌∷◌, Option, Some, None, if◌then◌else◌}
 use Rattle.std.specs.Option.{option_map}
 use Rattle.av_base.specs.declared.cause.Cause.TheVariants.{TimedOut, PortDisconnected, FilterRestart}
+use Rattle.av_base.specs.declared.port.Port.TheVariants.{One}
 use Rattle.av_context.specs.declared.context_state.ContextState.TheVariants.{Modified}
 use Rattle.av_filter_table.specs.Asking.{ended, lost_contexts}
 use Rattle.av_filter.specs.Changing.{changes, cleaned}
@@ -14,7 +15,7 @@ use Rattle.av_filter.specs.Reaction.{Reaction, only}
 use Rattle.av_filter_table.specs.Answering.{by_mode}
 use Rattle.av_filter.specs.Receiving.{receives}
 use Rattle.av_filter_table.specs.Table.{Table, mounted, question_at, opens_of}
-use Rattle.av_frame.specs.declared.message.Body.{Body}
+use Rattle.av_frame.specs.Message.{Letter, via}
 use Rattle.av_frame.specs.declared.message.Body.TheVariants.{Abort}
 use Rattle.std.specs.Result.{result_err}
 use Rattle.av_store.specs.Files.{Change}
@@ -27,7 +28,7 @@ pub data FilterEvent : Type 0 where
   Opens : (stream least : ℕ) → FilterEvent
   Changes : (change : Change) → FilterEvent
   CleansUp : (stream : ℕ) → FilterEvent
-  Receives : (message : Body) → FilterEvent
+  Receives : (message : Letter) → FilterEvent
   TimesOut : (seq : ℕ) → FilterEvent
   Disconnects Restarts : FilterEvent
 
@@ -39,7 +40,7 @@ times_out t v (Some q) =
       table = ended t q (Some Modified);
       volume = v;
       answers = by_mode t v TimedOut (opens_of q.id t.pended);
-      messages = Abort q.id ∷ [];
+      messages = via One (Abort q.id) ∷ [];
       note = Quiet;
     }
 

@@ -14,7 +14,7 @@ use Rattle.av_filter_table.specs.declared.question.Question.{Question}
 use Rattle.av_filter.specs.Reaction.{Reaction}
 use Rattle.av_filter_table.specs.Answering.{judged}
 use Rattle.av_filter_table.specs.Table.{Table, context_of, current, question_of, next_id, can_ask, has_room, raised}
-use Rattle.av_frame.specs.declared.message.Body.{Body}
+use Rattle.av_frame.specs.Message.{Letter}
 use Rattle.av_pend.specs.Pend.{waiting_from, denied, refused}
 use Rattle.av_pend.specs.Waiting.{Waiting}
 use Rattle.av_pend.specs.declared.answer.Answer.{Answer}
@@ -35,7 +35,7 @@ abbrev pub answers_with : Table → Store → Answer → Reaction
 answers_with t v a = record { table = t; volume = v; answers = a ∷ []; messages = []; note = Submitted v.opens }
 
 -- or waits for a question
-abbrev pub pends : Table → Store → ℕ → ℕ → MessageId → List Body → Reaction
+abbrev pub pends : Table → Store → ℕ → ℕ → MessageId → List Letter → Reaction
 pends t v s least id messages =
     record {
       table = record t { pended = t.pended ++ record { question = id; held = new_open v s least } ∷ [] };

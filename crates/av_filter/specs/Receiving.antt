@@ -2,6 +2,8 @@
 use Rattle.std.specs.Prelude.{ℕ, true, not, min, nat_le, nat_lt, ◌==◌, List, [], length, take, drop, Option, Some, None, if◌then◌else◌}
 use Rattle.av_base.specs.declared.cause.Cause.TheVariants.{ScanFailed}
 use Rattle.av_base.specs.declared.message_id.MessageId.{MessageId}
+use Rattle.av_base.specs.declared.port.Port.{Port}
+use Rattle.av_base.specs.declared.port.Port.TheVariants.{One}
 use Rattle.av_context.specs.declared.context_state.ContextState.TheVariants as context
 use Rattle.av_filter_table.specs.Asking.{ended, settled}
 use Rattle.av_filter.specs.Again.{again}
@@ -11,6 +13,7 @@ use Rattle.av_filter.specs.Reaction.{Reaction, only, sends}
 use Rattle.av_filter_table.specs.Answering.{present_bytes, all_judged, by_mode}
 use Rattle.av_filter_table.specs.Table.{Table, question_at, opens_of, raised}
 use Rattle.av_frame.specs.declared.cause.NoChunkCause.TheVariants.{NoQuestion, PastEnd}
+use Rattle.av_frame.specs.Message.{Letter, via}
 use Rattle.av_frame.specs.declared.message.Body.{Body}
 use Rattle.av_frame.specs.declared.message.Body.TheVariants.{Chunk, NoChunk, Hello, Read, Reply, Updated}
 use Rattle.av_frame.specs.declared.outcome.Outcome.{Outcome}
@@ -31,10 +34,10 @@ chunk_of t bytes offset count = take (min count t.limits.chunk) (drop offset byt
 
 -- a read of a question: its content from the offset on, or why there is none
 unfoldable pub reads : Table → Store → MessageId → ℕ → ℕ → Option Question → Reaction
-reads t v id offset count None = sends t v (NoChunk id offset NoQuestion)
+reads t v id offset count None = sends t v (via One (NoChunk id offset NoQuestion))
 reads t v id offset count (Some q) =
-    if nat_le (length (present_bytes v q.stream)) offset then sends t v (NoChunk id offset PastEnd)
-    else sends t v (Chunk id offset (chunk_of t (present_bytes v q.stream) offset count))
+    if nat_le (length (present_bytes v q.stream)) offset then sends t v (via One (NoChunk id offset PastEnd))
+    else sends t v (via One (Chunk id offset (chunk_of t (present_bytes v q.stream) offset count)))
 
 -- it replies
 unfoldable pub replies : Table → Store → Outcome → Option Question → Reaction
@@ -57,10 +60,14 @@ replies t v (Judged version r) (Some q) =
       note = Quiet;
     }
 
--- what each message does; those that only a filter sends do nothing
-unfoldable pub receives : Table → Store → Body → Reaction
-receives t v (Hello number version) = greeted t v number version
-receives t v (Updated version) = only (raised version t) v Quiet
-receives t v (Read id offset count) = reads t v id offset count (question_at id t.questions)
-receives t v (Reply id outcome) = replies t v outcome (question_at id t.questions)
-receives t v _ = only t v Ignored
+-- what each message does that comes at the first port; those that only a filter sends do nothing, and none does at the second
+unfoldable pub receives_at : Table → Store → Port → Body → Reaction
+receives_at t v One (Hello number version) = greeted t v number version
+receives_at t v One (Updated version) = only (raised version t) v Quiet
+receives_at t v One (Read id offset count) = reads t v id offset count (question_at id t.questions)
+receives_at t v One (Reply id outcome) = replies t v outcome (question_at id t.questions)
+receives_at t v port _ = only t v Ignored
+
+-- the same of a message with its port
+abbrev pub receives : Table → Store → Letter → Reaction
+receives t v m = receives_at t v m.port m.body

@@ -2,6 +2,7 @@ ghost use Rattle.std.specs.Prelude.{◌≡◌, ◌≤◌, ◌+◌, ◌++◌, ◌
 ghost use Rattle.std.specs.Option.{option_map};
 ghost use Rattle.std.specs.Vec.{vec_capacity};
 ghost use Rattle.av_base.specs.declared.cause.Cause.TheVariants.{Unsettled};
+ghost use Rattle.av_base.specs.declared.port.Port.TheVariants.{One};
 ghost use Rattle.av_filter.specs.Again.{again};
 ghost use Rattle.av_filter.specs.Call.{Meets, MeetsAlways};
 ghost use Rattle.av_filter.specs.Changing.{changed_volume, changes, cleaned, removed, rewritten};
@@ -14,7 +15,7 @@ ghost use Rattle.av_filter_table.specs.Answering.{by_mode};
 ghost use Rattle.av_filter_table.specs.Asking.{asked_again, is_lost};
 ghost use Rattle.av_filter_table.specs.Rewriting.{change_by};
 ghost use Rattle.av_filter_table.specs.Table.{can_ask, context_of, is_modified, next_id, opens_of, question_of, sequence_left};
-ghost use Rattle.av_frame.specs.Message.{IsId};
+ghost use Rattle.av_frame.specs.Message.{IsId, via};
 ghost use Rattle.av_frame.specs.declared.message.Body.TheVariants.{Abort};
 ghost use Rattle.std.specs.Result.{result_err};
 ghost use Rattle.av_store.specs.Files.{Remove};
@@ -28,7 +29,7 @@ use crate::fault::FilterFault;
 use crate::note::Note;
 use crate::out::Out;
 use crate::running::{ask_scan, can_ask, is_there, running_of, scan_message};
-use av_base::{MessageId, Refusal, StreamId};
+use av_base::{MessageId, Port, Refusal, StreamId};
 use av_context::ContextState;
 use av_filter_table::{FilterTable, Question, Rewriting};
 use av_frame::Message;
@@ -73,10 +74,10 @@ fn rewrite_asked(
     requires runs { IsRunning table.old question.now }
     requires accepted { result_err (change_of volume.old (change_by question.now.stream rewriting)) ≡ None }
     ensures { MeetsAlways table.old volume.old table.new volume.new result (again table.old
-        (changed_volume volume.old (change_by question.now.stream rewriting.entry)) question.now (Abort question.now.id ∷ [])) }
+        (changed_volume volume.old (change_by question.now.stream rewriting.entry)) question.now (via One (Abort question.now.id) ∷ [])) }
 {
     let mut answers = room_for(table, alloc, question)?;
-    let abort = Message::abort(question.id);
+    let abort = Message::abort(Port::One, question.id);
     if !is_asked_again(table, question) {
         let mut messages = Vec::with_capacity(alloc, 1)?;
         accept(rewriting, volume, question.stream)?;
@@ -151,7 +152,7 @@ pub(crate) fn remove(
         return Ok(Out::says(alloc, Note::Quiet));
     };
     let mut answers = room_for(table, alloc, &question)?;
-    let abort = Message::abort(question.id);
+    let abort = Message::abort(Port::One, question.id);
     let mut messages = Vec::with_capacity(alloc, 1)?;
     take_away(volume, stream);
     close(table, volume, &question, Ending::Removed, &mut answers);

@@ -1,8 +1,9 @@
 ghost use Rattle.std.specs.Prelude.{◌≡◌, ◌≤◌, ◌<◌, IfOk, drop, length, take};
 ghost use Rattle.av_base.specs.declared.limits.TheConstants.{MAX_CHUNK, MAX_LENGTH};
+ghost use Rattle.av_base.specs.declared.port.Port.TheVariants.{One};
 ghost use Rattle.av_filter.specs.Call.{MeetsAlways, Reacts};
 ghost use Rattle.av_filter.specs.Fit.{Fits};
-ghost use Rattle.av_filter.specs.Receiving.{greeted, reads, receives, replies};
+ghost use Rattle.av_filter.specs.Receiving.{greeted, reads, receives, receives_at, replies};
 ghost use Rattle.av_filter_table.specs.Table.{question_at};
 ghost use Rattle.av_frame.specs.Message.{IsInRange, IsPart};
 ghost use Rattle.av_frame.specs.declared.message.Body.TheVariants.{Read};
@@ -12,7 +13,7 @@ use crate::closing::{refuse, settle};
 use crate::note::Note;
 use crate::out::Out;
 use crate::running::running_at;
-use av_base::{ByteList, Cause, MessageId, Version};
+use av_base::{ByteList, Cause, MessageId, Port, Version};
 use av_filter_table::FilterTable;
 use av_frame::{Body, Message, NoChunkCause, Outcome};
 use av_store::Volume;
@@ -20,7 +21,7 @@ use std::alloc::{AllocError, Global};
 use std::cmp::min;
 
 // A message of the scanning service.
-#[tactic(auto, unfolding(crate::specs::Receiving::receives))]
+#[tactic(auto, unfolding(crate::specs::Receiving::receives_at))]
 pub(crate) fn receive(
     table: &mut FilterTable,
     alloc: Global,
@@ -30,7 +31,25 @@ pub(crate) fn receive(
     requires { Fits table.old volume.now }
     ensures { MeetsAlways table.old volume.now table.new volume.now result (receives table.old volume.now message.now) }
 {
-    match message.body() {
+    match message.port() {
+        Port::One => receive_at_one(table, alloc, volume, message.body()),
+        Port::Two => Ok(Out::says(alloc, Note::Ignored)),
+    }
+}
+
+// A message that came at the first port.
+#[tactic(auto, unfolding(crate::specs::Receiving::receives_at))]
+fn receive_at_one(
+    table: &mut FilterTable,
+    alloc: Global,
+    volume: &Volume,
+    body: &Body,
+) -> Result<Out, AllocError>
+    requires fits { Fits table.old volume.now }
+    requires in_range { IsInRange body.now }
+    ensures { MeetsAlways table.old volume.now table.new volume.now result (receives_at table.old volume.now One body.now) }
+{
+    match body {
         Body::Hello {
             volume: number,
             version,
@@ -89,19 +108,25 @@ fn read(
     let Some(question) = running_at(table, id) else {
         return Out::sends(
             alloc,
-            Message::no_chunk(id, offset, NoChunkCause::NoQuestion),
+            Message::no_chunk(Port::One, id, offset, NoChunkCause::NoQuestion),
         );
     };
     let Some(bytes) = volume.content(question.stream) else {
-        return Out::sends(alloc, Message::no_chunk(id, offset, NoChunkCause::PastEnd));
+        return Out::sends(
+            alloc,
+            Message::no_chunk(Port::One, id, offset, NoChunkCause::PastEnd),
+        );
     };
     if bytes.len() as u64 <= offset {
-        return Out::sends(alloc, Message::no_chunk(id, offset, NoChunkCause::PastEnd));
+        return Out::sends(
+            alloc,
+            Message::no_chunk(Port::One, id, offset, NoChunkCause::PastEnd),
+        );
     }
     let _ranges = volume.limits();
     let most = min(u64::from(count), table.limits().values().chunk);
     let chunk = part(alloc, bytes, offset, most)?;
-    Out::sends(alloc, Message::chunk(id, offset, chunk))
+    Out::sends(alloc, Message::chunk(Port::One, id, offset, chunk))
 }
 
 // The service replies.

@@ -1,15 +1,16 @@
 ghost use Rattle.std.specs.Prelude.{◌≡◌, ◌≤◌, true, None, IfOk, IfSome, OnErr, OnOk, is_some, length};
 ghost use Rattle.std.specs.List.{AllByRecursion};
+ghost use Rattle.av_base.specs.declared.port.Port.TheVariants.{One};
 ghost use Rattle.av_filter.specs.Fit.{AreInOrder, IsGiven, IsThere};
 ghost use Rattle.av_filter.specs.Ready.{IsRunning};
 ghost use Rattle.av_filter_table.specs.Answering.{present_bytes, present_generation};
 ghost use Rattle.av_filter_table.specs.Asking.{asks};
 ghost use Rattle.av_filter_table.specs.Table.{next_id, can_ask, has_room, question_at, question_of, sequence_left};
-ghost use Rattle.av_frame.specs.Message.{IsId};
+ghost use Rattle.av_frame.specs.Message.{IsId, via};
 ghost use Rattle.av_frame.specs.declared.message.Body.TheVariants.{Scan};
 ghost use Rattle.av_store.specs.Rows.{stream_at};
 
-use av_base::{MessageId, StreamId};
+use av_base::{MessageId, Port, StreamId};
 use av_filter_table::present::generation_now;
 use av_filter_table::{FilterTable, Question};
 use av_frame::Message;
@@ -43,10 +44,11 @@ pub(crate) fn running_of(table: &FilterTable, stream: StreamId) -> Option<Questi
 pub(crate) fn scan_message(volume: &Volume, id: MessageId, stream: StreamId) -> Message
     requires id { IsId id }
     requires there { IsThere volume.now.streams stream }
-    ensures { result ≡ Scan id stream (present_generation volume.now stream) (length (present_bytes volume.now stream)) }
+    ensures { result ≡ via One (Scan id stream (present_generation volume.now stream) (length (present_bytes volume.now stream))) }
 {
     let _ranges = volume.limits();
     Message::scan(
+        Port::One,
         id,
         stream,
         generation_now(volume, stream),

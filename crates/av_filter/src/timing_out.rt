@@ -9,7 +9,7 @@ use crate::closing::refuse;
 use crate::note::Note;
 use crate::out::Out;
 use crate::running::running_at;
-use av_base::{Cause, MessageId};
+use av_base::{Cause, MessageId, Port};
 use av_filter_table::FilterTable;
 use av_frame::Message;
 use av_store::Volume;
@@ -34,7 +34,7 @@ pub(crate) fn time_out(
     let Some(question) = running_at(table, id) else {
         return Ok(Out::says(alloc, Note::NoWaiter));
     };
-    let abort = Message::abort(question.id);
+    let abort = Message::abort(Port::One, question.id);
     let mut messages = Vec::with_capacity(alloc, 1)?;
     let answers = refuse(table, alloc, volume, &question, Cause::TimedOut)?;
     messages.push(abort).unwrap();

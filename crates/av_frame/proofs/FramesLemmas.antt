@@ -6,8 +6,7 @@ use Rattle.std.proofs.lemmas.List.{nil_from_length}
 use Rattle.std.proofs.lemmas.List.Concat.{flat_map-cons}
 use Rattle.std.proofs.Math.Seq.{drop-append_seam}
 use Rattle.av_frame.specs.declared.fault.FrameFault.{FrameFault}
-use Rattle.av_frame.specs.declared.message.Body.{Body}
-use Rattle.av_frame.specs.Message.{IsInRange}
+use Rattle.av_frame.specs.Message.{IsLetter, Letter}
 use Rattle.av_frame.specs.Spelling.{frame, spelling}
 use Rattle.av_frame.specs.declared.fault.FeedFault.{FeedFault}
 use Rattle.av_frame.specs.declared.fault.FeedFault.TheVariants.{Broken}
@@ -28,12 +27,12 @@ ended bytes (Some f) e others = ap (by_front others bytes) e
 
 ended_at_once : (fault : Option FrameFault) → Ends [] fault → None ≡ fault
 ended_at_once None e = refl
-ended_at_once (Some f) e = let clash : ◌≡◌ {A = Result (Option (Body × ℕ)) FrameFault} (Ok None) (Err f) = sym front_of-nil ∙ e in absurd cc
+ended_at_once (Some f) e = let clash : ◌≡◌ {A = Result (Option (Letter × ℕ)) FrameFault} (Ok None) (Err f) = sym front_of-nil ∙ e in absurd cc
 
-behind_frame : (m : Body) (more : List ℕ) → drop (4 + length (spelling m)) (frame m ++ more) ≡ more
+behind_frame : (m : Letter) (more : List ℕ) → drop (4 + length (spelling m)) (frame m ++ more) ≡ more
 behind_frame m more = ap (λ n. drop n (frame m ++ more)) (sym (length-frame m)) ∙ drop-append_seam (frame m) more
 
-within_is : (turns : ℕ) (bytes : List ℕ) (messages : List Body) (rest : List ℕ) (fault : Option FrameFault) → length bytes ≤ turns → bytes ≡ flat_map frame messages ++ rest → AllByRecursion IsInRange messages → Ends rest fault → frames_within turns bytes ≡ record { messages = messages; rest = rest; fault = fault }
+within_is : (turns : ℕ) (bytes : List ℕ) (messages : List Letter) (rest : List ℕ) (fault : Option FrameFault) → length bytes ≤ turns → bytes ≡ flat_map frame messages ++ rest → AllByRecursion IsLetter messages → Ends rest fault → frames_within turns bytes ≡ record { messages = messages; rest = rest; fault = fault }
 unfolding frames_within
 within_is zero bytes [] rest fault short whole fits ends =
     let none : bytes ≡ [] = nil_from_length bytes (omega (arith, short)) in
@@ -64,7 +63,7 @@ frames_are bytes frames are = within_is (length bytes) bytes frames.messages fra
 IsBytes-behind : (bytes : List ℕ) (n : ℕ) → IsBytes bytes → IsBytes (drop n bytes)
 IsBytes-behind bytes n fits i = rw get_or-drop (fits (n + i))
 
-onto_are : (m : Body) (bytes more : List ℕ) (frames : Frames) → IsInRange m → bytes ≡ frame m ++ more → AreFrames more frames → AreFrames bytes (onto m frames)
+onto_are : (m : Letter) (bytes more : List ℕ) (frames : Frames) → IsLetter m → bytes ≡ frame m ++ more → AreFrames more frames → AreFrames bytes (onto m frames)
 onto_are m bytes more frames fits parts are = record {
   whole = parts ∙ ap (λ b. frame m ++ b) are.whole ∙ sym (append_assoc (frame m) (flat_map frame frames.messages) frames.rest) ∙ ap (λ b. b ++ frames.rest) (sym (flat_map-cons frame m frames.messages));
   in_range = (fits, are.in_range);
@@ -92,10 +91,10 @@ are_frames bytes fits = within_are (length bytes) bytes fits (omega arith)
 
 -- ---- two frames that begin the same bytes
 
-front_pair : (m n : Body) (j k : ℕ) → ◌≡◌ {A = Result (Option (Body × ℕ)) FrameFault} (Ok (Some (m, j))) (Ok (Some (n, k))) → m ≡ n
-front_pair m n j k e = let pairs : ◌≡◌ {A = Body × ℕ} (m, j) (n, k) = cc in ap (λ p. p.0) pairs
+front_pair : (m n : Letter) (j k : ℕ) → ◌≡◌ {A = Result (Option (Letter × ℕ)) FrameFault} (Ok (Some (m, j))) (Ok (Some (n, k))) → m ≡ n
+front_pair m n j k e = let pairs : ◌≡◌ {A = Letter × ℕ} (m, j) (n, k) = cc in ap (λ p. p.0) pairs
 
-pub frames_part : (m n : Body) (x y : List ℕ) → IsInRange m → IsInRange n → frame m ++ x ≡ frame n ++ y → (m ≡ n) × (x ≡ y)
+pub frames_part : (m n : Letter) (x y : List ℕ) → IsLetter m → IsLetter n → frame m ++ x ≡ frame n ++ y → (m ≡ n) × (x ≡ y)
 frames_part m n x y fits others e =
     let same : m ≡ n = front_pair m n _ _ (sym (front_of-frame m x fits) ∙ ap front_of e ∙ front_of-frame n y others) in
     (same, sym (behind_frame m x) ∙ ap (drop (4 + length (spelling m))) (e ∙ ap (λ b. frame b ++ y) (sym same)) ∙ behind_frame m y)
@@ -103,12 +102,12 @@ frames_part m n x y fits others e =
 -- ---- pieces of a stream
 
 -- what was read of a stream ends in a fault, and more of the stream was not looked at
-pub faulty : (stream rest more : List ℕ) (messages : List Body) (f : FrameFault) → (flat_map frame messages ++ rest) ++ more ≡ stream → AllByRecursion IsInRange messages → Ends rest (Some f) → frames_of stream ≡ record { messages = messages; rest = rest ++ more; fault = Some f }
+pub faulty : (stream rest more : List ℕ) (messages : List Letter) (f : FrameFault) → (flat_map frame messages ++ rest) ++ more ≡ stream → AllByRecursion IsLetter messages → Ends rest (Some f) → frames_of stream ≡ record { messages = messages; rest = rest ++ more; fault = Some f }
 faulty stream rest more messages f whole fits ends =
     frames_are stream _ (record { whole = sym whole ∙ append_assoc (flat_map frame messages) rest more; in_range = fits; ends = front_of-more rest more f ends })
 
 -- all of a stream was read
-pub waiting : (stream rest : List ℕ) (messages : List Body) → flat_map frame messages ++ rest ≡ stream → AllByRecursion IsInRange messages → Ends rest None → frames_of stream ≡ record { messages = messages; rest = rest; fault = None }
+pub waiting : (stream rest : List ℕ) (messages : List Letter) → flat_map frame messages ++ rest ≡ stream → AllByRecursion IsLetter messages → Ends rest None → frames_of stream ≡ record { messages = messages; rest = rest; fault = None }
 waiting stream rest messages whole fits ends =
     frames_are stream _ (record { whole = sym whole; in_range = fits; ends = ends })
 

@@ -14,7 +14,7 @@ use Rattle.av_frame.specs.declared.fault.FrameFault.TheVariants as fault
 use Rattle.av_frame.specs.declared.message.Body.{Body}
 use Rattle.av_frame.specs.declared.message.Body.TheVariants.{Scan, Chunk, NoChunk, Abort, Hello, Read, Reply, Updated}
 use Rattle.av_frame.specs.declared.sizes.TheConstants.{MAX_BODY}
-use Rattle.av_frame.specs.Message.{IsInRange}
+use Rattle.av_frame.specs.Message.{IsInRange, IsLetter, Letter}
 use Rattle.av_frame.specs.Spelling.{spelling, size_of, frame, field4}
 use Rattle.av_frame.specs.Reading.{number4, decoded}
 use Rattle.av_base.specs.Answers.{Reads}
@@ -39,20 +39,20 @@ size_bounds (Reply id (Judged version (Infected index end_at))) fits = (omega ar
 size_bounds (Reply id (Failed cause)) fits = (omega arith, omega arith)
 size_bounds (Updated version) fits = (omega arith, omega arith)
 
-pub spelling_bounds : (m : Body) → IsInRange m → (1 ≤ length (spelling m)) × (length (spelling m) ≤ MAX_BODY)
-spelling_bounds m fits = rw length-spelling (size_bounds m fits)
+pub spelling_bounds : (m : Letter) → IsLetter m → (1 ≤ length (spelling m)) × (length (spelling m) ≤ MAX_BODY)
+spelling_bounds m fits = rw length-spelling (size_bounds m.body fits)
 
-pub length-frame : (m : Body) → length (frame m) ≡ 4 + length (spelling m)
+pub length-frame : (m : Letter) → length (frame m) ≡ 4 + length (spelling m)
 unfolding field4
 length-frame m = omega arith
 
 -- ---- the front by its numbers
 
-abbrev front_by : ℕ → ℕ → Result Body FrameFault → Result (Option (Body × ℕ)) FrameFault
+abbrev front_by : ℕ → ℕ → Result Letter FrameFault → Result (Option (Letter × ℕ)) FrameFault
 front_by len n r =
     cond (nat_lt len 4) (Ok None) (cond (nat_eq n 0 || nat_lt MAX_BODY n) (Err fault.Length) (cond (nat_lt len (4 + n)) (Ok None) (with_size (4 + n) r)))
 
-front_by-whole : (len n : ℕ) (r : Result Body FrameFault) → 1 ≤ n → n ≤ MAX_BODY → 4 + n ≤ len → front_by len n r ≡ with_size (4 + n) r
+front_by-whole : (len n : ℕ) (r : Result Letter FrameFault) → 1 ≤ n → n ≤ MAX_BODY → 4 + n ≤ len → front_by len n r ≡ with_size (4 + n) r
 front_by-whole len n r low high long =
     let enough : nat_lt len 4 ≡ false = le-ltb _ _ (omega arith) in
     let good : (nat_eq n 0 || nat_lt MAX_BODY n) ≡ false = grind (arith, nat_tests) in
@@ -60,7 +60,7 @@ front_by-whole len n r low high long =
     rw (enough, good, whole) refl
 
 -- a message's frame at the front is found
-pub front_of-frame : (m : Body) (more : List ℕ) → IsInRange m → front_of (frame m ++ more) ≡ Ok (Some (m, 4 + length (spelling m)))
+pub front_of-frame : (m : Letter) (more : List ℕ) → IsLetter m → front_of (frame m ++ more) ≡ Ok (Some (m, 4 + length (spelling m)))
 unfolding front_of field4
 front_of-frame m more fits =
     let n = length (spelling m) in
@@ -77,7 +77,7 @@ front_of-frame m more fits =
 -- ---- what is found is a message's frame
 
 -- a body that was read stands in its frame
-pub body_framed : (bytes : List ℕ) (m : Body) → IsBytes bytes → 4 + number4 bytes 0 ≤ length bytes → decoded (take (number4 bytes 0) (drop 4 bytes)) ≡ Ok m → IsInRange m × (bytes ≡ frame m ++ drop (4 + number4 bytes 0) bytes) × (number4 bytes 0 ≡ length (spelling m))
+pub body_framed : (bytes : List ℕ) (m : Letter) → IsBytes bytes → 4 + number4 bytes 0 ≤ length bytes → decoded (take (number4 bytes 0) (drop 4 bytes)) ≡ Ok m → IsLetter m × (bytes ≡ frame m ++ drop (4 + number4 bytes 0) bytes) × (number4 bytes 0 ≡ length (spelling m))
 unfolding field4
 body_framed bytes m fits long e =
     let n = number4 bytes 0 in
@@ -91,14 +91,14 @@ body_framed bytes m fits long e =
     let whole : bytes ≡ to_be_bytes w32 n ++ (spelling m ++ drop (4 + n) bytes) = front ∙ ap (λ xs. to_be_bytes w32 n ++ xs) rest in
     (spells.0, whole ∙ ap (λ k. to_be_bytes w32 k ++ (spelling m ++ drop (4 + n) bytes)) size, size)
 
-with_size_is : (k : ℕ) (r : Result Body FrameFault) (m : Body) (size : ℕ) → with_size k r ≡ Ok (Some (m, size)) → (r ≡ Ok m) × (k ≡ size)
+with_size_is : (k : ℕ) (r : Result Letter FrameFault) (m : Letter) (size : ℕ) → with_size k r ≡ Ok (Some (m, size)) → (r ≡ Ok m) × (k ≡ size)
 with_size_is k (Ok x) m size e =
-    let pairs : ◌≡◌ {A = Body × ℕ} (x, k) (m, size) = cc in
+    let pairs : ◌≡◌ {A = Letter × ℕ} (x, k) (m, size) = cc in
     (ap (λ p. Ok p.0) pairs, ap (λ p. p.1) pairs)
 with_size_is k (Err f) m size e = absurd cc
 
 -- the front is a message's frame
-pub front_framed : (bytes : List ℕ) (m : Body) (size : ℕ) → IsBytes bytes → front_of bytes ≡ Ok (Some (m, size)) → IsInRange m × (bytes ≡ frame m ++ drop size bytes) × (size ≡ 4 + length (spelling m))
+pub front_framed : (bytes : List ℕ) (m : Letter) (size : ℕ) → IsBytes bytes → front_of bytes ≡ Ok (Some (m, size)) → IsLetter m × (bytes ≡ frame m ++ drop size bytes) × (size ≡ 4 + length (spelling m))
 unfolding front_of
 front_framed bytes m size fits e =
     let n = number4 bytes 0 in
@@ -129,12 +129,12 @@ body-more a b n long =
     ap (take n) (drop-append-le 4 a b (omega arith)) ∙ take-append-le n (drop 4 a) b (omega (arith, length-drop 4 a))
 
 -- the front's numbers once its length is there
-front_by-bad : (len n : ℕ) (r : Result Body FrameFault) → 4 ≤ len → (nat_eq n 0 || nat_lt MAX_BODY n) ≡ true → front_by len n r ≡ Err fault.Length
+front_by-bad : (len n : ℕ) (r : Result Letter FrameFault) → 4 ≤ len → (nat_eq n 0 || nat_lt MAX_BODY n) ≡ true → front_by len n r ≡ Err fault.Length
 front_by-bad len n r long bad =
     let enough : nat_lt len 4 ≡ false = le-ltb _ _ long in
     rw (enough, bad) refl
 
-front_by-good : (len n : ℕ) (r : Result Body FrameFault) → (nat_eq n 0 || nat_lt MAX_BODY n) ≡ false → 4 + n ≤ len → front_by len n r ≡ with_size (4 + n) r
+front_by-good : (len n : ℕ) (r : Result Letter FrameFault) → (nat_eq n 0 || nat_lt MAX_BODY n) ≡ false → 4 + n ≤ len → front_by len n r ≡ with_size (4 + n) r
 front_by-good len n r good long =
     let enough : nat_lt len 4 ≡ false = le-ltb _ _ (omega arith) in
     let whole : nat_lt len (4 + n) ≡ false = le-ltb _ _ long in
@@ -167,23 +167,23 @@ front_of-more a b f e =
     ]
 
 -- where the decoder found a message there is a frame
-pub decoded_framed : (bytes : List ℕ) → IsBytes bytes → 4 + number4 bytes 0 ≤ length bytes → IsOk (decoded (take (number4 bytes 0) (drop 4 bytes))) → (m : Body) × (more : List ℕ) × IsInRange m × (bytes ≡ frame m ++ more)
+pub decoded_framed : (bytes : List ℕ) → IsBytes bytes → 4 + number4 bytes 0 ≤ length bytes → IsOk (decoded (take (number4 bytes 0) (drop 4 bytes))) → (m : Letter) × (more : List ℕ) × IsLetter m × (bytes ≡ frame m ++ more)
 decoded_framed bytes fits long ok =
     let body = take (number4 bytes 0) (drop 4 bytes) in
-    (elim (decoded body) as (λ r. decoded body ≡ r → IsOk r → (m : Body) × (more : List ℕ) × IsInRange m × (bytes ≡ frame m ++ more)) [
+    (elim (decoded body) as (λ r. decoded body ≡ r → IsOk r → (m : Letter) × (more : List ℕ) × IsLetter m × (bytes ≡ frame m ++ more)) [
       | Ok m ↦ λ e _. let framed = body_framed bytes m fits long e in (m, drop (4 + number4 bytes 0) bytes, framed.0, framed.1)
       | Err f ↦ λ e no_message. absurd cc
     ]) refl ok
 
 -- the same of a body that was cut out of the bytes
-pub cut_framed : (bytes behind body : List ℕ) (size : ℕ) (m : Body) → IsBytes bytes → size ≡ number4 bytes 0 → 4 + size ≤ length bytes → behind ≡ drop 4 bytes → body ≡ take size behind → decoded body ≡ Ok m → IsInRange m × (bytes ≡ frame m ++ drop (4 + size) bytes)
+pub cut_framed : (bytes behind body : List ℕ) (size : ℕ) (m : Letter) → IsBytes bytes → size ≡ number4 bytes 0 → 4 + size ≤ length bytes → behind ≡ drop 4 bytes → body ≡ take size behind → decoded body ≡ Ok m → IsLetter m × (bytes ≡ frame m ++ drop (4 + size) bytes)
 cut_framed bytes behind body size m fits is long first second e =
     let cut : body ≡ take (number4 bytes 0) (drop 4 bytes) = second ∙ ap (take size) first ∙ ap (λ k. take k (drop 4 bytes)) is in
     let framed = body_framed bytes m fits (omega (arith, is)) (ap decoded (sym cut) ∙ e) in
     (framed.0, framed.1 ∙ ap (λ k. frame m ++ drop (4 + k) bytes) (sym is))
 
-pub cut_begins : (bytes behind body : List ℕ) (size : ℕ) (refusal : Refusal FrameFault) → IsBytes bytes → size ≡ number4 bytes 0 → 4 + size ≤ length bytes → behind ≡ drop 4 bytes → body ≡ take size behind → Reads {A = Body} (Err refusal) (decoded body) → refusal ≡ NoMemory → BeginsWithFrame bytes
+pub cut_begins : (bytes behind body : List ℕ) (size : ℕ) (refusal : Refusal FrameFault) → IsBytes bytes → size ≡ number4 bytes 0 → 4 + size ≤ length bytes → behind ≡ drop 4 bytes → body ≡ take size behind → Reads {A = Letter} (Err refusal) (decoded body) → refusal ≡ NoMemory → BeginsWithFrame bytes
 cut_begins bytes behind body size refusal fits is long first second reads none =
     let cut : body ≡ take (number4 bytes 0) (drop 4 bytes) = second ∙ ap (take size) first ∙ ap (λ k. take k (drop 4 bytes)) is in
-    let ok : IsOk (decoded body) = subst (λ r. Reads {A = Body} (Err r) (decoded body)) none reads in
+    let ok : IsOk (decoded body) = subst (λ r. Reads {A = Letter} (Err r) (decoded body)) none reads in
     decoded_framed bytes fits (omega (arith, is)) (subst (λ b. IsOk (decoded b)) cut ok)

@@ -2,9 +2,8 @@
 use Rattle.std.proofs.Common.{◌≡◌, List, [], ◌∷◌, ◌++◌, Result, Ok, sym, ◌∙◌, ap, subst, append-nil, append_assoc}
 use Rattle.std.specs.List.{flat_map, AllByRecursion}
 use Rattle.std.proofs.lemmas.Grind.{flat_map-append}
-use Rattle.av_frame.specs.Message.{IsInRange}
+use Rattle.av_frame.specs.Message.{IsLetter, Letter}
 use Rattle.av_frame.specs.declared.fault.FrameFault.{FrameFault}
-use Rattle.av_frame.specs.declared.message.Body.{Body}
 use Rattle.av_frame.specs.Spelling.{frame}
 use Rattle.av_frame.specs.Reading.{decoded}
 use Rattle.av_frame.specs.Frames.{AreFrames, frames_of}
@@ -23,7 +22,7 @@ reads_spellings body bytes m = (decoded_spells body m bytes, λ spells. ap decod
 pub has_one_spelling : HasOneSpelling
 has_one_spelling m one other first second = first.1 ∙ sym second.1
 
-same_ok : (m n : Body) → ◌≡◌ {A = Result Body FrameFault} (Ok m) (Ok n) → m ≡ n
+same_ok : (m n : Letter) → ◌≡◌ {A = Result Letter FrameFault} (Ok m) (Ok n) → m ≡ n
 same_ok m n e = cc
 
 pub spells_one_message : SpellsOneMessage
@@ -42,7 +41,7 @@ spells_one_list bytes fits frames = (frames_are bytes frames, λ e. subst (AreFr
 pub fault_stays : FaultStays
 fault_stays rest more f ends = front_of-more rest more f ends
 
-all_more : (xs ys : List Body) → AllByRecursion IsInRange xs → AllByRecursion IsInRange ys → AllByRecursion IsInRange (xs ++ ys)
+all_more : (xs ys : List Letter) → AllByRecursion IsLetter xs → AllByRecursion IsLetter ys → AllByRecursion IsLetter (xs ++ ys)
 all_more [] ys first second = second
 all_more (x ∷ xs) ys first second = (first.0, all_more xs ys first.1 second)
 

@@ -1,6 +1,6 @@
 -- What is read is spelled so.
 use Rattle.std.proofs.Common.{ℕ, ◌≡◌, ◌+◌, ◌≤◌, ◌<◌, ◌^◌, List, [], ◌∷◌, ◌++◌, length, take, drop, get_or, Bool, true, false, cond, nat_eq, ◌⊎◌, inl, inr, Result, Ok, Err, refl, sym, ◌∙◌, ap, subst, arith, length-drop, drop-cons, add-one}
-use Rattle.std.specs.Prelude.{Some, None, slice_index}
+use Rattle.std.specs.Prelude.{Option, Some, None, slice_index}
 use Rattle.std.specs.Int.{w32, w64, to_be_bytes, from_be_bytes}
 use Rattle.std.proofs.lemmas.Nat.{be_bytes_4, be_bytes_8}
 use Rattle.std.proofs.lemmas.List.{take-append-drop, length-take, get_or-take, get_or-drop, get_or_past, drop-drop}
@@ -8,6 +8,9 @@ use Rattle.std.proofs.lemmas.Bool.{cases_lt, eqb-true, ltb-true}
 use Rattle.std.proofs.Math.ListN.{drop_of_length-le}
 use Rattle.std.proofs.lemmas.Bool.Decides.{nat_tests}
 use Rattle.av_base.specs.declared.message_id.MessageId.{MessageId}
+use Rattle.av_base.specs.Port.{port_number, port_of}
+use Rattle.av_base.specs.declared.port.Port.{Port}
+use Rattle.av_base.specs.declared.port.Port.TheVariants as port
 use Rattle.av_base.specs.declared.verdict.Verdict.TheVariants.{Clean, Infected}
 use Rattle.av_frame.specs.declared.cause.NoChunkCause.{NoChunkCause}
 use Rattle.av_frame.specs.declared.cause.NoChunkCause.TheVariants.{NoQuestion, PastEnd}
@@ -21,9 +24,9 @@ use Rattle.av_frame.specs.declared.message.Body.{Body}
 use Rattle.av_frame.specs.declared.message.Body.TheVariants.{Scan, Chunk, NoChunk, Abort, Hello, Read, Reply, Updated}
 use Rattle.av_frame.specs.Cause.{no_chunk_number, no_chunk_cause, fail_number, fail_cause}
 use Rattle.av_frame.specs.declared.sizes.TheConstants.{CHUNK_HEADER}
-use Rattle.av_frame.specs.Message.{IsInRange, in_range}
-use Rattle.av_frame.specs.Spelling.{spelling, Spells, id_fields, field8, field4}
-use Rattle.av_frame.specs.Reading.{number8, number4, id_at, checked, scan_of, chunk_of, no_chunk_with, no_chunk_of, abort_of, hello_of, read_of, clean_of, infected_of, failed_with, failed_of, reply_of, updated_of, plain_of, decoded}
+use Rattle.av_frame.specs.Message.{IsInRange, in_range, Letter, via}
+use Rattle.av_frame.specs.Spelling.{fields, kind_of, Spells, id_fields, field8, field4}
+use Rattle.av_frame.specs.Reading.{number8, number4, id_at, port_at, checked, scan_of, chunk_of, no_chunk_with, no_chunk_of, abort_of, hello_of, read_of, clean_of, infected_of, failed_with, failed_of, reply_of, updated_of, plain_of, decoded}
 
 -- ---- tests that decide
 
@@ -41,9 +44,16 @@ failed : {A : Type 0} (b : Bool) (r : Result A FrameFault) (d : FrameFault) (y :
 failed true r d y e = absurd cc
 failed false r d y e = (refl, e)
 
-checked_is : (m n : Body) → checked m ≡ Ok n → (in_range m ≡ true) × (m ≡ n)
+-- a message that was taken is that of its port and fields
+checked_is : (at : Option Port) (m : Body) (n : Letter) → checked at m ≡ Ok n → (port : Port) × (at ≡ Some port) × (in_range m ≡ true) × (via port m ≡ n)
 unfolding checked
-checked_is m n e = let p = passed (in_range m) (Ok m) fault.Range n e in (p.0, cc)
+checked_is None m n e = absurd cc
+checked_is (Some port) m n e = let p = passed (in_range m) (Ok (via port m)) fault.Range n e in (port, refl, p.0, cc)
+
+-- the port that was found has the number that was read
+port_numbered : (n : ℕ) (port : Port) → port_of n ≡ Some port → n ≡ port_number port
+port_numbered n port.One e = grind (arith, nat_tests)
+port_numbered n port.Two e = grind (arith, nat_tests)
 
 -- ---- bytes and numbers
 
@@ -157,13 +167,17 @@ in_range_means (Reply id (Failed cause)) fits tests = grind (arith, nat_tests)
 in_range_means (Updated version) fits tests = grind (arith, nat_tests)
 
 id_fits : (bytes : List ℕ) → IsBytes bytes → IdFits (id_at bytes)
-id_fits bytes fits = (number8-lt bytes 1 fits, number8-lt bytes 9 fits)
+id_fits bytes fits = (number8-lt bytes 2 fits, number8-lt bytes 10 fits)
 
--- fields that pass are the message, and the body spells them
-spelled : (bytes : List ℕ) (read m : Body) → Fits read → bytes ≡ spelling read → checked read ≡ Ok m → Spells bytes m
+-- a body of these fields, whose port is not looked at yet
+abbrev behind : List ℕ → Body → List ℕ
+behind bytes read = kind_of read ∷ slice_index bytes 1 ∷ fields read
+
+-- fields that pass are the message, and the body spells them behind its kind and its port
+spelled : (bytes : List ℕ) (read : Body) (m : Letter) → Fits read → bytes ≡ behind bytes read → checked (port_at bytes) read ≡ Ok m → Spells bytes m
 spelled bytes read m fits whole e =
-    let c = checked_is read m e in
-    subst (Spells bytes) c.1 (in_range_means read fits c.0, whole)
+    let c = checked_is (port_at bytes) read m e in
+    subst (Spells bytes) c.3 (in_range_means read fits c.2, whole ∙ ap (λ n. kind_of read ∷ n ∷ fields read) (port_numbered (slice_index bytes 1) c.0 c.1))
 
 -- a cause that was found has the number that was read
 no_chunk_numbered : (n : ℕ) (cause : NoChunkCause) → no_chunk_cause n ≡ Some cause → n ≡ no_chunk_number cause
@@ -176,88 +190,88 @@ fail_numbered n PastLength e = grind (arith, nat_tests)
 
 -- ---- kind by kind
 
-scan_takes : (bytes : List ℕ) (m : Body) → IsBytes bytes → slice_index bytes 0 ≡ 1 → scan_of bytes ≡ Ok m → Spells bytes m
+scan_takes : (bytes : List ℕ) (m : Letter) → IsBytes bytes → slice_index bytes 0 ≡ 1 → scan_of bytes ≡ Ok m → Spells bytes m
 unfolding scan_of field8
 scan_takes bytes m fits kind e =
     let p = passed _ _ _ _ e in
-    let whole : bytes ≡ spelling (Scan (id_at bytes) (number8 bytes 17) (number8 bytes 25) (number8 bytes 33)) = body_is 1 (Eight ∷ Eight ∷ Eight ∷ Eight ∷ Eight ∷ []) bytes fits kind (eqb-true _ _ p.0) in
-    spelled bytes _ m (id_fits bytes fits, number8-lt bytes 17 fits) whole p.1
+    let whole : bytes ≡ behind bytes (Scan (id_at bytes) (number8 bytes 18) (number8 bytes 26) (number8 bytes 34)) = body_is 1 (One ∷ Eight ∷ Eight ∷ Eight ∷ Eight ∷ Eight ∷ []) bytes fits kind (eqb-true _ _ p.0) in
+    spelled bytes _ m (id_fits bytes fits, number8-lt bytes 18 fits) whole p.1
 
-chunk_takes : (bytes : List ℕ) (m : Body) → IsBytes bytes → slice_index bytes 0 ≡ 2 → chunk_of bytes ≡ Ok m → Spells bytes m
+chunk_takes : (bytes : List ℕ) (m : Letter) → IsBytes bytes → slice_index bytes 0 ≡ 2 → chunk_of bytes ≡ Ok m → Spells bytes m
 unfolding chunk_of field8
 chunk_takes bytes m fits kind e =
     let p = passed _ _ _ _ e in
     let long : CHUNK_HEADER < length bytes = ltb-true _ _ p.0 in
-    let whole : bytes ≡ spelling (Chunk (id_at bytes) (number8 bytes 17) (drop CHUNK_HEADER bytes)) =
-    one bytes 0 (omega arith) ∙ ap (λ b. b ∷ drop 1 bytes) kind ∙ ap (λ xs. 2 ∷ xs) (parts_are (Eight ∷ Eight ∷ Eight ∷ []) 1 bytes fits (omega arith)) in
+    let whole : bytes ≡ behind bytes (Chunk (id_at bytes) (number8 bytes 18) (drop CHUNK_HEADER bytes)) =
+    one bytes 0 (omega arith) ∙ ap (λ b. b ∷ drop 1 bytes) kind ∙ ap (λ xs. 2 ∷ xs) (parts_are (One ∷ Eight ∷ Eight ∷ Eight ∷ []) 1 bytes fits (omega arith)) in
     spelled bytes _ m (id_fits bytes fits) whole p.1
 
-no_chunk_takes : (bytes : List ℕ) (m : Body) → IsBytes bytes → slice_index bytes 0 ≡ 3 → no_chunk_of bytes ≡ Ok m → Spells bytes m
+no_chunk_takes : (bytes : List ℕ) (m : Letter) → IsBytes bytes → slice_index bytes 0 ≡ 3 → no_chunk_of bytes ≡ Ok m → Spells bytes m
 unfolding no_chunk_of field8
 no_chunk_takes bytes m fits kind e =
     let p = passed _ _ _ _ e in
-    let whole : bytes ≡ 3 ∷ parts_from (Eight ∷ Eight ∷ Eight ∷ One ∷ []) 1 bytes [] = body_is 3 (Eight ∷ Eight ∷ Eight ∷ One ∷ []) bytes fits kind (eqb-true _ _ p.0) in
-    (elim (no_chunk_cause (slice_index bytes 25)) as (λ o. no_chunk_cause (slice_index bytes 25) ≡ o → no_chunk_with (id_at bytes) (number8 bytes 17) o ≡ Ok m → Spells bytes m) [
+    let whole : bytes ≡ 3 ∷ parts_from (One ∷ Eight ∷ Eight ∷ Eight ∷ One ∷ []) 1 bytes [] = body_is 3 (One ∷ Eight ∷ Eight ∷ Eight ∷ One ∷ []) bytes fits kind (eqb-true _ _ p.0) in
+    (elim (no_chunk_cause (slice_index bytes 26)) as (λ o. no_chunk_cause (slice_index bytes 26) ≡ o → no_chunk_with (port_at bytes) (id_at bytes) (number8 bytes 18) o ≡ Ok m → Spells bytes m) [
       | None ↦ λ is none. absurd cc
       | Some cause ↦ λ is some.
-          let number : slice_index bytes 25 ≡ no_chunk_number cause = no_chunk_numbered _ cause is in
-          spelled bytes _ m (id_fits bytes fits) (whole ∙ ap (λ n. 3 ∷ ((id_fields (id_at bytes) ++ field8 (number8 bytes 17)) ++ n ∷ [])) number) some
+          let number : slice_index bytes 26 ≡ no_chunk_number cause = no_chunk_numbered _ cause is in
+          spelled bytes _ m (id_fits bytes fits) (whole ∙ ap (λ n. 3 ∷ slice_index bytes 1 ∷ ((id_fields (id_at bytes) ++ field8 (number8 bytes 18)) ++ n ∷ [])) number) some
     ]) refl p.1
 
-abort_takes : (bytes : List ℕ) (m : Body) → IsBytes bytes → slice_index bytes 0 ≡ 4 → abort_of bytes ≡ Ok m → Spells bytes m
+abort_takes : (bytes : List ℕ) (m : Letter) → IsBytes bytes → slice_index bytes 0 ≡ 4 → abort_of bytes ≡ Ok m → Spells bytes m
 unfolding abort_of field8
 abort_takes bytes m fits kind e =
     let p = passed _ _ _ _ e in
-    let whole : bytes ≡ spelling (Abort (id_at bytes)) = body_is 4 (Eight ∷ Eight ∷ []) bytes fits kind (eqb-true _ _ p.0) in
+    let whole : bytes ≡ behind bytes (Abort (id_at bytes)) = body_is 4 (One ∷ Eight ∷ Eight ∷ []) bytes fits kind (eqb-true _ _ p.0) in
     spelled bytes _ m (id_fits bytes fits) whole p.1
 
-hello_takes : (bytes : List ℕ) (m : Body) → IsBytes bytes → slice_index bytes 0 ≡ 5 → hello_of bytes ≡ Ok m → Spells bytes m
+hello_takes : (bytes : List ℕ) (m : Letter) → IsBytes bytes → slice_index bytes 0 ≡ 5 → hello_of bytes ≡ Ok m → Spells bytes m
 unfolding hello_of field8
 hello_takes bytes m fits kind e =
     let p = passed _ _ _ _ e in
-    let whole : bytes ≡ spelling (Hello (number8 bytes 1) (number8 bytes 9)) = body_is 5 (Eight ∷ Eight ∷ []) bytes fits kind (eqb-true _ _ p.0) in
-    spelled bytes _ m (number8-lt bytes 1 fits, number8-lt bytes 9 fits) whole p.1
+    let whole : bytes ≡ behind bytes (Hello (number8 bytes 2) (number8 bytes 10)) = body_is 5 (One ∷ Eight ∷ Eight ∷ []) bytes fits kind (eqb-true _ _ p.0) in
+    spelled bytes _ m (number8-lt bytes 2 fits, number8-lt bytes 10 fits) whole p.1
 
-read_takes : (bytes : List ℕ) (m : Body) → IsBytes bytes → slice_index bytes 0 ≡ 6 → read_of bytes ≡ Ok m → Spells bytes m
+read_takes : (bytes : List ℕ) (m : Letter) → IsBytes bytes → slice_index bytes 0 ≡ 6 → read_of bytes ≡ Ok m → Spells bytes m
 unfolding read_of field8 field4
 read_takes bytes m fits kind e =
     let p = passed _ _ _ _ e in
-    let whole : bytes ≡ spelling (Read (id_at bytes) (number8 bytes 17) (number4 bytes 25)) = body_is 6 (Eight ∷ Eight ∷ Eight ∷ Four ∷ []) bytes fits kind (eqb-true _ _ p.0) in
+    let whole : bytes ≡ behind bytes (Read (id_at bytes) (number8 bytes 18) (number4 bytes 26)) = body_is 6 (One ∷ Eight ∷ Eight ∷ Eight ∷ Four ∷ []) bytes fits kind (eqb-true _ _ p.0) in
     spelled bytes _ m (id_fits bytes fits) whole p.1
 
-clean_takes : (bytes : List ℕ) (m : Body) → IsBytes bytes → slice_index bytes 0 ≡ 7 → slice_index bytes 17 ≡ 0 → clean_of bytes ≡ Ok m → Spells bytes m
+clean_takes : (bytes : List ℕ) (m : Letter) → IsBytes bytes → slice_index bytes 0 ≡ 7 → slice_index bytes 18 ≡ 0 → clean_of bytes ≡ Ok m → Spells bytes m
 unfolding clean_of field8
 clean_takes bytes m fits kind status e =
     let p = passed _ _ _ _ e in
-    let whole : bytes ≡ 7 ∷ parts_from (Eight ∷ Eight ∷ One ∷ Eight ∷ []) 1 bytes [] = body_is 7 (Eight ∷ Eight ∷ One ∷ Eight ∷ []) bytes fits kind (eqb-true _ _ p.0) in
-    spelled bytes _ m (id_fits bytes fits, number8-lt bytes 18 fits) (whole ∙ ap (λ n. 7 ∷ (id_fields (id_at bytes) ++ n ∷ field8 (number8 bytes 18))) status) p.1
+    let whole : bytes ≡ 7 ∷ parts_from (One ∷ Eight ∷ Eight ∷ One ∷ Eight ∷ []) 1 bytes [] = body_is 7 (One ∷ Eight ∷ Eight ∷ One ∷ Eight ∷ []) bytes fits kind (eqb-true _ _ p.0) in
+    spelled bytes _ m (id_fits bytes fits, number8-lt bytes 19 fits) (whole ∙ ap (λ n. 7 ∷ slice_index bytes 1 ∷ (id_fields (id_at bytes) ++ n ∷ field8 (number8 bytes 19))) status) p.1
 
-infected_takes : (bytes : List ℕ) (m : Body) → IsBytes bytes → slice_index bytes 0 ≡ 7 → slice_index bytes 17 ≡ 1 → infected_of bytes ≡ Ok m → Spells bytes m
+infected_takes : (bytes : List ℕ) (m : Letter) → IsBytes bytes → slice_index bytes 0 ≡ 7 → slice_index bytes 18 ≡ 1 → infected_of bytes ≡ Ok m → Spells bytes m
 unfolding infected_of field8 field4
 infected_takes bytes m fits kind status e =
     let p = passed _ _ _ _ e in
-    let whole : bytes ≡ 7 ∷ parts_from (Eight ∷ Eight ∷ One ∷ Eight ∷ Four ∷ Eight ∷ []) 1 bytes [] = body_is 7 (Eight ∷ Eight ∷ One ∷ Eight ∷ Four ∷ Eight ∷ []) bytes fits kind (eqb-true _ _ p.0) in
-    spelled bytes _ m (id_fits bytes fits, number8-lt bytes 18 fits)
-    (whole ∙ ap (λ n. 7 ∷ (id_fields (id_at bytes) ++ n ∷ (field8 (number8 bytes 18) ++ field4 (number4 bytes 26) ++ field8 (number8 bytes 30)))) status) p.1
+    let whole : bytes ≡ 7 ∷ parts_from (One ∷ Eight ∷ Eight ∷ One ∷ Eight ∷ Four ∷ Eight ∷ []) 1 bytes [] = body_is 7 (One ∷ Eight ∷ Eight ∷ One ∷ Eight ∷ Four ∷ Eight ∷ []) bytes fits kind (eqb-true _ _ p.0) in
+    spelled bytes _ m (id_fits bytes fits, number8-lt bytes 19 fits)
+    (whole ∙ ap (λ n. 7 ∷ slice_index bytes 1 ∷ (id_fields (id_at bytes) ++ n ∷ (field8 (number8 bytes 19) ++ field4 (number4 bytes 27) ++ field8 (number8 bytes 31)))) status) p.1
 
-failed_takes : (bytes : List ℕ) (m : Body) → IsBytes bytes → slice_index bytes 0 ≡ 7 → slice_index bytes 17 ≡ 2 → failed_of bytes ≡ Ok m → Spells bytes m
+failed_takes : (bytes : List ℕ) (m : Letter) → IsBytes bytes → slice_index bytes 0 ≡ 7 → slice_index bytes 18 ≡ 2 → failed_of bytes ≡ Ok m → Spells bytes m
 unfolding failed_of field8
 failed_takes bytes m fits kind status e =
     let p = passed _ _ _ _ e in
-    let whole : bytes ≡ 7 ∷ parts_from (Eight ∷ Eight ∷ One ∷ One ∷ []) 1 bytes [] = body_is 7 (Eight ∷ Eight ∷ One ∷ One ∷ []) bytes fits kind (eqb-true _ _ p.0) in
-    (elim (fail_cause (slice_index bytes 18)) as (λ o. fail_cause (slice_index bytes 18) ≡ o → failed_with (id_at bytes) o ≡ Ok m → Spells bytes m) [
+    let whole : bytes ≡ 7 ∷ parts_from (One ∷ Eight ∷ Eight ∷ One ∷ One ∷ []) 1 bytes [] = body_is 7 (One ∷ Eight ∷ Eight ∷ One ∷ One ∷ []) bytes fits kind (eqb-true _ _ p.0) in
+    (elim (fail_cause (slice_index bytes 19)) as (λ o. fail_cause (slice_index bytes 19) ≡ o → failed_with (port_at bytes) (id_at bytes) o ≡ Ok m → Spells bytes m) [
       | None ↦ λ is none. absurd cc
       | Some cause ↦ λ is some.
-          let number : slice_index bytes 18 ≡ fail_number cause = fail_numbered _ cause is in
+          let number : slice_index bytes 19 ≡ fail_number cause = fail_numbered _ cause is in
           spelled bytes _ m (id_fits bytes fits, tt)
-          (whole ∙ ap (λ n. 7 ∷ (id_fields (id_at bytes) ++ n ∷ slice_index bytes 18 ∷ [])) status ∙ ap (λ n. 7 ∷ (id_fields (id_at bytes) ++ 2 ∷ n ∷ [])) number) some
+          (whole ∙ ap (λ n. 7 ∷ slice_index bytes 1 ∷ (id_fields (id_at bytes) ++ n ∷ slice_index bytes 19 ∷ [])) status ∙ ap (λ n. 7 ∷ slice_index bytes 1 ∷ (id_fields (id_at bytes) ++ 2 ∷ n ∷ [])) number) some
     ]) refl p.1
 
-reply_takes : (bytes : List ℕ) (m : Body) → IsBytes bytes → slice_index bytes 0 ≡ 7 → reply_of bytes ≡ Ok m → Spells bytes m
+reply_takes : (bytes : List ℕ) (m : Letter) → IsBytes bytes → slice_index bytes 0 ≡ 7 → reply_of bytes ≡ Ok m → Spells bytes m
 unfolding reply_of
 reply_takes bytes m fits kind e =
     let p = failed _ _ _ _ e in
-    let status = slice_index bytes 17 in
+    let status = slice_index bytes 18 in
     let third = cond (nat_eq status 2) (failed_of bytes) (Err fault.Range) in
     elim (chosen (nat_eq status 0) (clean_of bytes) (cond (nat_eq status 1) (infected_of bytes) third) (Ok m) p.1) [
       | inl q ↦ clean_takes bytes m fits kind (eqb-true _ _ q.0) q.1
@@ -267,14 +281,14 @@ reply_takes bytes m fits kind e =
       ]
     ]
 
-updated_takes : (bytes : List ℕ) (m : Body) → IsBytes bytes → slice_index bytes 0 ≡ 8 → updated_of bytes ≡ Ok m → Spells bytes m
+updated_takes : (bytes : List ℕ) (m : Letter) → IsBytes bytes → slice_index bytes 0 ≡ 8 → updated_of bytes ≡ Ok m → Spells bytes m
 unfolding updated_of field8
 updated_takes bytes m fits kind e =
     let p = passed _ _ _ _ e in
-    let whole : bytes ≡ spelling (Updated (number8 bytes 1)) = body_is 8 (Eight ∷ []) bytes fits kind (eqb-true _ _ p.0) in
-    spelled bytes _ m (number8-lt bytes 1 fits) whole p.1
+    let whole : bytes ≡ behind bytes (Updated (number8 bytes 2)) = body_is 8 (One ∷ Eight ∷ []) bytes fits kind (eqb-true _ _ p.0) in
+    spelled bytes _ m (number8-lt bytes 2 fits) whole p.1
 
-plain_takes : (bytes : List ℕ) (m : Body) → IsBytes bytes → plain_of bytes ≡ Ok m → Spells bytes m
+plain_takes : (bytes : List ℕ) (m : Letter) → IsBytes bytes → plain_of bytes ≡ Ok m → Spells bytes m
 unfolding plain_of
 plain_takes bytes m fits e =
     let kind = slice_index bytes 0 in
@@ -305,7 +319,7 @@ plain_takes bytes m fits e =
     ]
 
 -- what is read is spelled so
-pub decoded_spells : (bytes : List ℕ) (m : Body) → IsBytes bytes → decoded bytes ≡ Ok m → Spells bytes m
+pub decoded_spells : (bytes : List ℕ) (m : Letter) → IsBytes bytes → decoded bytes ≡ Ok m → Spells bytes m
 unfolding decoded
 decoded_spells bytes m fits e =
     let p = failed _ _ _ _ e in

@@ -6,8 +6,7 @@ use Rattle.av_frame.specs.declared.fault.FrameFault.{FrameFault}
 use Rattle.av_frame.specs.declared.fault.FrameFault.TheVariants.{Length}
 use Rattle.av_frame.specs.declared.fault.FeedFault.{FeedFault}
 use Rattle.av_frame.specs.declared.fault.FeedFault.TheVariants.{Broken, Frame}
-use Rattle.av_frame.specs.declared.message.Body.{Body}
-use Rattle.av_frame.specs.Message.{IsInRange}
+use Rattle.av_frame.specs.Message.{IsLetter, Letter}
 use Rattle.av_frame.specs.Reading.{number4, decoded}
 use Rattle.av_frame.specs.Spelling.{frame}
 use Rattle.av_base.specs.Refused.{map_ok}
@@ -18,12 +17,12 @@ pub record Fed : Type 0 where
   pub broken : Bool
 
 -- a message, with how many bytes its frame takes
-abbrev pub with_size : ℕ → Result Body FrameFault → Result (Option (Body × ℕ)) FrameFault
+abbrev pub with_size : ℕ → Result Letter FrameFault → Result (Option (Letter × ℕ)) FrameFault
 with_size size message = map_ok (λ m. Some (m, size)) message
 
 -- what stands at the front: a message, nothing as long as its frame isn't whole, or a fault. A length of 0 or of more
 -- than a body has at most is a fault as soon as its four bytes are there, every other fault is one once the whole body is.
-unfoldable pub front_of : List ℕ → Result (Option (Body × ℕ)) FrameFault
+unfoldable pub front_of : List ℕ → Result (Option (Letter × ℕ)) FrameFault
 front_of rest =
     if nat_lt (length rest) 4 then Ok None else
     (if number4 rest 0 == 0 || nat_lt MAX_BODY (number4 rest 0) then Err Length else
@@ -36,12 +35,12 @@ pushed piece fed = if fed.broken then Err Broken else Ok (record fed { rest = fe
 
 -- a message's frame stands at the front
 abbrev pub BeginsWithFrame : List ℕ → Type 0
-BeginsWithFrame bytes = (m : Body) × (more : List ℕ) × IsInRange m × (bytes ≡ frame m ++ more)
+BeginsWithFrame bytes = (m : Letter) × (more : List ℕ) × IsLetter m × (bytes ≡ frame m ++ more)
 
 -- what `next` answers and leaves, by what stands at the front
-abbrev pub GivesNext : Fed → Fed → Result (Option Body) (Refusal FeedFault) → Type 0
+abbrev pub GivesNext : Fed → Fed → Result (Option Letter) (Refusal FeedFault) → Type 0
 GivesNext old new (Ok (Some m)) =
-    (old.broken ≡ false) × IsInRange m × (old.rest ≡ frame m ++ new.rest) × (new.broken ≡ false)
+    (old.broken ≡ false) × IsLetter m × (old.rest ≡ frame m ++ new.rest) × (new.broken ≡ false)
 GivesNext old new (Ok None) = (old.broken ≡ false) × (front_of old.rest ≡ Ok None) × (new ≡ old)
 GivesNext old new (Err (Fault Broken)) = (old.broken ≡ true) × (new ≡ old)
 GivesNext old new (Err (Fault (Frame f))) =

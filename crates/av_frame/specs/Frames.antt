@@ -1,15 +1,14 @@
 use Rattle.std.specs.Prelude.{ℕ, zero, suc, ◌≡◌, List, [], ◌∷◌, ◌++◌, length, drop, Option, None, Some, Result, Ok, Err}
 use Rattle.std.specs.List.{flat_map, AllByRecursion}
 use Rattle.av_frame.specs.declared.fault.FrameFault.{FrameFault}
-use Rattle.av_frame.specs.declared.message.Body.{Body}
-use Rattle.av_frame.specs.Message.{IsInRange}
+use Rattle.av_frame.specs.Message.{IsLetter, Letter}
 use Rattle.av_frame.specs.Spelling.{frame}
 use Rattle.av_frame.specs.Feed.{front_of}
 
 -- what a string of bytes spells as frames: messages, then a rest that begins with no whole frame, and the fault that
 -- stands there, if one does
 pub record Frames : Type 0 where
-  pub messages : List Body
+  pub messages : List Letter
   pub rest : List ℕ
   pub fault : Option FrameFault
 
@@ -21,15 +20,15 @@ Ends rest (Some f) = front_of rest ≡ Err f
 -- the bytes are these frames one behind the other, and end so
 pub record AreFrames (bytes : List ℕ) (frames : Frames) : Type 0 where
   pub whole : bytes ≡ flat_map frame frames.messages ++ frames.rest
-  pub in_range : AllByRecursion IsInRange frames.messages
+  pub in_range : AllByRecursion IsLetter frames.messages
   pub ends : Ends frames.rest frames.fault
 
 -- a message in front of frames
-abbrev pub onto : Body → Frames → Frames
+abbrev pub onto : Letter → Frames → Frames
 onto m frames = record frames { messages = m ∷ frames.messages }
 
 -- the frames of bytes by what stands at their front, `others` being those of what follows a message
-abbrev pub by_front : (List ℕ → Frames) → List ℕ → Result (Option (Body × ℕ)) FrameFault → Frames
+abbrev pub by_front : (List ℕ → Frames) → List ℕ → Result (Option (Letter × ℕ)) FrameFault → Frames
 by_front others bytes (Ok None) = record { messages = []; rest = bytes; fault = None }
 by_front others bytes (Ok (Some (m, size))) = onto m (others (drop size bytes))
 by_front others bytes (Err f) = record { messages = []; rest = bytes; fault = Some f }

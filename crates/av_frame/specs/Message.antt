@@ -1,6 +1,7 @@
 use Rattle.std.specs.Prelude.{ℕ, ◌+◌, ◌≤◌, ◌<◌, ◌^◌, ◌&&◌, Bool, true, nat_le, List, length}
 use Rattle.av_base.specs.declared.limits.TheConstants.{MAX_CHUNK, MAX_GENERATION, MAX_LENGTH}
 use Rattle.av_base.specs.declared.message_id.MessageId.{MessageId}
+use Rattle.av_base.specs.declared.port.Port.{Port}
 use Rattle.av_base.specs.declared.verdict.Verdict.{Verdict}
 use Rattle.av_base.specs.declared.verdict.Verdict.TheVariants.{Clean, Infected}
 use Rattle.av_frame.specs.declared.outcome.TheConstants.{MAX_INDEX}
@@ -8,6 +9,15 @@ use Rattle.av_frame.specs.declared.outcome.Outcome.{Outcome}
 use Rattle.av_frame.specs.declared.outcome.Outcome.TheVariants.{Judged, Failed}
 use Rattle.av_frame.specs.declared.message.Body.{Body}
 use Rattle.av_frame.specs.declared.message.Body.TheVariants.{Scan, Chunk, NoChunk, Abort, Hello, Read, Reply, Updated}
+
+-- a message: the port at which it goes or comes, and its fields
+pub record Letter : Type 0 where
+  pub port : Port
+  pub body : Body
+
+-- these fields, at this port
+abbrev pub via : Port → Body → Letter
+via port body = record { port = port; body = body }
 
 -- a number of eight bytes that counts from 1
 abbrev pub IsCount : ℕ → Type 0
@@ -42,6 +52,10 @@ IsInRange (Hello volume version) = (volume < 2 ^ 64) × IsCount version
 IsInRange (Read id offset count) = IsId id × (offset ≤ MAX_LENGTH) × (1 ≤ count) × (count ≤ MAX_CHUNK)
 IsInRange (Reply id outcome) = IsId id × IsOutcome outcome
 IsInRange (Updated version) = IsCount version
+
+-- each field of a message is in its range; every port is
+abbrev pub IsLetter : Letter → Type 0
+IsLetter m = IsInRange m.body
 
 -- The same as tests, of numbers that fit their fields.
 abbrev pub id_in_range : MessageId → Bool

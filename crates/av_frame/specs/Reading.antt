@@ -1,6 +1,8 @@
 use Rattle.std.specs.Prelude.{ℕ, ◌+◌, ◌==◌, ◌||◌, ◌&&◌, Bool, List, length, take, drop, Option, None, Some, Result, Ok, Err, nat_lt, slice_index, if◌then◌else◌, not}
 use Rattle.std.specs.Int.{w32, w64, from_be_bytes}
+use Rattle.av_base.specs.Port.{port_of}
 use Rattle.av_base.specs.declared.message_id.MessageId.{MessageId}
+use Rattle.av_base.specs.declared.port.Port.{Port}
 use Rattle.av_base.specs.declared.verdict.Verdict.TheVariants.{Clean, Infected}
 use Rattle.av_frame.specs.declared.cause.NoChunkCause.{NoChunkCause}
 use Rattle.av_frame.specs.declared.cause.FailCause.{FailCause}
@@ -11,7 +13,7 @@ use Rattle.av_frame.specs.declared.message.Body.{Body}
 use Rattle.av_frame.specs.declared.message.Body.TheVariants.{Scan, Chunk, NoChunk, Abort, Hello, Read, Reply, Updated}
 use Rattle.av_frame.specs.declared.sizes.TheConstants.{CHUNK_HEADER, CLEAN_SIZE, FAILED_SIZE, HEAD_SIZE, HELLO_SIZE, INFECTED_SIZE, MAX_BODY, NO_CHUNK_SIZE, READ_SIZE, SCAN_SIZE, UPDATED_SIZE}
 use Rattle.av_frame.specs.Cause.{no_chunk_cause, fail_cause}
-use Rattle.av_frame.specs.Message.{in_range}
+use Rattle.av_frame.specs.Message.{in_range, Letter, via}
 
 -- the numbers in eight and in four bytes at a place
 abbrev pub number8 : List ℕ → ℕ → ℕ
@@ -23,87 +25,92 @@ number4 bytes at = from_be_bytes w32 (take 4 (drop at bytes))
 
 -- the id of a question, behind the kind
 abbrev pub id_at : List ℕ → MessageId
-id_at bytes = record { boot = number8 bytes 1; seq = number8 bytes 9 }
+id_at bytes = record { boot = number8 bytes 2; seq = number8 bytes 10 }
 
--- fields of a message, where each is in its range
-unfoldable pub checked : Body → Result Body FrameFault
-checked m = if in_range m then Ok m else Err fault.Range
+-- the port of a body, behind the kind, if its number is one
+abbrev pub port_at : List ℕ → Option Port
+port_at bytes = port_of (slice_index bytes 1)
+
+-- a message at this port, where the port and each field are in their ranges
+unfoldable pub checked : Option Port → Body → Result Letter FrameFault
+checked None m = Err fault.Range
+checked (Some port) m = if in_range m then Ok (via port m) else Err fault.Range
 
 -- the message that a body of each kind gives, read field by field, or the fault of its shape or of a range
-unfoldable pub scan_of : List ℕ → Result Body FrameFault
+unfoldable pub scan_of : List ℕ → Result Letter FrameFault
 scan_of body =
-    if length body == SCAN_SIZE then checked (Scan (id_at body) (number8 body 17) (number8 body 25) (number8 body 33))
+    if length body == SCAN_SIZE then checked (port_at body) (Scan (id_at body) (number8 body 18) (number8 body 26) (number8 body 34))
     else Err fault.Shape
 
 -- a Chunk, or its fault
-unfoldable pub chunk_of : List ℕ → Result Body FrameFault
+unfoldable pub chunk_of : List ℕ → Result Letter FrameFault
 chunk_of body =
-    if nat_lt CHUNK_HEADER (length body) then checked (Chunk (id_at body) (number8 body 17) (drop CHUNK_HEADER body))
+    if nat_lt CHUNK_HEADER (length body) then checked (port_at body) (Chunk (id_at body) (number8 body 18) (drop CHUNK_HEADER body))
     else Err fault.Shape
 
 -- a NoChunk with a cause that its number names, or Range
-abbrev pub no_chunk_with : MessageId → ℕ → Option NoChunkCause → Result Body FrameFault
-no_chunk_with id offset None = Err fault.Range
-no_chunk_with id offset (Some cause) = checked (NoChunk id offset cause)
+abbrev pub no_chunk_with : Option Port → MessageId → ℕ → Option NoChunkCause → Result Letter FrameFault
+no_chunk_with port id offset None = Err fault.Range
+no_chunk_with port id offset (Some cause) = checked port (NoChunk id offset cause)
 
 -- a NoChunk, or its fault
-unfoldable pub no_chunk_of : List ℕ → Result Body FrameFault
+unfoldable pub no_chunk_of : List ℕ → Result Letter FrameFault
 no_chunk_of body =
-    if length body == NO_CHUNK_SIZE then no_chunk_with (id_at body) (number8 body 17) (no_chunk_cause (slice_index body 25))
+    if length body == NO_CHUNK_SIZE then no_chunk_with (port_at body) (id_at body) (number8 body 18) (no_chunk_cause (slice_index body 26))
     else Err fault.Shape
 
 -- an Abort, or its fault
-unfoldable pub abort_of : List ℕ → Result Body FrameFault
-abort_of body = if length body == HEAD_SIZE then checked (Abort (id_at body)) else Err fault.Shape
+unfoldable pub abort_of : List ℕ → Result Letter FrameFault
+abort_of body = if length body == HEAD_SIZE then checked (port_at body) (Abort (id_at body)) else Err fault.Shape
 
 -- a Hello, or its fault
-unfoldable pub hello_of : List ℕ → Result Body FrameFault
-hello_of body = if length body == HELLO_SIZE then checked (Hello (number8 body 1) (number8 body 9)) else Err fault.Shape
+unfoldable pub hello_of : List ℕ → Result Letter FrameFault
+hello_of body = if length body == HELLO_SIZE then checked (port_at body) (Hello (number8 body 2) (number8 body 10)) else Err fault.Shape
 
 -- a Read, or its fault
-unfoldable pub read_of : List ℕ → Result Body FrameFault
+unfoldable pub read_of : List ℕ → Result Letter FrameFault
 read_of body =
-    if length body == READ_SIZE then checked (Read (id_at body) (number8 body 17) (number4 body 25))
+    if length body == READ_SIZE then checked (port_at body) (Read (id_at body) (number8 body 18) (number4 body 26))
     else Err fault.Shape
 
 -- a Reply of the verdict clean, or its fault
-unfoldable pub clean_of : List ℕ → Result Body FrameFault
+unfoldable pub clean_of : List ℕ → Result Letter FrameFault
 clean_of body =
-    if length body == HEAD_SIZE + CLEAN_SIZE then checked (Reply (id_at body) (Judged (number8 body 18) Clean))
+    if length body == HEAD_SIZE + CLEAN_SIZE then checked (port_at body) (Reply (id_at body) (Judged (number8 body 19) Clean))
     else Err fault.Shape
 
 -- a Reply of the verdict infected, or its fault
-unfoldable pub infected_of : List ℕ → Result Body FrameFault
+unfoldable pub infected_of : List ℕ → Result Letter FrameFault
 infected_of body =
     if length body == HEAD_SIZE + INFECTED_SIZE
-    then checked (Reply (id_at body) (Judged (number8 body 18) (Infected (number4 body 26) (number8 body 30))))
+    then checked (port_at body) (Reply (id_at body) (Judged (number8 body 19) (Infected (number4 body 27) (number8 body 31))))
     else Err fault.Shape
 
 -- a failed reply with a cause that its number names, or Range
-abbrev pub failed_with : MessageId → Option FailCause → Result Body FrameFault
-failed_with id None = Err fault.Range
-failed_with id (Some cause) = checked (Reply id (Failed cause))
+abbrev pub failed_with : Option Port → MessageId → Option FailCause → Result Letter FrameFault
+failed_with port id None = Err fault.Range
+failed_with port id (Some cause) = checked port (Reply id (Failed cause))
 
 -- a Reply of a scan that failed, or its fault
-unfoldable pub failed_of : List ℕ → Result Body FrameFault
+unfoldable pub failed_of : List ℕ → Result Letter FrameFault
 failed_of body =
-    if length body == HEAD_SIZE + FAILED_SIZE then failed_with (id_at body) (fail_cause (slice_index body 18))
+    if length body == HEAD_SIZE + FAILED_SIZE then failed_with (port_at body) (id_at body) (fail_cause (slice_index body 19))
     else Err fault.Shape
 
 -- a reply's status says how it goes on
-unfoldable pub reply_of : List ℕ → Result Body FrameFault
+unfoldable pub reply_of : List ℕ → Result Letter FrameFault
 reply_of body =
     if not (nat_lt HEAD_SIZE (length body)) then Err fault.Shape else
-    (if slice_index body 17 == 0 then clean_of body else
-    (if slice_index body 17 == 1 then infected_of body else
-    (if slice_index body 17 == 2 then failed_of body else Err fault.Range)))
+    (if slice_index body 18 == 0 then clean_of body else
+    (if slice_index body 18 == 1 then infected_of body else
+    (if slice_index body 18 == 2 then failed_of body else Err fault.Range)))
 
 -- an Updated, or its fault
-unfoldable pub updated_of : List ℕ → Result Body FrameFault
-updated_of body = if length body == UPDATED_SIZE then checked (Updated (number8 body 1)) else Err fault.Shape
+unfoldable pub updated_of : List ℕ → Result Letter FrameFault
+updated_of body = if length body == UPDATED_SIZE then checked (port_at body) (Updated (number8 body 2)) else Err fault.Shape
 
 -- the message of a kind that has no content in it
-unfoldable pub plain_of : List ℕ → Result Body FrameFault
+unfoldable pub plain_of : List ℕ → Result Letter FrameFault
 plain_of body =
     if slice_index body 0 == 1 then scan_of body else
     (if slice_index body 0 == 3 then no_chunk_of body else
@@ -114,7 +121,7 @@ plain_of body =
     (if slice_index body 0 == 8 then updated_of body else Err fault.Kind))))))
 
 -- the message of a body, or the fault
-unfoldable pub decoded : List ℕ → Result Body FrameFault
+unfoldable pub decoded : List ℕ → Result Letter FrameFault
 decoded body =
     if length body == 0 || nat_lt MAX_BODY (length body) then Err fault.Length else
     (if slice_index body 0 == 2 then chunk_of body else plain_of body)
@@ -147,4 +154,4 @@ fault_by size kind status =
 
 -- the fault of a body that spells no message
 abbrev pub fault_of : List ℕ → FrameFault
-fault_of body = fault_by (length body) (slice_index body 0) (slice_index body 17)
+fault_of body = fault_by (length body) (slice_index body 0) (slice_index body 18)

@@ -1,8 +1,9 @@
 ghost use Rattle.std.specs.Prelude.{◌≡◌, ◌≤◌, length, IfOk, Ok, slice_index};
 ghost use Rattle.av_base.specs.Answers.{Reads};
 ghost use Rattle.av_frame.specs.declared.message.Body.{Body};
+ghost use Rattle.av_frame.specs.Message.{Letter};
 ghost use Rattle.av_frame.specs.declared.fault.FrameFault.{FrameFault};
-ghost use Rattle.av_frame.specs.Reading.{abort_of, checked, chunk_of, clean_of, decoded, failed_of, fault_of, hello_of, id_at, infected_of, no_chunk_of, plain_of, read_of, reply_of, scan_of, updated_of};
+ghost use Rattle.av_frame.specs.Reading.{abort_of, checked, chunk_of, clean_of, decoded, failed_of, fault_of, hello_of, id_at, infected_of, no_chunk_of, plain_of, port_at, read_of, reply_of, scan_of, updated_of};
 ghost use Rattle.av_frame.specs.Spelling.{Spells};
 
 use crate::cause::{FailCause, NoChunkCause};
@@ -14,7 +15,7 @@ use crate::sizes::{
     CHUNK_HEADER, CLEAN_SIZE, FAILED_SIZE, HEAD_SIZE, HELLO_SIZE, INFECTED_SIZE, MAX_BODY,
     NO_CHUNK_SIZE, READ_SIZE, SCAN_SIZE, UPDATED_SIZE,
 };
-use av_base::{ByteList, Generation, MessageId, Refusal, StreamId, Verdict, Version};
+use av_base::{ByteList, Generation, MessageId, Port, Refusal, StreamId, Verdict, Version};
 use std::alloc::Global;
 
 /// The message that a body spells, all of its bytes, or the first fault. A chunk's bytes are copied once; no other
@@ -23,7 +24,7 @@ pub fn decode(alloc: Global, body: &[u8]) -> Result<Message, Refusal<FrameFault>
     // What is read is spelled so.
     ensures found { IfOk result (λ m. Spells body.now m) }
     // What is spelled so is read, unless memory is refused.
-    ensures only { (m : Body) → Spells body.now m → Reads result (Ok m) }
+    ensures only { (m : Letter) → Spells body.now m → Reads result (Ok m) }
     // Which fault it is.
     ensures fault { (f : FrameFault) → result ≡ Err (Refusal.Fault f) → f ≡ fault_of body.now }
     // Memory is refused to chunks alone.
@@ -59,24 +60,29 @@ fn chunk(alloc: Global, body: &[u8]) -> Result<Message, Refusal<FrameFault>>
         return Err(Refusal::Fault(FrameFault::Shape));
     }
     let (_, bytes) = body.split_at(CHUNK_HEADER);
-    content(alloc, id_of(body), u64_at(body, 17), bytes)
+    content(alloc, port_of(body), id_of(body), u64_at(body, 18), bytes)
 }
 
-// The chunk of these fields, where each is in its range. They are tested before the bytes are copied.
+// The chunk of these fields at this port, where the port and each field are in their ranges. They are tested before the
+// bytes are copied.
 #[tactic(auto, unfolding(crate::specs::Reading::checked))]
 fn content(
     alloc: Global,
+    port: Option<Port>,
     id: MessageId,
     offset: u64,
     bytes: &[u8],
 ) -> Result<Message, Refusal<FrameFault>>
-    ensures { Reads result (checked (Body.Chunk id offset bytes.now)) }
+    ensures { Reads result (checked port (Body.Chunk id offset bytes.now)) }
 {
+    let Some(port) = port else {
+        return Err(Refusal::Fault(FrameFault::Range));
+    };
     if !is_chunk(id, offset, bytes) {
         return Err(Refusal::Fault(FrameFault::Range));
     }
     let bytes = ByteList::copied(alloc, bytes)?;
-    Ok(Message::chunk(id, offset, bytes))
+    Ok(Message::chunk(port, id, offset, bytes))
 }
 
 // The message of a body of any other kind.
@@ -104,12 +110,15 @@ fn scan(body: &[u8]) -> Result<Message, FrameFault>
     if body.len() != SCAN_SIZE {
         return Err(FrameFault::Shape);
     }
-    in_range(Body::Scan {
-        id: id_of(body),
-        stream: StreamId::new(u64_at(body, 17)),
-        generation: Generation::new(u64_at(body, 25)),
-        length: u64_at(body, 33),
-    })
+    in_range(
+        body,
+        Body::Scan {
+            id: id_of(body),
+            stream: StreamId::new(u64_at(body, 18)),
+            generation: Generation::new(u64_at(body, 26)),
+            length: u64_at(body, 34),
+        },
+    )
 }
 
 #[tactic(auto, unfolding(crate::specs::Reading::no_chunk_of))]
@@ -119,14 +128,17 @@ fn no_chunk(body: &[u8]) -> Result<Message, FrameFault>
     if body.len() != NO_CHUNK_SIZE {
         return Err(FrameFault::Shape);
     }
-    let Some(cause) = NoChunkCause::from_number(body[25]) else {
+    let Some(cause) = NoChunkCause::from_number(body[26]) else {
         return Err(FrameFault::Range);
     };
-    in_range(Body::NoChunk {
-        id: id_of(body),
-        offset: u64_at(body, 17),
-        cause,
-    })
+    in_range(
+        body,
+        Body::NoChunk {
+            id: id_of(body),
+            offset: u64_at(body, 18),
+            cause,
+        },
+    )
 }
 
 #[tactic(auto, unfolding(crate::specs::Reading::abort_of))]
@@ -136,7 +148,7 @@ fn abort(body: &[u8]) -> Result<Message, FrameFault>
     if body.len() != HEAD_SIZE {
         return Err(FrameFault::Shape);
     }
-    in_range(Body::Abort { id: id_of(body) })
+    in_range(body, Body::Abort { id: id_of(body) })
 }
 
 #[tactic(auto, unfolding(crate::specs::Reading::hello_of))]
@@ -146,10 +158,13 @@ fn hello(body: &[u8]) -> Result<Message, FrameFault>
     if body.len() != HELLO_SIZE {
         return Err(FrameFault::Shape);
     }
-    in_range(Body::Hello {
-        volume: u64_at(body, 1),
-        version: Version::new(u64_at(body, 9)),
-    })
+    in_range(
+        body,
+        Body::Hello {
+            volume: u64_at(body, 2),
+            version: Version::new(u64_at(body, 10)),
+        },
+    )
 }
 
 #[tactic(auto, unfolding(crate::specs::Reading::read_of))]
@@ -159,11 +174,14 @@ fn read(body: &[u8]) -> Result<Message, FrameFault>
     if body.len() != READ_SIZE {
         return Err(FrameFault::Shape);
     }
-    in_range(Body::Read {
-        id: id_of(body),
-        offset: u64_at(body, 17),
-        count: u32_at(body, 25),
-    })
+    in_range(
+        body,
+        Body::Read {
+            id: id_of(body),
+            offset: u64_at(body, 18),
+            count: u32_at(body, 26),
+        },
+    )
 }
 
 // A reply's status is judged before the length that the status wants.
@@ -174,7 +192,7 @@ fn reply(body: &[u8]) -> Result<Message, FrameFault>
     if body.len() <= HEAD_SIZE {
         return Err(FrameFault::Shape);
     }
-    match body[17] {
+    match body[18] {
         0 => clean(body),
         1 => infected(body),
         2 => failed(body),
@@ -189,12 +207,15 @@ fn clean(body: &[u8]) -> Result<Message, FrameFault>
     if body.len() != HEAD_SIZE + CLEAN_SIZE {
         return Err(FrameFault::Shape);
     }
-    let version = Version::new(u64_at(body, 18));
+    let version = Version::new(u64_at(body, 19));
     let verdict = Verdict::Clean;
-    in_range(Body::Reply {
-        id: id_of(body),
-        outcome: Outcome::Judged { version, verdict },
-    })
+    in_range(
+        body,
+        Body::Reply {
+            id: id_of(body),
+            outcome: Outcome::Judged { version, verdict },
+        },
+    )
 }
 
 #[tactic(auto, unfolding(crate::specs::Reading::infected_of))]
@@ -204,15 +225,18 @@ fn infected(body: &[u8]) -> Result<Message, FrameFault>
     if body.len() != HEAD_SIZE + INFECTED_SIZE {
         return Err(FrameFault::Shape);
     }
-    let version = Version::new(u64_at(body, 18));
+    let version = Version::new(u64_at(body, 19));
     let verdict = Verdict::Infected {
-        index: u32_at(body, 26),
-        end_at: u64_at(body, 30),
+        index: u32_at(body, 27),
+        end_at: u64_at(body, 31),
     };
-    in_range(Body::Reply {
-        id: id_of(body),
-        outcome: Outcome::Judged { version, verdict },
-    })
+    in_range(
+        body,
+        Body::Reply {
+            id: id_of(body),
+            outcome: Outcome::Judged { version, verdict },
+        },
+    )
 }
 
 #[tactic(auto, unfolding(crate::specs::Reading::failed_of))]
@@ -222,13 +246,16 @@ fn failed(body: &[u8]) -> Result<Message, FrameFault>
     if body.len() != HEAD_SIZE + FAILED_SIZE {
         return Err(FrameFault::Shape);
     }
-    let Some(cause) = FailCause::from_number(body[18]) else {
+    let Some(cause) = FailCause::from_number(body[19]) else {
         return Err(FrameFault::Range);
     };
-    in_range(Body::Reply {
-        id: id_of(body),
-        outcome: Outcome::Failed { cause },
-    })
+    in_range(
+        body,
+        Body::Reply {
+            id: id_of(body),
+            outcome: Outcome::Failed { cause },
+        },
+    )
 }
 
 #[tactic(auto, unfolding(crate::specs::Reading::updated_of))]
@@ -238,9 +265,12 @@ fn updated(body: &[u8]) -> Result<Message, FrameFault>
     if body.len() != UPDATED_SIZE {
         return Err(FrameFault::Shape);
     }
-    in_range(Body::Updated {
-        version: Version::new(u64_at(body, 1)),
-    })
+    in_range(
+        body,
+        Body::Updated {
+            version: Version::new(u64_at(body, 2)),
+        },
+    )
 }
 
 fn id_of(body: &[u8]) -> MessageId
@@ -248,18 +278,30 @@ fn id_of(body: &[u8]) -> MessageId
     ensures { result ≡ id_at body.now }
 {
     MessageId {
-        boot: u64_at(body, 1),
-        seq: u64_at(body, 9),
+        boot: u64_at(body, 2),
+        seq: u64_at(body, 10),
     }
 }
 
-// The message of these fields, where each is in its range.
-#[tactic(auto, unfolding(crate::specs::Reading::checked))]
-fn in_range(body: Body) -> Result<Message, FrameFault>
-    ensures { result ≡ checked body }
+// The port that stands behind the kind.
+fn port_of(body: &[u8]) -> Option<Port>
+    requires { 2 ≤ length body.now }
+    ensures { result ≡ port_at body.now }
 {
-    if !body.is_in_range() {
+    Port::from_number(body[1])
+}
+
+// The message of these fields at the port of this body, where the port and each field are in their ranges.
+#[tactic(auto, unfolding(crate::specs::Reading::checked))]
+fn in_range(body: &[u8], fields: Body) -> Result<Message, FrameFault>
+    requires { 2 ≤ length body.now }
+    ensures { result ≡ checked (port_at body.now) fields }
+{
+    let Some(port) = port_of(body) else {
+        return Err(FrameFault::Range);
+    };
+    if !fields.is_in_range() {
         return Err(FrameFault::Range);
     }
-    Ok(Message::new(body))
+    Ok(Message::new(port, fields))
 }

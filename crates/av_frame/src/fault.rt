@@ -4,7 +4,7 @@ use thiserror::Error;
 /// the length that the status wants.
 #[derive(Clone, Copy, Debug, PartialEq, Eq, Error)]
 pub enum FrameFault {
-    /// The body is empty or longer than 4,121 bytes.
+    /// The body is empty or longer than 4,122 bytes.
     #[error("Length")]
     Length = 1,
     /// No kind of message has its first byte.

@@ -1,7 +1,7 @@
 ghost use Rattle.std.specs.Prelude.{◌≡◌, ◌++◌, [], ◌≤◌, length, drop, false, IfOk, IfSome};
 ghost use Rattle.av_base.specs.Answers.{Reads, Steps};
 ghost use Rattle.av_frame.specs.Feed.{BeginsWithFrame, GivesNext, front_of, pushed};
-ghost use Rattle.av_frame.specs.Message.{IsInRange};
+ghost use Rattle.av_frame.specs.Message.{IsLetter};
 ghost use Rattle.av_frame.specs.Spelling.{frame};
 
 use crate::decode::decode;
@@ -81,7 +81,7 @@ impl Feed {
 fn front(alloc: Global, rest: &[u8]) -> Result<Option<(Message, usize)>, Refusal<FrameFault>>
     ensures exact { Reads result (front_of rest.now) }
     ensures size { IfOk result (λ o. IfSome o (λ p. p.1 ≤ length rest.now)) }
-    ensures message { IfOk result (λ o. IfSome o (λ p. IsInRange p.0 × (rest.now ≡ frame p.0 ++ drop p.1 rest.now))) }
+    ensures message { IfOk result (λ o. IfSome o (λ p. IsLetter p.0 × (rest.now ≡ frame p.0 ++ drop p.1 rest.now))) }
     ensures memory { result ≡ Err Refusal.NoMemory → BeginsWithFrame rest.now }
 {
     if rest.len() < 4 {
@@ -109,7 +109,7 @@ mod tests {
 
     #[test]
     fn the_room_of_frames_that_were_taken_is_used_again(rt: HostRuntime) -> Result<(), Fail> {
-        let frame = [0, 0, 0, 9, 8, 0, 0, 0, 0, 0, 0, 0, 1];
+        let frame = [0, 0, 0, 10, 8, 1, 0, 0, 0, 0, 0, 0, 0, 1];
         let mut feed = Feed::new(rt.alloc());
         feed.push(&frame[..7])?;
         for _ in 0..10_000u32 {

@@ -1,7 +1,7 @@
 ghost use Rattle.std.specs.Prelude.{◌≡◌, ◌++◌, false, None, IfOk, OnOk};
 ghost use Rattle.std.specs.List.{flat_map, AllByRecursion};
 ghost use Rattle.av_frame.specs.Frames.{Ends, frames_of, joined};
-ghost use Rattle.av_frame.specs.Message.{IsInRange};
+ghost use Rattle.av_frame.specs.Message.{IsLetter};
 ghost use Rattle.av_frame.specs.Spelling.{frame};
 
 use crate::fault::{FeedFault, FrameFault};
@@ -49,7 +49,7 @@ fn take_all(feed: &mut Feed, messages: &mut Vec<Message>) -> Result<Option<Frame
     requires { feed.old.broken ≡ false }
     ensures bytes { OnOk result (flat_map frame messages.new.items ++ feed.new.rest
         ≡ flat_map frame messages.old.items ++ feed.old.rest) }
-    ensures in_range { AllByRecursion IsInRange messages.old.items → AllByRecursion IsInRange messages.new.items }
+    ensures in_range { AllByRecursion IsLetter messages.old.items → AllByRecursion IsLetter messages.new.items }
     ensures ends { IfOk result (λ fault. Ends feed.new.rest fault) }
     ensures sound { IfOk result (λ fault. fault ≡ None → feed.new.broken ≡ false) }
 {

@@ -1,9 +1,9 @@
-//! Messages between a filter and a scanning service, and the frames that carry them: eight kinds of message whose fields
-//! are in their ranges by their type, the one spelling of each, a decoder that answers a message exactly for its spelling
+//! Messages between a filter and its scanning services, and the frames that carry them: eight kinds of message, each with
+//! the port at which it goes or comes, whose fields are in their ranges by their type, the one spelling of each, a decoder that answers a message exactly for its spelling
 //! and otherwise says which fault it is, and a feed for a stream of frames that is cut anywhere.
 //!
 //! ```text
-//! encode_into(&Message::updated(Version::new(7)), &mut out)?;
+//! encode_into(&Message::updated(Port::One, Version::new(7)), &mut out)?;
 //! feed.push(&out)?;
 //! assert!(matches!(feed.next()?, Some(message) if matches!(message.body(), Body::Updated { .. })));
 //! ```

@@ -1,11 +1,11 @@
 ghost use Rattle.std.specs.Prelude.{◌≡◌, ◌≤◌, ◌↔◌, IsTrue};
-ghost use Rattle.av_frame.specs.Message.{IsId, IsInRange, IsOutcome, IsPart, in_range, id_in_range, part_in_range};
+ghost use Rattle.av_frame.specs.Message.{IsId, IsInRange, IsOutcome, IsPart, in_range, id_in_range, part_in_range, via};
 ghost use Rattle.av_frame.specs.declared.message.Body.TheVariants.{Scan, Chunk, NoChunk, Abort, Hello, Read, Reply, Updated};
 
 use crate::cause::NoChunkCause;
 use crate::outcome::Outcome;
 use av_base::limits::{MAX_CHUNK, MAX_GENERATION, MAX_LENGTH};
-use av_base::{ByteList, Generation, MessageId, StreamId, Version};
+use av_base::{ByteList, Generation, MessageId, Port, StreamId, Version};
 use std::alloc::AllocError;
 use std::marker::Model;
 
@@ -57,126 +57,143 @@ pub enum Body {
     },
 }
 
-/// A message whose fields are in their ranges, so whoever holds one need not test them again.
+/// A message, with the port at which it goes or comes. Its fields are in their ranges, so whoever holds one need not test
+/// them again.
 #[derive(Debug, Drop)]
 pub struct Message {
+    port: Port,
     body: Body,
 }
 
 impl Model for Message {
-    ghost use Rattle.av_frame.specs.declared.message.Body.{Body};
-    ghost use Rattle.av_frame.specs.Message.{IsInRange};
+    ghost use Rattle.av_frame.specs.Message.{IsInRange, Letter};
 
-    ghost Value = { Body };
+    ghost Value = { Letter };
 
-    ghost view = { λ m. m.body };
+    ghost view = { λ m. record { port = m.port; body = m.body } };
 
     ghost invariant = { λ m. IsInRange m.body };
 }
 
 impl Message {
-    /// The message of these fields, which `Body::is_in_range` tests.
-    pub fn new(body: Body) -> Message
+    /// The message of these fields at this port. `Body::is_in_range` tests them.
+    pub fn new(port: Port, body: Body) -> Message
         requires { IsInRange body }
-        ensures { result ≡ body }
+        ensures { result ≡ via port body }
     {
-        Message { body }
+        Message { port, body }
     }
 
     /// The question of this id: judge that content.
-    pub fn scan(id: MessageId, stream: StreamId, generation: Generation, length: u64) -> Message
+    pub fn scan(
+        port: Port,
+        id: MessageId,
+        stream: StreamId,
+        generation: Generation,
+        length: u64,
+    ) -> Message
         requires id { IsId id }
         requires stream { 1 ≤ stream }
         requires generation { (1 ≤ generation) × (generation ≤ MAX_GENERATION) }
         requires length { length ≤ MAX_LENGTH }
-        ensures { result ≡ Scan id stream generation length }
+        ensures { result ≡ via port (Scan id stream generation length) }
     {
         let stream = StreamId::new(stream.get());
-        Message::new(Body::Scan {
-            id,
-            stream,
-            generation,
-            length,
-        })
+        Message::new(
+            port,
+            Body::Scan {
+                id,
+                stream,
+                generation,
+                length,
+            },
+        )
     }
 
     /// Content of that question.
-    pub fn chunk(id: MessageId, offset: u64, bytes: ByteList) -> Message
+    pub fn chunk(port: Port, id: MessageId, offset: u64, bytes: ByteList) -> Message
         requires id { IsId id }
         requires part { IsPart offset bytes }
-        ensures { result ≡ Chunk id offset bytes }
+        ensures { result ≡ via port (Chunk id offset bytes) }
     {
-        Message::new(Body::Chunk { id, offset, bytes })
+        Message::new(port, Body::Chunk { id, offset, bytes })
     }
 
     /// No content comes from that offset.
-    pub fn no_chunk(id: MessageId, offset: u64, cause: NoChunkCause) -> Message
+    pub fn no_chunk(port: Port, id: MessageId, offset: u64, cause: NoChunkCause) -> Message
         requires id { IsId id }
         requires offset { offset ≤ MAX_LENGTH }
-        ensures { result ≡ NoChunk id offset cause }
+        ensures { result ≡ via port (NoChunk id offset cause) }
     {
-        Message::new(Body::NoChunk { id, offset, cause })
+        Message::new(port, Body::NoChunk { id, offset, cause })
     }
 
     /// That question has ended.
-    pub fn abort(id: MessageId) -> Message
+    pub fn abort(port: Port, id: MessageId) -> Message
         requires { IsId id }
-        ensures { result ≡ Abort id }
+        ensures { result ≡ via port (Abort id) }
     {
-        Message::new(Body::Abort { id })
+        Message::new(port, Body::Abort { id })
     }
 
     /// The service of this volume's filter connects.
-    pub fn hello(volume: u64, version: Version) -> Message
+    pub fn hello(port: Port, volume: u64, version: Version) -> Message
         requires { 1 ≤ version }
-        ensures { result ≡ Hello volume version }
+        ensures { result ≡ via port (Hello volume version) }
     {
         let version = Version::new(version.get());
-        Message::new(Body::Hello { volume, version })
+        Message::new(port, Body::Hello { volume, version })
     }
 
     /// Send that content.
-    pub fn read(id: MessageId, offset: u64, count: u32) -> Message
+    pub fn read(port: Port, id: MessageId, offset: u64, count: u32) -> Message
         requires id { IsId id }
         requires offset { offset ≤ MAX_LENGTH }
         requires count { (1 ≤ count) × (count ≤ MAX_CHUNK) }
-        ensures { result ≡ Read id offset count }
+        ensures { result ≡ via port (Read id offset count) }
     {
-        Message::new(Body::Read { id, offset, count })
+        Message::new(port, Body::Read { id, offset, count })
     }
 
     /// The answer to that question.
-    pub fn reply(id: MessageId, outcome: Outcome) -> Message
+    pub fn reply(port: Port, id: MessageId, outcome: Outcome) -> Message
         requires id { IsId id }
         requires outcome { IsOutcome outcome }
-        ensures { result ≡ Reply id outcome }
+        ensures { result ≡ via port (Reply id outcome) }
     {
-        Message::new(Body::Reply { id, outcome })
+        Message::new(port, Body::Reply { id, outcome })
     }
 
     /// The service judges under this version from now on.
-    pub fn updated(version: Version) -> Message
+    pub fn updated(port: Port, version: Version) -> Message
         requires { 1 ≤ version }
-        ensures { result ≡ Updated version }
+        ensures { result ≡ via port (Updated version) }
     {
         let version = Version::new(version.get());
-        Message::new(Body::Updated { version })
+        Message::new(port, Body::Updated { version })
+    }
+
+    /// The port at which it goes or comes.
+    pub fn port(&self) -> Port
+        ensures { result ≡ self.now.port }
+    {
+        self.port
     }
 
     /// The fields, to be matched by name.
     pub fn body(&self) -> &Body
-        ensures same { result.now ≡ self.now }
-        ensures in_range { IsInRange self.now }
+        ensures same { result.now ≡ self.now.body }
+        ensures in_range { IsInRange self.now.body }
     {
         &self.body
     }
 
     /// The fields, given back.
     pub fn into_body(self) -> Body
-        ensures same { result ≡ self }
-        ensures in_range { IsInRange self }
+        ensures same { result ≡ self.body }
+        ensures in_range { IsInRange self.body }
     {
-        let Message { body } = self;
+        let Message { body, .. } = self;
         body
     }
 }
@@ -188,6 +205,7 @@ impl Clone for Message {
 
     fn clone(&self) -> Result<Message, AllocError> {
         Ok(Message {
+            port: self.port,
             body: self.body.clone()?,
         })
     }

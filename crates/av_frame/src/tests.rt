@@ -11,7 +11,7 @@ use crate::message::Message;
 use crate::outcome::Outcome;
 use crate::tests::bodies::BODIES;
 use crate::tests::text::{bytes_of, decoded_words, framed, next_words, words};
-use av_base::{ByteList, Generation, MessageId, Refusal, StreamId, Verdict, Version};
+use av_base::{ByteList, Generation, MessageId, Port, Refusal, StreamId, Verdict, Version};
 use av_fakes::{may_refuse, refuse_no_more};
 use std::alloc::Global;
 use std::test::Fail;
@@ -90,13 +90,14 @@ fn next_is(alloc: Global, feed: &mut Feed, wanted: &str) -> Result<bool, Fail> {
     Ok(next_words(alloc, feed)?.as_str() == wanted)
 }
 
-const FAULTS: [(&str, &str); 6] = [
+const FAULTS: [(&str, &str); 7] = [
     ("00000000", "Length"),
-    ("0000101a", "Length"),
+    ("0000101b", "Length"),
     ("ffffffff", "Length"),
     ("0000000109", "Kind"),
     ("00000001 07", "Shape"),
-    ("00000012 07 [1] [1] 03", "Range"),
+    ("00000013 0701 [1] [1] 03", "Range"),
+    ("0000000a 0803 [1]", "Range"),
 ];
 
 #[test]
@@ -109,7 +110,7 @@ fn a_fault_is_told_once_and_breaks_the_feed(rt: HostRuntime) -> Result<(), Fail>
 
 fn is_told_once(alloc: Global, text: &str, fault: &str) -> Result<bool, Fail> {
     let mut feed = Feed::new(alloc);
-    feed.push(&bytes_of(alloc, "00000009 08 [1]")?)?;
+    feed.push(&bytes_of(alloc, "0000000a 0801 [1]")?)?;
     feed.push(&bytes_of(alloc, text)?)?;
     Ok(
         next_is(alloc, &mut feed, "updated 1")?
@@ -120,8 +121,8 @@ fn is_told_once(alloc: Global, text: &str, fault: &str) -> Result<bool, Fail> {
 }
 
 const STREAM: &str =
-    "00000011 05 [1] [1] 0000001d 06 [1] [1] [0] 00000003 0000001a 07 [1] [1] 00 [1] 00000029 01 \
-     [1] [1] [1] [2] [3] 0000001c 02 [1] [1] [0] 414243 00000001 09 00";
+    "00000012 0501 [1] [1] 0000001e 0602 [1] [1] [0] 00000003 0000001b 0701 [1] [1] 00 [1] 0000002a \
+     0102 [1] [1] [1] [2] [3] 0000001d 0201 [1] [1] [0] 414243 00000001 09 00";
 
 #[test]
 fn a_stream_is_the_same_frames_in_any_pieces(rt: HostRuntime) -> Result<(), Fail> {
@@ -153,8 +154,8 @@ fn tells_the_story(alloc: Global, parts: &[&[u8]]) -> Result<bool, Fail> {
 }
 
 const STORY: &str =
-    "hello volume 1 version 1, read 1.1 offset 0 count 3, reply 1.1 version 1 clean, scan 1.1 \
-     stream 1 generation 2 length 3, chunk 1.1 offset 0 bytes 3, Kind";
+    "hello volume 1 version 1, read 1.1 offset 0 count 3 port 2, reply 1.1 version 1 clean, scan 1.1 \
+     stream 1 generation 2 length 3 port 2, chunk 1.1 offset 0 bytes 3, Kind";
 
 // The messages of a stream and its fault, in words.
 fn story(alloc: Global, pieces: &[ByteList]) -> Result<String, Fail> {
@@ -180,22 +181,26 @@ fn messages_are_made_of_their_fields(rt: HostRuntime) -> Result<(), Fail> {
     };
     let bytes = ByteList::copied(rt.alloc(), b"abc")?;
     assert_eq!(rt; bytes.len(), 3);
+    let (one, two) = (Port::One, Port::Two);
     let made = [
         (
-            Message::scan(id, StreamId::new(4), Generation::new(5), 6),
+            Message::scan(one, id, StreamId::new(4), Generation::new(5), 6),
             "scan 1.2 stream 4 generation 5 length 6",
         ),
         (
-            Message::no_chunk(id, 7, NoChunkCause::PastEnd),
+            Message::no_chunk(one, id, 7, NoChunkCause::PastEnd),
             "nochunk 1.2 offset 7 cause 2",
         ),
-        (Message::abort(id), "abort 1.2"),
-        (Message::hello(8, version), "hello volume 8 version 3"),
-        (Message::read(id, 9, 10), "read 1.2 offset 9 count 10"),
-        (Message::reply(id, judged), "reply 1.2 version 3 clean"),
-        (Message::reply(id, failed), "reply 1.2 failed 2"),
-        (Message::updated(version), "updated 3"),
-        (Message::chunk(id, 11, bytes), "chunk 1.2 offset 11 bytes 3"),
+        (Message::abort(one, id), "abort 1.2"),
+        (Message::hello(one, 8, version), "hello volume 8 version 3"),
+        (Message::read(one, id, 9, 10), "read 1.2 offset 9 count 10"),
+        (Message::reply(one, id, judged), "reply 1.2 version 3 clean"),
+        (Message::reply(two, id, failed), "reply 1.2 failed 2 port 2"),
+        (Message::updated(one, version), "updated 3"),
+        (
+            Message::chunk(one, id, 11, bytes),
+            "chunk 1.2 offset 11 bytes 3",
+        ),
     ];
     assert_eq!(rt; first_other(rt.alloc(), &made)?, None);
     Ok(())
@@ -212,7 +217,7 @@ fn first_other(alloc: Global, made: &[(Message, &str)]) -> Result<Option<usize>,
 }
 
 // A chunk of three bytes of the question 1.1, as a body, and its words.
-const CHUNK: &str = "02 [1] [1] [0] 414243";
+const CHUNK: &str = "0201 [1] [1] [0] 414243";
 
 const CHUNK_WORDS: &str = "chunk 1.1 offset 0 bytes 3";
 

@@ -9,7 +9,7 @@ use Rattle.av_filter.specs.Fit.{Fits}
 use Rattle.av_filter.specs.Reaction.{Reaction}
 use Rattle.av_filter.specs.declared.fault.FilterFault.{FilterFault}
 use Rattle.av_filter_table.specs.Table.{Table, mounted}
-use Rattle.av_frame.specs.declared.message.Body.{Body}
+use Rattle.av_frame.specs.Message.{Letter}
 use Rattle.av_gate.specs.declared.fault.GateFault.{GateFault}
 use Rattle.av_gate.specs.declared.fault.GateFault.TheVariants.{AuditFull, Filter}
 use Rattle.av_gate.specs.declared.settled.Settled.{Settled}
@@ -70,11 +70,11 @@ settled_of (Ok r) = Ok r.1
 settled_of (Err why) = Err why
 
 -- the messages of these events, and those that wait
-abbrev pub messages_of : List FilterEntry → List Body
+abbrev pub messages_of : List FilterEntry → List Letter
 messages_of es = flat_map (λ x. x.messages) es
 
 -- the messages that were not taken yet
-abbrev pub waiting_of : Book → List Body
+abbrev pub waiting_of : Book → List Letter
 waiting_of b = messages_of (drop b.sent b.events)
 
 -- the stream of a name, or 0

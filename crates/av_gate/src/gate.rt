@@ -1,4 +1,4 @@
-ghost use Rattle.std.specs.Prelude.{◌≡◌, ◌≢◌, ◌≤◌, ◌<◌, ◌++◌, ◌∷◌, [], Ok, Err, Some, IfOk, IfErr, IfSome, IsSome, IsSomeAnd, vec_len};
+ghost use Rattle.std.specs.Prelude.{◌≡◌, ◌≢◌, ◌≤◌, ◌<◌, ◌++◌, ◌∷◌, [], Ok, Err, Some, IfOk, IfErr, IfSome, IsSome, IsSomeAnd, vec_len, OnOk};
 ghost use Rattle.std.specs.Vec.{vec_capacity};
 ghost use Rattle.av_base.specs.Answers.{Reads};
 ghost use Rattle.av_gate.specs.Versions.{version_shown};
@@ -17,7 +17,7 @@ use av_frame::Message;
 use av_pend::Answer;
 use av_store::{BootSpent, Volume};
 use std::alloc::{AllocError, Global};
-use std::sync::{Condvar, Mutex, Wait};
+use std::sync::{Condvar, Mutex, MutexGuard, Wait};
 
 // What lies under the lock.
 pub(crate) struct Inner {
@@ -197,13 +197,54 @@ impl Gate {
         ensures call { Adds seat.old seat.new (call.Receive message.now) result }
         ensures floor { IfOk result (λ note. version_shown message.now note ≤ floor_seen seat.new) }
     {
+        let (call, settled) = self.receive(rt, alloc, seat, message)?;
+        Ok(self.settle(seat, call, settled))
+    }
+
+    /// The same, and wakes nobody who waits for messages: what it gave out is for the caller to take and to send.
+    pub fn message_quietly<R: Wait>(
+        &self,
+        rt: &R,
+        alloc: Global,
+        seat: &mut Seat,
+        message: &Message,
+    ) -> Result<Note, Refusal<GateFault>>
+        requires { IsSeatOf self.now seat.old }
+        ensures same { IsSeatOf self.now seat.new }
+        ensures later { floor_seen seat.old ≤ floor_seen seat.new }
+        ensures call { Adds seat.old seat.new (call.Receive message.now) result }
+        ensures floor { IfOk result (λ note. version_shown message.now note ≤ floor_seen seat.new) }
+    {
+        let (call, settled) = self.receive(rt, alloc, seat, message)?;
+        let quiet = Settled {
+            messages: 0,
+            ..settled
+        };
+        Ok(self.settle(seat, call, quiet))
+    }
+
+    // A message as an event, with the call that is to be kept in the seat.
+    fn receive<R: Wait>(
+        &self,
+        rt: &R,
+        alloc: Global,
+        seat: &mut Seat,
+        message: &Message,
+    ) -> Result<(Option<Call>, Settled), Refusal<GateFault>>
+        requires { IsSeatOf self.now seat.old }
+        ensures same { IsSeatOf self.now seat.new × (calls_of seat.new ≡ calls_of seat.old)
+            × (floor_seen seat.new ≡ floor_seen seat.old) }
+        ensures call { IfOk result (λ r. r.0 ≡ Some (call.Receive message.now)) }
+        ensures room { OnOk result (vec_len seat.new.calls < vec_capacity seat.new.calls) }
+        ensures floor { IfOk result (λ r. version_shown message.now r.1.note ≤ r.1.floor) }
+    {
         let call = self.prepare(seat, Call::receive(message))?;
         let settled = self
             .inner
             .lock(rt)
             .locked
             .message(alloc, call.is_some(), message)?;
-        Ok(self.settle(seat, call, settled))
+        Ok((call, settled))
     }
 
     /// The time of the question of this number is up: AuditFull, NoMemory.
@@ -360,14 +401,25 @@ impl Gate {
     ) -> Result<Option<Vec<Message>>, AllocError>
         ensures some { IfOk result (λ waited. IfSome waited (λ messages. messages.items ≢ [])) }
     {
-        let mut inner = self.sent.wait_while(rt, self.inner.lock(rt), |inner| {
-            !inner.is_stopped && !inner.locked.has_outgoing()
-        });
+        let mut inner = self.await_messages(rt);
         let messages = inner.locked.take_outgoing(alloc)?;
         Ok(if messages.is_empty() {
             None
         } else {
             Some(messages)
+        })
+    }
+
+    /// Waits for messages and leaves them: whether some wait. They don't once the gate was stopped and none is left. So a caller
+    /// may take a lock of its own before it takes them out, and somebody else may have taken them by then.
+    pub fn await_outgoing<R: Wait>(&self, rt: &R) -> bool {
+        self.await_messages(rt).locked.has_outgoing()
+    }
+
+    // Waits for messages, or until the gate is stopped.
+    fn await_messages<R: Wait>(&self, rt: &R) -> MutexGuard<'_, Inner> {
+        self.sent.wait_while(rt, self.inner.lock(rt), |inner| {
+            !inner.is_stopped && !inner.locked.has_outgoing()
         })
     }
 

@@ -67,7 +67,8 @@ fn is_write(event: &Event, stream: StreamId, offset: u64, bytes: &[u8]) -> bool
 fn same_message(one: &Message, other: &Message) -> bool
     ensures { IsTrue result → one.now ≡ other.now }
 {
-    same_sent_down(one.body(), other.body()) || same_sent_up(one.body(), other.body())
+    one.port() == other.port()
+        && (same_sent_down(one.body(), other.body()) || same_sent_up(one.body(), other.body()))
 }
 
 // Of the messages that a filter sends to its service.

@@ -1,7 +1,8 @@
 -- What a generator carries from one command of its script to the next.
 use Rattle.std.specs.Prelude.{ℕ, ◌-◌, ◌==◌, nat_lt, List, [], ◌∷◌, ◌++◌, drop, codes, Option, None, Some, Ok, Err, if◌then◌else◌}
-use Rattle.av_frame.specs.declared.message.Body.{Body}
+use Rattle.av_frame.specs.Message.{Letter}
 use Rattle.av_frame.specs.declared.message.Body.TheVariants.{Scan}
+use Rattle.av_frame.specs.declared.message.Body.{Body}
 use Rattle.av_world.specs.Script.Grammar.{Line}
 use Rattle.av_world.specs.Script.Statement.{command_of}
 use Rattle.av_world.specs.World.{WorldState, Outcome, step_of}
@@ -93,12 +94,16 @@ asked_before (Booted boot) n = 0
 asked_before line n = n
 
 -- the number of a question
-abbrev pub asked_by : Body → ℕ → ℕ
-asked_by (Scan id s g l) n = id.seq
-asked_by m n = n
+abbrev pub asked_in : Body → ℕ → ℕ
+asked_in (Scan id s g l) n = id.seq
+asked_in m n = n
+
+-- the same of a message
+abbrev pub asked_by : Letter → ℕ → ℕ
+asked_by m n = asked_in m.body n
 
 -- the number of the last question, after what was sent
-abbrev pub asked_after : ℕ → List Body → ℕ
+abbrev pub asked_after : ℕ → List Letter → ℕ
 asked_after n [] = n
 asked_after n (m ∷ ms) = asked_after (asked_by m n) ms
 

@@ -1,8 +1,9 @@
 -- What a choice sees of a world.
 use Rattle.std.specs.Prelude.{ℕ, ◌+◌, List, length, is_some, codes, if◌then◌else◌}
+use Rattle.av_base.specs.declared.port.Port.TheVariants.{One}
 use Rattle.av_sigset.specs.Catalogue.{newest}
 use Rattle.av_store.specs.Rows.{number_named}
-use Rattle.av_world.specs.World.{WorldState}
+use Rattle.av_world.specs.World.{WorldState, desk_of}
 use Rattle.av_generate.specs.declared.sight.Sight.{Sight}
 
 -- 1 where a name has a stream
@@ -19,7 +20,7 @@ sight_of w lent asked =
     record {
       latest = newest w.sets;
       streams = taken_of_all w;
-      connected = w.desk.connected;
+      connected = (desk_of w One).connected;
       questions = length w.table.questions;
       down = length w.down;
       up = length w.up;

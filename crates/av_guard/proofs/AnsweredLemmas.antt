@@ -14,7 +14,7 @@ use Rattle.av_base.specs.declared.refusal.Refusal.TheVariants.{Fault, NoMemory}
 use Rattle.av_filter.specs.Audit.{FilterEntry}
 use Rattle.av_filter.specs.Conduct.{FilterEvent, Changes, Disconnects, Receives, TimesOut}
 use Rattle.av_filter_table.specs.Table.{Table}
-use Rattle.av_frame.specs.declared.message.Body.{Body}
+use Rattle.av_frame.specs.Message.{Letter}
 use Rattle.av_guard.proofs.AskLemmas.{kept_story}
 use Rattle.av_guard.proofs.CallLemmas.{asked_now, first_story, step, still_each, taken_among}
 use Rattle.av_guard.proofs.OnceLemmas.{Adds, Here, IsIn, asks-append, happened, one_here, open_asks, opened_counts, still_counts, told-append}
@@ -89,7 +89,7 @@ no_place g c none missing = go (g.volume.opens == greatest) none
     go true n = cc
     go false n = let full : place_fault g Missing ≡ None = ap (place_fault g) (sym missing) ∙ n in cc
 
-module _ (client tag : ℕ) (t0 : Table) (v0 : Store) (asks : List Ask) (told : List Told) (sent : List Body) (history : List FilterEntry) where
+module _ (client tag : ℕ) (t0 : Table) (v0 : Store) (asks : List Ask) (told : List Told) (sent : List Letter) (history : List FilterEntry) where
   abbrev Counts : State → State → List Told → ℕ → Type 0
   Counts old new ts more = Adds client tag old new ts more
 
@@ -206,7 +206,7 @@ stays_first client (Message m r) cs all = (tt, all)
 stays_first client (ServiceLost r) cs all = (tt, all)
 stays_first client (TimeUp q r) cs all = (tt, all)
 
-run_counts : (client tag : ℕ) (t0 : Table) (v0 : Store) (calls : List Call) (asks : List Ask) (told : List Told) (sent : List Body) (history : List FilterEntry) (old new : State) → Story t0 v0 asks told sent history old → Lead calls old new → Stays client calls → IsIn client tag old
+run_counts : (client tag : ℕ) (t0 : Table) (v0 : Store) (calls : List Call) (asks : List Ask) (told : List Told) (sent : List Letter) (history : List FilterEntry) (old new : State) → Story t0 v0 asks told sent history old → Lead calls old new → Stays client calls → IsIn client tag old
     → told_of client tag (told_in calls) + open_asks client tag new ≡ asks_of client tag (asks_in calls) + open_asks client tag old
 run_counts client tag t0 v0 [] asks told sent history old new s is stays h = omega (arith, ap (open_asks client tag) is)
 run_counts client tag t0 v0 (c ∷ cs) asks told sent history old new s (mid, does, rest) stays h =

@@ -11,7 +11,7 @@ use Rattle.av_filter.specs.Reaction.{Reaction, only}
 use Rattle.av_filter.specs.declared.fault.FilterFault.TheVariants as filter_fault
 use Rattle.av_filter.specs.declared.note.Note.TheVariants.{Quiet}
 use Rattle.av_filter_table.specs.Table.{Table}
-use Rattle.av_frame.specs.declared.message.Body.{Body}
+use Rattle.av_frame.specs.Message.{Letter}
 use Rattle.av_guard.proofs.KeepLemmas.{at_last, created_as, created_is, creation_fits, creation_taken, next_free, stored_by}
 use Rattle.av_guard.proofs.LawLemmas.{opens_its_bytes}
 use Rattle.av_guard.proofs.PairLemmas.{of_two}
@@ -39,7 +39,7 @@ use Rattle.av_store.specs.Sound.{IsOfFiles}
 use Rattle.av_store.specs.Store.{Store, create_of, greatest}
 use Rattle.av_store.specs.declared.stream.Stream.{Stream}
 
-module _ (t0 : Table) (v0 : Store) (asks : List Ask) (told : List Told) (sent : List Body) where
+module _ (t0 : Table) (v0 : Store) (asks : List Ask) (told : List Told) (sent : List Letter) where
   -- what stays of a guard whose history is longer by two events that told nothing
   two_more : (history : List FilterEntry) (x y : FilterEntry) (g : State) (t : Table) (v : Store) → Story t0 v0 asks told sent history g → Past t0 v0 t v sent (history ++ x ∷ [] ++ y ∷ []) → Fits t v → AreWritten v.streams → t.pended ≡ g.table.pended
       → Story t0 v0 asks told sent (history ++ x ∷ [] ++ y ∷ []) (record g { table = t; volume = v })

@@ -13,7 +13,7 @@ use Rattle.av_filter.proofs.FitLemmas.{mounted_fits}
 use Rattle.av_filter.specs.Audit.{FilterEntry}
 use Rattle.av_filter.specs.Conduct.{FilterEvent, Changes, Disconnects, Receives, TimesOut, filter_refusal, filter_step}
 use Rattle.av_filter_table.specs.Table.{Table}
-use Rattle.av_frame.specs.declared.message.Body.{Body}
+use Rattle.av_frame.specs.Message.{Letter}
 use Rattle.av_guard.proofs.AskLemmas.{asked_story, refused_story}
 use Rattle.av_guard.proofs.PastLemmas.{among_left, among_right, entry_of}
 use Rattle.av_guard.proofs.RunLemmas.{append_none}
@@ -58,9 +58,9 @@ still_each P clients (a ∷ line) all =
       | false ↦ still_each P clients line all.1
     ]
 
-module _ (t0 : Table) (v0 : Store) (asks : List Ask) (told : List Told) (sent : List Body) where
+module _ (t0 : Table) (v0 : Store) (asks : List Ask) (told : List Told) (sent : List Letter) where
   -- some history
-  abbrev Left : State → List Told → List Body → Type 0
+  abbrev Left : State → List Told → List Letter → Type 0
   Left g ts ms = (h : List FilterEntry) × Story t0 v0 asks (told ++ ts) (sent ++ ms) h g
 
   idle : (h : List FilterEntry) (g : State) → Story t0 v0 asks told sent h g → Left g [] []
@@ -160,7 +160,7 @@ taken_among asks more = go more (λ a h. h)
     go (x ∷ xs) f = (among_right x asks more (f x (inl refl)), go xs (λ a h. f a (inr h)))
 
 -- all that calls lead to
-run : (t0 : Table) (v0 : Store) (calls : List Call) (asks : List Ask) (told : List Told) (sent : List Body) (history : List FilterEntry) (old new : State) → Story t0 v0 asks told sent history old → Lead calls old new
+run : (t0 : Table) (v0 : Store) (calls : List Call) (asks : List Ask) (told : List Told) (sent : List Letter) (history : List FilterEntry) (old new : State) → Story t0 v0 asks told sent history old → Lead calls old new
     → (h : List FilterEntry) × Story t0 v0 (asks ++ asks_in calls) (told ++ told_in calls) (sent ++ sent_in calls) h new
 run t0 v0 [] asks told sent history old new s is = (
   history,

@@ -9,7 +9,7 @@ use Rattle.av_filter.specs.Audit.{FilterEntry, IsFilterAudit, IsReply, Kept, ans
 use Rattle.av_filter.specs.Changing.{changed_volume}
 use Rattle.av_filter.specs.Conduct.{FilterEvent, Changes, CleansUp, Disconnects, Opens, Receives, Restarts, TimesOut, filter_refusal, filter_step}
 use Rattle.av_filter_table.specs.Table.{Table}
-use Rattle.av_frame.specs.declared.message.Body.{Body}
+use Rattle.av_frame.specs.Message.{Letter}
 use Rattle.av_guard.specs.Run.{Among, all_held, held_after}
 use Rattle.av_store.proofs.HistoryLemmas.{remembers}
 use Rattle.av_store.proofs.SeenLemmas.{follows}
@@ -35,7 +35,7 @@ end_more : (t : Table) (v : Store) (xs : List FilterEntry) (x : FilterEntry) →
 end_more t v [] x = refl
 end_more t v (y ∷ ys) x = end_more (filter_step t v y.event).table (filter_step t v y.event).volume ys x
 
-sent_more : (down : List Body) (xs : List FilterEntry) (x : FilterEntry) → sent_down down (xs ++ x ∷ []) ≡ sent_down down xs ++ x.messages
+sent_more : (down : List Letter) (xs : List FilterEntry) (x : FilterEntry) → sent_down down (xs ++ x ∷ []) ≡ sent_down down xs ++ x.messages
 sent_more down [] x = refl
 sent_more down (y ∷ ys) x = sent_more (down ++ y.messages) ys x
 
@@ -96,13 +96,13 @@ held_stays hs Disconnects u g c h = h
 held_stays hs Restarts u g c h = h
 
 -- where a history leads from a first table and volume, and what it sent
-pub record Past (t0 : Table) (v0 : Store) (t : Table) (v : Store) (sent : List Body) (history : List FilterEntry) : Type 0 where
+pub record Past (t0 : Table) (v0 : Store) (t : Table) (v : Store) (sent : List Letter) (history : List FilterEntry) : Type 0 where
   pub legal : IsFilterAudit t0 v0 history
   pub leads : ◌≡◌ {A = Kept} (filter_end t0 v0 history) (record { table = t; volume = v })
   pub sends : sent_down [] history ≡ sent
   pub keeps : Keeps v (map now (all_held [] history))
 
-pub past_more : (t0 : Table) (v0 : Store) (t : Table) (v : Store) (sent : List Body) (history : List FilterEntry) (e : FilterEvent) → Past t0 v0 t v sent history → filter_refusal t v e ≡ None
+pub past_more : (t0 : Table) (v0 : Store) (t : Table) (v : Store) (sent : List Letter) (history : List FilterEntry) (e : FilterEvent) → Past t0 v0 t v sent history → filter_refusal t v e ≡ None
     → Past t0 v0 (filter_step t v e).table (filter_step t v e).volume (sent ++ (filter_step t v e).messages) (history ++ entry_of t v e ∷ [])
 past_more t0 v0 t v sent history e p ok =
     let x = entry_of t v e in

@@ -10,7 +10,7 @@ use Rattle.av_filter.specs.Receiving.{receives}
 use Rattle.av_store.specs.Files.{Change}
 use Rattle.av_filter.specs.declared.out.Out.{Out}
 use Rattle.av_filter_table.specs.Table.{Table}
-use Rattle.av_frame.specs.declared.message.Body.{Body}
+use Rattle.av_frame.specs.Message.{Letter}
 use Rattle.av_store.specs.Store.{Store}
 
 pub few : (out : Out) (t t' : Table) (v v' : Store) (e : FilterEvent) → Reacts out t' v' (filter_step t v e) → length out.answers.items ≤ length t.pended + 1
@@ -22,7 +22,7 @@ few_given (Ok out) t t' v v' e reacts = few out t t' v v' e reacts
 few_given (Err why) t t' v v' e reacts = tt
 
 -- the same of the events by their own names
-pub few_received : {E : Type 0} (r : Result Out E) (t t' : Table) (v v' : Store) (m : Body) → MeetsAlways t v t' v' r (receives t v m) → IfOk r (λ out. length out.answers.items ≤ length t.pended + 1)
+pub few_received : {E : Type 0} (r : Result Out E) (t t' : Table) (v v' : Store) (m : Letter) → MeetsAlways t v t' v' r (receives t v m) → IfOk r (λ out. length out.answers.items ≤ length t.pended + 1)
 unfolding filter_step
 few_received r t t' v v' m meets = few_given r t t' v v' (Receives m) meets
 

@@ -8,7 +8,11 @@ use Rattle.av_base.specs.declared.cause.Cause.TheVariants.{PortDisconnected, Uns
 use Rattle.av_base.specs.declared.message_id.MessageId.{MessageId}
 use Rattle.av_base.specs.declared.mode.Mode.{Mode}
 use Rattle.av_base.specs.declared.mode.Mode.TheVariants.{FailClosed, FailOpen}
+use Rattle.av_base.specs.declared.port.Port.{Port}
+use Rattle.av_base.specs.declared.port.Port.TheVariants.{One}
 use Rattle.av_base.specs.declared.verdict.Verdict.{Verdict}
+use Rattle.av_base.specs.declared.port.Port.{Port}
+use Rattle.av_base.specs.declared.port.Port.TheVariants.{One}
 use Rattle.av_base.specs.declared.verdict.Verdict.TheVariants.{Clean, Infected}
 use Rattle.av_cache.specs.declared.entry.Entry.{Entry}
 use Rattle.av_context.specs.declared.context_state.ContextState.{ContextState}
@@ -19,7 +23,7 @@ use Rattle.av_filter.specs.Changing.{changed_volume, changes, cleaned, removed, 
 use Rattle.av_filter.specs.Conduct.{FilterEvent, Opens, Changes, CleansUp, Receives, TimesOut, Disconnects, Restarts, disconnects, filter_step, restarts, times_out}
 use Rattle.av_filter.specs.Opening.{answers_with, new_open, open_asked, open_cached, open_found, open_judged, opened, pends, taken}
 use Rattle.av_filter.specs.Reaction.{Reaction}
-use Rattle.av_filter.specs.Receiving.{greeted, reads, receives, replies}
+use Rattle.av_filter.specs.Receiving.{greeted, reads, receives_at, replies}
 use Rattle.av_filter.specs.declared.note.Note.{Note}
 use Rattle.av_filter.specs.declared.note.Note.TheVariants.{Quiet}
 use Rattle.av_filter_table.specs.Answering.{judged, present_bytes, refused_now}
@@ -28,6 +32,7 @@ use Rattle.av_filter_table.specs.Table.{Table, can_ask, context_of, has_room, is
 use Rattle.av_filter_table.specs.declared.pended.Pended.{Pended}
 use Rattle.av_filter_table.specs.declared.question.Question.{Question}
 use Rattle.av_base.specs.MessageId.{same_id}
+use Rattle.av_frame.specs.Message.{Letter, via}
 use Rattle.av_frame.specs.declared.message.Body.{Body}
 use Rattle.av_frame.specs.declared.message.Body.TheVariants.{Abort, Hello, Read, Reply, Updated}
 use Rattle.av_frame.specs.declared.outcome.Outcome.{Outcome}
@@ -67,7 +72,7 @@ module _ (Q : ℕ → ℕ → Type 0) (g : ℕ) where
   moved_holds : (old new : MessageId) (p : Pended) → Holds p → Holds (moved old new p)
   moved_holds old new p h = elim (waits_for old p) as (λ b. Holds (if b then again_under new p else p)) [ true ↦ h | false ↦ h ]
 
-  ended_stays : (t : Table) (v : Store) (q : Question) (c : Option ContextState) (f : Pended → Answer) (ms : List Body) (note : Note) → Each Holds t.pended → ((p : Pended) → Holds p → IsOf (f p))
+  ended_stays : (t : Table) (v : Store) (q : Question) (c : Option ContextState) (f : Pended → Answer) (ms : List Letter) (note : Note) → Each Holds t.pended → ((p : Pended) → Holds p → IsOf (f p))
       → Stays (record { table = ended t q c; volume = v; answers = map f (filter (waits_for q.id) t.pended); messages = ms; note = note })
   unfolding ended
   ended_stays t v q c f ms note held h = record {
@@ -75,7 +80,7 @@ module _ (Q : ℕ → ℕ → Type 0) (g : ℕ) where
     answers = each-map IsOf Holds f h (filter (waits_for q.id) t.pended) (each-filter Holds (waits_for q.id) t.pended held);
   }
 
-  again_stays : (t : Table) (v : Store) (q : Question) (early : List Body) → Each Holds t.pended → Stays (again t v q early)
+  again_stays : (t : Table) (v : Store) (q : Question) (early : List Letter) → Each Holds t.pended → Stays (again t v q early)
   unfolding again asks
   again_stays t v q early held =
       cond_both (list_any (is_held q.id) t.pended && sequence_left t) _ _ Stays
@@ -96,7 +101,7 @@ module _ (Q : ℕ → ℕ → Type 0) (g : ℕ) where
     refusal_stays : (t' : Table) (generation : ℕ) (c : Cause) → t'.pended ≡ t.pended → Stays (answers_with t' (taken u) (refused t'.mode generation c (new_open (taken u) s least)))
     refusal_stays t' generation c same = answered_stays t' _ same (refused_of t'.mode generation c (new_open (taken u) s least) new)
 
-    pended_stays : (t' : Table) (id : MessageId) (ms : List Body) → t'.pended ≡ t.pended → Stays (pends t' (taken u) s least id ms)
+    pended_stays : (t' : Table) (id : MessageId) (ms : List Letter) → t'.pended ≡ t.pended → Stays (pends t' (taken u) s least id ms)
     pended_stays t' id ms same = record {
       pended = each-append Holds t'.pended (record { question = id; held = new_open (taken u) s least } ∷ []) (subst (Each Holds) (sym same) held) (new, tt);
       answers = tt;
@@ -135,7 +140,7 @@ module _ (Q : ℕ → ℕ → Type 0) (g : ℕ) where
     removed_stays : (w : Store) (s : ℕ) (o : Option Question) → Stays (removed t w s o)
     unfolding removed
     removed_stays w s None = still _ held refl
-    removed_stays w s (Some q) = ended_stays t w q None (λ p. denied StreamRemoved p.held) (Abort q.id ∷ []) Quiet held (λ p h. tt)
+    removed_stays w s (Some q) = ended_stays t w q None (λ p. denied StreamRemoved p.held) (via One (Abort q.id) ∷ []) Quiet held (λ p h. tt)
 
     changes_stays : (c : Change) → Stays (changes t v c)
     unfolding changes
@@ -168,18 +173,18 @@ module _ (Q : ℕ → ℕ → Type 0) (g : ℕ) where
         cond_both (nat_lt version t.floor) _ _ Stays (λ e. again_stays t v q [] held)
         (λ e. let b = ended_stays t v q (Some (context.Judged version r)) (λ p. judged r q.generation version p.held) [] Quiet held (λ p h. judged_of r q.generation version p.held h (is q refl)) in record { pended = b.pended; answers = b.answers })
 
-    receives_stays : Each (λ q. q.generation ≡ g) t.questions → (m : Body) → Stays (receives t v m)
-    unfolding receives
-    receives_stays all (Hello number version) = greeted_stays number version
-    receives_stays all (Updated version) = still _ held refl
-    receives_stays all (Read id offset count) = reads_stays id offset count _
-    receives_stays all (Reply id outcome) = replies_stays outcome _ (λ q at. find_each (λ k. k.generation ≡ g) (λ k. same_id k.id id) t.questions q all at)
-    receives_stays all _ = still _ held refl
+    receives_stays : Each (λ q. q.generation ≡ g) t.questions → (port : Port) (m : Body) → Stays (receives_at t v port m)
+    unfolding receives_at
+    receives_stays all One (Hello number version) = greeted_stays number version
+    receives_stays all One (Updated version) = still _ held refl
+    receives_stays all One (Read id offset count) = reads_stays id offset count _
+    receives_stays all One (Reply id outcome) = replies_stays outcome _ (λ q at. find_each (λ k. k.generation ≡ g) (λ k. same_id k.id id) t.questions q all at)
+    receives_stays all port _ = still _ held refl
 
     times_out_stays : (o : Option Question) → Stays (times_out t v o)
     unfolding times_out
     times_out_stays None = still _ held refl
-    times_out_stays (Some q) = ended_stays t v q (Some context.Modified) _ (Abort q.id ∷ []) Quiet held (λ p h. refused_of t.mode _ _ p.held h)
+    times_out_stays (Some q) = ended_stays t v q (Some context.Modified) _ (via One (Abort q.id) ∷ []) Quiet held (λ p h. refused_of t.mode _ _ p.held h)
 
     disconnects_stays : Stays (disconnects t v)
     unfolding disconnects
@@ -199,7 +204,7 @@ module _ (Q : ℕ → ℕ → Type 0) (g : ℕ) where
   event_stays t v held qs ss (Opens s least) new = found_stays t v s least held new _ (stream_at s v.streams) (λ x at. ss s x at) refl
   event_stays t v held qs ss (Changes c) new = changes_stays t v held c
   event_stays t v held qs ss (CleansUp s) new = cleaned_stays t v held s _
-  event_stays t v held qs ss (Receives m) new = receives_stays t v held qs m
+  event_stays t v held qs ss (Receives m) new = receives_stays t v held qs m.port m.body
   event_stays t v held qs ss (TimesOut seq) new = times_out_stays t v held _
   event_stays t v held qs ss Disconnects new = disconnects_stays t v held
   event_stays t v held qs ss Restarts new = restarts_stays t v held

@@ -15,7 +15,7 @@ use Rattle.av_filter.specs.Fit.{Fits}
 use Rattle.av_filter.specs.Once.{once_up_to, times}
 use Rattle.av_filter.specs.Reaction.{Reaction}
 use Rattle.av_filter_table.specs.Table.{Table}
-use Rattle.av_frame.specs.declared.message.Body.{Body}
+use Rattle.av_frame.specs.Message.{Letter}
 use Rattle.av_guard.proofs.PairLemmas.{at_new, ids, key_more, keys, paired, stays}
 use Rattle.av_guard.proofs.PastLemmas.{Past, among_right, answers_more, each_self, entry_of, past_more}
 use Rattle.av_guard.proofs.SoundLemmas.{at_most, number_free, one_more, still_awaited, written_same}
@@ -36,7 +36,7 @@ use Rattle.av_pend.specs.declared.answer.Answer.TheVariants.{Granted, Unscanned,
 use Rattle.av_store.specs.Store.{Store}
 
 -- the asks that were taken, what was told, and what was sent
-pub record Story (t0 : Table) (v0 : Store) (asks : List Ask) (told : List Told) (sent : List Body) (history : List FilterEntry) (g : State) : Type 0 where
+pub record Story (t0 : Table) (v0 : Store) (asks : List Ask) (told : List Told) (sent : List Letter) (history : List FilterEntry) (g : State) : Type 0 where
   pub past : Past t0 v0 g.table g.volume sent history
   pub fits : Fits g.table g.volume
   pub written : AreWritten g.volume.streams
@@ -46,7 +46,7 @@ pub record Story (t0 : Table) (v0 : Store) (asks : List Ask) (told : List Told) 
   pub founded : Each (IsFounded asks history) told
 
 -- after asks that were taken later
-pub later : (t0 : Table) (v0 : Store) (asks more : List Ask) (told : List Told) (sent : List Body) (history : List FilterEntry) (g : State) → Story t0 v0 asks told sent history g → ((a : Ask) → Among a asks → Among a (asks ++ more)) → Story t0 v0 (asks ++ more) told sent history g
+pub later : (t0 : Table) (v0 : Store) (asks more : List Ask) (told : List Told) (sent : List Letter) (history : List FilterEntry) (g : State) → Story t0 v0 asks told sent history g → ((a : Ask) → Among a asks → Among a (asks ++ more)) → Story t0 v0 (asks ++ more) told sent history g
 later t0 v0 asks more told sent history g s among = record {
   past = s.past;
   fits = s.fits;
@@ -77,7 +77,7 @@ with_each P (e ∷ m) k w all h =
     ]
 
 -- an event, of a guard in which these wait as it comes
-module _ (t0 : Table) (v0 : Store) (asks : List Ask) (told : List Told) (sent : List Body) (history : List FilterEntry) (g : State) (e : FilterEvent)
+module _ (t0 : Table) (v0 : Store) (asks : List Ask) (told : List Told) (sent : List Letter) (history : List FilterEntry) (g : State) (e : FilterEvent)
     (past : Past t0 v0 g.table g.volume sent history) (fits : Fits g.table g.volume) (written : AreWritten g.volume.streams)
     (counts : (n : ℕ) → times n (keys g.waiting) + once_up_to g.volume.opens n ≡ times n (ids g.table.pended) + once_up_to (opens_after g.volume.opens e) n)
     (once : (n : ℕ) → times n (keys g.waiting) ≤ 1)
@@ -121,14 +121,14 @@ module _ (t0 : Table) (v0 : Store) (asks : List Ask) (told : List Told) (sent : 
   }
 
 -- an event that submits no open
-pub quiet_story : (t0 : Table) (v0 : Store) (asks : List Ask) (told : List Told) (sent : List Body) (history : List FilterEntry) (g : State) (e : FilterEvent) → Story t0 v0 asks told sent history g → opens_after g.volume.opens e ≡ g.volume.opens
+pub quiet_story : (t0 : Table) (v0 : Store) (asks : List Ask) (told : List Told) (sent : List Letter) (history : List FilterEntry) (g : State) (e : FilterEvent) → Story t0 v0 asks told sent history g → opens_after g.volume.opens e ≡ g.volume.opens
     → Comes (IsAwaited g.waiting) 2 g.volume e → filter_refusal g.table g.volume e ≡ None → AreWritten (filter_step g.table g.volume e).volume.streams
     → Story t0 v0 asks (told ++ (happens g e).told) (sent ++ (happens g e).messages) (history ++ entry_of g.table g.volume e ∷ []) (happens g e).state
 quiet_story t0 v0 asks told sent history g e s none comes ok stay =
     event_story t0 v0 asks told sent history g e s.past s.fits s.written (λ n. omega (arith, s.paired.each n, ap (λ k. once_up_to k n) none)) (λ n. omega (arith, s.paired.each n, s.paired.once n)) s.paired.streams comes s.line s.waiting s.founded ok stay
 
 -- an open of a stream that has the content of an ask that was taken
-pub opens_story : (t0 : Table) (v0 : Store) (asks : List Ask) (told : List Told) (sent : List Body) (history : List FilterEntry) (g : State) (w : Waiter) → Story t0 v0 asks told sent history g → IsAsking asks history w → filter_refusal g.table g.volume (Opens w.stream 0) ≡ None
+pub opens_story : (t0 : Table) (v0 : Store) (asks : List Ask) (told : List Told) (sent : List Letter) (history : List FilterEntry) (g : State) (w : Waiter) → Story t0 v0 asks told sent history g → IsAsking asks history w → filter_refusal g.table g.volume (Opens w.stream 0) ≡ None
     → (h : List FilterEntry) × Story t0 v0 asks (told ++ (opens g w.stream w.client w.tag).told) (sent ++ (opens g w.stream w.client w.tag).messages) h (opens g w.stream w.client w.tag).state
 opens_story t0 v0 asks told sent history g w s is ok =
     let k = g.volume.opens + 1 in

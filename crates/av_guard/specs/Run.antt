@@ -8,7 +8,7 @@ use Rattle.av_base.specs.declared.refusal.Refusal.{Refusal}
 use Rattle.av_filter.specs.Audit.{FilterEntry, IsFilterAudit, answers_given, filter_end, sent_down}
 use Rattle.av_filter.specs.Conduct.{FilterEvent, Changes, Disconnects, Receives, TimesOut}
 use Rattle.av_filter_table.specs.Table.{Table, mounted}
-use Rattle.av_frame.specs.declared.message.Body.{Body}
+use Rattle.av_frame.specs.Message.{Letter}
 use Rattle.av_guard.specs.Asking.{Refuses, Takes, refusal_of}
 use Rattle.av_guard.specs.Beginning.{Joins, begun, left, limits_of}
 use Rattle.av_guard.specs.Line.{NextOf}
@@ -29,7 +29,7 @@ pub data Call : Type 0 where
   ClientLost : (client : ℕ) → Call
   Asks : (client tag : ℕ) (content : List ℕ) (result : Result Given (Refusal AskFault)) → Call
   NextInLine : (result : Result (Option Given) (Refusal AskFault)) → Call
-  Message : (message : Body) (result : Result Given AllocError) → Call
+  Message : (message : Letter) (result : Result Given AllocError) → Call
   ServiceLost : (result : Result Given AllocError) → Call
   TimeUp : (seq : ℕ) (result : Result Given AllocError) → Call
 
@@ -67,7 +67,7 @@ taken_by _ = []
 abbrev pub told_in : List Call → List Told
 told_in cs = flat_map (λ given. given.told.items) (flat_map given_by cs)
 
-abbrev pub sent_in : List Call → List Body
+abbrev pub sent_in : List Call → List Letter
 sent_in cs = flat_map (λ given. given.messages.items) (flat_map given_by cs)
 
 abbrev pub asks_in : List Call → List Ask

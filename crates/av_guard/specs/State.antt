@@ -3,7 +3,7 @@ use Rattle.std.specs.Prelude.{◌≡◌, ℕ, List, [], Result, Ok, Err}
 use Rattle.av_filter.specs.Conduct.{FilterEvent, filter_step}
 use Rattle.av_filter.specs.Reaction.{Reaction}
 use Rattle.av_filter_table.specs.Table.{Table}
-use Rattle.av_frame.specs.declared.message.Body.{Body}
+use Rattle.av_frame.specs.Message.{Letter}
 use Rattle.av_guard.specs.declared.ask.Ask.{Ask}
 use Rattle.av_guard.specs.declared.given.Given.{Given}
 use Rattle.av_guard.specs.declared.given.Told.{Told}
@@ -25,7 +25,7 @@ pub record State : Type 0 where
 pub record Turn : Type 0 where
   pub state : State
   pub told : List Told
-  pub messages : List Body
+  pub messages : List Letter
 
 -- the filter reacted: its answers are told, and its messages are sent
 abbrev pub reacted : State → Reaction → Turn

@@ -1,10 +1,20 @@
 -- The files that were opened, from what the openers brought back. They took the files in turn.
-use Rattle.std.specs.Prelude.{ℕ, ◌≡◌, ◌/◌, ◌%◌, List, Option, length, option_and_then, slice_get}
+use Rattle.std.specs.Prelude.{ℕ, ◌≡◌, ◌/◌, ◌%◌, List, Option, length, map, option_and_then, slice_get}
 use Rattle.std.specs.Borrow.{Bor}
+use Rattle.std.specs.Io.KnownBytes.{Appends}
 use Rattle.std.specs.List.{enumerate_from, filter_map}
 use Rattle.std.specs.Option.{option_map}
-use Rattle.av_pend.specs.declared.answer.Answer.{Answer}
+use Rattle.av_engines.specs.declared.end.End.{End}
+use Rattle.av_engines.specs.declared.end.End.TheVariants.{Done}
+use Rattle.av_files.specs.Opened.{ended_tally, opened_lines, tally_from}
 use Rattle.av_files.specs.declared.opened.Opened.{Opened}
+use Rattle.av_files.specs.declared.scanner.Input.{Input}
+use Rattle.av_pend.specs.declared.answer.Answer.{Answer}
+use Rattle.av_status.specs.Status.{graver, gravest_from, status_of_end}
+use Rattle.av_status.specs.Tally.{concluded, no_files}
+use Rattle.av_status.specs.declared.status.Status.{Status}
+use Rattle.av_status.specs.declared.tally.Tally.{Tally}
+use Rattle.av_status.specs.declared.tally.Wishes.{Wishes}
 use Rattle.av_host.specs.declared.opener.Brought.{Brought}
 
 -- the opener whose turn a place was
@@ -27,8 +37,27 @@ opened_at brought (place, name) = option_map (λ a. record { name = name; answer
 abbrev pub opened_files : List Brought → List (Bor (List ℕ)) → List Opened
 opened_files brought names = filter_map (opened_at brought) (enumerate_from 0 names)
 
--- these files are told of what so many openers brought back
-pub record AreBrought (openers : ℕ) (names : List (Bor (List ℕ))) (opened : List Opened) : Type 0 where
+-- these files are told of what so many openers brought back, and this is the gravest end of a loop and of an opener
+pub record AreBrought (openers : ℕ) (names : List (Bor (List ℕ))) (opened : List Opened) (end : End) : Type 0 where
   pub brought : List Brought
   pub count : length brought ≡ openers
   pub told : opened ≡ opened_files brought names
+  pub loops : End
+  pub gravest : end ≡ graver loops (gravest_from Done (map (λ b. b.end) brought))
+
+-- so many openers opened files of these names: the lines of those that have an answer were written, they are counted, and the opens
+-- ended with this status
+pub record AreTold (openers : ℕ) (names : List (Bor (List ℕ))) (wishes : Wishes) (before after : Tally) (old new : Option (List ℕ)) (status : Status) : Type 0 where
+  pub opened : List Opened
+  pub end : End
+  pub brought : AreBrought openers names opened end
+  pub lines : Appends old new (opened_lines wishes opened)
+  pub counted : after ≡ tally_from before opened
+  pub ended : status ≡ status_of_end end
+
+-- all these files were to be opened by so many openers, and the status is that of the files which were
+pub record AreHosted (openers : ℕ) (files : List Input) (wishes : Wishes) (old new : Option (List ℕ)) (status : Status) : Type 0 where
+  pub tally : Tally
+  pub ended : Status
+  pub told : AreTold openers (map (λ f. f.name) files) wishes no_files tally old new ended
+  pub concluded : status ≡ concluded wishes (ended_tally tally (length files) ended)

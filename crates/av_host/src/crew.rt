@@ -4,7 +4,7 @@
 ghost use Rattle.std.specs.Prelude.{◌≡◌, IfOk, MatchResult, vec_len};
 ghost use Rattle.av_gate.specs.Seats.{IsSeatOf};
 
-use crate::carrying::{Wire, back_to_desk, into_desk, into_gate, out_of_desk, out_of_gate};
+use crate::carrying::{Wire, back_to_desk, into_desk, into_gate, out_of_gate};
 use crate::opener::{Brought, Openings, Part, open_files};
 use av_desk::Desk;
 use av_engines::End;
@@ -25,14 +25,6 @@ use std::time::Clock;
 struct SameGiver(Snapshot<Giver>);
 
 impl Promise<(Giver, End)> for SameGiver {
-    ghost kept_by = { λ p r. r.0.channel ≡ p.0.value.channel };
-}
-
-// The taker that a thread gives back takes from the same pool.
-#[derive(Drop)]
-struct SameTaker(Snapshot<Taker>);
-
-impl Promise<(Taker, End)> for SameTaker {
     ghost kept_by = { λ p r. r.0.channel ≡ p.0.value.channel };
 }
 
@@ -118,7 +110,8 @@ fn start_service<'s, S, R: Threads + Wait + Sync>(
     }
 }
 
-// The service's side: three loops round the desk. Gives back the ends of the pool, and the gravest end of a loop.
+// The service's side: two loops round the desk. Once both came to their ends, so does the other side's input. Gives back the ends
+// of the pool, and the gravest end of a loop.
 fn serve<R: Threads + Wait + Sync>(
     rt: &R,
     alloc: Global,
@@ -138,17 +131,13 @@ fn serve<R: Threads + Wait + Sync>(
             ensures taker { result.1.channel ≡ taker.channel }
         {
             let into = start_into_desk(scope, rt, alloc, wire, desk, giver);
-            let back = start_back_to_desk(scope, rt, alloc, wire, desk, taker);
-            let end = out_of_desk(rt, alloc, wire, desk);
+            let (taker, back) = back_to_desk(rt, alloc, wire, desk, taker);
             let (giver, into) = match into {
                 Ok(thread) => thread.join(rt),
                 Err(ended) => ended,
             };
-            let (taker, back) = match back {
-                Ok(thread) => thread.join(rt),
-                Err(ended) => ended,
-            };
-            (giver, taker, gravest(end, gravest(into, back)))
+            wire.hang_up();
+            (giver, taker, gravest(into, back))
         },
     )
 }
@@ -169,32 +158,6 @@ fn start_into_desk<'s, S, R: Threads + Wait + Sync>(
         move || -> (Giver, End)
             ensures { result.0.channel ≡ giver.channel }
         { into_desk(rt, alloc, wire, desk, giver) },
-    );
-    match started {
-        Ok(thread) => Ok(thread),
-        Err(refused) => {
-            wire.break_off();
-            Err((refused.value)())
-        }
-    }
-}
-
-fn start_back_to_desk<'s, S, R: Threads + Wait + Sync>(
-    scope: &'s Scope<'s, S>,
-    rt: &'s R,
-    alloc: Global,
-    wire: &'s Wire,
-    desk: &'s Desk,
-    taker: Taker,
-) -> Result<PromisedHandle<(Taker, End), SameTaker>, (Taker, End)>
-    ensures { MatchResult result (λ h. h.promise.0.value.channel ≡ taker.channel) (λ e. e.0.channel ≡ taker.channel) }
-{
-    let same = SameTaker(Snapshot::of(&taker));
-    let started = scope.spawn_with(
-        same,
-        move || -> (Taker, End)
-            ensures { result.0.channel ≡ taker.channel }
-        { back_to_desk(rt, alloc, wire, desk, taker) },
     );
     match started {
         Ok(thread) => Ok(thread),
@@ -369,7 +332,7 @@ fn watch<R: Wait, C: Clock, E: Write>(
         if openings.are_over() {
             return;
         }
-        err.step("opened", openings.answered(), openings.names.len());
+        err.step("opened", openings.answered(), openings.group.all);
         err.pause();
     }
 }

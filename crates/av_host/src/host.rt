@@ -1,16 +1,18 @@
-ghost use Rattle.std.specs.Prelude.{◌≡◌, IfOk, map};
+ghost use Rattle.std.specs.Prelude.{◌≡◌, IfErr, IfOk, OnOk, map};
+ghost use Rattle.std.specs.Io.KnownBytes.{Appends};
 ghost use Rattle.av_engines.specs.declared.end.End.TheVariants.{Done};
+ghost use Rattle.av_files.specs.Opened.{opened_lines, tally_from};
 ghost use Rattle.av_gate.specs.Seats.{IsSeatOf};
-ghost use Rattle.av_host.specs.Brought.{AreBrought, answer_at, opened_files};
-ghost use Rattle.av_status.specs.Status.{gravest_from};
+ghost use Rattle.av_host.specs.Brought.{AreBrought, AreHosted, AreTold, answer_at, opened_files};
+ghost use Rattle.av_status.specs.Status.{EndsWell, graver, gravest_from, IsFault, status_of_end};
 
 use crate::carrying::Wire;
 use crate::crew::meet;
-use crate::opener::{Brought, Openings};
-use av_base::{Limits, Mode, Refusal};
+use crate::opener::{Brought, Group, Openings};
+use av_base::{Limits, Mode, Port, Refusal};
 use av_desk::Desk;
 use av_engines::End;
-use av_files::opened::{Opened, conclude_opened, print_opened};
+use av_files::opened::{Opened, conclude_opened, count_opened, print_opened};
 use av_files::scanner::{Input, read_set};
 use av_files::streams::{VOLUME, add_file, empty_volume};
 use av_gate::{Gate, Seat};
@@ -20,7 +22,7 @@ use av_sigset::{Catalogue, SignatureSet};
 use av_status::faults::out_of_memory;
 use av_status::progress::Progress;
 use av_status::status::Status;
-use av_status::tally::Wishes;
+use av_status::tally::{Tally, Wishes};
 use av_status::{end_told, gravest};
 use av_store::Volume;
 use std::alloc::{AllocError, Global};
@@ -57,14 +59,16 @@ pub fn host_files<R: Hosting, W: Write, E: Write>(
     wishes: Wishes,
     out: &mut W,
     err: &mut E,
-) -> Status {
+) -> Status
+    ensures { EndsWell result → AreHosted crew.openers files.now wishes (W.contents out.old) (W.contents out.new) result }
+{
     let set = match read_set(alloc, set, err) {
         Ok(set) => set,
         Err(status) => return status,
     };
     let mut volume = empty_volume(alloc);
     let mut names = Vec::new(alloc);
-    for file in files {
+    'files: for file in files {
         if let Err(status) = add_file(alloc, &mut volume, *file, err) {
             return status;
         }
@@ -72,35 +76,43 @@ pub fn host_files<R: Hosting, W: Write, E: Write>(
             return out_of_memory(err);
         }
     }
+    let group = Group {
+        names: names.as_slice(),
+        before: 0,
+        all: names.len(),
+    };
+    let mut tally = Tally::new();
     let mut quiet = Progress::new(rt, err, false);
-    host_volume(
-        rt,
-        alloc,
-        set,
-        volume,
-        names.as_slice(),
-        crew,
-        wishes,
-        out,
-        &mut quiet,
-    )
+    match host_group(
+        rt, alloc, set, volume, group, crew, wishes, &mut tally, out, &mut quiet,
+    ) {
+        Ok(ended) => conclude_opened(tally, files.len(), ended, wishes, &mut quiet),
+        Err(failed) => failed,
+    }
 }
 
-/// Opens the streams of a volume by their names, as `host_files` does.
-pub fn host_volume<R: Hosting, C: Clock, W: Write, E: Write>(
+/// Opens the streams of a volume by their names, as `host_files` does, and counts those that were opened: Ok says how that ended.
+/// Err where none was, or a line could not be written.
+pub fn host_group<R: Hosting, C: Clock, W: Write, E: Write>(
     rt: &R,
     alloc: Global,
     set: SignatureSet,
     volume: Volume,
-    names: &[&str],
+    group: Group<'_>,
     crew: Crew,
     wishes: Wishes,
+    tally: &mut Tally,
     out: &mut W,
     err: &mut Progress<'_, C, E>,
-) -> Status {
+) -> Result<Status, Status>
+    ensures told { IfOk result (λ status. AreTold crew.openers group.entry.names.now wishes tally.old tally.new (W.contents out.old) (W.contents out.new) status) }
+    ensures failed { IfErr result (λ status. IsFault status) }
+{
     match connected_desk(rt, alloc, set) {
-        Ok(desk) => host_beside(rt, alloc, &desk, volume, names, crew, wishes, out, err),
-        Err(_) => out_of_memory(err),
+        Ok(desk) => host_beside(
+            rt, alloc, &desk, volume, group, crew, wishes, tally, out, err,
+        ),
+        Err(_) => Err(out_of_memory(err)),
     }
 }
 
@@ -110,48 +122,49 @@ fn host_beside<R: Hosting, C: Clock, W: Write, E: Write>(
     alloc: Global,
     desk: &Desk,
     volume: Volume,
-    names: &[&str],
+    group: Group<'_>,
     crew: Crew,
     wishes: Wishes,
+    tally: &mut Tally,
     out: &mut W,
     err: &mut Progress<'_, C, E>,
-) -> Status {
+) -> Result<Status, Status>
+    ensures told { IfOk result (λ status. AreTold crew.openers group.entry.names.now wishes tally.old tally.new (W.contents out.old) (W.contents out.new) status) }
+    ensures failed { IfErr result (λ status. IsFault status) }
+{
     let Ok((gate, seat)) = Gate::new(alloc, volume, Mode::FailClosed, Limits::greatest()) else {
-        return out_of_memory(err);
+        return Err(out_of_memory(err));
     };
-    let opened = open_at(rt, alloc, &gate, seat, desk, names, crew, err);
+    let opened = open_at(rt, alloc, &gate, seat, desk, group, crew, err);
     gate.abandon();
     err.wipe();
     match opened {
-        Ok((opened, end)) => print_told(
-            alloc,
-            opened.as_slice(),
-            names.len(),
-            end,
-            wishes,
-            out,
-            err,
-        ),
-        Err(end) => end_told(err, end),
+        Ok((opened, end)) => tell(alloc, opened.as_slice(), end, wishes, tally, out, err),
+        Err(end) => Err(end_told(err, end)),
     }
 }
 
-// Writes the lines of files that were opened, of so many that were to be, and then how that ended, where it is a fault.
-fn print_told<W: Write, E: Write>(
+// Writes the lines of files that were opened, counts them, and says how that ended, where it is a fault.
+fn tell<W: Write, E: Write>(
     alloc: Global,
     opened: &[Opened<'_>],
-    files: usize,
     end: End,
     wishes: Wishes,
+    tally: &mut Tally,
     out: &mut W,
     err: &mut E,
-) -> Status {
+) -> Result<Status, Status>
+    ensures counted { OnOk result (tally.new ≡ tally_from tally.old opened.now) }
+    ensures lines { OnOk result (Appends (W.contents out.old) (W.contents out.new) (opened_lines wishes opened.now)) }
+    ensures ended { IfOk result (λ status. status ≡ status_of_end end) }
+    ensures failed { IfErr result (λ status. IsFault status) }
+{
     match print_opened(alloc, opened, wishes, out, err) {
         Status::Done => {
-            let ended = end_told(err, end);
-            conclude_opened(opened, files, ended, wishes, err)
+            count_opened(tally, opened);
+            Ok(end_told(err, end))
         }
-        failed => failed,
+        failed => Err(failed),
     }
 }
 
@@ -161,7 +174,7 @@ fn connected_desk<R: Wait>(rt: &R, alloc: Global, set: SignatureSet) -> Result<D
     if catalogue.publish(set).is_err() {
         return Err(AllocError);
     }
-    let Ok(desk) = Desk::new(alloc, VOLUME, catalogue, Limits::greatest()) else {
+    let Ok(desk) = Desk::new(alloc, VOLUME, Port::One, catalogue, Limits::greatest()) else {
         return Err(AllocError);
     };
     match desk.connect(rt, alloc) {
@@ -177,20 +190,25 @@ fn open_at<'a, R: Hosting, C: Clock, E: Write>(
     gate: &Gate,
     seat: Seat,
     desk: &Desk,
-    names: &'a [&'a str],
+    group: Group<'a>,
     crew: Crew,
     err: &mut Progress<'_, C, E>,
 ) -> Result<(Vec<Opened<'a>>, End), End>
     requires { IsSeatOf gate.now seat }
-    ensures { IfOk result (λ r. AreBrought crew.openers names.now r.0.items) }
+    ensures brought { IfOk result (λ r. AreBrought crew.openers group.entry.names.now r.0.items r.1) }
+    ensures failed { IfErr result (λ end. IsFault (status_of_end end)) }
 {
     let Ok((gate_stream, desk_stream)) = UnixStream::pair(rt) else {
         return Err(End::ReadFault);
     };
-    let gate_wire = Wire::new(gate_stream);
-    let desk_wire = Wire::new(desk_stream);
+    let Ok(gate_wire) = Wire::new(alloc, gate_stream) else {
+        return Err(End::ReadFault);
+    };
+    let Ok(desk_wire) = Wire::new(alloc, desk_stream) else {
+        return Err(End::ReadFault);
+    };
     open_over(
-        rt, alloc, &gate_wire, gate, seat, &desk_wire, desk, names, crew, err,
+        rt, alloc, &gate_wire, gate, seat, &desk_wire, desk, group, crew, err,
     )
 }
 
@@ -203,19 +221,20 @@ fn open_over<'a, R: Hosting, C: Clock, E: Write>(
     seat: Seat,
     desk_wire: &Wire,
     desk: &Desk,
-    names: &'a [&'a str],
+    group: Group<'a>,
     crew: Crew,
     err: &mut Progress<'_, C, E>,
 ) -> Result<(Vec<Opened<'a>>, End), End>
     requires { IsSeatOf gate.now seat }
-    ensures { IfOk result (λ r. AreBrought crew.openers names.now r.0.items) }
+    ensures brought { IfOk result (λ r. AreBrought crew.openers group.entry.names.now r.0.items r.1) }
+    ensures failed { IfErr result (λ end. IsFault (status_of_end end)) }
 {
     let (pool, giver, taker) = match Pool::start(*rt, alloc, crew.workers, ()) {
         Ok(started) => started,
         Err(Refusal::NoMemory) => return Err(End::Memory),
         Err(Refusal::Fault(_)) => return Err(End::ReadFault),
     };
-    let openings = Openings::new(names, crew.openers);
+    let openings = Openings::new(group, crew.openers);
     let (giver, taker, brought, end) = meet(
         rt, alloc, gate_wire, gate, seat, desk_wire, desk, giver, taker, &openings, err,
     );
@@ -227,7 +246,7 @@ fn open_over<'a, R: Hosting, C: Clock, E: Write>(
         End::Done
     };
     match brought {
-        Ok(brought) => told_of(alloc, names, &brought, gravest(end, lack)),
+        Ok(brought) => told_of(alloc, group.names, &brought, gravest(end, lack)),
         Err(_) => Err(gravest(gravest(end, lack), End::Memory)),
     }
 }
@@ -239,7 +258,9 @@ fn told_of<'a>(
     brought: &[Brought],
     end: End,
 ) -> Result<(Vec<Opened<'a>>, End), End>
-    ensures { IfOk result (λ r. r.0.items ≡ opened_files brought.now names.now) }
+    ensures told { IfOk result (λ r. r.0.items ≡ opened_files brought.now names.now) }
+    ensures gravest { IfOk result (λ r. r.1 ≡ graver end (gravest_from Done (map (λ b. b.end) brought.now))) }
+    ensures failed { IfErr result (λ end. IsFault (status_of_end end)) }
 {
     let end = gravest(end, end_of_openers(brought));
     match opened_files(alloc, names, brought) {

@@ -11,4 +11,5 @@ mod crew;
 pub mod host;
 pub mod opener;
 
-pub use host::{Crew, Hosting, host_files, host_volume};
+pub use host::{Crew, Hosting, host_files, host_group};
+pub use opener::Group;

@@ -1,4 +1,4 @@
-ghost use Rattle.std.specs.Prelude.{◌≡◌};
+ghost use Rattle.std.specs.Prelude.{◌≡◌, ◌≤◌};
 ghost use Rattle.av_ends.specs.Tickets.{IsNoteOf};
 ghost use Rattle.av_gate.specs.Seats.{IsSeatOf};
 
@@ -12,10 +12,19 @@ use std::sync::atomic::Ordering::SeqCst;
 use std::sync::atomic::{AtomicBool, AtomicU64};
 use std::thread;
 
+/// Files that are opened together, each once, in the order given, and where they stand among all that are to be opened.
+#[derive(Clone, Copy)]
+pub struct Group<'a> {
+    pub names: &'a [&'a str],
+    /// How many files come before these, and how many there are in all.
+    pub before: usize,
+    pub all: usize,
+}
+
 /// What openers share.
 #[derive(Drop)]
 pub struct Openings<'a> {
-    pub names: &'a [&'a str],
+    pub group: Group<'a>,
     /// How many openers there are.
     pub openers: usize,
     // How many files have their answer, and how many openers are done.
@@ -25,21 +34,25 @@ pub struct Openings<'a> {
 
 impl<'a> Openings<'a> {
     /// Openings of these files, of which none has begun.
-    pub fn new(names: &'a [&'a str], openers: usize) -> Openings<'a>
-        ensures names { result.names.now ≡ names.now }
+    pub fn new(group: Group<'a>, openers: usize) -> Openings<'a>
+        ensures group { result.group ≡ group.entry }
         ensures openers { result.openers ≡ openers }
     {
         Openings {
-            names,
+            group,
             openers,
             answered: AtomicU64::new(0),
             at_rest: AtomicU64::new(0),
         }
     }
 
-    /// How many files have their answer.
-    pub fn answered(&self) -> usize {
-        self.answered.load(SeqCst) as usize
+    /// How many of all files have their answer.
+    pub fn answered(&self) -> usize
+        ensures { self.now.group.before ≤ result }
+    {
+        self.group
+            .before
+            .saturating_add(self.answered.load(SeqCst) as usize)
     }
 
     /// Whether all openers are done.
@@ -107,7 +120,7 @@ fn open_each<R: Wait>(
 {
     let openings = part.openings;
     let step = openings.openers.max(1);
-    'files: for name in openings.names.iter().skip(part.first).step_by(step) {
+    'files: for name in openings.group.names.iter().skip(part.first).step_by(step) {
         if receipts.reserve(1).is_err() {
             return End::Memory;
         }

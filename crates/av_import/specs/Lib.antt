@@ -5,3 +5,4 @@ pub mod Kind
 pub mod Name
 pub mod Number
 pub mod Offset
+pub mod Rule

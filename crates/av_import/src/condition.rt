@@ -1,4 +1,7 @@
 //! Conditions that are an `or` of strings, each anywhere, at a place or in a range of places.
+ghost use Rattle.std.specs.Prelude.{◌≤◌, length, IfOk};
+ghost use Rattle.av_import.specs.declared.condition.TheConstants.{MAX_WANTED};
+
 use crate::lexer::Token;
 use crate::strings::{RuleFault, YaraString};
 use crate::why::Why;
@@ -61,12 +64,14 @@ pub fn strings_wanted(
     alloc: Global,
     condition: &[Token<'_>],
     strings: &[YaraString<'_>],
-) -> Result<Vec<Wanted>, RuleFault> {
+) -> Result<Vec<Wanted>, RuleFault>
+    ensures few { IfOk result (λ wanted. length wanted.items ≤ MAX_WANTED) }
+{
     let mut words = Words { rest: condition };
     let mut found = Vec::new(alloc);
     let mut depth = 0usize;
     let mut wants_term = true;
-    for _ in 0..condition.len().saturating_add(1) {
+    'words: for _ in 0..condition.len().saturating_add(1) {
         if wants_term {
             let word = words.next();
             if word == b"(".as_slice() {
@@ -98,7 +103,9 @@ fn push_term(
     words: &mut Words<'_, '_>,
     strings: &[YaraString<'_>],
     found: &mut Vec<Wanted>,
-) -> Result<(), RuleFault> {
+) -> Result<(), RuleFault>
+    ensures { length found.old.items ≤ MAX_WANTED → length found.new.items ≤ MAX_WANTED }
+{
     if word == b"any".as_slice() || word == b"all".as_slice() || is_number(word) {
         return push_some(alloc, word, words, strings, found);
     }
@@ -112,7 +119,9 @@ fn push_term(
     push(found, Wanted { place, span })
 }
 
-fn push(found: &mut Vec<Wanted>, wanted: Wanted) -> Result<(), RuleFault> {
+fn push(found: &mut Vec<Wanted>, wanted: Wanted) -> Result<(), RuleFault>
+    ensures { length found.old.items ≤ MAX_WANTED → length found.new.items ≤ MAX_WANTED }
+{
     if found.len() >= MAX_WANTED {
         return Err(RuleFault::Why(Why::ManyStrings));
     }
@@ -215,7 +224,9 @@ fn push_some(
     words: &mut Words<'_, '_>,
     strings: &[YaraString<'_>],
     found: &mut Vec<Wanted>,
-) -> Result<(), RuleFault> {
+) -> Result<(), RuleFault>
+    ensures { length found.old.items ≤ MAX_WANTED → length found.new.items ≤ MAX_WANTED }
+{
     words.want(b"of".as_slice())?;
     let places = named_places(alloc, words, strings)?;
     if words.peek() == b"at".as_slice() || words.peek() == b"in".as_slice() {
@@ -226,7 +237,7 @@ fn push_some(
     if !is_one && !is_only {
         return Err(RuleFault::Why(Why::Several));
     }
-    for place in &places {
+    'places: for place in &places {
         push(
             found,
             Wanted {

@@ -1,5 +1,6 @@
 //! The tokens of YARA rules.
-ghost use Rattle.std.specs.Prelude.{◌≤◌, ◌<◌, length, IfSome};
+ghost use Rattle.std.specs.Prelude.{◌≡◌, ◌≤◌, ◌<◌, length, IfSome};
+ghost use Rattle.av_import.specs.Rule.{is_space};
 
 use crate::why::Why;
 
@@ -177,7 +178,9 @@ fn lines_in(bytes: &[u8]) -> u64 {
 }
 
 /// Whether a byte is white space.
-pub fn is_space(byte: u8) -> bool {
+pub fn is_space(byte: u8) -> bool
+    ensures { result ≡ is_space byte }
+{
     byte == b' ' || matches!(byte, 9..=13)
 }
 

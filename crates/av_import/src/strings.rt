@@ -1,5 +1,8 @@
 //! The strings of YARA rules, and the bytes that they look for.
-ghost use Rattle.std.specs.Prelude.{◌<◌, IfSome};
+ghost use Rattle.std.specs.Prelude.{◌≡◌, ◌<◌, ◌≤◌, length, IfOk, IfSome};
+ghost use Rattle.std.specs.List.{position};
+ghost use Rattle.av_import.specs.Rule.{is_word};
+ghost use Rattle.av_import.specs.declared.strings.TheConstants.{MAX_STRINGS};
 
 use crate::hexadecimal::fault_of;
 use crate::lexer::{Token, TokenKind, space_len};
@@ -67,7 +70,9 @@ pub fn strings_of<'a>(
     alloc: Global,
     body: &[Token<'a>],
     end: usize,
-) -> Result<Vec<YaraString<'a>>, RuleFault> {
+) -> Result<Vec<YaraString<'a>>, RuleFault>
+    ensures few { IfOk result (λ strings. length strings.items ≤ MAX_STRINGS) }
+{
     let mut strings = Vec::new(alloc);
     let Some(first) = place_of_word(body, b"strings".as_slice()) else {
         return Ok(strings);
@@ -76,7 +81,7 @@ pub fn strings_of<'a>(
         return Ok(strings);
     }
     let mut at = first.saturating_add(2);
-    for _ in 0..body.len() {
+    'strings: for _ in 0..body.len() {
         if at >= end {
             break;
         }
@@ -98,13 +103,16 @@ pub fn strings_of<'a>(
 }
 
 /// The place of the first of these words.
-pub fn place_of_word(body: &[Token<'_>], word: &[u8]) -> Option<usize> {
-    for (place, token) in body.iter().enumerate() {
-        if token.text == word {
-            return Some(place);
-        }
-    }
-    None
+pub fn place_of_word(body: &[Token<'_>], word: &[u8]) -> Option<usize>
+    ensures { result ≡ position (is_word word.now) body.now }
+{
+    body.iter().position(|token| is_word(token, word))
+}
+
+fn is_word(token: &Token<'_>, word: &[u8]) -> bool
+    ensures { result ≡ is_word word.now token.now }
+{
+    token.text == word
 }
 
 // The modifiers from a place on, and where the next string begins.

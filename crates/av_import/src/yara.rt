@@ -1,4 +1,7 @@
 //! YARA rules, as far as they look for one of some strings.
+ghost use Rattle.std.specs.Prelude.{◌+◌, ◌≤◌, length, IfOk};
+ghost use Rattle.av_sigset.specs.declared.set.TheConstants.{MAX_SIGNATURES};
+
 use crate::condition::strings_wanted;
 use crate::lexer::{Lexer, Token};
 use crate::strings::{Patterns, RuleFault, YaraString, place_of_word, strings_of};
@@ -115,11 +118,9 @@ fn second<'a>(body: &[Token<'a>], other: &'a [u8]) -> &'a [u8] {
 }
 
 /// The signatures of a rule, each under the rule's name, and behind it that of the string where it wants several.
-pub fn given_of(
-    alloc: Global,
-    name: &[u8],
-    body: &[Token<'_>],
-) -> Result<Vec<Signature>, RuleFault> {
+pub fn given_of(alloc: Global, name: &[u8], body: &[Token<'_>]) -> Result<Vec<Signature>, RuleFault>
+    ensures few { IfOk result (λ given. length given.items ≤ MAX_SIGNATURES + 1) }
+{
     let Some(split) = last_condition(body) else {
         return Err(RuleFault::Why(Why::NoCondition));
     };
@@ -127,7 +128,7 @@ pub fn given_of(
     let condition = body.get(split.saturating_add(2)..).unwrap_or(&[]);
     let all = strings_wanted(alloc, condition, strings.as_slice())?;
     let mut given = Vec::new(alloc);
-    for one in &all {
+    'wanted: for one in &all {
         if let Some(string) = strings.as_slice().get(one.place) {
             let own = name_of(alloc, name, string.name, all.len(), one.place)?;
             push_patterns(alloc, own.as_slice(), string, one.span, &mut given)?;
@@ -175,7 +176,9 @@ fn push_patterns(
     string: &YaraString<'_>,
     span: Span,
     given: &mut Vec<Signature>,
-) -> Result<(), RuleFault> {
+) -> Result<(), RuleFault>
+    ensures { length given.old.items ≤ MAX_SIGNATURES + 1 → length given.new.items ≤ MAX_SIGNATURES + 1 }
+{
     let patterns: &Patterns = match &string.patterns {
         Ok(patterns) => patterns,
         Err(why) => return Err(RuleFault::Why(*why)),
@@ -202,7 +205,9 @@ fn push_new(
     bytes: &[u8],
     span: Span,
     given: &mut Vec<Signature>,
-) -> Result<(), RuleFault> {
+) -> Result<(), RuleFault>
+    ensures { length given.old.items ≤ MAX_SIGNATURES + 1 → length given.new.items ≤ MAX_SIGNATURES + 1 }
+{
     if has_signature(given.as_slice(), name, bytes, span) {
         return Ok(());
     }

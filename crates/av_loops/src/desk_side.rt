@@ -2,8 +2,8 @@ ghost use Rattle.std.specs.Prelude.{◌≡◌, ◌≢◌, IfErr};
 ghost use Rattle.av_engines.specs.declared.end.End.TheVariants.{Done};
 
 use crate::ending::end_of;
-use crate::outgoing::send_all;
-use av_desk::{Desk, Taken};
+use crate::sender::{Sender, Unsent};
+use av_desk::{Desk, Lent, Taken};
 use av_engines::{End, Incoming};
 use av_frame::Message;
 use av_pool::{Giver, Taker};
@@ -11,95 +11,178 @@ use std::alloc::Global;
 use std::io::{Read, Write};
 use std::sync::Wait;
 
-/// Hands each message that a stream of frames spells to the desk, and each work that it gives out to the pool, until the
-/// stream ends, fails, or was read `turns` times: Closed, ReadFault, Frame, each of which is a disconnection of the desk;
-/// Memory and AuditFull, which are none. At its end it wakes who takes from the pool.
-pub fn desk_in<R: Wait, S: Read>(
+/// Hands each message that a stream of frames spells to the desk, until the stream ends, fails, or was read `turns` times:
+/// Closed, ReadFault, Frame, each of which is a disconnection of the desk, and so is WriteFault; Memory and AuditFull, which are
+/// none. A work that a message gives out goes to the pool where a further message has come whole; else it is run here. What the
+/// desk sends meanwhile is written before the stream is read again. At its end it wakes who takes from the pool.
+pub fn desk_in<R: Wait, S: Read, W: Write>(
     rt: &R,
     alloc: Global,
     desk: &Desk,
     giver: &mut Giver,
     reader: &mut S,
+    sender: &Sender<W>,
     turns: u64,
 ) -> End
     ensures same { giver.new.channel ≡ giver.old.channel }
     ensures end { result ≢ Done }
 {
     let end = match Incoming::new(alloc, turns) {
-        Ok(mut incoming) => take_messages(rt, alloc, desk, giver, reader, &mut incoming),
+        Ok(mut incoming) => take_messages(rt, alloc, desk, giver, reader, sender, &mut incoming),
         Err(_) => End::Memory,
     };
     giver.wake(rt);
-    with_disconnection(rt, alloc, desk, end)
+    end
 }
 
 // Each message as an event.
-fn take_messages<R: Wait, S: Read>(
+fn take_messages<R: Wait, S: Read, W: Write>(
     rt: &R,
     alloc: Global,
     desk: &Desk,
     giver: &mut Giver,
     reader: &mut S,
+    sender: &Sender<W>,
     incoming: &mut Incoming,
 ) -> End
     ensures same { giver.new.channel ≡ giver.old.channel }
     ensures end { result ≢ Done }
 {
+    let mut lent = None;
     'messages: for _ in rt.forever() {
-        let message = match incoming.next(reader) {
+        let message = match next_message(rt, alloc, desk, giver, reader, sender, incoming, lent) {
             Ok(message) => message,
             Err(end) => return end,
         };
-        if let Err(end) = take(rt, alloc, desk, giver, message) {
-            return end;
-        }
+        lent = match desk.message_quietly(rt, alloc, message) {
+            Ok(Taken { lent, note: _ }) => lent,
+            Err(refused) => return after_sending(rt, alloc, desk, sender, end_of(refused.why)),
+        };
     }
     unreachable!()
 }
 
-// A message as an event, whose work goes to the pool.
-fn take<R: Wait>(
+// The end at a refusal. What the desk sent before still goes out.
+fn after_sending<R: Wait, W: Write>(
+    rt: &R,
+    alloc: Global,
+    desk: &Desk,
+    sender: &Sender<W>,
+    end: End,
+) -> End
+    requires { end ≢ Done }
+    ensures { result ≢ Done }
+{
+    match send(rt, alloc, desk, sender) {
+        Ok(()) => end,
+        Err(end) => end,
+    }
+}
+
+// The next message. Before it is waited for, the work that the last one gave out is run, and what waits is sent.
+fn next_message<R: Wait, S: Read, W: Write>(
     rt: &R,
     alloc: Global,
     desk: &Desk,
     giver: &mut Giver,
-    message: Message,
-) -> Result<(), End>
+    reader: &mut S,
+    sender: &Sender<W>,
+    incoming: &mut Incoming,
+    lent: Option<Lent>,
+) -> Result<Message, End>
     ensures same { giver.new.channel ≡ giver.old.channel }
     ensures end { IfErr result (λ end. end ≢ Done) }
 {
-    match desk.message(rt, alloc, message) {
-        Ok(Taken { lent, note: _ }) => {
-            if let Some(lent) = lent {
-                giver.give(rt, lent);
-            }
-            Ok(())
+    if let Ok(Some(message)) = incoming.arrived() {
+        if let Some(lent) = lent {
+            giver.give(rt, lent);
         }
-        Err(refused) => Err(end_of(refused.why)),
+        return Ok(message);
+    }
+    if let Some(lent) = lent {
+        finish(rt, alloc, desk, sender, lent.run())?;
+    }
+    send(rt, alloc, desk, sender)?;
+    match incoming.next(reader) {
+        Ok(message) => Ok(message),
+        Err(end) => Err(with_disconnection(rt, alloc, desk, end)),
     }
 }
 
-/// Finishes each work that comes out of the pool, until a mark comes: Done. Else Memory and AuditFull.
-pub fn desk_done<R: Wait>(rt: &R, alloc: Global, desk: &Desk, taker: &mut Taker) -> End
+/// Finishes each work that comes out of the pool and sends what that gives, until a mark comes: Done. Else WriteFault, which is a
+/// disconnection of the desk; Memory and AuditFull, which are none.
+pub fn desk_done<R: Wait, W: Write>(
+    rt: &R,
+    alloc: Global,
+    desk: &Desk,
+    taker: &mut Taker,
+    sender: &Sender<W>,
+) -> End
     ensures same { taker.new.channel ≡ taker.old.channel }
 {
     'works: for _ in rt.forever() {
         let Some(done) = taker.take(rt) else {
             return End::Done;
         };
-        if let Err(refused) = desk.finish(rt, alloc, done) {
-            refused.value.discard();
-            return end_of(refused.why);
+        if let Err(end) = finish(rt, alloc, desk, sender, done) {
+            return end;
+        }
+        if let Err(end) = send(rt, alloc, desk, sender) {
+            return end;
         }
     }
     unreachable!()
 }
 
+// Takes a work back that was run.
+fn finish<R: Wait, W: Write>(
+    rt: &R,
+    alloc: Global,
+    desk: &Desk,
+    sender: &Sender<W>,
+    done: av_service::Done,
+) -> Result<(), End>
+    ensures { IfErr result (λ end. end ≢ Done) }
+{
+    match desk.finish_quietly(rt, alloc, done) {
+        Ok(_) => Ok(()),
+        Err(refused) => {
+            refused.value.discard();
+            Err(after_sending(rt, alloc, desk, sender, end_of(refused.why)))
+        }
+    }
+}
+
 /// Writes each message of the desk to a stream as a frame, until the desk is stopped and none is left: Done. Else WriteFault,
-/// which is a disconnection of the desk; Memory and AuditFull, which are none.
-pub fn desk_out<R: Wait, W: Write>(rt: &R, alloc: Global, desk: &Desk, writer: &mut W) -> End {
-    let end = send_all(rt, alloc, desk, writer);
-    with_disconnection(rt, alloc, desk, end)
+/// which is a disconnection of the desk; Memory and AuditFull, which are none. It is woken for what calls of others send, and
+/// writes what another loop of the sender has not written.
+pub fn desk_out<R: Wait, W: Write>(rt: &R, alloc: Global, desk: &Desk, sender: &Sender<W>) -> End {
+    'batches: for _ in rt.forever() {
+        if !desk.await_outgoing(rt) {
+            return End::Done;
+        }
+        if let Err(end) = send(rt, alloc, desk, sender) {
+            return end;
+        }
+    }
+    unreachable!()
+}
+
+// Sends what waits. A write that fails is told to the desk by who meets it.
+fn send<R: Wait, W: Write>(
+    rt: &R,
+    alloc: Global,
+    desk: &Desk,
+    sender: &Sender<W>,
+) -> Result<(), End>
+    ensures { IfErr result (λ end. end ≢ Done) }
+{
+    match sender.send(rt, alloc, desk) {
+        Ok(()) => Ok(()),
+        Err(Unsent::WriteFault) => Err(with_disconnection(rt, alloc, desk, End::WriteFault)),
+        Err(Unsent::Lost) => Err(End::WriteFault),
+        Err(Unsent::Memory) => Err(End::Memory),
+    }
 }
 
 // Tells the desk that the filter is lost, where this end says so.

@@ -1,24 +1,27 @@
-ghost use Rattle.std.specs.Prelude.{◌≡◌, ◌≢◌, ◌≤◌, OnOk};
+ghost use Rattle.std.specs.Prelude.{◌≢◌, ◌≤◌, IfErr};
 ghost use Rattle.av_engines.specs.declared.end.End.TheVariants.{Done};
 ghost use Rattle.av_gate.specs.Seats.{IsSeatOf, floor_seen};
 
 use crate::ending::end_of;
-use crate::outgoing::send_all;
+use crate::sender::{Sender, Unsent};
 use av_engines::{End, Incoming};
+use av_frame::Message;
 use av_gate::{Gate, Seat};
 use std::alloc::Global;
 use std::io::{Read, Write};
 use std::sync::Wait;
 
 /// Hands each message that a stream of frames spells to the gate, until the stream ends, fails, or was read `turns` times:
-/// Closed, ReadFault, Frame, each of which is a disconnection of the gate; Memory and AuditFull, which are none, so that opens
-/// may stay without an answer.
-pub fn gate_in<R: Wait, S: Read>(
+/// Closed, ReadFault, Frame, each of which is a disconnection of the gate, and so is WriteFault; Memory and AuditFull, which are
+/// none, so that opens may stay without an answer. What the gate gives out meanwhile is sent before the stream is read again: a
+/// message that has come whole is handled first.
+pub fn gate_in<R: Wait, S: Read, W: Write>(
     rt: &R,
     alloc: Global,
     gate: &Gate,
     seat: &mut Seat,
     reader: &mut S,
+    sender: &Sender<W>,
     turns: u64,
 ) -> End
     requires { IsSeatOf gate.now seat.old }
@@ -29,17 +32,17 @@ pub fn gate_in<R: Wait, S: Read>(
     let Ok(mut incoming) = Incoming::new(alloc, turns) else {
         return End::Memory;
     };
-    let end = take_messages(rt, alloc, gate, seat, reader, &mut incoming);
-    with_disconnection(rt, alloc, gate, seat, end)
+    take_messages(rt, alloc, gate, seat, reader, sender, &mut incoming)
 }
 
 // Each message as an event.
-fn take_messages<R: Wait, S: Read>(
+fn take_messages<R: Wait, S: Read, W: Write>(
     rt: &R,
     alloc: Global,
     gate: &Gate,
     seat: &mut Seat,
     reader: &mut S,
+    sender: &Sender<W>,
     incoming: &mut Incoming,
 ) -> End
     requires { IsSeatOf gate.now seat.old }
@@ -48,33 +51,109 @@ fn take_messages<R: Wait, S: Read>(
     ensures end { result ≢ Done }
 {
     'messages: for _ in rt.forever() {
-        let message = match incoming.next(reader) {
+        let message = match next_message(rt, alloc, gate, seat, reader, sender, incoming) {
             Ok(message) => message,
             Err(end) => return end,
         };
-        match gate.message(rt, alloc, seat, &message) {
-            Ok(_) => {}
-            Err(refusal) => return end_of(refusal),
+        if let Err(refusal) = gate.message_quietly(rt, alloc, seat, &message) {
+            return after_sending(rt, alloc, gate, seat, sender, end_of(refusal));
         }
     }
     unreachable!()
 }
 
+// The end at a refusal. What the gate gave out before still goes out.
+fn after_sending<R: Wait, W: Write>(
+    rt: &R,
+    alloc: Global,
+    gate: &Gate,
+    seat: &mut Seat,
+    sender: &Sender<W>,
+    end: End,
+) -> End
+    requires seat { IsSeatOf gate.now seat.old }
+    requires end { end ≢ Done }
+    ensures same { IsSeatOf gate.now seat.new }
+    ensures later { floor_seen seat.old ≤ floor_seen seat.new }
+    ensures end { result ≢ Done }
+{
+    match send(rt, alloc, gate, seat, sender) {
+        Ok(()) => end,
+        Err(end) => end,
+    }
+}
+
+// The next message. What waits is sent before it is waited for.
+fn next_message<R: Wait, S: Read, W: Write>(
+    rt: &R,
+    alloc: Global,
+    gate: &Gate,
+    seat: &mut Seat,
+    reader: &mut S,
+    sender: &Sender<W>,
+    incoming: &mut Incoming,
+) -> Result<Message, End>
+    requires { IsSeatOf gate.now seat.old }
+    ensures same { IsSeatOf gate.now seat.new }
+    ensures later { floor_seen seat.old ≤ floor_seen seat.new }
+    ensures end { IfErr result (λ end. end ≢ Done) }
+{
+    if let Ok(Some(message)) = incoming.arrived() {
+        return Ok(message);
+    }
+    send(rt, alloc, gate, seat, sender)?;
+    match incoming.next(reader) {
+        Ok(message) => Ok(message),
+        Err(end) => Err(with_disconnection(rt, alloc, gate, seat, end)),
+    }
+}
+
 /// Writes each message of the gate to a stream as a frame, until the gate is stopped and none is left: Done. Else WriteFault,
-/// which is a disconnection of the gate; Memory and AuditFull, which are none.
+/// which is a disconnection of the gate; Memory and AuditFull, which are none. It is woken for what calls of others give out,
+/// and sends what another loop of the sender has not sent.
 pub fn gate_out<R: Wait, W: Write>(
     rt: &R,
     alloc: Global,
     gate: &Gate,
     seat: &mut Seat,
-    writer: &mut W,
+    sender: &Sender<W>,
 ) -> End
     requires { IsSeatOf gate.now seat.old }
     ensures same { IsSeatOf gate.now seat.new }
     ensures later { floor_seen seat.old ≤ floor_seen seat.new }
 {
-    let end = send_all(rt, alloc, gate, writer);
-    with_disconnection(rt, alloc, gate, seat, end)
+    'batches: for _ in rt.forever() {
+        if !gate.await_outgoing(rt) {
+            return End::Done;
+        }
+        if let Err(end) = send(rt, alloc, gate, seat, sender) {
+            return end;
+        }
+    }
+    unreachable!()
+}
+
+// Sends what waits. A write that fails is told to the gate by who meets it.
+fn send<R: Wait, W: Write>(
+    rt: &R,
+    alloc: Global,
+    gate: &Gate,
+    seat: &mut Seat,
+    sender: &Sender<W>,
+) -> Result<(), End>
+    requires { IsSeatOf gate.now seat.old }
+    ensures same { IsSeatOf gate.now seat.new }
+    ensures later { floor_seen seat.old ≤ floor_seen seat.new }
+    ensures end { IfErr result (λ end. end ≢ Done) }
+{
+    match sender.send(rt, alloc, gate) {
+        Ok(()) => Ok(()),
+        Err(Unsent::WriteFault) => {
+            Err(with_disconnection(rt, alloc, gate, seat, End::WriteFault))
+        }
+        Err(Unsent::Lost) => Err(End::WriteFault),
+        Err(Unsent::Memory) => Err(End::Memory),
+    }
 }
 
 // Tells the gate that the service is lost, where this end says so.

@@ -1,3 +1,4 @@
 mod desk_side;
 mod gate_side;
 mod meeting;
+mod together;

@@ -5,6 +5,7 @@ use Rattle.std.proofs.lemmas.List.Elements.{All-from_recursion, recursion_from_A
 use Rattle.std.specs.Prelude.{All}
 use Rattle.av_base.specs.declared.limits.LimitValues.{LimitValues}
 use Rattle.av_base.specs.declared.mode.Mode.{Mode}
+use Rattle.av_base.specs.declared.port.Port.{Port}
 use Rattle.av_base.specs.declared.verdict.Verdict.TheVariants.{Clean}
 use Rattle.av_filter.specs.Audit.{FilterEntry, IsFilterAudit, answers_given}
 use Rattle.av_filter.specs.Conduct.{FilterEvent, Changes, CleansUp, Disconnects, Opens, Receives, Restarts, TimesOut}
@@ -115,8 +116,8 @@ catalogue_falls [] h = tt
 catalogue_falls (q ∷ qs) h = (h.0, catalogue_falls qs h.2)
 
 -- a guard's history that was served
-module _ (mode : Mode) (questions : ℕ) (calls : List Call) (g : State) (history : List FilterEntry) (is : IsHistoryOf mode questions calls g history) (number : ℕ) (limits : LimitValues) (sets : List Publication) (es : List SideEntry) (served : IsServed history number limits sets es) where
-  pub legal : AreLegal mode (limits_of questions) number limits [] (first_volume questions) sets es
+module _ (mode : Mode) (questions : ℕ) (calls : List Call) (g : State) (history : List FilterEntry) (is : IsHistoryOf mode questions calls g history) (number : ℕ) (port : Port) (limits : LimitValues) (sets : List Publication) (es : List SideEntry) (served : IsServed history number port limits sets es) where
+  pub legal : AreLegal mode (limits_of questions) number port limits [] (first_volume questions) sets es
   legal = record {
     volume = record { streams = (follows.starts 1 (limits_of questions)).streams; last = (follows.starts 1 (limits_of questions)).last };
     catalogue = served.catalogue;
@@ -131,7 +132,7 @@ module _ (mode : Mode) (questions : ℕ) (calls : List Call) (g : State) (histor
 
   answer_just : AuditsGrantOnlyClean mode [] sets es → (a : Answer) → Among a (answers_given history) → IsJustThen mode a (past_end (opening_past [] sets) es)
   answer_just clean a among =
-      just_answer mode a es (opening_past [] sets) (just_started number limits (latest_as sets)) (catalogue_falls sets served.catalogue) served.service (subst (λ h. Among a (answers_given h)) (sym served.filter) among)
+      just_answer mode a es (opening_past [] sets) (just_started number port limits (latest_as sets)) (catalogue_falls sets served.catalogue) served.service (subst (λ h. Among a (answers_given h)) (sym served.filter) among)
       (recursion_from_All (λ (b : AnsweredThen). IsJustified mode b.past b.answer) (answers_in (opening_past [] sets) es) clean)
 
   told_just : AuditsGrantOnlyClean mode [] sets es → (c : List ℕ) (a : Answered) → RestsOn history c a → IsJust mode (published_by sets es) c a

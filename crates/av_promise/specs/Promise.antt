@@ -3,6 +3,7 @@ use Rattle.std.specs.Prelude.{◌≡◌, ◌≢◌, ℕ, List, [], All, Some}
 use Rattle.av_base.specs.declared.limits.LimitValues.{LimitValues}
 use Rattle.av_base.specs.declared.mode.Mode.{Mode}
 use Rattle.av_base.specs.declared.mode.Mode.TheVariants.{FailClosed}
+use Rattle.av_base.specs.declared.port.Port.{Port}
 use Rattle.av_base.specs.declared.verdict.Verdict.TheVariants.{Clean}
 use Rattle.av_filter.specs.Audit.{FilterEntry}
 use Rattle.av_guard.specs.Beginning.{begun}
@@ -23,10 +24,11 @@ use Rattle.av_world.specs.Scene.{opening_past}
 -- The list has the events of a filter, of this history, and those of a service, each side's in its order. The service began with
 -- a catalogue, and its audit is legal; each work that came back is one that it lent; and each message that came to one side had
 -- been sent by the other before.
-pub record IsServed (history : List FilterEntry) (number : ℕ) (limits : LimitValues) (sets : List Publication) (es : List SideEntry) : Type 0 where
+pub record IsServed (history : List FilterEntry) (number : ℕ) (port : Port) (limits : LimitValues) (sets : List Publication)
+    (es : List SideEntry) : Type 0 where
   pub filter : filter_side es ≡ history
   pub catalogue : IsCatalogue sets
-  pub service : IsServiceAudit sets (just_started number limits (latest_as sets)) (service_side es)
+  pub service : IsServiceAudit sets (just_started number port limits (latest_as sets)) (service_side es)
   pub works : FinishesItsWorks sets [] (service_side es)
   pub delivered : IsDelivered [] [] es
 
@@ -56,5 +58,5 @@ GrantsAreClean =
     (mode : Mode) (keep questions : ℕ) (calls : List Call) (g : State) → Lead calls (begun mode keep questions) g
     → (history : List FilterEntry)
     × IsHistoryOf mode questions calls g history
-    × ((number : ℕ) (limits : LimitValues) (sets : List Publication) (es : List SideEntry) → IsServed history number limits sets es
+    × ((number : ℕ) (port : Port) (limits : LimitValues) (sets : List Publication) (es : List SideEntry) → IsServed history number port limits sets es
     → All (IsRightlyTold mode (published_by sets es) (asks_in calls)) (told_in calls))

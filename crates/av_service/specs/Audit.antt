@@ -1,6 +1,6 @@
 -- A service's audit: its events and the publications in order, each with the reply.
 use Rattle.std.specs.Prelude.{◌≡◌, ℕ, ◌<◌, List, [], ◌∷◌, ◌++◌, None}
-use Rattle.av_frame.specs.declared.message.Body.{Body}
+use Rattle.av_frame.specs.Message.{Letter}
 use Rattle.av_match.specs.Scanning.{AreSolid}
 use Rattle.av_service.specs.Conduct.{ServiceEvent, Connects, Disconnects, Receives, Finishes, Restarts, connect_refusal, service_step}
 use Rattle.av_service.specs.Conduct as service
@@ -39,7 +39,7 @@ IsCatalogue (q ∷ qs) = (latest_as qs < q.version) × AreSolid q.patterns × Is
 -- a call of the service, with what it gave out
 pub record ServiceEntry : Type 0 where
   pub call : Call
-  pub messages : List Body
+  pub messages : List Letter
   pub works : List WorkState
   pub note : Note
 
@@ -72,7 +72,7 @@ desk_end d [] = d
 desk_end d (x ∷ xs) = desk_end (respond d x.call).desk xs
 
 -- what it sent, and what it lent, after what had been before
-abbrev pub sent_up : List Body → List ServiceEntry → List Body
+abbrev pub sent_up : List Letter → List ServiceEntry → List Letter
 sent_up up [] = up
 sent_up up (x ∷ xs) = sent_up (up ++ x.messages) xs
 

@@ -7,7 +7,7 @@ use Rattle.av_desk.specs.declared.audit.Audit.{Audit as DeskAudit}
 use Rattle.av_filter.specs.Audit.{FilterEntry}
 use Rattle.av_filter.specs.Conduct.{FilterEvent}
 use Rattle.av_filter.specs.Conduct as filter
-use Rattle.av_frame.specs.declared.message.Body.{Body}
+use Rattle.av_frame.specs.Message.{Letter}
 use Rattle.av_gate.specs.declared.audit.Audit.{Audit as GateAudit}
 use Rattle.av_service.specs.Audit.{By, Call, Publishes, ServiceEntry, sets_after}
 use Rattle.av_service.specs.Conduct as service
@@ -19,7 +19,7 @@ use Rattle.av_world.specs.Audits.{CameDown, CameUp, FinishesItsWorks, IsDelivere
 
 -- an event that brings the filter no message, whatever was sent up
 abbrev HearsNothing : FilterEvent → Type 0
-HearsNothing e = (up : List Body) → CameUp up e
+HearsNothing e = (up : List Letter) → CameUp up e
 
 hears : (e : FilterEvent) → hears_nothing e ≡ true → HearsNothing e
 hears (filter.Receives m) h = absurd (true≢false (sym h))
@@ -33,7 +33,7 @@ hears filter.Restarts h = λ up. tt
 -- a call that brings the service no message and no work
 abbrev TakesNothing : Call → Type 0
 TakesNothing c =
-    ((down : List Body) → CameDown down c) × ((sets : List Publication) (works : List WorkState) → IsOfWorks sets works c)
+    ((down : List Letter) → CameDown down c) × ((sets : List Publication) (works : List WorkState) → IsOfWorks sets works c)
 
 takes : (c : Call) → takes_nothing c ≡ true → TakesNothing c
 takes (By (service.Receives m)) h = absurd (true≢false (sym h))
@@ -66,7 +66,7 @@ of_service [] [] = refl
 of_service [] (y ∷ ys) = ap (λ zs. y ∷ zs) (of_service [] ys)
 of_service (x ∷ xs) ys = of_service xs ys
 
-delivered : (xs : List FilterEntry) (ys : List ServiceEntry) (down up : List Body) → Each (λ (x : FilterEntry). HearsNothing x.event) xs → Each (λ (y : ServiceEntry). TakesNothing y.call) ys
+delivered : (xs : List FilterEntry) (ys : List ServiceEntry) (down up : List Letter) → Each (λ (x : FilterEntry). HearsNothing x.event) xs → Each (λ (y : ServiceEntry). TakesNothing y.call) ys
     → IsDelivered down up (map OfFilter xs ++ map OfService ys)
 delivered [] [] down up hear take = tt
 delivered [] (y ∷ ys) down up hear take = (take.0.0 down, delivered [] ys down (up ++ y.messages) hear take.1)

@@ -19,7 +19,7 @@ use self::between::Between;
 use self::rows::{APART, ROWS, Row};
 use crate::apart::are_apart;
 use crate::law::headline_of_audits;
-use av_base::{Limits, Mode, StreamId, Version};
+use av_base::{Limits, Mode, Port, StreamId, Version};
 use av_desk::{Audit as DeskAudit, Desk, Event as DeskEvent};
 use av_ends::{Receipt, Ticket};
 use av_gate::{Audit as GateAudit, CloseFault, Event as GateEvent, Gate, Seat, Unclosed};
@@ -55,7 +55,7 @@ fn desk_of(alloc: Global, pattern: &[u8]) -> Result<Desk, Fail> {
     if catalogue.publish(set).is_err() {
         return Err(Fail::new("a first set was refused"));
     }
-    Ok(Desk::new(alloc, 1, catalogue, Limits::greatest())?)
+    Ok(Desk::new(alloc, 1, Port::One, catalogue, Limits::greatest())?)
 }
 
 // Closes both, or abandons the gate. What the two calls ensure is all that the law asks for.

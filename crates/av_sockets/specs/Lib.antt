@@ -1,2 +1,4 @@
 pub mod Filter
 pub mod Looks
+pub mod Place
+pub mod Sockets

@@ -1,9 +1,10 @@
-ghost use Rattle.std.specs.Prelude.{◌≡◌, IfOk, map};
+ghost use Rattle.std.specs.Prelude.{◌≡◌, IfErr, IfOk, map};
 ghost use Rattle.std.specs.List.{zip};
 ghost use Rattle.std.specs.List.Sorted.{IsNonDecreasingBy, IsPermutation};
 ghost use Rattle.av_filter.specs.Fit.{Fits};
 ghost use Rattle.av_pend.specs.Pend.{open_of};
-ghost use Rattle.av_sockets.specs.Filter.{PrintsInOrder, opened_as};
+ghost use Rattle.av_sockets.specs.Filter.{AreFiltered, PrintsInOrder, opened_as};
+ghost use Rattle.av_status.specs.Status.{EndsWell, IsFault};
 
 use crate::duplex::{Duplex, Hearing, Saying};
 use crate::fault::{SocketFault, socket_failed};
@@ -11,14 +12,14 @@ use crate::sockets::{Meeting, meet_service};
 use av_base::limits::MAX_JOBS;
 use av_base::{Limits, Mode, StreamId, Version};
 use av_engines::{End, Watched, serve_filter};
-use av_files::opened::{Opened, conclude_opened, print_opened};
+use av_files::opened::{Opened, conclude_opened, count_opened, print_opened};
 use av_files::streams::TURNS;
 use av_filter::Filter;
 use av_pend::Answer;
 use av_status::end_told;
 use av_status::faults::out_of_memory;
 use av_status::status::Status;
-use av_status::tally::Wishes;
+use av_status::tally::{Tally, Wishes};
 use av_store::Volume;
 use std::alloc::{AllocError, Global};
 use std::fs::Files;
@@ -41,7 +42,9 @@ pub fn filter_volume<R: Files + Net + Clock, W: Write, E: Write>(
     wishes: Wishes,
     out: &mut W,
     err: &mut E,
-) -> Status {
+) -> Status
+    ensures { EndsWell result → AreFiltered names.now wishes (W.contents out.old) (W.contents out.new) result }
+{
     let Ok(streams) = streams_of(alloc, &volume, names) else {
         return out_of_memory(err);
     };
@@ -62,10 +65,28 @@ pub fn filter_volume<R: Files + Net + Clock, W: Write, E: Write>(
     if watched.end == End::Memory || rest.is_err() {
         return out_of_memory(err);
     }
+    tell(alloc, names, meeting.path, met, watched, wishes, out, err)
+}
+
+// Writes the lines, and says how it ended.
+fn tell<C: Clock, W: Write, E: Write>(
+    alloc: Global,
+    names: &[&str],
+    socket: &str,
+    met: Result<Duplex<'_, C>, SocketFault>,
+    watched: Watched,
+    wishes: Wishes,
+    out: &mut W,
+    err: &mut E,
+) -> Status
+    ensures { EndsWell result → AreFiltered names.now wishes (W.contents out.old) (W.contents out.new) result }
+{
     match print_answers(alloc, names, watched.answers, wishes, out, err) {
         Ok(opened) => {
-            let ended = told(err, meeting.path, met, watched.end);
-            conclude_opened(opened.as_slice(), names.len(), ended, wishes, err)
+            let mut tally = Tally::new();
+            count_opened(&mut tally, opened.as_slice());
+            let ended = told(err, socket, met, watched.end);
+            conclude_opened(tally, names.len(), ended, wishes, err)
         }
         Err(failed) => failed,
     }
@@ -204,7 +225,8 @@ fn print_answers<'a, W: Write, E: Write>(
     out: &mut W,
     err: &mut E,
 ) -> Result<Vec<Opened<'a>>, Status>
-    ensures { IfOk result (λ opened. PrintsInOrder wishes names.now answers.items opened.items (W.contents out.old) (W.contents out.new)) }
+    ensures printed { IfOk result (λ opened. PrintsInOrder wishes names.now answers.items opened.items (W.contents out.old) (W.contents out.new)) }
+    ensures failed { IfErr result (λ status. IsFault status) }
 {
     let answers = in_order(answers);
     let Ok(opened) = named(alloc, names, answers.as_slice()) else {

@@ -1,12 +1,15 @@
-ghost use Rattle.std.specs.Prelude.{◌≡◌, ◌≤◌, false, IfOk, IsSome};
+ghost use Rattle.std.specs.Prelude.{◌≡◌, ◌≤◌, codes, false, IfOk, IsSome};
+ghost use Rattle.std.specs.Io.KnownBytes.{Appends};
+ghost use Rattle.av_files.specs.Opened.{IsDoneOrFault};
 ghost use Rattle.av_sigset.specs.Catalogue.{set_at};
+ghost use Rattle.av_status.specs.declared.status.Status.TheVariants.{Done};
 
 use crate::duplex::{Duplex, Hearing, Saying};
 use crate::fault::{SocketFault, socket_failed};
 use crate::sockets::{Meeting, connect};
 use crate::watch::{Watch, Watched};
 use av_base::device::write_text;
-use av_base::{Limits, Version};
+use av_base::{Limits, Port, Version};
 use av_engines::{End, serve_fresh, serve_service};
 use av_files::streams::VOLUME;
 use av_service::Service;
@@ -33,7 +36,10 @@ pub fn serve_at<R: Files + Net + Clock, W: Write, E: Write>(
     watched: Option<Watched<'_>>,
     out: &mut W,
     err: &mut E,
-) -> Status {
+) -> Status
+    ensures closed { result ≡ Done → Appends (W.contents out.old) (W.contents out.new) (codes "closed\n") }
+    ensures ended { IsDoneOrFault result }
+{
     let Ok((mut service, mut catalogue)) = service_of(alloc, set) else {
         return out_of_memory(err);
     };
@@ -64,9 +70,9 @@ fn serve_over<'a, R: Files + Clock, E: Write>(
     watched: Option<Watched<'_>>,
     err: &mut E,
 ) -> End
-    requires idle { service.old.connected ≡ false }
-    requires version { 1 ≤ service.old.version }
-    requires set { IsSome (set_at catalogue.old.sets service.old.version) }
+    requires idle { service.old.desk.connected ≡ false }
+    requires version { 1 ≤ service.old.desk.version }
+    requires set { IsSome (set_at catalogue.old.sets service.old.desk.version) }
 {
     let mut reader = Hearing { duplex };
     let mut writer = Saying { duplex };
@@ -87,7 +93,10 @@ fn serve_over<'a, R: Files + Clock, E: Write>(
 }
 
 // How the service's side ended.
-fn told<W: Write, E: Write>(socket: &str, end: End, out: &mut W, err: &mut E) -> Status {
+fn told<W: Write, E: Write>(socket: &str, end: End, out: &mut W, err: &mut E) -> Status
+    ensures closed { result ≡ Done → Appends (W.contents out.old) (W.contents out.new) (codes "closed\n") }
+    ensures ended { IsDoneOrFault result }
+{
     match end {
         End::Closed | End::Done => print_closed(out, err),
         End::Frame => bad_frame(err),
@@ -99,19 +108,22 @@ fn told<W: Write, E: Write>(socket: &str, end: End, out: &mut W, err: &mut E) ->
 // A service just started over this one set.
 #[tactic(auto, using(crate::proofs::ServiceLemmas::newest_found))]
 fn service_of(alloc: Global, set: SignatureSet) -> Result<(Service, Catalogue), AllocError>
-    ensures idle { IfOk result (λ r. r.0.connected ≡ false) }
-    ensures version { IfOk result (λ r. 1 ≤ r.0.version) }
-    ensures set { IfOk result (λ r. IsSome (set_at r.1.sets r.0.version)) }
+    ensures idle { IfOk result (λ r. r.0.desk.connected ≡ false) }
+    ensures version { IfOk result (λ r. 1 ≤ r.0.desk.version) }
+    ensures set { IfOk result (λ r. IsSome (set_at r.1.sets r.0.desk.version)) }
 {
     let mut catalogue = Catalogue::new(alloc);
     if catalogue.publish(set).is_err() {
         return Err(AllocError);
     }
-    let service = Service::start(alloc, VOLUME, &catalogue, Limits::greatest())?;
+    let service = Service::start(alloc, VOLUME, Port::One, &catalogue, Limits::greatest())?;
     Ok((service, catalogue))
 }
 
-fn print_closed<W: Write, E: Write>(out: &mut W, err: &mut E) -> Status {
+fn print_closed<W: Write, E: Write>(out: &mut W, err: &mut E) -> Status
+    ensures closed { result ≡ Done → Appends (W.contents out.old) (W.contents out.new) (codes "closed\n") }
+    ensures ended { IsDoneOrFault result }
+{
     if write_text(out, b"closed\n".as_slice()).is_err() || out.flush().is_err() {
         return device_failed(err);
     }

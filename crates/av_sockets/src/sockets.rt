@@ -1,5 +1,8 @@
 //! The socket at which a filter and its service meet: a file that the filter makes and the service finds.
 
+ghost use Rattle.std.specs.Prelude.{IfErr};
+ghost use Rattle.av_sockets.specs.Sockets.{IsUnjoined, IsUnmade, IsUnmet};
+
 use crate::duplex::Duplex;
 use crate::fault::SocketFault;
 use mio::net;
@@ -39,7 +42,9 @@ pub fn meet_service<'a, R: Files + Net + Clock>(
     alloc: Global,
     meeting: Meeting<'_>,
     mode: u32,
-) -> Result<Duplex<'a, R>, SocketFault> {
+) -> Result<Duplex<'a, R>, SocketFault>
+    ensures { IfErr result IsUnmet }
+{
     let (listener, node) = listen(rt, alloc, meeting.path, mode)?;
     let met = await_service(rt, alloc, &listener, meeting.wait);
     remove_own(rt, meeting.path, node);
@@ -54,7 +59,9 @@ pub fn listen<R: Files + Net + Clock>(
     alloc: Global,
     path: &str,
     mode: u32,
-) -> Result<(UnixListener, Node), SocketFault> {
+) -> Result<(UnixListener, Node), SocketFault>
+    ensures { IfErr result IsUnmade }
+{
     let Ok(beside) = name_beside(rt, alloc, path) else {
         return Err(SocketFault::CannotListen);
     };
@@ -106,12 +113,9 @@ fn node_of<R: Files>(rt: &R, path: &str) -> Option<Node> {
 }
 
 // Gives a socket its path, where nothing is there but a socket that somebody left.
-fn place<R: Files + Net>(
-    rt: &R,
-    alloc: Global,
-    beside: &str,
-    path: &str,
-) -> Result<(), SocketFault> {
+fn place<R: Files + Net>(rt: &R, alloc: Global, beside: &str, path: &str) -> Result<(), SocketFault>
+    ensures { IfErr result IsUnmade }
+{
     match fs::hard_link(rt, beside, path) {
         Ok(()) => return Ok(()),
         Err(error) if error.kind() == ErrorKind::AlreadyExists => {}
@@ -131,7 +135,9 @@ fn remove_leftover<R: Files + Net>(
     alloc: Global,
     beside: &str,
     path: &str,
-) -> Result<(), SocketFault> {
+) -> Result<(), SocketFault>
+    ensures { IfErr result IsUnmade }
+{
     match fs::symlink_metadata(rt, path) {
         Ok(metadata) if metadata.file_type().is_socket() => {}
         Ok(_) => return Err(SocketFault::NotASocket),
@@ -157,7 +163,9 @@ fn take_away<R: Files>(
     beside: &str,
     path: &str,
     node: Option<Node>,
-) -> Result<(), SocketFault> {
+) -> Result<(), SocketFault>
+    ensures { IfErr result IsUnmade }
+{
     let Ok(aside) = format!(in alloc; "{beside}.old") else {
         return Err(SocketFault::CannotListen);
     };
@@ -192,7 +200,9 @@ fn await_service<'a, R: Clock>(
     alloc: Global,
     listener: &UnixListener,
     wait: Duration,
-) -> Result<Duplex<'a, R>, SocketFault> {
+) -> Result<Duplex<'a, R>, SocketFault>
+    ensures { IfErr result IsUnmet }
+{
     let begun = rt.monotonic().unwrap_or(Duration::ZERO);
     'looks: for _ in 0..u64::MAX {
         if let Ok((stream, _)) = listener.accept() {
@@ -236,7 +246,9 @@ pub fn connect<'a, R: Net + Clock>(
     rt: &'a R,
     alloc: Global,
     meeting: Meeting<'_>,
-) -> Result<Duplex<'a, R>, SocketFault> {
+) -> Result<Duplex<'a, R>, SocketFault>
+    ensures { IfErr result IsUnjoined }
+{
     let begun = rt.monotonic().unwrap_or(Duration::ZERO);
     'looks: for _ in 0..u64::MAX {
         match net::UnixStream::connect(rt, meeting.path) {
@@ -259,7 +271,9 @@ fn over<'a, R: Clock>(
     alloc: Global,
     stream: UnixStream,
     wait: Duration,
-) -> Result<Duplex<'a, R>, SocketFault> {
+) -> Result<Duplex<'a, R>, SocketFault>
+    ensures { IfErr result IsUnjoined }
+{
     match Duplex::new(rt, alloc, stream, wait) {
         Ok(duplex) => Ok(duplex),
         Err(_) => Err(SocketFault::FilterLost),

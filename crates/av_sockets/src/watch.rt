@@ -1,4 +1,5 @@
-ghost use Rattle.std.specs.Prelude.{None};
+ghost use Rattle.std.specs.Prelude.{◌≡◌, None};
+ghost use Rattle.av_sockets.specs.Looks.{first};
 
 use crate::duplex::Duplex;
 use crate::looks::{Look, Looks, looked_at};
@@ -47,7 +48,10 @@ impl<'a, 'b, R: Files + Clock, E: Write> Watch<'a, 'b, R, E> {
         watched: Watched<'b>,
         version: Version,
         err: &'b mut E,
-    ) -> Watch<'a, 'b, R, E> {
+    ) -> Watch<'a, 'b, R, E>
+        ensures looks { result.looks ≡ first watched.entry.seen }
+        ensures version { result.version ≡ version }
+    {
         let now = rt.monotonic().unwrap_or(Duration::ZERO);
         let due = now.saturating_add(watched.every);
         duplex.wake_at(due);

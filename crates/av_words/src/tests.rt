@@ -1,4 +1,5 @@
-use crate::words::{Finding, List, Request, Taking, first_bad_word, read_words};
+use crate::request::{Ask, Filter, Finding, Guard, List, Request, Scan, Script, Taking};
+use crate::words::{first_bad_word, read_words};
 use av_fakes::{FakeWriter, Fault};
 use av_status::{Form, Shown, Status, Wishes};
 use std::alloc::Global;
@@ -18,67 +19,82 @@ const NOTHING: Wishes = Wishes {
     has_summary: false,
 };
 
+// The words of a line behind the program's name.
+fn words_of<'a>(alloc: Global, line: &'a str) -> Option<Vec<&'a str>> {
+    let mut words = Vec::new(alloc);
+    words.push("avscan").ok()?;
+    for word in line.split(' ') {
+        words.push(word).ok()?;
+    }
+    Some(words)
+}
+
+// What the words ask for.
+fn request_of<'a>(alloc: Global, words: &'a [&'a str]) -> Option<Request<'a>> {
+    let mut out = FakeWriter::new(alloc);
+    let mut err = FakeWriter::new(alloc);
+    read_words(alloc, words, &mut out, &mut err).ok()
+}
+
 #[test]
 fn words_ask_for_a_request_or_end_with_a_status(rt: HostRuntime) -> Result<(), Fail> {
     let alloc = rt.alloc();
     let mut out = FakeWriter::new(alloc);
     let mut err = FakeWriter::new(alloc);
-    match read_words(
-        alloc,
-        ["avscan", "scan", "s", "f", "g"].as_slice(),
-        &mut out,
-        &mut err,
-    ) {
+    let scan = ["avscan", "scan", "s", "f", "g"];
+    match read_words(alloc, scan.as_slice(), &mut out, &mut err) {
         Ok(
-            Request::Scan {
-                set,
-                files,
-                list,
-                finding,
-                wishes,
-                quiet,
-            },
+            Request::Scan(
+                Scan {
+                    set,
+                    named,
+                    finding,
+                },
+            ),
         ) => {
             assert_eq!(rt; set, "s");
-            assert!(rt; list.is_none());
             assert_eq!(rt; finding, FILES_ALONE);
-            assert_eq!(rt; wishes, NOTHING);
-            assert_eq!(rt; files.len(), 2);
-            assert!(rt; !quiet);
+            assert_eq!(rt; named.files.as_slice(), ["f", "g"].as_slice());
+            assert!(rt; named.list.is_none());
+            assert_eq!(rt; named.wishes, NOTHING);
+            assert!(rt; !named.is_quiet);
         }
         _ => panic!(rt; "no scan"),
     }
     assert!(rt;
         matches!(
             read_words(alloc, ["avscan"].as_slice(), &mut out, &mut err),
-            Ok(Request::Run {
-                script: "-",
+            Ok(Request::Run(Script {
+                path: "-",
                 form: Form::Lines
-            })
+            }))
         )
     );
+    let run = ["avscan", "run", "--json", "s"];
     assert!(rt;
         matches!(
-            read_words(
-                alloc,
-                ["avscan", "run", "--json", "s"].as_slice(),
-                &mut out,
-                &mut err
-            ),
-            Ok(Request::Run {
-                script: "s",
+            read_words(alloc, run.as_slice(), &mut out, &mut err),
+            Ok(Request::Run(Script {
+                path: "s",
                 form: Form::Json
-            })
+            }))
         )
     );
     assert!(rt; out.taken().is_empty() && err.taken().is_empty());
-    let usage = read_words(
-        alloc,
-        ["avscan", "scan", "s"].as_slice(),
-        &mut out,
-        &mut err,
-    );
+    Ok(())
+}
+
+#[test]
+fn a_usage_fault_is_one_line_and_a_help_that_cannot_be_written_is_one(
+    rt: HostRuntime,
+) -> Result<(), Fail> {
+    let alloc = rt.alloc();
+    let mut out = FakeWriter::new(alloc);
+    let mut err = FakeWriter::new(alloc);
+    let words = ["avscan", "scan", "s"];
+    let usage = read_words(alloc, words.as_slice(), &mut out, &mut err);
     assert!(rt; matches!(usage, Err(Status::Usage)));
+    assert!(rt; out.taken().is_empty());
     assert!(rt;
         err.taken().starts_with(b"avscan: ".as_slice()) && err.taken().ends_with(b"\n".as_slice())
     );
@@ -131,53 +147,34 @@ fn the_first_word_that_is_no_text_is_named(rt: HostRuntime) -> Result<(), Fail> 
     Ok(())
 }
 
-// What the words ask for, where that is to open files in this process: the openers and the workers.
-fn crew_of(alloc: Global, words: &[&str]) -> Option<(usize, usize)> {
-    let mut out = FakeWriter::new(alloc);
-    let mut err = FakeWriter::new(alloc);
-    match read_words(alloc, words, &mut out, &mut err) {
-        Ok(
-            Request::Host {
-                openers,
-                workers,
-                ..
-            },
-        ) => Some((openers, workers)),
+// How many threads open files in this process and how many scan, as a line asks for.
+fn crew_of(alloc: Global, line: &str) -> Option<(usize, usize)> {
+    match request_of(alloc, words_of(alloc, line)?.as_slice()) {
+        Some(Request::Host(host)) => Some((host.openers, host.workers)),
         _ => None,
     }
 }
 
 #[test]
 fn a_host_has_one_to_sixteen_openers_and_workers(rt: HostRuntime) -> Result<(), Fail> {
-    let alloc = rt.alloc();
-    let none = ["avscan", "host", "s", "f"];
-    assert!(&rt; crew_of(alloc, none.as_slice()) == Some((2, 2)));
-    let most = [
-        "avscan",
-        "host",
-        "s",
-        "f",
-        "--openers",
-        "16",
-        "--workers",
-        "1",
-    ];
-    assert!(&rt; crew_of(alloc, most.as_slice()) == Some((16, 1)));
-    let more = ["avscan", "host", "s", "f", "--openers", "17"];
-    assert!(&rt; crew_of(alloc, more.as_slice()).is_none());
-    let fewer = ["avscan", "host", "s", "f", "--workers", "0"];
-    assert!(&rt; crew_of(alloc, fewer.as_slice()).is_none());
+    for (line, crew) in [
+        ("host s f", Some((2, 2))),
+        ("host s f --openers 16 --workers 1", Some((16, 1))),
+        ("host s f --openers 17", None),
+        ("host s f --workers 0", None),
+    ] {
+        assert!(&rt; crew_of(rt.alloc(), line) == crew, "{line}");
+    }
     Ok(())
 }
 
-// The socket and the seconds that the words ask for.
-fn socket_of<'a>(alloc: Global, words: &'a [&'a str]) -> Option<(&'a str, u64)> {
-    let mut out = FakeWriter::new(alloc);
-    let mut err = FakeWriter::new(alloc);
-    match read_words(alloc, words, &mut out, &mut err) {
-        Ok(Request::Filter { socket, wait, .. } | Request::Service { socket, wait, .. }) => {
-            Some((socket, wait))
-        }
+// The seconds that are waited at a socket of this path, as a line asks for.
+fn wait_of(alloc: Global, line: &str, path: &str) -> Option<u64> {
+    match request_of(alloc, words_of(alloc, line)?.as_slice()) {
+        Some(Request::Filter(Filter { socket, wait, .. })) if socket == path => Some(wait),
+        Some(Request::Service(it)) if it.socket == path => Some(it.wait),
+        Some(Request::Guard(Guard { opens, wait, .. })) if opens == path => Some(wait),
+        Some(Request::Ask(Ask { opens, wait, .. })) if opens == path => Some(wait),
         _ => None,
     }
 }
@@ -185,23 +182,30 @@ fn socket_of<'a>(alloc: Global, words: &'a [&'a str]) -> Option<(&'a str, u64)> 
 #[test]
 fn a_socket_has_a_path_and_a_time_to_wait(rt: HostRuntime) -> Result<(), Fail> {
     let alloc = rt.alloc();
-    let filter = ["avscan", "filter", "s", "f"];
-    assert!(&rt; socket_of(alloc, filter.as_slice()) == Some(("s", 30)));
-    let service = ["avscan", "service", "t", "s", "--wait", "1"];
-    assert!(&rt; socket_of(alloc, service.as_slice()) == Some(("t", 1)));
-    let empty = ["avscan", "filter", "", "f"];
-    assert!(&rt; socket_of(alloc, empty.as_slice()).is_none());
-    let never = ["avscan", "filter", "s", "f", "--wait", "0"];
-    assert!(&rt; socket_of(alloc, never.as_slice()).is_none());
+    for (line, path, wait) in [
+        ("filter s f", "s", Some(30)),
+        ("service t s --wait 1", "t", Some(1)),
+        ("guard o s --wait 86400", "o", Some(86_400)),
+        ("ask o f", "o", Some(60)),
+        ("filter s f --wait 0", "s", None),
+        ("filter s f --wait 86401", "s", None),
+        // An empty word stands between two spaces, and at the end.
+        ("filter  f", "", None),
+        ("service  s", "", None),
+        ("guard  s", "", None),
+        ("guard o ", "o", None),
+        ("guard o s --clamd ", "o", None),
+        ("ask  f", "", None),
+    ] {
+        assert!(&rt; wait_of(alloc, line, path) == wait, "{line}");
+    }
     Ok(())
 }
 
-// Whether the words ask for a service, and every how many seconds it is to look at its signature file.
-fn watch_of(alloc: Global, words: &[&str]) -> Option<Option<u64>> {
-    let mut out = FakeWriter::new(alloc);
-    let mut err = FakeWriter::new(alloc);
-    match read_words(alloc, words, &mut out, &mut err) {
-        Ok(Request::Service { watch, .. }) => Some(watch),
+// Whether a line asks for a service, and every how many seconds it is to look at its signature file.
+fn watch_of(alloc: Global, line: &str) -> Option<Option<u64>> {
+    match request_of(alloc, words_of(alloc, line)?.as_slice()) {
+        Some(Request::Service(service)) => Some(service.watch),
         _ => None,
     }
 }
@@ -210,46 +214,43 @@ fn watch_of(alloc: Global, words: &[&str]) -> Option<Option<u64>> {
 fn a_service_looks_at_its_signature_file_every_1_to_86400_seconds_or_never(
     rt: HostRuntime,
 ) -> Result<(), Fail> {
-    let alloc = rt.alloc();
-    let never = ["avscan", "service", "t", "s"];
-    assert!(&rt; watch_of(alloc, never.as_slice()) == Some(None));
-    for (word, seconds) in [
-        ("0", None),
-        ("1", Some(Some(1))),
-        ("86400", Some(Some(86_400))),
-        ("86401", None),
-        ("", None),
-        ("1.5", None),
+    for (line, seconds) in [
+        ("service t s", Some(None)),
+        ("service t s --watch 0", None),
+        ("service t s --watch 1", Some(Some(1))),
+        ("service t s --watch 86400", Some(Some(86_400))),
+        ("service t s --watch 86401", None),
+        ("service t s --watch ", None),
+        ("service t s --watch 1.5", None),
+        ("filter s f --watch 1", None),
     ] {
-        let words = ["avscan", "service", "t", "s", "--watch", word];
-        assert!(&rt; watch_of(alloc, words.as_slice()) == seconds, "{word}");
+        assert!(&rt; watch_of(rt.alloc(), line) == seconds, "{line}");
     }
-    let other = ["avscan", "filter", "s", "f", "--watch", "1"];
-    assert!(&rt; watch_of(alloc, other.as_slice()).is_none());
     Ok(())
 }
 
-// The rights of a socket that the words ask for.
-fn mode_of(alloc: Global, words: &[&str]) -> Option<u32> {
-    let mut out = FakeWriter::new(alloc);
-    let mut err = FakeWriter::new(alloc);
-    match read_words(alloc, words, &mut out, &mut err) {
-        Ok(Request::Filter { mode, .. }) => Some(mode),
+// The rights of a socket that a line asks for.
+fn mode_of(alloc: Global, line: &str) -> Option<u32> {
+    match request_of(alloc, words_of(alloc, line)?.as_slice()) {
+        Some(Request::Filter(filter)) => Some(filter.mode),
+        Some(Request::Guard(guard)) => Some(guard.mode),
         _ => None,
     }
 }
 
 #[test]
 fn a_socket_has_one_of_three_modes(rt: HostRuntime) -> Result<(), Fail> {
-    let alloc = rt.alloc();
-    let none = ["avscan", "filter", "s", "f"];
-    assert!(&rt; mode_of(alloc, none.as_slice()) == Some(0o600));
-    for (word, mode) in [("600", 0o600), ("660", 0o660), ("666", 0o666)] {
-        let words = ["avscan", "filter", "s", "f", "--mode", word];
-        assert!(&rt; mode_of(alloc, words.as_slice()) == Some(mode));
+    for (line, mode) in [
+        ("filter s f", Some(0o600)),
+        ("filter s f --mode 600", Some(0o600)),
+        ("filter s f --mode 660", Some(0o660)),
+        ("filter s f --mode 666", Some(0o666)),
+        ("filter s f --mode 777", None),
+        ("guard o s", Some(0o600)),
+        ("guard o s --mode 660", Some(0o660)),
+    ] {
+        assert!(&rt; mode_of(rt.alloc(), line) == mode, "{line}");
     }
-    let other = ["avscan", "filter", "s", "f", "--mode", "777"];
-    assert!(&rt; mode_of(alloc, other.as_slice()).is_none());
     Ok(())
 }
 
@@ -258,62 +259,63 @@ fn asked_of<'a>(
     alloc: Global,
     words: &'a [&'a str],
 ) -> Option<(Finding, Wishes, Option<List<'a>>)> {
-    let mut out = FakeWriter::new(alloc);
-    let mut err = FakeWriter::new(alloc);
-    match read_words(alloc, words, &mut out, &mut err) {
-        Ok(
-            Request::Scan {
-                finding,
-                wishes,
-                list,
-                ..
-            },
-        ) => Some((finding, wishes, list)),
-        Ok(Request::Host { wishes, list, .. } | Request::Filter { wishes, list, .. }) => {
-            Some((FILES_ALONE, wishes, list))
+    match request_of(alloc, words) {
+        Some(Request::Scan(scan)) => Some((scan.finding, scan.named.wishes, scan.named.list)),
+        Some(Request::Host(host)) => Some((FILES_ALONE, host.named.wishes, host.named.list)),
+        Some(Request::Filter(filter)) => {
+            Some((FILES_ALONE, filter.named.wishes, filter.named.list))
         }
+        Some(Request::Ask(ask)) => Some((ask.finding, ask.named.wishes, ask.named.list)),
+        _ => None,
+    }
+}
+
+// How files are found, as a line asks for that says nothing else.
+fn finding_of(alloc: Global, line: &str) -> Option<Finding> {
+    match asked_of(alloc, words_of(alloc, line)?.as_slice()) {
+        Some((finding, NOTHING, None)) => Some(finding),
         _ => None,
     }
 }
 
 #[test]
 fn folders_stand_for_files_and_mean_to_keep_going(rt: HostRuntime) -> Result<(), Fail> {
-    let alloc = rt.alloc();
-    let short = ["avscan", "scan", "-r", "s", "f"];
-    let long = ["avscan", "scan", "s", "f", "--recursive"];
-    for words in [short.as_slice(), long.as_slice()] {
-        let finding = Finding {
-            is_recursive: true,
-            keeps_going: true,
-            ..FILES_ALONE
-        };
-        assert!(&rt; asked_of(alloc, words) == Some((finding, NOTHING, None)));
-    }
-    let keep = ["avscan", "scan", "-k", "s", "f"];
-    let finding = Finding {
+    let passing = Finding {
         keeps_going: true,
         ..FILES_ALONE
     };
-    assert!(&rt; asked_of(alloc, keep.as_slice()) == Some((finding, NOTHING, None)));
+    let recursive = Finding {
+        is_recursive: true,
+        ..passing
+    };
+    for (line, finding) in [
+        ("scan -r s f", recursive),
+        ("scan s f --recursive", recursive),
+        ("scan -k s f", passing),
+        ("ask -r o f", recursive),
+        ("ask o f --keep-going", passing),
+        ("ask o f", FILES_ALONE),
+    ] {
+        assert!(&rt; finding_of(rt.alloc(), line) == Some(finding), "{line}");
+    }
     Ok(())
 }
 
 #[test]
 fn a_file_has_up_to_as_many_bytes_as_are_asked_for(rt: HostRuntime) -> Result<(), Fail> {
-    let alloc = rt.alloc();
-    let sizes = [
-        ("1", Some(1)),
-        ("9223372036854775807", Some(9_223_372_036_854_775_807)),
-        ("0", None),
-        ("9223372036854775808", None),
-        ("-1", None),
-        ("1k", None),
-    ];
-    for (word, size) in sizes {
-        let words = ["avscan", "scan", "--max-size", word, "s", "f"];
-        let got = asked_of(alloc, words.as_slice());
-        let max_size = got.map(|(finding, _, _)| finding.max_size);
-        assert!(&rt; max_size == size, "{word}");
+    for (line, size) in [
+        ("scan --max-size 1 s f", Some(1)),
+        (
+            "scan --max-size 9223372036854775807 s f",
+            Some(9_223_372_036_854_775_807),
+        ),
+        ("scan --max-size 0 s f", None),
+        ("scan --max-size 9223372036854775808 s f", None),
+        ("scan --max-size -1 s f", None),
+        ("scan --max-size 1k s f", None),
+    ] {
+        let finding = finding_of(rt.alloc(), line);
+        assert!(&rt; finding.map(|it| it.max_size) == size, "{line}");
     }
     Ok(())
 }
@@ -323,14 +325,34 @@ fn a_list_stands_for_files_and_is_ended_by_lines_or_zero_bytes(
     rt: HostRuntime,
 ) -> Result<(), Fail> {
     let alloc = rt.alloc();
-    for command in ["scan", "host", "filter"] {
+    for command in ["scan", "host", "filter", "ask"] {
         let lines = ["avscan", command, "s", "--files-from", "l"];
         let list = Some(List { path: "l", end: 10 });
         assert!(&rt; asked_of(alloc, lines.as_slice()) == Some((FILES_ALONE, NOTHING, list)));
         let zeros = ["avscan", command, "-0", "s", "--files-from", "-"];
         let list = Some(List { path: "-", end: 0 });
         assert!(&rt; asked_of(alloc, zeros.as_slice()) == Some((FILES_ALONE, NOTHING, list)));
-        let all = [
+        let none = ["avscan", command, "s"];
+        assert!(&rt; asked_of(alloc, none.as_slice()).is_none());
+    }
+    Ok(())
+}
+
+#[test]
+fn what_is_told_of_files_is_what_is_asked_for(rt: HostRuntime) -> Result<(), Fail> {
+    let alloc = rt.alloc();
+    let all = Wishes {
+        shown: Shown::Infected,
+        form: Form::Lines,
+        has_found_status: true,
+        has_summary: true,
+    };
+    let objects = Wishes {
+        form: Form::Json,
+        ..NOTHING
+    };
+    for command in ["scan", "host", "filter", "ask"] {
+        let words = [
             "avscan",
             command,
             "-i",
@@ -339,196 +361,108 @@ fn a_list_stands_for_files_and_is_ended_by_lines_or_zero_bytes(
             "s",
             "f",
         ];
-        let wishes = Wishes {
-            shown: Shown::Infected,
-            form: Form::Lines,
-            has_found_status: true,
-            has_summary: true,
-        };
-        assert!(&rt; asked_of(alloc, all.as_slice()) == Some((FILES_ALONE, wishes, None)));
-        let objects = ["avscan", command, "--json", "s", "f"];
-        let wishes = Wishes {
-            form: Form::Json,
-            ..NOTHING
-        };
-        assert!(&rt; asked_of(alloc, objects.as_slice()) == Some((FILES_ALONE, wishes, None)));
-        let none = ["avscan", command, "s"];
-        assert!(&rt; asked_of(alloc, none.as_slice()).is_none());
+        assert!(&rt; asked_of(alloc, words.as_slice()) == Some((FILES_ALONE, all, None)));
+        let words = ["avscan", command, "--json", "s", "f"];
+        assert!(&rt; asked_of(alloc, words.as_slice()) == Some((FILES_ALONE, objects, None)));
     }
     Ok(())
 }
 
-// Which lines are drawn, as the words ask for.
-fn lines_of(alloc: Global, words: &[&str]) -> Option<(u64, u64)> {
-    let mut out = FakeWriter::new(alloc);
-    let mut err = FakeWriter::new(alloc);
-    match read_words(alloc, words, &mut out, &mut err) {
-        Ok(
-            Request::Chart {
-                script: "s",
-                from,
-                to,
-            },
-        ) => Some((from, to)),
+// Which lines are drawn of a script, as a line asks for.
+fn lines_of(alloc: Global, line: &str) -> Option<(u64, u64)> {
+    match request_of(alloc, words_of(alloc, line)?.as_slice()) {
+        Some(Request::Chart(chart)) if chart.script == "s" => Some((chart.from, chart.to)),
         _ => None,
     }
 }
 
 #[test]
 fn all_lines_are_drawn_or_those_that_are_asked_for(rt: HostRuntime) -> Result<(), Fail> {
-    let alloc = rt.alloc();
-    let all = ["avscan", "chart", "s"];
-    assert!(&rt; lines_of(alloc, all.as_slice()) == Some((1, 18_446_744_073_709_551_615)));
-    let some = ["avscan", "chart", "--from", "3", "--to", "7", "s"];
-    assert!(&rt; lines_of(alloc, some.as_slice()) == Some((3, 7)));
-    let none = ["avscan", "chart", "--from", "0", "s"];
-    assert!(&rt; lines_of(alloc, none.as_slice()).is_none());
+    for (line, lines) in [
+        ("chart s", Some((1, 18_446_744_073_709_551_615))),
+        ("chart --from 3 --to 7 s", Some((3, 7))),
+        ("chart --from 0 s", None),
+    ] {
+        assert!(&rt; lines_of(rt.alloc(), line) == lines, "{line}");
+    }
     Ok(())
 }
 
-// The seed, the count of commands and whether all are drawn alike, as the words ask for.
-fn draws_of(alloc: Global, words: &[&str]) -> Option<(u64, u64, bool)> {
-    let mut out = FakeWriter::new(alloc);
-    let mut err = FakeWriter::new(alloc);
-    match read_words(alloc, words, &mut out, &mut err) {
-        Ok(
-            Request::Generate {
-                seed,
-                commands,
-                is_uniform,
-            },
-        ) => Some((seed, commands, is_uniform)),
+// The seed, the count of commands and whether all are drawn alike, as a line asks for.
+fn draws_of(alloc: Global, line: &str) -> Option<(u64, u64, bool)> {
+    match request_of(alloc, words_of(alloc, line)?.as_slice()) {
+        Some(Request::Generate(it)) => Some((it.seed, it.commands, it.is_uniform)),
         _ => None,
     }
 }
 
 #[test]
 fn a_random_script_has_a_seed_and_a_length(rt: HostRuntime) -> Result<(), Fail> {
-    let alloc = rt.alloc();
-    let rows = [
-        ("0", "1", Some((0, 1, false))),
+    for (line, draws) in [
+        ("generate --seed 0 --commands 1", Some((0, 1, false))),
         (
-            "18446744073709551615",
-            "100000",
+            "generate --seed 18446744073709551615 --commands 100000",
             Some((18_446_744_073_709_551_615, 100_000, false)),
         ),
-        ("18446744073709551616", "1", None),
-        ("1", "0", None),
-        ("1", "100001", None),
-    ];
-    for (seed, commands, asked) in rows {
-        let words = ["avscan", "generate", "--seed", seed, "--commands", commands];
-        assert!(&rt;
-            draws_of(alloc, words.as_slice()) == asked,
-            "{seed} {commands}"
-        );
+        ("generate --seed 18446744073709551616 --commands 1", None),
+        ("generate --seed 1 --commands 0", None),
+        ("generate --seed 1 --commands 100001", None),
+        ("generate --commands 2", None),
+        (
+            "generate --seed 1 --commands 2 --profile uniform",
+            Some((1, 2, true)),
+        ),
+        (
+            "generate --seed 1 --commands 2 --profile deep",
+            Some((1, 2, false)),
+        ),
+        ("generate --seed 1 --commands 2 --profile flat", None),
+    ] {
+        assert!(&rt; draws_of(rt.alloc(), line) == draws, "{line}");
     }
-    let uniform = [
-        "avscan",
-        "generate",
-        "--seed",
-        "1",
-        "--commands",
-        "2",
-        "--profile",
-        "uniform",
-    ];
-    assert!(&rt; draws_of(alloc, uniform.as_slice()) == Some((1, 2, true)));
-    let deep = [
-        "avscan",
-        "generate",
-        "--seed",
-        "1",
-        "--commands",
-        "2",
-        "--profile",
-        "deep",
-    ];
-    assert!(&rt; draws_of(alloc, deep.as_slice()) == Some((1, 2, false)));
-    let other = [
-        "avscan",
-        "generate",
-        "--seed",
-        "1",
-        "--commands",
-        "2",
-        "--profile",
-        "flat",
-    ];
-    assert!(&rt; draws_of(alloc, other.as_slice()).is_none());
-    let no_seed = ["avscan", "generate", "--commands", "2"];
-    assert!(&rt; draws_of(alloc, no_seed.as_slice()).is_none());
     Ok(())
 }
 
-// The version of what is written, how many files are read and which signatures are taken, as the words ask for.
-fn taking_of(alloc: Global, words: &[&str]) -> Option<(u64, usize, Taking)> {
-    let mut out = FakeWriter::new(alloc);
-    let mut err = FakeWriter::new(alloc);
-    match read_words(alloc, words, &mut out, &mut err) {
-        Ok(
-            Request::Import {
-                files,
-                version,
-                taking,
-            },
-        ) => Some((version, files.len(), taking)),
+// The version of what is written, how many files are read and which signatures are taken, as a line asks for.
+fn taking_of(alloc: Global, line: &str) -> Option<(u64, usize, Taking)> {
+    match request_of(alloc, words_of(alloc, line)?.as_slice()) {
+        Some(Request::Import(it)) => Some((it.version, it.files.len(), it.taking)),
         _ => None,
     }
 }
 
 #[test]
 fn signatures_are_taken_as_is_asked_for(rt: HostRuntime) -> Result<(), Fail> {
-    let alloc = rt.alloc();
     let plain = Taking {
         takes_any_target: false,
         has_format_1: false,
         wants_all: false,
     };
-    let none = ["avscan", "import", "a"];
-    assert!(&rt; taking_of(alloc, none.as_slice()) == Some((1, 1, plain)));
-    let rows = [
+    let any_target = Taking {
+        takes_any_target: true,
+        ..plain
+    };
+    let format_1 = Taking {
+        has_format_1: true,
+        ..plain
+    };
+    let all = Taking {
+        wants_all: true,
+        ..plain
+    };
+    for (line, taking) in [
+        ("import a", Some((1, 1, plain))),
+        ("import --any-target a b", Some((1, 2, any_target))),
+        ("import --format-1 a b", Some((1, 2, format_1))),
+        ("import --all a b", Some((1, 2, all))),
         (
-            "--any-target",
-            Taking {
-                takes_any_target: true,
-                ..plain
-            },
+            "import --set-version 18446744073709551615 a",
+            Some((18_446_744_073_709_551_615, 1, plain)),
         ),
-        (
-            "--format-1",
-            Taking {
-                has_format_1: true,
-                ..plain
-            },
-        ),
-        (
-            "--all",
-            Taking {
-                wants_all: true,
-                ..plain
-            },
-        ),
-    ];
-    for (word, taking) in rows {
-        let words = ["avscan", "import", word, "a", "b"];
-        assert!(&rt;
-            taking_of(alloc, words.as_slice()) == Some((1, 2, taking)),
-            "{word}"
-        );
+        ("import --set-version 0 a", None),
+        ("import", None),
+    ] {
+        assert!(&rt; taking_of(rt.alloc(), line) == taking, "{line}");
     }
-    let most = [
-        "avscan",
-        "import",
-        "--set-version",
-        "18446744073709551615",
-        "a",
-    ];
-    let version = 18_446_744_073_709_551_615;
-    assert!(&rt; taking_of(alloc, most.as_slice()) == Some((version, 1, plain)));
-    let zero = ["avscan", "import", "--set-version", "0", "a"];
-    assert!(&rt; taking_of(alloc, zero.as_slice()).is_none());
-    let no_file = ["avscan", "import"];
-    assert!(&rt; taking_of(alloc, no_file.as_slice()).is_none());
     Ok(())
 }

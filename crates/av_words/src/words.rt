@@ -1,4 +1,12 @@
+ghost use Rattle.std.specs.Prelude.{◌≡◌, ◌≤◌, length, IfErr, IfNone, IfOk, IfSome, MatchResult};
+ghost use Rattle.av_status.specs.declared.status.Status.TheVariants.{Usage};
+ghost use Rattle.av_words.specs.Words.{AsksForSockets, HasSockets, IsOfWords, IsSocketPath, IsStandardInput};
+
 use crate::commands::avscan_command;
+use crate::request::{
+    Ask, Chart, Filter, Finding, Generate, Guard, Host, Import, List, Named, Request, Scan, Script,
+    Service, Taking,
+};
 use av_base::device::write_text;
 use av_base::line::LF;
 use av_status::faults::{bad_socket, device_failed, out_of_memory};
@@ -11,123 +19,6 @@ use std::convert::AsStr;
 use std::env::{Env, FillError};
 use std::io::Write;
 
-/// A list of further files: its own name, `-` for standard input, and the byte that ends each name in it.
-#[derive(Clone, Copy, Debug, PartialEq, Eq)]
-pub struct List<'a> {
-    pub path: &'a str,
-    pub end: u8,
-}
-
-/// What is scanned of the files that were named.
-#[derive(Clone, Copy, Debug, PartialEq, Eq)]
-pub struct Finding {
-    /// A folder stands for the regular files in it and below it.
-    pub is_recursive: bool,
-    /// A file that can't be scanned is told and passed over, as it always is where folders stand for files.
-    pub keeps_going: bool,
-    /// The most bytes of a file, from 1 to 2^63 - 1.
-    pub max_size: u64,
-}
-
-/// What the words of the command line ask for.
-#[derive(Debug, Drop)]
-pub enum Request<'a> {
-    /// Run the script in this file, or on standard input for `-`.
-    Run {
-        script: &'a str,
-        form: Form,
-    },
-    /// Scan these files under the signature file `set`.
-    Scan {
-        set: &'a str,
-        files: Vec<&'a str>,
-        list: Option<List<'a>>,
-        finding: Finding,
-        wishes: Wishes,
-        quiet: bool,
-    },
-    /// Open these files through a filter and a service in this process, each with 1 to 16 threads.
-    Host {
-        set: &'a str,
-        files: Vec<&'a str>,
-        list: Option<List<'a>>,
-        wishes: Wishes,
-        openers: usize,
-        workers: usize,
-        quiet: bool,
-    },
-    /// Open these files through a filter that one service may join at this socket, which has these rights, within `wait`
-    /// seconds.
-    Filter {
-        socket: &'a str,
-        files: Vec<&'a str>,
-        list: Option<List<'a>>,
-        wishes: Wishes,
-        wait: u64,
-        mode: u32,
-        quiet: bool,
-    },
-    /// Scan under the signature file `set` for the filter at this socket, which may take `wait` seconds to be there. With
-    /// `watch` newer sets are taken from that file, which is looked at every so many seconds.
-    Service {
-        socket: &'a str,
-        set: &'a str,
-        wait: u64,
-        watch: Option<u64>,
-    },
-    /// Answer opens that are asked about at a socket, by what the service at another one says, until the program is ended.
-    Guard {
-        opens: &'a str,
-        service: &'a str,
-        clamd: Option<&'a str>,
-        names: Option<&'a str>,
-        is_open: bool,
-        wait: u64,
-        keep: u64,
-        questions: u64,
-        mode: u32,
-    },
-    /// Ask the guard at this socket about these files. It may take `wait` seconds to be there, and each answer so long.
-    Ask {
-        opens: &'a str,
-        files: Vec<&'a str>,
-        list: Option<List<'a>>,
-        finding: Finding,
-        wishes: Wishes,
-        wait: u64,
-        quiet: bool,
-    },
-    /// Draw the run of the script in this file, or on standard input for `-`: of its lines `from` to `to`, counted from 1.
-    Chart {
-        script: &'a str,
-        from: u64,
-        to: u64,
-    },
-    /// Print a random script of 1 to 100,000 commands.
-    Generate {
-        seed: u64,
-        commands: u64,
-        is_uniform: bool,
-    },
-    /// Write a signature file of this version with the signatures of these files.
-    Import {
-        files: Vec<&'a str>,
-        version: u64,
-        taking: Taking,
-    },
-}
-
-/// Which signatures of other products are taken.
-#[derive(Clone, Copy, Debug, PartialEq, Eq)]
-pub struct Taking {
-    /// Those for files of one kind stand for all files.
-    pub takes_any_target: bool,
-    /// Those that are bound to a place are left out.
-    pub has_format_1: bool,
-    /// Nothing is written where anything was left out.
-    pub wants_all: bool,
-}
-
 /// Reads the words of the command line, the program's name first. No other word asks for a script on standard input. A
 /// help text goes to `out` and a usage fault to `err`; the status is then that of the program.
 pub fn read_words<'a, S: AsStr, W: Write, E: Write>(
@@ -135,7 +26,11 @@ pub fn read_words<'a, S: AsStr, W: Write, E: Write>(
     words: &'a [S],
     out: &mut W,
     err: &mut E,
-) -> Result<Request<'a>, Status> {
+) -> Result<Request<'a>, Status>
+    ensures none { length words.now ≤ 1 → MatchResult result IsStandardInput (λ status. ⊥) }
+    ensures sockets { IfOk result AsksForSockets }
+    ensures status { IfErr result IsOfWords }
+{
     if words.len() <= 1 {
         return Ok(from_standard_input());
     }
@@ -149,7 +44,9 @@ pub fn read_words<'a, S: AsStr, W: Write, E: Write>(
 const MAX_WORD: usize = 131_072;
 
 /// The first word of the command line that is not UTF-8, counted from 1 behind the program's name.
-pub fn first_bad_word<R: Env>(rt: &R, alloc: Global) -> Result<Option<u64>, AllocError> {
+pub fn first_bad_word<R: Env>(rt: &R, alloc: Global) -> Result<Option<u64>, AllocError>
+    ensures counted { IfOk result (λ found. IfSome found (λ number. 1 ≤ number)) }
+{
     let mut word = vec![in alloc; 0u8; MAX_WORD]?;
     for i in 1..usize::MAX {
         match rt.arg(i, &mut word) {
@@ -168,78 +65,129 @@ pub fn first_bad_word<R: Env>(rt: &R, alloc: Global) -> Result<Option<u64>, Allo
 // What the words ask for.
 fn requested<'a, S: AsStr>(alloc: Global, words: &'a [S]) -> Result<Request<'a>, Error> {
     let matches = avscan_command(alloc)?.try_get_matches_from(words)?;
+    Ok(request_of(alloc, &matches)?)
+}
+
+// What is asked for by words that were understood.
+fn request_of<'a>(alloc: Global, matches: &ArgMatches<'a>) -> Result<Request<'a>, AllocError> {
     match matches.subcommand() {
-        Some(("scan", scan)) => Ok(Request::Scan {
-            set: text_of(scan, "set"),
-            files: files_of(alloc, scan)?,
-            list: list_of(scan),
-            finding: finding_of(scan, number_of(scan, "max-size")),
-            wishes: wishes_of(scan),
-            quiet: scan.get_flag("quiet"),
-        }),
-        Some(("host", host)) => Ok(Request::Host {
-            set: text_of(host, "set"),
-            files: files_of(alloc, host)?,
-            list: list_of(host),
-            wishes: wishes_of(host),
-            openers: count_of(host, "openers"),
-            workers: count_of(host, "workers"),
-            quiet: host.get_flag("quiet"),
-        }),
-        Some(("filter", filter)) => Ok(Request::Filter {
-            socket: text_of(filter, "socket"),
-            files: files_of(alloc, filter)?,
-            list: list_of(filter),
-            wishes: wishes_of(filter),
-            wait: number_of(filter, "wait"),
-            mode: mode_of(filter),
-            quiet: filter.get_flag("quiet"),
-        }),
-        Some(("service", service)) => Ok(Request::Service {
-            socket: text_of(service, "socket"),
-            set: text_of(service, "set"),
-            wait: number_of(service, "wait"),
-            watch: service.get_one::<u64>("watch"),
-        }),
+        Some(("scan", scan)) => scan_of(alloc, scan),
+        Some(("host", host)) => host_of(alloc, host),
+        Some(("filter", filter)) => filter_of(alloc, filter),
+        Some(("service", service)) => Ok(service_of(service)),
         Some(("guard", guard)) => Ok(guard_of(guard)),
-        Some(("ask", ask)) => Ok(Request::Ask {
-            opens: text_of(ask, "opens"),
-            files: files_of(alloc, ask)?,
-            list: list_of(ask),
-            finding: finding_of(ask, MAX_ASKED),
-            wishes: wishes_of(ask),
-            wait: number_of(ask, "wait"),
-            quiet: ask.get_flag("quiet"),
-        }),
-        Some(("chart", chart)) => Ok(Request::Chart {
-            script: text_of(chart, "script"),
-            from: number_of(chart, "from"),
-            to: number_of(chart, "to"),
-        }),
-        Some(("generate", generate)) => Ok(Request::Generate {
-            seed: number_of(generate, "seed"),
-            commands: number_of(generate, "commands"),
-            is_uniform: generate.get_str("profile") == Some("uniform"),
-        }),
-        Some(("import", import)) => Ok(Request::Import {
-            files: files_of(alloc, import)?,
-            version: number_of(import, "set-version"),
-            taking: taking_of(import),
-        }),
-        Some((_, run)) => Ok(Request::Run {
-            script: text_of(run, "script"),
+        Some(("ask", ask)) => ask_of(alloc, ask),
+        Some(("chart", chart)) => Ok(chart_of(chart)),
+        Some(("generate", generate)) => Ok(generate_of(generate)),
+        Some(("import", import)) => import_of(alloc, import),
+        Some((_, run)) => Ok(Request::Run(Script {
+            path: text_of(run, "script"),
             form: form_of(run),
-        }),
+        })),
         None => Ok(from_standard_input()),
     }
 }
 
 // What is asked for where no word says it.
-fn from_standard_input<'a>() -> Request<'a> {
-    Request::Run {
-        script: "-",
+fn from_standard_input<'a>() -> Request<'a>
+    ensures { IsStandardInput result }
+{
+    Request::Run(Script {
+        path: "-",
         form: Form::Lines,
-    }
+    })
+}
+
+fn scan_of<'a>(alloc: Global, matches: &ArgMatches<'a>) -> Result<Request<'a>, AllocError> {
+    Ok(Request::Scan(Scan {
+        set: text_of(matches, "set"),
+        named: named_of(alloc, matches)?,
+        finding: finding_of(matches, number_of(matches, "max-size")),
+    }))
+}
+
+fn host_of<'a>(alloc: Global, matches: &ArgMatches<'a>) -> Result<Request<'a>, AllocError> {
+    Ok(Request::Host(Host {
+        set: text_of(matches, "set"),
+        named: named_of(alloc, matches)?,
+        openers: count_of(matches, "openers"),
+        workers: count_of(matches, "workers"),
+    }))
+}
+
+fn filter_of<'a>(alloc: Global, matches: &ArgMatches<'a>) -> Result<Request<'a>, AllocError> {
+    Ok(Request::Filter(Filter {
+        socket: text_of(matches, "socket"),
+        named: named_of(alloc, matches)?,
+        wait: number_of(matches, "wait"),
+        mode: mode_of(matches),
+    }))
+}
+
+fn service_of<'a>(matches: &ArgMatches<'a>) -> Request<'a> {
+    Request::Service(Service {
+        socket: text_of(matches, "socket"),
+        set: text_of(matches, "set"),
+        wait: number_of(matches, "wait"),
+        watch: matches.get_one::<u64>("watch"),
+    })
+}
+
+fn guard_of<'a>(matches: &ArgMatches<'a>) -> Request<'a> {
+    Request::Guard(Guard {
+        opens: text_of(matches, "opens"),
+        service: text_of(matches, "service"),
+        clamd: matches.get_str("clamd"),
+        names: matches.get_str("names"),
+        is_open: matches.get_flag("open"),
+        wait: number_of(matches, "wait"),
+        keep: number_of(matches, "keep"),
+        questions: number_of(matches, "questions"),
+        mode: mode_of(matches),
+    })
+}
+
+fn ask_of<'a>(alloc: Global, matches: &ArgMatches<'a>) -> Result<Request<'a>, AllocError> {
+    Ok(Request::Ask(Ask {
+        opens: text_of(matches, "opens"),
+        named: named_of(alloc, matches)?,
+        finding: finding_of(matches, MAX_ASKED),
+        wait: number_of(matches, "wait"),
+    }))
+}
+
+fn chart_of<'a>(matches: &ArgMatches<'a>) -> Request<'a> {
+    Request::Chart(Chart {
+        script: text_of(matches, "script"),
+        from: number_of(matches, "from"),
+        to: number_of(matches, "to"),
+    })
+}
+
+fn generate_of<'a>(matches: &ArgMatches<'a>) -> Request<'a> {
+    Request::Generate(Generate {
+        seed: number_of(matches, "seed"),
+        commands: number_of(matches, "commands"),
+        is_uniform: matches.get_str("profile") == Some("uniform"),
+    })
+}
+
+fn import_of<'a>(alloc: Global, matches: &ArgMatches<'a>) -> Result<Request<'a>, AllocError> {
+    Ok(Request::Import(Import {
+        files: files_of(alloc, matches)?,
+        version: number_of(matches, "set-version"),
+        taking: taking_of(matches),
+    }))
+}
+
+// The files that were named, and what is told of them.
+fn named_of<'a>(alloc: Global, matches: &ArgMatches<'a>) -> Result<Named<'a>, AllocError> {
+    Ok(Named {
+        files: files_of(alloc, matches)?,
+        list: list_of(matches),
+        wishes: wishes_of(matches),
+        is_quiet: matches.get_flag("quiet"),
+    })
 }
 
 fn form_of(matches: &ArgMatches<'_>) -> Form {
@@ -262,20 +210,6 @@ fn count_of(matches: &ArgMatches<'_>, name: &str) -> usize {
 
 fn number_of(matches: &ArgMatches<'_>, name: &str) -> u64 {
     matches.get_one::<u64>(name).unwrap_or(1)
-}
-
-fn guard_of<'a>(matches: &ArgMatches<'a>) -> Request<'a> {
-    Request::Guard {
-        opens: text_of(matches, "opens"),
-        service: text_of(matches, "service"),
-        clamd: matches.get_str("clamd"),
-        names: matches.get_str("names"),
-        is_open: matches.get_flag("open"),
-        wait: number_of(matches, "wait"),
-        keep: number_of(matches, "keep"),
-        questions: number_of(matches, "questions"),
-        mode: mode_of(matches),
-    }
 }
 
 fn taking_of(matches: &ArgMatches<'_>) -> Taking {
@@ -340,35 +274,58 @@ fn wishes_of(matches: &ArgMatches<'_>) -> Wishes {
 const MAX_SOCKET: usize = 107;
 
 // The request, where the paths of its sockets can be ones.
-fn with_socket<'a, E: Write>(request: Request<'a>, err: &mut E) -> Result<Request<'a>, Status> {
-    'sockets: for socket in sockets_of(&request) {
-        if let Some(socket) = socket {
-            if socket.is_empty() || socket.len() > MAX_SOCKET {
-                return Err(bad_socket(err, socket));
-            }
-        }
+fn with_socket<'a, E: Write>(request: Request<'a>, err: &mut E) -> Result<Request<'a>, Status>
+    ensures sockets { IfOk result AsksForSockets }
+    ensures fault { IfErr result (λ status. status ≡ Usage) }
+{
+    match first_bad_socket(&request) {
+        Some(socket) => Err(bad_socket(err, socket)),
+        None => Ok(request),
     }
-    Ok(request)
 }
 
-fn sockets_of<'a>(request: &Request<'a>) -> [Option<&'a str>; 3] {
+fn first_bad_socket<'a>(request: &Request<'a>) -> Option<&'a str>
+    ensures { IfNone result (AsksForSockets request.now) }
+{
     match request {
-        Request::Filter { socket, .. } | Request::Service { socket, .. } => {
-            [Some(*socket), None, None]
-        }
-        Request::Guard {
-            opens,
-            service,
-            clamd,
-            ..
-        } => [Some(*opens), Some(*service), *clamd],
-        Request::Ask { opens, .. } => [Some(*opens), None, None],
-        _ => [None, None, None],
+        Request::Filter(filter) => bad_socket_of(filter.socket),
+        Request::Service(service) => bad_socket_of(service.socket),
+        Request::Guard(guard) => first_bad_of(*guard),
+        Request::Ask(ask) => bad_socket_of(ask.opens),
+        _ => None,
+    }
+}
+
+fn first_bad_of<'a>(guard: Guard<'a>) -> Option<&'a str>
+    ensures { IfNone result (HasSockets guard.entry) }
+{
+    if let Some(opens) = bad_socket_of(guard.opens) {
+        return Some(opens);
+    }
+    if let Some(service) = bad_socket_of(guard.service) {
+        return Some(service);
+    }
+    match guard.clamd {
+        Some(clamd) => bad_socket_of(clamd),
+        None => None,
+    }
+}
+
+// A path, where it can be none of a socket.
+fn bad_socket_of<'a>(path: &'a str) -> Option<&'a str>
+    ensures { IfNone result (IsSocketPath path.now) }
+{
+    if path.is_empty() || path.len() > MAX_SOCKET {
+        Some(path)
+    } else {
+        None
     }
 }
 
 // Writes the help or the fault, and gives the status.
-fn told<W: Write, E: Write>(alloc: Global, error: &Error, out: &mut W, err: &mut E) -> Status {
+fn told<W: Write, E: Write>(alloc: Global, error: &Error, out: &mut W, err: &mut E) -> Status
+    ensures { IsOfWords result }
+{
     if error.kind() == ErrorKind::OutOfMemory {
         return out_of_memory(err);
     }

@@ -4,6 +4,7 @@ use Rattle.std.specs.List.{AllByRecursion as Each}
 use Rattle.std.proofs.lemmas.List.Elements.{All-from_recursion}
 use Rattle.av_base.specs.declared.limits.LimitValues.{LimitValues}
 use Rattle.av_base.specs.declared.mode.Mode.{Mode}
+use Rattle.av_base.specs.declared.port.Port.{Port}
 use Rattle.av_filter.specs.Audit.{IsFilterAudit, filter_end, sent_down}
 use Rattle.av_filter.specs.Conduct.{FilterEvent, Opens, Changes, CleansUp, TimesOut, filter_refusal, filter_step}
 use Rattle.av_filter.specs.Conduct as filter_events
@@ -88,22 +89,22 @@ ends mode (OfService x ∷ es) c l f s w d =
     let rest : Ends mode next es = ends mode es next after f s.2 w.1 d.1 in
     record { lawful = rest.lawful; answers = rest.answers }
 
-module _ (mode : Mode) (limits : LimitValues) (number : ℕ) (service_limits : LimitValues) (fs : List File) (v : Store) (sets : List Publication) (es : List SideEntry) (legal : AreLegal mode limits number service_limits fs v sets es) where
+module _ (mode : Mode) (limits : LimitValues) (number : ℕ) (port : Port) (service_limits : LimitValues) (fs : List File) (v : Store) (sets : List Publication) (es : List SideEntry) (legal : AreLegal mode limits number port service_limits fs v sets es) where
   abbrev first : Scene
-  first = opening fs v mode limits number service_limits sets
+  first = opening fs v mode limits number port service_limits sets
 
   at_end : Ends mode first es
-  at_end = ends mode es first (lawful_opening fs v mode limits number service_limits sets legal.volume legal.catalogue) legal.filter legal.service legal.works legal.delivered
+  at_end = ends mode es first (lawful_opening fs v mode limits number port service_limits sets legal.volume legal.catalogue) legal.filter legal.service legal.works legal.delivered
 
-  pub one_verdict : AuditsHoldOneVerdict fs (mounted mode limits v.boot) v sets (just_started number service_limits (latest_as sets)) es
+  pub one_verdict : AuditsHoldOneVerdict fs (mounted mode limits v.boot) v sets (just_started number port service_limits (latest_as sets)) es
   one_verdict =
       let c : Scene = end_scene first es in
       held_right c.past c.volume c.table c.desk c.down c.up c.works at_end.lawful.filter at_end.lawful.keeps at_end.lawful.desk at_end.lawful.up
 
-  pub judged_bytes : AuditsJudgeRightly fs sets (just_started number service_limits (latest_as sets)) es
+  pub judged_bytes : AuditsJudgeRightly fs sets (just_started number port service_limits (latest_as sets)) es
   judged_bytes =
       let c : Scene = end_scene first es in
-      All-from_recursion (JudgesItsContent c.past c.down c.works c.desk.last_lease c.desk.version) c.desk.jobs at_end.lawful.desk.jobs
+      All-from_recursion (JudgesItsContent c.past c.down c.desk.port c.works c.desk.last_lease c.desk.version) c.desk.jobs at_end.lawful.desk.jobs
 
   pub only_clean : AuditsGrantOnlyClean mode fs sets es
   only_clean = All-from_recursion (λ (a : Answered). IsJustified mode a.past a.answer) _ at_end.answers

@@ -6,8 +6,9 @@ use Rattle.av_base.specs.Part.{spelt}
 use Rattle.av_base.specs.declared.verdict.Verdict.TheVariants.{Clean, Infected}
 use Rattle.av_filter.specs.declared.note.Note.{Note as FilterNote}
 use Rattle.av_filter.specs.declared.note.Note.TheVariants as filter
-use Rattle.av_frame.specs.declared.message.Body.{Body}
+use Rattle.av_frame.specs.Message.{Letter}
 use Rattle.av_frame.specs.declared.message.Body.TheVariants.{Scan, Chunk, NoChunk, Abort, Hello, Read, Reply, Updated}
+use Rattle.av_frame.specs.declared.message.Body.{Body}
 use Rattle.av_frame.specs.declared.outcome.Outcome.TheVariants.{Judged, Failed}
 use Rattle.av_json.specs.Member.{number_tokens, object_tokens, text_tokens}
 use Rattle.av_pend.specs.declared.answer.Answer.{Answer}
@@ -25,11 +26,11 @@ use Rattle.av_world.specs.declared.report.Report.{Report}
 use Rattle.av_world.specs.Objects.{opens_tokens, report_tokens, sent_tokens}
 use Rattle.av_world.specs.Objects.Answers.{answer_tokens, answers_tokens, given_tokens, pended_tokens, submitted_tokens}
 use Rattle.av_world.specs.Objects.Lines.{is, line_tokens, note_tokens, noted_tokens, verdict_members}
-use Rattle.av_world.specs.Objects.Messages.{message_tokens, work_tokens}
+use Rattle.av_world.specs.Objects.Messages.{body_tokens, message_tokens, work_tokens}
 use Rattle.av_world.specs.Text.{opens_text, report_text, sent_text}
 use Rattle.av_world.specs.Text.Answers.{answer_text, answers_text, given_text, is_answered, pended_text, submitted_text}
 use Rattle.av_world.specs.Text.Lines.{line_text, verdict_parts}
-use Rattle.av_world.specs.Text.Messages.{message_text, placed, work_text}
+use Rattle.av_world.specs.Text.Messages.{body_text, message_text, placed, work_text}
 use Rattle.av_world.specs.Text.Notes.{note_text, note_word, noted}
 
 -- these objects lead back to this text, whatever stands behind them
@@ -91,28 +92,31 @@ pub tells_pended : (note : Note) (answers : List Given) → Tells (pended_tokens
 tells_pended (Filter note) answers = tells_submitted note answers
 tells_pended (Service note) answers = tells_nothing
 
-pub tells_message : (way : Way) (place : ℕ) (message : Body) → Tells (message_tokens way place message) (message_text way place message)
+tells_body : (way : Way) (place : ℕ) (body : Body) → Tells (body_tokens way place body) (body_text way place body)
 unfolding object_tokens text_tokens number_tokens
-tells_message Down place (Scan id stream generation size) ts = refl
-tells_message Down place (Chunk id offset bytes) ts = refl
-tells_message Down place (NoChunk id offset cause) ts = refl
-tells_message Down place (Abort id) ts = refl
-tells_message Down place (Hello volume version) ts = refl
-tells_message Down place (Read id offset count) ts = refl
-tells_message Down place (Reply id (Judged version Clean)) ts = refl
-tells_message Down place (Reply id (Judged version (Infected index end_at))) ts = refl
-tells_message Down place (Reply id (Failed cause)) ts = refl
-tells_message Down place (Updated version) ts = refl
-tells_message Up place (Scan id stream generation size) ts = refl
-tells_message Up place (Chunk id offset bytes) ts = refl
-tells_message Up place (NoChunk id offset cause) ts = refl
-tells_message Up place (Abort id) ts = refl
-tells_message Up place (Hello volume version) ts = refl
-tells_message Up place (Read id offset count) ts = refl
-tells_message Up place (Reply id (Judged version Clean)) ts = refl
-tells_message Up place (Reply id (Judged version (Infected index end_at))) ts = refl
-tells_message Up place (Reply id (Failed cause)) ts = refl
-tells_message Up place (Updated version) ts = refl
+tells_body Down place (Scan id stream generation size) ts = refl
+tells_body Down place (Chunk id offset bytes) ts = refl
+tells_body Down place (NoChunk id offset cause) ts = refl
+tells_body Down place (Abort id) ts = refl
+tells_body Down place (Hello volume version) ts = refl
+tells_body Down place (Read id offset count) ts = refl
+tells_body Down place (Reply id (Judged version Clean)) ts = refl
+tells_body Down place (Reply id (Judged version (Infected index end_at))) ts = refl
+tells_body Down place (Reply id (Failed cause)) ts = refl
+tells_body Down place (Updated version) ts = refl
+tells_body Up place (Scan id stream generation size) ts = refl
+tells_body Up place (Chunk id offset bytes) ts = refl
+tells_body Up place (NoChunk id offset cause) ts = refl
+tells_body Up place (Abort id) ts = refl
+tells_body Up place (Hello volume version) ts = refl
+tells_body Up place (Read id offset count) ts = refl
+tells_body Up place (Reply id (Judged version Clean)) ts = refl
+tells_body Up place (Reply id (Judged version (Infected index end_at))) ts = refl
+tells_body Up place (Reply id (Failed cause)) ts = refl
+tells_body Up place (Updated version) ts = refl
+
+pub tells_message : (way : Way) (place : ℕ) (message : Letter) → Tells (message_tokens way place message) (message_text way place message)
+tells_message way place m = tells_body way place m.body
 
 pub tells_work : (place : ℕ) (work : Option WorkState) → Tells (work_tokens place work) (work_text place work)
 unfolding object_tokens text_tokens number_tokens
@@ -132,7 +136,7 @@ tells_opens r answers =
     let given = between r.before.answers r.after.answers answers in
     tells_both (answers_tokens given) (pended_tokens r.note given) (answers_text given) (pended_text r.note given) (tells_answers given) (tells_pended r.note given)
 
-pub tells_sent : (r : Report) (down up : List Body) (works : List (Option WorkState)) → Tells (sent_tokens r down up works) (sent_text r down up works)
+pub tells_sent : (r : Report) (down up : List Letter) (works : List (Option WorkState)) → Tells (sent_tokens r down up works) (sent_text r down up works)
 tells_sent r down up works =
     let d = between r.before.down r.after.down down in
     let u = between r.before.up r.after.up up in

@@ -4,13 +4,18 @@ use Rattle.std.specs.List.{AllByRecursion as Each}
 use Rattle.std.proofs.lemmas.List.{take-append-drop, drop_at, nil_from_length}
 use Rattle.std.proofs.lemmas.Bool.{and_parts, true≢false, cond_both, eqb-false, not-false, lt-leb}
 use Rattle.av_base.specs.MessageId.{same_id}
+use Rattle.av_base.specs.Port.{same_port}
+use Rattle.av_base.specs.declared.limits.LimitValues.{LimitValues}
 use Rattle.av_base.specs.declared.message_id.MessageId.{MessageId}
+use Rattle.av_base.specs.declared.port.Port.TheVariants.{One, Two}
+use Rattle.av_base.specs.declared.port.Port.{Port}
 use Rattle.av_base.specs.declared.verdict.Verdict.{Verdict}
 use Rattle.av_base.specs.declared.verdict.Verdict.TheVariants.{Clean, Infected}
 use Rattle.av_cache.specs.Cache.{has_key, look, in_front}
 use Rattle.av_cache.specs.declared.entry.Entry.{Entry}
-use Rattle.av_frame.specs.declared.message.Body.{Body}
+use Rattle.av_frame.specs.Message.{Letter, via}
 use Rattle.av_frame.specs.declared.message.Body.TheVariants.{Scan, Chunk, NoChunk, Abort}
+use Rattle.av_frame.specs.declared.message.Body.{Body}
 use Rattle.av_match.proofs.Verdicts.{hit_stays}
 use Rattle.av_match.proofs.RunLemmas.{scanner_meets as laws}
 use Rattle.av_match.proofs.ScanLemmas.{scan_fed}
@@ -32,9 +37,9 @@ use Rattle.av_sigset.specs.declared.signature.Pattern.{Pattern}
 use Rattle.av_store.specs.History.{content}
 use Rattle.av_filter.proofs.QuestionLemmas.{same_id-true}
 use Rattle.av_world.proofs.AskedLemmas.{asked_more}
-use Rattle.av_filter.proofs.EachLemmas.{each_weaker, each-append, each-filter, each-map, find_each, find_passes, each_mapped}
+use Rattle.av_filter.proofs.EachLemmas.{each_weaker, each-append, each-filter, each-map, find_each, find_passes}
 use Rattle.av_world.proofs.FilterLemmas.{look_right, front_right, put_right}
-use Rattle.av_world.proofs.FitLemmas.{Grown, DownFits, UpFits, ScanFits, ChunkFits, about, right_grows}
+use Rattle.av_world.proofs.FitLemmas.{Grown, BodyFits, DownFits, UpFits, ScanFits, ChunkFits, about, right_grows}
 use Rattle.av_world.specs.Held.{Asked, asked}
 use Rattle.av_world.specs.Past.{Past, IsVerdictOf, IsRightEntry}
 use Rattle.av_world.specs.Safety.{JudgesItsContent as JobFits, LoanFits, IsWorkOf, IsFront}
@@ -44,21 +49,21 @@ use Rattle.av_world.specs.World.{done, or_none, scan_after}
 abbrev pub IsSolid : Publication → Type 0
 IsSolid q = AreSolid q.patterns
 
-pub record DeskFits (p : Past) (down : List Body) (works : List WorkState) (d : Desk) : Type 0 where
-  pub jobs : Each (JobFits p down works d.last_lease d.version) d.jobs
+pub record DeskFits (p : Past) (down : List Letter) (works : List WorkState) (d : Desk) : Type 0 where
+  pub jobs : Each (JobFits p down d.port works d.last_lease d.version) d.jobs
   pub cache : Each (IsRightEntry p) d.cache
   pub published : (d.version ≡ 0 → ⊥) → (set : List Pattern) × (published_as p.sets d.version ≡ Some set)
   pub versioned : d.connected ≡ true → d.version ≡ 0 → ⊥
   pub idle : d.connected ≡ false → d.jobs ≡ []
   pub leases : Each (λ k. k.lease ≤ d.last_lease) works
 
-pub record Told (p : Past) (down : List Body) (works : List WorkState) (r : Response) : Type 0 where
+pub record Told (p : Past) (down : List Letter) (works : List WorkState) (r : Response) : Type 0 where
   pub fits : DeskFits p down (works ++ r.works) r.desk
   pub up : Each (UpFits p down) r.messages
 
 -- later
-pub job_grows : (p p' : Past) (down more : List Body) (works : List WorkState) (last version : ℕ) → Grown p p' → (j : Job) → JobFits p down works last version j → JobFits p' (down ++ more) works last version j
-job_grows p p' down more works last version up j h = record {
+pub job_grows : (p p' : Past) (down more : List Letter) (port : Port) (works : List WorkState) (last version : ℕ) → Grown p p' → (j : Job) → JobFits p down port works last version j → JobFits p' (down ++ more) port works last version j
+job_grows p p' down more port works last version up j h = record {
   told = asked_more down more j.id _ h.told;
   bytes = h.bytes;
   held = up.contents j.stream j.generation h.bytes h.held;
@@ -73,9 +78,9 @@ job_grows p p' down more works last version up j h = record {
   loan = h.loan;
 }
 
-pub desk_grows : (p p' : Past) (down more : List Body) (works : List WorkState) (d : Desk) → Grown p p' → DeskFits p down works d → DeskFits p' (down ++ more) works d
+pub desk_grows : (p p' : Past) (down more : List Letter) (works : List WorkState) (d : Desk) → Grown p p' → DeskFits p down works d → DeskFits p' (down ++ more) works d
 desk_grows p p' down more works d up f = record {
-  jobs = each_weaker (JobFits p down works d.last_lease d.version) (JobFits p' (down ++ more) works d.last_lease d.version) (job_grows p p' down more works d.last_lease d.version up) d.jobs f.jobs;
+  jobs = each_weaker (JobFits p down d.port works d.last_lease d.version) (JobFits p' (down ++ more) d.port works d.last_lease d.version) (job_grows p p' down more d.port works d.last_lease d.version up) d.jobs f.jobs;
   cache = each_weaker (IsRightEntry p) (IsRightEntry p') (λ e h. right_grows p p' e.stream e.generation e.version e.verdict up h) d.cache f.cache;
   published = λ some. let s = f.published some in (s.0, up.sets d.version s.0 s.1);
   versioned = f.versioned;
@@ -102,9 +107,9 @@ set_solid (q ∷ qs) v set all h =
     go (q.version == v) h
 
 -- a job that has judged nothing yet, and lent nothing
-pub begun : (p : Past) (down : List Body) (works : List WorkState) (last version : ℕ) → Each IsSolid p.sets → (j : Job) → asked down j.id ≡ Some (about j.stream j.generation j.length)
-    → (bytes : List ℕ) → content p.streams j.stream j.generation ≡ Some bytes → length bytes ≡ j.length → (set : List Pattern) → published_as p.sets version ≡ Some set → j.offset ≡ 0 → j.scan ≡ begin version j.length → j.loan ≡ None → JobFits p down works last version j
-begun p down works last version solid j told bytes held size set published at scan free = record {
+pub begun : (p : Past) (down : List Letter) (port : Port) (works : List WorkState) (last version : ℕ) → Each IsSolid p.sets → (j : Job) → asked down j.id ≡ Some (about port j.stream j.generation j.length)
+    → (bytes : List ℕ) → content p.streams j.stream j.generation ≡ Some bytes → length bytes ≡ j.length → (set : List Pattern) → published_as p.sets version ≡ Some set → j.offset ≡ 0 → j.scan ≡ begin version j.length → j.loan ≡ None → JobFits p down port works last version j
+begun p down port works last version solid j told bytes held size set published at scan free = record {
   told = told;
   bytes = bytes;
   held = held;
@@ -119,9 +124,9 @@ begun p down works last version solid j told bytes held size set published at sc
   loan = subst (LoanFits works last version j.scan bytes) (sym free) tt;
 }
 
-module _ (p : Past) (down : List Body) (works : List WorkState) (d : Desk) (f : DeskFits p down works d) (solid : Each IsSolid p.sets) where
+module _ (p : Past) (down : List Letter) (works : List WorkState) (d : Desk) (f : DeskFits p down works d) (solid : Each IsSolid p.sets) where
   abbrev Fit : Job → Type 0
-  Fit j = JobFits p down works d.last_lease d.version j
+  Fit j = JobFits p down d.port works d.last_lease d.version j
 
   -- nothing changes
   same : DeskFits p down (works ++ []) d
@@ -135,8 +140,8 @@ module _ (p : Past) (down : List Body) (works : List WorkState) (d : Desk) (f : 
   present_set on = f.published (f.versioned on)
 
   -- a job that has judged nothing yet
-  begins : (j : Job) → asked down j.id ≡ Some (about j.stream j.generation j.length) → (bytes : List ℕ) → content p.streams j.stream j.generation ≡ Some bytes → length bytes ≡ j.length → (set : List Pattern) × (published_as p.sets d.version ≡ Some set) → j.offset ≡ 0 → j.scan ≡ begin d.version j.length → j.loan ≡ None → Fit j
-  begins j told bytes held size set at scan free = begun p down works d.last_lease d.version solid j told bytes held size set.0 set.1 at scan free
+  begins : (j : Job) → asked down j.id ≡ Some (about d.port j.stream j.generation j.length) → (bytes : List ℕ) → content p.streams j.stream j.generation ≡ Some bytes → length bytes ≡ j.length → (set : List Pattern) × (published_as p.sets d.version ≡ Some set) → j.offset ≡ 0 → j.scan ≡ begin d.version j.length → j.loan ≡ None → Fit j
+  begins j told bytes held size set at scan free = begun p down d.port works d.last_lease d.version solid j told bytes held size set.0 set.1 at scan free
 
   -- some jobs go, and the cache changes
   fewer : (test : Job → Bool) (cache : List Entry) → Each (IsRightEntry p) cache → DeskFits p down (works ++ []) (record d { jobs = filter test d.jobs; cache = cache })
@@ -153,11 +158,11 @@ module _ (p : Past) (down : List Body) (works : List WorkState) (d : Desk) (f : 
   cached cache h = subst (λ ws. DeskFits p down ws (record d { cache = cache })) (sym (append-nil works))
       record { jobs = f.jobs; cache = h; published = f.published; versioned = f.versioned; idle = f.idle; leases = f.leases }
 
-  scan_told : (id : MessageId) (s g l : ℕ) → d.connected ≡ true → ScanFits p down id s g l → (o : Option Entry) → look s g d.version d.cache ≡ o → Told p down works (scan_cached d (new_job d.version id s g l) o)
+  scan_told : (id : MessageId) (s g l : ℕ) → d.connected ≡ true → ScanFits p down d.port id s g l → (o : Option Entry) → look s g d.version d.cache ≡ o → Told p down works (scan_cached d (new_job d.version id s g l) o)
   unfolding scan_cached verdict verdict_to
   scan_told id s g l on h (Some e) at = record {
     fits = cached (in_front e d.cache) (front_right p e d.cache (find_each (IsRightEntry p) (has_key s g d.version) d.cache e f.cache at) f.cache);
-    up = (record { of = about s g l; told = h.told; right = look_right p s g d.version d.cache e f.cache at }, tt);
+    up = (record { of = about d.port s g l; told = h.told; right = look_right p s g d.version d.cache e f.cache at }, tt);
   }
   scan_told id s g l on h None at =
       cond_both (nat_le d.limits.jobs (length d.jobs)) _ _ (Told p down works) (λ e. record { fits = same; up = (tt, tt) })
@@ -169,7 +174,7 @@ module _ (p : Past) (down : List Body) (works : List WorkState) (d : Desk) (f : 
       let right : IsVerdictOf p s g d.version Clean = record { patterns = set.0; bytes = h.bytes; published = set.1; held = h.held; right = clean } in
       record {
         fits = cached _ (put_right p d.limits.cache _ d.cache right f.cache);
-        up = (record { of = about s g l; told = h.told; right = right }, tt);
+        up = (record { of = about d.port s g l; told = h.told; right = right }, tt);
       })
       (λ e. record {
         fits = subst (λ ws. DeskFits p down ws (record d { jobs = d.jobs ++ new_job d.version id s g l ∷ [] })) (sym (append-nil works)) record {
@@ -183,7 +188,7 @@ module _ (p : Past) (down : List Body) (works : List WorkState) (d : Desk) (f : 
         up = (tt, tt);
       }))
 
-  scan_found_told : (id : MessageId) (s g l : ℕ) → d.connected ≡ true → ScanFits p down id s g l → (o : Option (Job)) → Told p down works (scan_found d (new_job d.version id s g l) o)
+  scan_found_told : (id : MessageId) (s g l : ℕ) → d.connected ≡ true → ScanFits p down d.port id s g l → (o : Option (Job)) → Told p down works (scan_found d (new_job d.version id s g l) o)
   unfolding scan_found
   scan_found_told id s g l on h (Some k) = saying Repeat
   scan_found_told id s g l on h None = scan_told id s g l on h _ refl
@@ -196,8 +201,8 @@ module _ (p : Past) (down : List Body) (works : List WorkState) (d : Desk) (f : 
   -- what follows the judged bytes is lent
   next_front : (j : Job) (h : Fit j) (id : MessageId) (o : ℕ) (b : List ℕ) → ChunkFits p down id o b → j.id ≡ id → o ≡ j.offset → IsFront b h.rest
   next_front j h id o b c same at =
-      let told : Some c.of ≡ Some (about j.stream j.generation j.length) = sym c.told ∙ subst (λ i. asked down i ≡ Some (about j.stream j.generation j.length)) same h.told in
-      let about_it : c.of ≡ about j.stream j.generation j.length = cc (told) in
+      let told : Some c.of ≡ Some (about d.port j.stream j.generation j.length) = sym c.told ∙ subst (λ i. asked down i ≡ Some (about d.port j.stream j.generation j.length)) same h.told in
+      let about_it : c.of ≡ about d.port j.stream j.generation j.length = cc (told) in
       let bytes : Some c.bytes ≡ Some h.bytes = sym (subst (λ (a : Asked). content p.streams a.stream a.generation ≡ Some c.bytes) about_it c.held) ∙ h.held in
       let whole : c.bytes ≡ h.bytes = cc (bytes) in
       let place : length h.judged ≡ o = h.count ∙ sym at in
@@ -223,7 +228,7 @@ module _ (p : Past) (down : List Body) (works : List WorkState) (d : Desk) (f : 
       let work : WorkState = record { lease = d.last_lease + 1; id = j.id; version = d.version; scan = j.scan; chunk = b } in
       let mine : Each (IsWorkOf d.version j.scan fits.rest loan) (works ++ work ∷ []) =
       each-append (IsWorkOf d.version j.scan fits.rest loan) works (work ∷ []) (each_weaker (λ (k : WorkState). k.lease ≤ d.last_lease) (IsWorkOf d.version j.scan fits.rest loan) (λ k le e. absurd (omega arith)) works f.leases) ((λ e. (refl, refl, refl, front)), tt) in
-      let known : JobFits p down (works ++ work ∷ []) (d.last_lease + 1) d.version lent_job = record {
+      let known : JobFits p down d.port (works ++ work ∷ []) (d.last_lease + 1) d.version lent_job = record {
         told = fits.told;
         bytes = fits.bytes;
         held = fits.held;
@@ -239,7 +244,7 @@ module _ (p : Past) (down : List Body) (works : List WorkState) (d : Desk) (f : 
       } in
       record {
         fits = record {
-          jobs = replaced (JobFits p down (works ++ work ∷ []) (d.last_lease + 1) d.version) lent_job known d.jobs (each_weaker Fit (JobFits p down (works ++ work ∷ []) (d.last_lease + 1) d.version) (job_later work refl) d.jobs f.jobs);
+          jobs = replaced (JobFits p down d.port (works ++ work ∷ []) (d.last_lease + 1) d.version) lent_job known d.jobs (each_weaker Fit (JobFits p down d.port (works ++ work ∷ []) (d.last_lease + 1) d.version) (job_later work refl) d.jobs f.jobs);
           cache = f.cache;
           published = f.published;
           versioned = f.versioned;
@@ -257,7 +262,7 @@ module _ (p : Past) (down : List Body) (works : List WorkState) (d : Desk) (f : 
       loan_later work new scan rest None h = tt
       loan_later work new scan rest (Some l) h = (omega (arith, h.0), h.1, each-append (IsWorkOf d.version scan rest l) works (work ∷ []) h.2 ((λ e. absurd (omega (arith, h.0))), tt))
 
-      job_later : (work : WorkState) → work.lease ≡ d.last_lease + 1 → (j : Job) → Fit j → JobFits p down (works ++ work ∷ []) (d.last_lease + 1) d.version j
+      job_later : (work : WorkState) → work.lease ≡ d.last_lease + 1 → (j : Job) → Fit j → JobFits p down d.port (works ++ work ∷ []) (d.last_lease + 1) d.version j
       job_later work new j h = record {
         told = h.told;
         bytes = h.bytes;
@@ -273,7 +278,7 @@ module _ (p : Past) (down : List Body) (works : List WorkState) (d : Desk) (f : 
         loan = loan_later work new j.scan h.rest j.loan h.loan;
       }
 
-  receives_told : (m : Body) → d.connected ≡ true → DownFits p down m → Told p down works (receives d m)
+  receives_told : (m : Body) → d.connected ≡ true → BodyFits p down d.port m → Told p down works (receives d m)
   unfolding receives
   receives_told (Scan id s g l) on h = scan_found_told id s g l on h _
   receives_told (Chunk id o b) on h = chunk_told id o b on h _ refl
@@ -294,11 +299,11 @@ no_hit Clean e = refl
 no_hit (Infected i f) e = absurd (cc (e))
 
 -- a work comes back, with what its scan found
-module _ (p : Past) (down : List Body) (works : List WorkState) (d : Desk) (f : DeskFits p down works d) (solid : Each IsSolid p.sets) (w : WorkState) (among : (P : WorkState → Type 0) → Each P works → P w) where
+module _ (p : Past) (down : List Letter) (works : List WorkState) (d : Desk) (f : DeskFits p down works d) (solid : Each IsSolid p.sets) (w : WorkState) (among : (P : WorkState → Type 0) → Each P works → P w) where
   abbrev after : ScanState
   after = scan_after p.sets w
 
-  record Continues (j : Job) (fits : JobFits p down works d.last_lease d.version j) : Type 0 where
+  record Continues (j : Job) (fits : JobFits p down d.port works d.last_lease d.version j) : Type 0 where
     scan : w.scan ≡ j.scan
     version : w.version ≡ d.version
     count : length w.chunk ≡ loan_count j.loan
@@ -317,8 +322,8 @@ module _ (p : Past) (down : List Body) (works : List WorkState) (d : Desk) (f : 
       go false e = let none : lent_under w.lease d.jobs ≡ None = ap (lent_under w.lease) (f.idle e) in absurd (cc (none, at))
 
   module _ (j : Job) (at : lent_under w.lease d.jobs ≡ Some j) where
-    job : JobFits p down works d.last_lease d.version j
-    job = find_each (JobFits p down works d.last_lease d.version) (λ (j : Job). has_lease w.lease j.loan) d.jobs j f.jobs at
+    job : JobFits p down d.port works d.last_lease d.version j
+    job = find_each (JobFits p down d.port works d.last_lease d.version) (λ (j : Job). has_lease w.lease j.loan) d.jobs j f.jobs at
 
     loan : (w.scan ≡ j.scan) × (w.version ≡ d.version) × (length w.chunk ≡ loan_count j.loan) × IsFront w.chunk job.rest
     loan = loan_is j.scan job.rest j.loan (find_passes (λ (j : Job). has_lease w.lease j.loan) d.jobs j at) job.loan
@@ -354,7 +359,7 @@ module _ (p : Past) (down : List Body) (works : List WorkState) (d : Desk) (f : 
         let right : IsVerdictOf p j.stream j.generation d.version r = record { patterns = job.patterns; bytes = job.bytes; published = job.published; held = job.held; right = h } in
         record {
           fits = fewer p down works d f solid (λ (k : Job). not (same_id k.id j.id)) _ (put_right p d.limits.cache _ d.cache right f.cache);
-          up = (record { of = about j.stream j.generation j.length; told = job.told; right = right }, tt);
+          up = (record { of = about d.port j.stream j.generation j.length; told = job.told; right = right }, tt);
         }
 
     whole : j.offset + loan_count j.loan ≡ j.length → now_judged ≡ job.bytes
@@ -362,7 +367,7 @@ module _ (p : Past) (down : List Body) (works : List WorkState) (d : Desk) (f : 
         let none : loan.3.0 ≡ [] = nil_from_length loan.3.0 (omega (arith, ap length now_front, length-append now_judged loan.3.0, job.size, now_count)) in
         sym (append-nil now_judged) ∙ (ap (λ ys. now_judged ++ ys) (sym none) ∙ now_front)
 
-    further : JobFits p down works d.last_lease d.version (advanced after j)
+    further : JobFits p down d.port works d.last_lease d.version (advanced after j)
     further = record {
       told = job.told;
       bytes = job.bytes;
@@ -385,7 +390,7 @@ module _ (p : Past) (down : List Body) (works : List WorkState) (d : Desk) (f : 
         cond_both (j.offset + loan_count j.loan == j.length) _ _ (Told p down works) (λ e. closed Clean (no_hit (verdict job.patterns now_judged) (is ∙ found_is) ∙ ap (verdict job.patterns) (whole (eqb-true _ j.length e))))
         (λ e. record {
           fits = subst (λ ws. DeskFits p down ws (record d { jobs = with_job (advanced after j) d.jobs })) (sym (append-nil works)) record {
-            jobs = put_in (JobFits p down works d.last_lease d.version) further d.jobs f.jobs;
+            jobs = put_in (JobFits p down d.port works d.last_lease d.version) further d.jobs f.jobs;
             cache = f.cache;
             published = f.published;
             versioned = f.versioned;
@@ -409,7 +414,7 @@ module _ (p : Past) (down : List Body) (works : List WorkState) (d : Desk) (f : 
   finished_told = finished_with _ refl
 
 -- the other events, at one past
-pub connects_told : (p : Past) (down : List Body) (works : List WorkState) (d : Desk) → DeskFits p down works d → connect_refusal d ≡ None → Told p down works (service_step d Connects)
+pub connects_told : (p : Past) (down : List Letter) (works : List WorkState) (d : Desk) → DeskFits p down works d → connect_refusal d ≡ None → Told p down works (service_step d Connects)
 unfolding service_step
 connects_told p down works d f ok = record {
   fits = subst (λ ws. DeskFits p down ws (record d { connected = true })) (sym (append-nil works))
@@ -421,19 +426,31 @@ connects_told p down works d f ok = record {
     some_version true e ok = λ z. absurd (cc (ok))
     some_version false e ok = eqb-false d.version 0 e
 
-pub message_told : (p : Past) (down : List Body) (works : List WorkState) (d : Desk) → DeskFits p down works d → Each IsSolid p.sets → (m : Body) → DownFits p down m → Told p down works (service_step d (Receives m))
+-- ports that pass the test are one
+one_port : (p q : Port) → same_port p q ≡ true → p ≡ q
+one_port One One e = refl
+one_port One Two e = absurd cc
+one_port Two One e = absurd cc
+one_port Two Two e = refl
+
+pub message_told : (p : Past) (down : List Letter) (works : List WorkState) (d : Desk) → DeskFits p down works d → Each IsSolid p.sets → (m : Letter) → DownFits p down m → Told p down works (service_step d (Receives m))
 unfolding service_step
-message_told p down works d f solid m h = cond_both d.connected (receives d m) (says d Ignored) (Told p down works) (λ e. receives_told p down works d f solid m e h) (λ e. saying p down works d f solid Ignored)
+message_told p down works d f solid m h =
+    cond_both (d.connected && same_port m.port d.port) (receives d m.body) (says d Ignored) (Told p down works)
+    (λ e.
+    let here = and_parts d.connected (same_port m.port d.port) e in
+    receives_told p down works d f solid m.body here.0 (subst (λ port. BodyFits p down port m.body) (one_port m.port d.port here.1) h))
+    (λ e. saying p down works d f solid Ignored)
 
 -- with no job
-jobless : (p : Past) (down : List Body) (works : List WorkState) (d : Desk) → DeskFits p down works d → (version : ℕ) (cache : List Entry) → Each (IsRightEntry p) cache → ((version ≡ 0 → ⊥) → (set : List Pattern) × (published_as p.sets version ≡ Some set)) → (n : Note) → Told p down works (says (record d { version = version; connected = false; jobs = []; cache = cache }) n)
+jobless : (p : Past) (down : List Letter) (works : List WorkState) (d : Desk) → DeskFits p down works d → (version : ℕ) (cache : List Entry) → Each (IsRightEntry p) cache → ((version ≡ 0 → ⊥) → (set : List Pattern) × (published_as p.sets version ≡ Some set)) → (n : Note) → Told p down works (says (record d { version = version; connected = false; jobs = []; cache = cache }) n)
 jobless p down works d f version cache h published n = record {
   fits = subst (λ ws. DeskFits p down ws (record d { version = version; connected = false; jobs = []; cache = cache })) (sym (append-nil works))
       record { jobs = tt; cache = h; published = published; versioned = λ e. absurd (true≢false (sym e)); idle = λ e. refl; leases = f.leases };
   up = tt;
 }
 
-pub disconnects_told : (p : Past) (down : List Body) (works : List WorkState) (d : Desk) → DeskFits p down works d → Told p down works (service_step d Disconnects)
+pub disconnects_told : (p : Past) (down : List Letter) (works : List WorkState) (d : Desk) → DeskFits p down works d → Told p down works (service_step d Disconnects)
 unfolding service_step
 disconnects_told p down works d f = jobless p down works d f d.version d.cache f.cache f.published Quiet
 
@@ -442,29 +459,34 @@ unfolding published_as
 latest_published [] h = absurd (h refl)
 latest_published (q ∷ qs) h = (q.patterns, rw (eq-eqb q.version q.version refl) refl)
 
-pub restarts_told : (p : Past) (down : List Body) (works : List WorkState) (d : Desk) → DeskFits p down works d → Told p down works (service_step d (Restarts (latest_as p.sets)))
+pub restarts_told : (p : Past) (down : List Letter) (works : List WorkState) (d : Desk) → DeskFits p down works d → Told p down works (service_step d (Restarts (latest_as p.sets)))
 unfolding service_step
 restarts_told p down works d f = jobless p down works d f (latest_as p.sets) [] tt (latest_published p.sets) Quiet
 
+-- what asks for the bytes of jobs tells no verdict
+reads_fit : (p : Past) (down : List Letter) (port : Port) (limits : LimitValues) (v : ℕ) (js : List Job) → Each (UpFits p down) (map (via port) (map (λ j. read_message limits (afresh v j)) js))
+reads_fit p down port limits v [] = tt
+reads_fit p down port limits v (j ∷ js) = (tt, reads_fit p down port limits v js)
+
 -- a publication: the past is that after it
-pub publishes_told : (p : Past) (down : List Body) (works : List WorkState) (d : Desk) → DeskFits p down works d → Each IsSolid p.sets → (v : ℕ) (set : List Pattern) → published_as p.sets v ≡ Some set → (v ≡ 0 → ⊥) → Told p down works (service_step d (Publishes v))
+pub publishes_told : (p : Past) (down : List Letter) (works : List WorkState) (d : Desk) → DeskFits p down works d → Each IsSolid p.sets → (v : ℕ) (set : List Pattern) → published_as p.sets v ≡ Some set → (v ≡ 0 → ⊥) → Told p down works (service_step d (Publishes v))
 unfolding service_step
 publishes_told p down works d f solid v set at some =
     cond_both d.connected _ _ (Told p down works)
     (λ e. record {
       fits = subst (λ ws. DeskFits p down ws (record d { version = v; jobs = map (afresh v) d.jobs })) (sym (append-nil works)) record {
-        jobs = each-map (JobFits p down works d.last_lease v) (JobFits p down works d.last_lease d.version) (afresh v) (λ j h. begun p down works d.last_lease v solid (afresh v j) h.told h.bytes h.held h.size set at refl refl refl) d.jobs f.jobs;
+        jobs = each-map (JobFits p down d.port works d.last_lease v) (JobFits p down d.port works d.last_lease d.version) (afresh v) (λ j h. begun p down d.port works d.last_lease v solid (afresh v j) h.told h.bytes h.held h.size set at refl refl refl) d.jobs f.jobs;
         cache = f.cache;
         published = λ z. (set, at);
         versioned = λ z. some;
         idle = λ off. absurd (true≢false (sym e ∙ off));
         leases = f.leases;
       };
-      up = (tt, each_mapped (UpFits p down) (λ (j : Job). read_message d.limits (afresh v j)) (λ j. tt) d.jobs);
+      up = (tt, reads_fit p down d.port d.limits v d.jobs);
     })
     (λ e. record {
       fits = subst (λ ws. DeskFits p down ws (record d { version = v })) (sym (append-nil works)) record {
-        jobs = subst (Each (JobFits p down works d.last_lease v)) (sym (f.idle e)) tt;
+        jobs = subst (Each (JobFits p down d.port works d.last_lease v)) (sym (f.idle e)) tt;
         cache = f.cache;
         published = λ z. (set, at);
         versioned = λ on. absurd (true≢false (sym on ∙ e));

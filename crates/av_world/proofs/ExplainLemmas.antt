@@ -9,6 +9,8 @@ use Rattle.av_base.specs.declared.cause.Cause.TheVariants.{NotConnected, Busy, T
 use Rattle.av_base.specs.declared.message_id.MessageId.{MessageId}
 use Rattle.av_base.specs.declared.mode.Mode.{Mode}
 use Rattle.av_base.specs.declared.mode.Mode.TheVariants.{FailClosed, FailOpen}
+use Rattle.av_base.specs.declared.port.Port.TheVariants.{One}
+use Rattle.av_base.specs.declared.port.Port.{Port}
 use Rattle.av_base.specs.declared.verdict.Verdict.{Verdict}
 use Rattle.av_base.specs.declared.verdict.Verdict.TheVariants.{Clean, Infected}
 use Rattle.av_cache.specs.Cache.{look}
@@ -22,13 +24,14 @@ use Rattle.av_filter.specs.Conduct.{FilterEvent, Opens, Changes, CleansUp, Recei
 use Rattle.av_filter.specs.Opening.{answers_with, new_open, open_asked, open_cached, open_found, open_judged, opened, pends, taken}
 use Rattle.av_filter.specs.Reaction.{Reaction}
 use Rattle.av_filter_table.specs.Answering.{by_mode, judged, present_bytes, refused_now}
-use Rattle.av_filter.specs.Receiving.{greeted, reads, receives, replies}
+use Rattle.av_filter.specs.Receiving.{greeted, reads, receives, receives_at, replies}
 use Rattle.av_filter_table.specs.Table.{Table, can_ask, context_of, current, has_room, is_modified, next_id, opens_of, question_at, question_of, raised, sequence_left, waits_for}
 use Rattle.av_filter.specs.declared.note.Note.{Note}
 use Rattle.av_filter_table.specs.declared.pended.Pended.{Pended}
 use Rattle.av_filter_table.specs.declared.question.Question.{Question}
+use Rattle.av_frame.specs.Message.{Letter, via}
+use Rattle.av_frame.specs.declared.message.Body.TheVariants.{Hello, Read, Reply, Updated}
 use Rattle.av_frame.specs.declared.message.Body.{Body}
-use Rattle.av_frame.specs.declared.message.Body.TheVariants.{Scan, Chunk, NoChunk, Abort, Hello, Read, Reply, Updated}
 use Rattle.av_frame.specs.declared.outcome.Outcome.{Outcome}
 use Rattle.av_frame.specs.declared.outcome.Outcome.TheVariants.{Judged, Failed}
 use Rattle.av_pend.specs.Pend.{denied, refused}
@@ -44,7 +47,7 @@ use Rattle.av_filter.proofs.QuestionLemmas.{same_id-true}
 use Rattle.av_world.proofs.ContentLemmas.{present_content}
 use Rattle.av_filter.proofs.EachLemmas.{each_weaker, each-append, each-filter, each-filter_passed, each-map, find_passes}
 use Rattle.av_world.proofs.FilterLemmas.{Comes, Runs, current_right, look_right, past_filter, runs}
-use Rattle.av_world.proofs.FitLemmas.{Fits as FilterFits, core, UpFits, OutcomeFits, about}
+use Rattle.av_world.proofs.FitLemmas.{Fits as FilterFits, core, UpBody, UpFits, OutcomeFits, about}
 use Rattle.av_world.specs.Held.{Asked, asked}
 use Rattle.av_world.specs.Past.{Past, changes, IsVerdictOf}
 use Rattle.av_world.specs.Safety.{Among, Waits, Explains, IsByMode, IsExplained, Submission, next_open}
@@ -130,7 +133,7 @@ moved_stands : (wanted : Wanted) (floor : ℕ) (old new : MessageId) (o : Pended
 moved_stands wanted floor old new o h = elim (waits_for old o) as (λ b. Stands wanted floor (if b then again_under new o else o)) [ true ↦ h | false ↦ h ]
 
 -- asked again: every reason for it and for a want of numbers is the caller's
-again_fair : (wanted : Wanted) (p : Past) (t : Table) (v v' : Store) (f : FilterEvent) (q : Question) (early : List Body) → Stand wanted t.floor t.pended
+again_fair : (wanted : Wanted) (p : Past) (t : Table) (v v' : Store) (f : FilterEvent) (q : Question) (early : List Letter) → Stand wanted t.floor t.pended
     → ((o : Pended) → Waits t q.id o.held.open_id → Among o t.pended → waits_for q.id o ≡ true → 8 ≤ o.held.rescans → Explains p t v f o.held.open_id Unsettled) → ((n : ℕ) → Waits t q.id n → greatest ≤ t.sequence → Explains p t v f n Busy)
     → Fair wanted p t v f (again t v' q early)
 unfolding again asks ended
@@ -169,7 +172,7 @@ quiet_fair : (wanted : Wanted) (p : Past) (t : Table) (v : Store) (f : FilterEve
 quiet_fair wanted p t v f r stand none = record { stand = stand; explained = subst (Each (IsExplained wanted p t v f r.table.floor)) (sym none) tt }
 
 -- a question that ends, its opens answered
-ended_fair : (wanted : Wanted) (p : Past) (t : Table) (v v' : Store) (f : FilterEvent) (q : Question) (c : Option ContextState) (answer : Pended → Answer) (ms : List Body) (n : Note) → Stand wanted t.floor t.pended
+ended_fair : (wanted : Wanted) (p : Past) (t : Table) (v v' : Store) (f : FilterEvent) (q : Question) (c : Option ContextState) (answer : Pended → Answer) (ms : List Letter) (n : Note) → Stand wanted t.floor t.pended
     → ((o : Pended) → Among o t.pended → waits_for q.id o ≡ true → IsExplained wanted p t v f t.floor (answer o)) → Fair wanted p t v f (record { table = ended t q c; volume = v'; answers = map answer (opens_of q.id t.pended); messages = ms; note = n })
 unfolding ended
 ended_fair wanted p t v v' f q c answer ms n stand h = record {
@@ -185,7 +188,7 @@ refused_fair wanted p t v f floor c by stand why =
     t.pended (each_self t.pended)
 
 -- an open, on the table with the floor raised
-module _ (wanted : Wanted) (p : Past) (t : Table) (v : Store) (down : List Body) (fits : FilterFits p v.streams (core t) down) (stand : Stand wanted t.floor t.pended) (s least : ℕ) (now : wanted (next_open v) ≡ Some (record { stream = s; least = least })) where
+module _ (wanted : Wanted) (p : Past) (t : Table) (v : Store) (down : List Letter) (fits : FilterFits p v.streams (core t) down) (stand : Stand wanted t.floor t.pended) (s least : ℕ) (now : wanted (next_open v) ≡ Some (record { stream = s; least = least })) where
   now_table : Table
   now_table = raised least t
 
@@ -213,7 +216,7 @@ module _ (wanted : Wanted) (p : Past) (t : Table) (v : Store) (down : List Body)
       let present = (present_content p.streams v.streams s f fits.present here).1 in
       Explains.judged_now s least (max t.floor least) i e (omega arith) (subst (λ g. IsVerdictOf p s g (max t.floor least) (Infected i e)) present h)
 
-  one_more : (t' : Table) (id : MessageId) (ms : List Body) → t'.floor ≡ max t.floor least → t'.pended ≡ t.pended → Fair wanted p t v (Opens s least) (pends t' (taken v) s least id ms)
+  one_more : (t' : Table) (id : MessageId) (ms : List Letter) → t'.floor ≡ max t.floor least → t'.pended ≡ t.pended → Fair wanted p t v (Opens s least) (pends t' (taken v) s least id ms)
   one_more t' id ms fl pe = record {
     stand = subst (λ n. Stand wanted n (t'.pended ++ record { question = id; held = new_open (taken v) s least } ∷ [])) (sym fl)
         (each-append (Stands wanted (max t.floor least)) t'.pended (record { question = id; held = new_open (taken v) s least } ∷ []) (subst (Stand wanted (max t.floor least)) (sym pe) higher) ((now, omega arith), tt));
@@ -257,7 +260,7 @@ module _ (wanted : Wanted) (p : Past) (t : Table) (v : Store) (down : List Body)
   found_fair (Some f) at = judged_fair f at _ refl
 
 -- the other events
-module _ (wanted : Wanted) (p : Past) (t : Table) (v : Store) (down : List Body) (fits : FilterFits p v.streams (core t) down) (stand : Stand wanted t.floor t.pended) where
+module _ (wanted : Wanted) (p : Past) (t : Table) (v : Store) (down : List Letter) (fits : FilterFits p v.streams (core t) down) (stand : Stand wanted t.floor t.pended) where
   submitted_so : (o : Pended) → Among o t.pended → wanted o.held.open_id ≡ Some (record { stream = o.held.stream; least = o.held.least })
   submitted_so o a = (among_each (Stands wanted t.floor) t.pended o stand a).0
 
@@ -293,7 +296,7 @@ module _ (wanted : Wanted) (p : Past) (t : Table) (v : Store) (down : List Body)
       let same : q.id ≡ id = same_id-true q.id id (find_passes (λ (q : Question). same_id q.id id) t.questions q at) in
       ended_fair wanted p t v v _ q (Some context.Modified) _ _ _ stand (λ x a h. explained-refused wanted p t v _ _ t.mode _ TimedOut x.held (submitted_so x a) timed_out (Explains.timed_out seq x.held.open_id (waits_as t q.id id x same a h)))
 
-  replies_fair : (id : MessageId) (outcome : Outcome) → OutcomeFits p down id outcome → (o : Option Question) → question_at id t.questions ≡ o → Fair wanted p t v (Receives (Reply id outcome)) (replies t v outcome o)
+  replies_fair : (id : MessageId) (outcome : Outcome) → OutcomeFits p down id outcome → (o : Option Question) → question_at id t.questions ≡ o → Fair wanted p t v (Receives (via One (Reply id outcome))) (replies t v outcome o)
   unfolding replies ended
   replies_fair id outcome h None at = quiet_fair wanted p t v _ _ stand refl
   replies_fair id (Failed why) h (Some q) at =
@@ -302,49 +305,49 @@ module _ (wanted : Wanted) (p : Past) (t : Table) (v : Store) (down : List Body)
   replies_fair id (Judged version r) h (Some q) at =
       let run : Runs p v.streams down q = runs p v.streams (core t) down (λ q. same_id q.id id) q fits at in
       let same : q.id ≡ id = same_id-true q.id id (find_passes (λ (q : Question). same_id q.id id) t.questions q at) in
-      let told = sym h.told ∙ subst (λ i. asked down i ≡ Some (about q.stream q.generation (length run.file.bytes))) same run.told in
-      let about_it : h.of ≡ about q.stream q.generation (length run.file.bytes) = cc (told) in
+      let told = sym h.told ∙ subst (λ i. asked down i ≡ Some (about One q.stream q.generation (length run.file.bytes))) same run.told in
+      let about_it : h.of ≡ about One q.stream q.generation (length run.file.bytes) = cc (told) in
       let right : IsVerdictOf p q.stream q.generation version r = subst (λ (a : Asked). IsVerdictOf p a.stream a.generation version r) about_it h.right in
-      cond_both (nat_lt version t.floor) _ _ (Fair wanted p t v (Receives (Reply id (Judged version r))))
+      cond_both (nat_lt version t.floor) _ _ (Fair wanted p t v (Receives (via One (Reply id (Judged version r)))))
       (λ e. again_fair wanted p t v v _ q _ stand (λ x w a k le. Explains.unsettled_stale id version r x.held.open_id (ltb-true version t.floor e) (waits_as t q.id id x same a k) le) (λ n w le. Explains.no_number_stale id version r n (ltb-true version t.floor e) (subst (λ i. Waits t i n) same w) le))
       (λ e.
       let up : t.floor ≤ version = ltb-false version t.floor e in
       record {
         stand = each-filter (Stands wanted version) (λ o. not (waits_for q.id o)) t.pended (raised_floor wanted t.floor version up t.pended stand);
-        explained = opens_get (IsExplained wanted p t v (Receives (Reply id (Judged version r))) version) t q.id (λ (o : Pended). judged r q.generation version o.held) (λ o a w.
+        explained = opens_get (IsExplained wanted p t v (Receives (via One (Reply id (Judged version r)))) version) t q.id (λ (o : Pended). judged r q.generation version o.held) (λ o a w.
             let stands : Stands wanted t.floor o = among_each (Stands wanted t.floor) t.pended o stand a in
             by_verdict o (waits t q.id o a w) refl stands.0 (omega (arith, stands.1, up)) r (subst (λ g. IsVerdictOf p q.stream g version r) run.present right));
       })
     where
       by_verdict : (o : Pended) (w : Waits t q.id o.held.open_id) → w.waiting ≡ o → wanted o.held.open_id ≡ Some (record { stream = o.held.stream; least = o.held.least }) → o.held.least ≤ version → (x : Verdict) → IsVerdictOf p q.stream (generation_of p.streams q.stream) version x
-          → IsExplained wanted p t v (Receives (Reply id (Judged version r))) version (judged x q.generation version o.held)
+          → IsExplained wanted p t v (Receives (via One (Reply id (Judged version r)))) version (judged x q.generation version o.held)
       by_verdict o w is so least Clean right = (so, least, refl)
       by_verdict o w is so least (Infected i e) right = Explains.judged_late id (Judged version r) q o.held.open_id version i e at w (subst (λ (z : Pended). z.held.least ≤ version) (sym is) least) right
 
-  greeted_fair : (number version : ℕ) → Fair wanted p t v (Receives (Hello number version)) (greeted t v number version)
+  greeted_fair : (number version : ℕ) → Fair wanted p t v (Receives (via One (Hello number version))) (greeted t v number version)
   unfolding greeted
   greeted_fair number version =
-      cond_both (not (number == v.number)) _ _ (Fair wanted p t v (Receives (Hello number version))) (λ e. quiet_fair wanted p t v _ _ stand refl)
-      (λ e. cond_both t.connected _ _ (Fair wanted p t v (Receives (Hello number version))) (λ e. quiet_fair wanted p t v _ _ stand refl)
-      (λ e. cond_both (nat_lt version t.floor) _ _ (Fair wanted p t v (Receives (Hello number version))) (λ e. quiet_fair wanted p t v _ _ stand refl)
+      cond_both (not (number == v.number)) _ _ (Fair wanted p t v (Receives (via One (Hello number version)))) (λ e. quiet_fair wanted p t v _ _ stand refl)
+      (λ e. cond_both t.connected _ _ (Fair wanted p t v (Receives (via One (Hello number version)))) (λ e. quiet_fair wanted p t v _ _ stand refl)
+      (λ e. cond_both (nat_lt version t.floor) _ _ (Fair wanted p t v (Receives (via One (Hello number version)))) (λ e. quiet_fair wanted p t v _ _ stand refl)
       (λ e.
       let up : t.floor ≤ version = ltb-false version t.floor e in
       quiet_fair wanted p t v _ _ (raised_floor wanted t.floor version up t.pended stand) refl)))
 
-  receives_fair : (m : Body) → UpFits p down m → Fair wanted p t v (Receives m) (receives t v m)
-  unfolding receives reads
-  receives_fair (Hello number version) h = greeted_fair number version
-  receives_fair (Updated version) h = quiet_fair wanted p t v _ _ (raised_floor wanted t.floor (max t.floor version) (omega arith) t.pended stand) refl
-  receives_fair (Read id offset count) h = go (question_at id t.questions)
+  receives_at_fair : (port : Port) (m : Body) → UpBody p down m → Fair wanted p t v (Receives (via port m)) (receives_at t v port m)
+  unfolding receives_at reads
+  receives_at_fair One (Hello number version) h = greeted_fair number version
+  receives_at_fair One (Updated version) h = quiet_fair wanted p t v _ _ (raised_floor wanted t.floor (max t.floor version) (omega arith) t.pended stand) refl
+  receives_at_fair One (Read id offset count) h = go (question_at id t.questions)
     where
-      go : (o : Option Question) → Fair wanted p t v (Receives (Read id offset count)) (reads t v id offset count o)
+      go : (o : Option Question) → Fair wanted p t v (Receives (via One (Read id offset count))) (reads t v id offset count o)
       go None = quiet_fair wanted p t v _ _ stand refl
-      go (Some q) = cond_both (nat_le (length (present_bytes v q.stream)) offset) _ _ (Fair wanted p t v (Receives (Read id offset count))) (λ e. quiet_fair wanted p t v _ _ stand refl) (λ e. quiet_fair wanted p t v _ _ stand refl)
-  receives_fair (Reply id outcome) h = replies_fair id outcome h _ refl
-  receives_fair (Scan id s g l) h = quiet_fair wanted p t v _ _ stand refl
-  receives_fair (Chunk id o b) h = quiet_fair wanted p t v _ _ stand refl
-  receives_fair (NoChunk id o r) h = quiet_fair wanted p t v _ _ stand refl
-  receives_fair (Abort id) h = quiet_fair wanted p t v _ _ stand refl
+      go (Some q) = cond_both (nat_le (length (present_bytes v q.stream)) offset) _ _ (Fair wanted p t v (Receives (via One (Read id offset count)))) (λ e. quiet_fair wanted p t v _ _ stand refl) (λ e. quiet_fair wanted p t v _ _ stand refl)
+  receives_at_fair One (Reply id outcome) h = replies_fair id outcome h _ refl
+  receives_at_fair port _ h = quiet_fair wanted p t v _ _ stand refl
+
+  receives_fair : (m : Letter) → UpFits p down m → Fair wanted p t v (Receives m) (receives t v m)
+  receives_fair m h = receives_at_fair m.port m.body h
 
   pub filter_fair : (f : FilterEvent) → Submits wanted v f → Comes p down t v f → Fair wanted (past_filter p f) t v f (filter_step t v f)
   unfolding filter_step opened disconnects restarts

@@ -10,6 +10,8 @@ use Rattle.av_base.specs.declared.cause.Cause.TheVariants.{NotConnected, Busy, T
 use Rattle.av_base.specs.declared.message_id.MessageId.{MessageId}
 use Rattle.av_base.specs.declared.mode.Mode.{Mode}
 use Rattle.av_base.specs.declared.mode.Mode.TheVariants.{FailClosed, FailOpen}
+use Rattle.av_base.specs.declared.port.Port.TheVariants.{One}
+use Rattle.av_base.specs.declared.port.Port.{Port}
 use Rattle.av_base.specs.declared.verdict.Verdict.{Verdict}
 use Rattle.av_base.specs.declared.verdict.Verdict.TheVariants.{Clean, Infected}
 use Rattle.av_cache.specs.Cache.{has_key, look, in_front, put, same_key}
@@ -24,7 +26,7 @@ use Rattle.av_filter.specs.Conduct.{FilterEvent, Opens, Changes, CleansUp, Recei
 use Rattle.av_filter.specs.Opening.{answers_with, new_open, open_asked, open_cached, open_found, open_judged, opened, taken}
 use Rattle.av_filter.specs.Reaction.{Reaction, only}
 use Rattle.av_filter_table.specs.Answering.{by_mode, judged, present_bytes, present_generation, refused_now, stream_bytes, stream_generation}
-use Rattle.av_filter.specs.Receiving.{chunk_of, greeted, reads, receives, replies}
+use Rattle.av_filter.specs.Receiving.{chunk_of, greeted, reads, receives, receives_at, replies}
 use Rattle.av_filter_table.specs.Table.{Table, can_ask, context_of, current, has_room, is_modified, next_id, question_at, question_of, raised, sequence_left, waits_for}
 use Rattle.av_filter.specs.declared.fault.FilterFault.TheVariants as filter_fault
 use Rattle.av_filter.specs.declared.note.Note.{Note}
@@ -32,8 +34,9 @@ use Rattle.av_filter.specs.declared.note.Note.TheVariants.{Quiet}
 use Rattle.av_filter_table.specs.declared.pended.Pended.{Pended}
 use Rattle.av_filter_table.specs.declared.question.Question.{Question}
 use Rattle.av_frame.specs.declared.cause.NoChunkCause.TheVariants.{NoQuestion, PastEnd}
-use Rattle.av_frame.specs.declared.message.Body.{Body}
+use Rattle.av_frame.specs.Message.{Letter, via}
 use Rattle.av_frame.specs.declared.message.Body.TheVariants.{Abort, Hello, Read, Reply, Updated}
+use Rattle.av_frame.specs.declared.message.Body.{Body}
 use Rattle.av_frame.specs.declared.outcome.Outcome.{Outcome}
 use Rattle.av_frame.specs.declared.outcome.Outcome.TheVariants.{Judged, Failed}
 use Rattle.av_pend.specs.Pend.{denied, refused}
@@ -53,22 +56,22 @@ use Rattle.av_world.proofs.ContentLemmas.{kept_change, present_content, stream_w
 use Rattle.av_filter.proofs.EachLemmas.{each_weaker, each-append, each-filter, each-filter_passed, each-map, each-take, find_each, find_passes, each_mapped}
 use Rattle.av_filter.proofs.VolumeLemmas.{changed_same}
 use Rattle.av_world.proofs.FitLemmas
-use Rattle.av_world.proofs.FitLemmas.{Fits as FilterFits, FitsAway, Core, core, core_with, DownFits, UpFits, OutcomeFits, ReplyFits, ScanFits, ChunkFits, ContextFits, QuestionFits, IsScanned, about, leave, leave_none, close, ask, tell, change_away, create, right_grows, core_without, lost_fit, lost_rises}
+use Rattle.av_world.proofs.FitLemmas.{Fits as FilterFits, FitsAway, Core, core, core_with, DownFits, UpBody, UpFits, OutcomeFits, ReplyFits, ScanFits, ChunkFits, ContextFits, QuestionFits, IsScanned, about, leave, leave_none, close, ask, tell, change_away, create, right_grows, core_without, lost_fit, lost_rises}
 use Rattle.av_world.specs.Headline.{IsJustified}
 use Rattle.av_world.specs.Held.{Asked, asked}
 use Rattle.av_world.specs.Past.{Past, changes, IsVerdictOf, IsRightEntry}
 pub use Rattle.av_world.specs.Scene.{past_filter}
 
 -- a held open is of the stream that its question asked about
-pub record OpenFits (down : List Body) (o : Pended) : Type 0 where
+pub record OpenFits (down : List Letter) (o : Pended) : Type 0 where
   pub of : Asked
   pub told : asked down o.question ≡ Some of
   pub stream : of.stream ≡ o.held.stream
 
-pub opens_grow : (down more : List Body) (ps : List Pended) → Each (OpenFits down) ps → Each (OpenFits (down ++ more)) ps
+pub opens_grow : (down more : List Letter) (ps : List Pended) → Each (OpenFits down) ps → Each (OpenFits (down ++ more)) ps
 opens_grow down more ps all = each_weaker (OpenFits down) (OpenFits (down ++ more)) (λ o h. record { of = h.of; told = asked_more down more o.question _ h.told; stream = h.stream }) ps all
 
-pub record Good (p : Past) (mode : Mode) (down : List Body) (r : Reaction) : Type 0 where
+pub record Good (p : Past) (mode : Mode) (down : List Letter) (r : Reaction) : Type 0 where
   pub fits : FilterFits p r.volume.streams (core r.table) (down ++ r.messages)
   pub keeps : Keeps r.volume (map now p.streams)
   pub opens : Each (OpenFits (down ++ r.messages)) r.table.pended
@@ -84,15 +87,15 @@ pub justified-judged : (p : Past) (mode : Mode) (r : Verdict) (g v : ℕ) (o : W
 justified-judged p mode Clean g v o e h = (e, h)
 justified-judged p mode (Infected i f) g v o e h = tt
 
-none_sent : (p : Past) (d : List Body) → Each (DownFits p d) []
+none_sent : (p : Past) (d : List Letter) → Each (DownFits p d) []
 none_sent p d = tt
 
 -- messages that tell nothing about contents
-abort_sent : (p : Past) (i : MessageId) (d : List Body) → Each (DownFits p d) (Abort i ∷ [])
+abort_sent : (p : Past) (i : MessageId) (d : List Letter) → Each (DownFits p d) (via One (Abort i) ∷ [])
 abort_sent p i d = (tt, tt)
 
 -- what a question asked about, told of its stream
-pub record QuestionAsked (down : List Body) (q : Question) : Type 0 where
+pub record QuestionAsked (down : List Letter) (q : Question) : Type 0 where
   pub of : Asked
   pub told : asked down q.id ≡ Some of
   pub stream : of.stream ≡ q.stream
@@ -102,25 +105,25 @@ each_last P [] x all = all.0
 each_last P (y ∷ xs) x all = each_last P xs x all.1
 
 -- an open that waits for a question is of its stream
-pub same_stream : (down : List Body) (q : Question) (o : Pended) → QuestionAsked down q → OpenFits down o → waits_for q.id o ≡ true → q.stream ≡ o.held.stream
+pub same_stream : (down : List Letter) (q : Question) (o : Pended) → QuestionAsked down q → OpenFits down o → waits_for q.id o ≡ true → q.stream ≡ o.held.stream
 same_stream down q o a h w =
     let id : o.question ≡ q.id = same_id-true o.question q.id w in
     let told : Some h.of ≡ Some a.of = sym h.told ∙ (ap (asked down) id ∙ a.told) in
     let of : h.of ≡ a.of = cc (told) in
     sym a.stream ∙ (ap (λ (x : Asked). x.stream) (sym of) ∙ h.stream)
 
-module _ (p : Past) (t : Table) (v : Store) (down : List Body) (boots : t.boot ≡ v.boot) (opens : Each (OpenFits down) t.pended) (keeps : Keeps v (map now p.streams)) where
+module _ (p : Past) (t : Table) (v : Store) (down : List Letter) (boots : t.boot ≡ v.boot) (opens : Each (OpenFits down) t.pended) (keeps : Keeps v (map now p.streams)) where
   -- by mode
   by_mode_good : (c : Cause) (ps : List Pended) → Each (IsJustified t.mode p) (by_mode t v c ps)
   by_mode_good c ps = each_mapped (IsJustified t.mode p) (refused_now t v c) (λ o. justified-refused p t.mode _ c o.held) ps
 
-  pub again_good : (q : Question) (early : List Body) (f : Stream) → FitsAway q.stream p v.streams (core_without q.id (core t)) down → stream_at q.stream v.streams ≡ Some f → QuestionAsked down q → IsPlain early → ((d : List Body) → Each (DownFits p d) early)
+  pub again_good : (q : Question) (early : List Letter) (f : Stream) → FitsAway q.stream p v.streams (core_without q.id (core t)) down → stream_at q.stream v.streams ≡ Some f → QuestionAsked down q → IsPlain early → ((d : List Letter) → Each (DownFits p d) early)
       → Good p t.mode down (again t v q early)
   unfolding again asks ended
   again_good q early f away here a plain each =
       cond_both (list_any (is_held q.id) t.pended && sequence_left t) _ _ (Good p t.mode down)
       (λ e.
-      let all : List Body = down ++ (early ++ scan_message t v q.stream ∷ []) in
+      let all : List Letter = down ++ (early ++ scan_message t v q.stream ∷ []) in
       let fits = ask q.stream p v.streams (core_without q.id (core t)) down early f away here plain each in
       let new : QuestionFits v.streams all (next_question t v q.stream) = each_last (QuestionFits v.streams all) _ (next_question t v q.stream) fits.questions in
       record {
@@ -128,7 +131,7 @@ module _ (p : Past) (t : Table) (v : Store) (down : List Body) (boots : t.boot �
         keeps = keeps;
         opens =
             each-map (OpenFits all) (OpenFits down) (moved q.id (next_id t)) (λ o h. cond_both (waits_for q.id o) (again_under (next_id t) o) o (OpenFits all)
-            (λ w. record { of = about q.stream (present_generation v q.stream) (length (present_bytes v q.stream)); told = new.told; stream = same_stream down q o a h w })
+            (λ w. record { of = about One q.stream (present_generation v q.stream) (length (present_bytes v q.stream)); told = new.told; stream = same_stream down q o a h w })
             (λ w. record { of = h.of; told = asked_more down _ o.question _ h.told; stream = h.stream }))
             _ (each-filter (OpenFits down) (λ o. not (is_lost q.id o)) t.pended opens);
         boots = boots;
@@ -145,8 +148,8 @@ module _ (p : Past) (t : Table) (v : Store) (down : List Body) (boots : t.boot �
       })
 
   -- a question ends, and its stream's context fits
-  pub ended_good : (q : Question) (c : Option ContextState) (answers : List Answer) (ms : List Body) (note : Note) → FitsAway q.stream p v.streams (core_without q.id (core t)) down → ContextFits p v.streams q.stream c
-      → Each (IsJustified t.mode p) answers → IsPlain ms → ((d : List Body) → Each (DownFits p d) ms)
+  pub ended_good : (q : Question) (c : Option ContextState) (answers : List Answer) (ms : List Letter) (note : Note) → FitsAway q.stream p v.streams (core_without q.id (core t)) down → ContextFits p v.streams q.stream c
+      → Each (IsJustified t.mode p) answers → IsPlain ms → ((d : List Letter) → Each (DownFits p d) ms)
       → Good p t.mode down (record { table = ended t q c; volume = v; answers = answers; messages = ms; note = note })
   unfolding ended
   ended_good q c answers ms note away h just plain each = record {
@@ -159,7 +162,7 @@ module _ (p : Past) (t : Table) (v : Store) (down : List Body) (boots : t.boot �
   }
 
 -- the table's contents stay, and at most messages that tell nothing are sent
-pub still_good : (p : Past) (mode : Mode) (down : List Body) (r : Reaction) → FilterFits p r.volume.streams (core r.table) down → Keeps r.volume (map now p.streams) → Each (OpenFits down) r.table.pended → r.table.boot ≡ r.volume.boot → r.table.mode ≡ mode
+pub still_good : (p : Past) (mode : Mode) (down : List Letter) (r : Reaction) → FilterFits p r.volume.streams (core r.table) down → Keeps r.volume (map now p.streams) → Each (OpenFits down) r.table.pended → r.table.boot ≡ r.volume.boot → r.table.mode ≡ mode
     → IsPlain r.messages → Each (DownFits p (down ++ r.messages)) r.messages → Each (IsJustified mode p) r.answers → Good p mode down r
 still_good p mode down r fits keeps opens same mode_kept plain each just = record {
   fits = tell p r.volume.streams (core r.table) down r.messages fits plain each;
@@ -171,15 +174,15 @@ still_good p mode down r fits keeps opens same mode_kept plain each just = recor
 }
 
 -- what is known of a question that runs
-pub record Runs (p : Past) (ss : Streams) (down : List Body) (q : Question) : Type 0 where
+pub record Runs (p : Past) (ss : Streams) (down : List Letter) (q : Question) : Type 0 where
   pub file : Stream
   pub here : stream_at q.stream ss ≡ Some file
   pub generation : q.generation ≡ file.generation
   pub present : q.generation ≡ generation_of p.streams q.stream
   pub held : content p.streams q.stream q.generation ≡ Some file.bytes
-  pub told : asked down q.id ≡ Some (about q.stream q.generation (length file.bytes))
+  pub told : asked down q.id ≡ Some (about One q.stream q.generation (length file.bytes))
 
-pub runs : (p : Past) (ss : Streams) (k : Core) (down : List Body) (test : Question → Bool) (q : Question) → FilterFits p ss k down → find test k.questions ≡ Some q → Runs p ss down q
+pub runs : (p : Past) (ss : Streams) (k : Core) (down : List Letter) (test : Question → Bool) (q : Question) → FilterFits p ss k down → find test k.questions ≡ Some q → Runs p ss down q
 runs p ss k down test q fits at =
     let h : QuestionFits ss down q = find_each (QuestionFits ss down) test k.questions q fits.questions at in
     let g : q.generation ≡ h.file.generation = h.present ∙ ap stream_generation h.here in
@@ -190,7 +193,7 @@ runs p ss k down test q fits at =
       generation = g;
       present = g ∙ c.1;
       held = subst (λ n. content p.streams q.stream n ≡ Some h.file.bytes) (sym g) c.0;
-      told = h.told ∙ ap (λ o. Some (about q.stream q.generation (length (stream_bytes o)))) h.here;
+      told = h.told ∙ ap (λ o. Some (about One q.stream q.generation (length (stream_bytes o)))) h.here;
     }
 
 -- a context that is current tells the verdict under the floor
@@ -224,11 +227,11 @@ pub put_right : (p : Past) (capacity : ℕ) (x : Entry) (es : List Entry) → Is
 put_right p capacity x es h all = each-take (IsRightEntry p) capacity (in_front x es) (front_right p x es h all)
 
 -- a question that runs asked about its stream
-pub asked_of : (p : Past) (ss : Streams) (down : List Body) (q : Question) → Runs p ss down q → QuestionAsked down q
-asked_of p ss down q r = record { of = about q.stream q.generation (length r.file.bytes); told = r.told; stream = refl }
+pub asked_of : (p : Past) (ss : Streams) (down : List Letter) (q : Question) → Runs p ss down q → QuestionAsked down q
+asked_of p ss down q r = record { of = about One q.stream q.generation (length r.file.bytes); told = r.told; stream = refl }
 
 -- an open
-module _ (p : Past) (t : Table) (v : Store) (down : List Body) (fits : FilterFits p v.streams (core t) down) (boots : t.boot ≡ v.boot) (opens : Each (OpenFits down) t.pended) (keeps : Keeps v (map now p.streams)) (s least : ℕ) (f : Stream) (here : stream_at s v.streams ≡ Some f) where
+module _ (p : Past) (t : Table) (v : Store) (down : List Letter) (fits : FilterFits p v.streams (core t) down) (boots : t.boot ≡ v.boot) (opens : Each (OpenFits down) t.pended) (keeps : Keeps v (map now p.streams)) (s least : ℕ) (f : Stream) (here : stream_at s v.streams ≡ Some f) where
   one_answer : (a : Answer) → IsJustified t.mode p a → Good p t.mode down (answers_with t v a)
   one_answer a h = still_good p t.mode down _ fits keeps opens boots refl plain_nil tt (h, tt)
 
@@ -242,7 +245,7 @@ module _ (p : Past) (t : Table) (v : Store) (down : List Body) (fits : FilterFit
   by_verdict r h = justified-judged p t.mode r _ _ (new_open v s least) present h
 
   -- one more waits for a question of its stream
-  one_more : (d : List Body) (id : MessageId) (of : Asked) → Each (OpenFits d) t.pended → asked d id ≡ Some of → of.stream ≡ s → Each (OpenFits d) (t.pended ++ record { question = id; held = new_open v s least } ∷ [])
+  one_more : (d : List Letter) (id : MessageId) (of : Asked) → Each (OpenFits d) t.pended → asked d id ≡ Some of → of.stream ≡ s → Each (OpenFits d) (t.pended ++ record { question = id; held = new_open v s least } ∷ [])
   one_more d id of all told same = each-append (OpenFits d) t.pended _ all (record { of = of; told = told; stream = same }, tt)
 
   cached_good : question_of s t.questions ≡ None → (o : Option Entry) → look s f.generation t.floor t.cache ≡ o → Good p t.mode down (open_cached t v s least f o)
@@ -260,7 +263,7 @@ module _ (p : Past) (t : Table) (v : Store) (down : List Body) (fits : FilterFit
       (λ e. cond_both (not t.connected) _ _ (Good p t.mode down) (λ e. by_refusal NotConnected)
       (λ e. cond_both (not (can_ask t)) _ _ (Good p t.mode down) (λ e. by_refusal Busy)
       (λ e.
-      let all : List Body = down ++ scan_message t v s ∷ [] in
+      let all : List Letter = down ++ scan_message t v s ∷ [] in
       let fits = ask s p v.streams (core t) down [] f (leave_none s p v.streams (core t) down none fits) here plain_nil (none_sent p) in
       let new : QuestionFits v.streams all (next_question t v s) = each_last (QuestionFits v.streams all) t.questions (next_question t v s) fits.questions in
       record {
@@ -290,7 +293,7 @@ front_again : (n : ℕ) (xs : List ℕ) → take (length (take n xs)) xs ≡ tak
 front_again n xs = ap (λ k. take k xs) (length-take n xs) ∙ take_min n xs
 
 -- the other events
-module _ (p : Past) (t : Table) (v : Store) (down : List Body) (fits : FilterFits p v.streams (core t) down) (boots : t.boot ≡ v.boot) (opens : Each (OpenFits down) t.pended) (keeps : Keeps v (map now p.streams)) where
+module _ (p : Past) (t : Table) (v : Store) (down : List Letter) (fits : FilterFits p v.streams (core t) down) (boots : t.boot ≡ v.boot) (opens : Each (OpenFits down) t.pended) (keeps : Keeps v (map now p.streams)) where
   quiet_good : (t' : Table) (n : Note) → FilterFits p v.streams (core t') down → Each (OpenFits down) t'.pended → t'.boot ≡ v.boot → t'.mode ≡ t.mode → Good p t.mode down (only t' v n)
   quiet_good t' n h o b m = still_good p t.mode down _ h keeps o b m plain_nil tt tt
 
@@ -343,8 +346,8 @@ module _ (p : Past) (t : Table) (v : Store) (down : List Body) (fits : FilterFit
       (λ e. still_good p t.mode down _ fits keeps opens boots refl (plain_no_chunk id offset PastEnd) (tt, tt) tt)
       (λ e. still_good p t.mode down _ fits keeps opens boots refl (plain_chunk id offset _) (
         record {
-          of = about q.stream q.generation (length r.file.bytes);
-          told = asked_more down _ id _ (subst (λ i. asked down i ≡ Some (about q.stream q.generation (length r.file.bytes))) same r.told);
+          of = about One q.stream q.generation (length r.file.bytes);
+          told = asked_more down _ id _ (subst (λ i. asked down i ≡ Some (about One q.stream q.generation (length r.file.bytes))) same r.told);
           bytes = r.file.bytes;
           held = r.held;
           part = subst (λ (bs : List ℕ). take (length (chunk_of t bs offset count)) (drop offset r.file.bytes) ≡ chunk_of t bs offset count) (sym (ap stream_bytes r.here)) (front_again (min count t.limits.chunk) (drop offset r.file.bytes));
@@ -361,8 +364,8 @@ module _ (p : Past) (t : Table) (v : Store) (down : List Body) (fits : FilterFit
       let run : Runs p v.streams down q = runs p v.streams (core t) down (λ q. same_id q.id id) q fits at in
       let away : FitsAway q.stream p v.streams (core_without q.id (core t)) down = leave (λ q. same_id q.id id) q p v.streams (core t) down at fits in
       let same : q.id ≡ id = same_id-true q.id id (find_passes (λ (q : Question). same_id q.id id) t.questions q at) in
-      let told : Some h.of ≡ Some (about q.stream q.generation (length run.file.bytes)) = sym h.told ∙ subst (λ i. asked down i ≡ Some (about q.stream q.generation (length run.file.bytes))) same run.told in
-      let about_it : h.of ≡ about q.stream q.generation (length run.file.bytes) = cc (told) in
+      let told : Some h.of ≡ Some (about One q.stream q.generation (length run.file.bytes)) = sym h.told ∙ subst (λ i. asked down i ≡ Some (about One q.stream q.generation (length run.file.bytes))) same run.told in
+      let about_it : h.of ≡ about One q.stream q.generation (length run.file.bytes) = cc (told) in
       let right : IsVerdictOf p q.stream q.generation version r = subst (λ (a : Asked). IsVerdictOf p a.stream a.generation version r) about_it h.right in
       cond_both (nat_lt version t.floor) _ _ (Good p t.mode down) (λ e. again_good p t v down boots opens keeps q [] run.file away run.here (asked_of p v.streams down q run) plain_nil (none_sent p))
       (λ e.
@@ -376,19 +379,22 @@ module _ (p : Past) (t : Table) (v : Store) (down : List Body) (fits : FilterFit
       (λ o is. justified-judged p t.mode r _ _ o.held (subst (λ u. q.generation ≡ generation_of p.streams u) is run.present) (subst (λ u. IsVerdictOf p u q.generation version r) is right)) _
       (each-filter_passed (OpenFits down) (λ (o : Pended). q.stream ≡ o.held.stream) (waits_for q.id) (λ o w g. same_stream down q o (asked_of p v.streams down q run) g w) t.pended opens)))
 
-  receives_good : (m : Body) → UpFits p down m → Good p t.mode down (receives t v m)
-  unfolding receives
-  receives_good (Hello number version) h = greeted_good number version
-  receives_good (Updated version) h = quiet_good (raised version t) _ fits opens boots refl
-  receives_good (Read id offset count) h = reads_good id offset count _ refl
-  receives_good (Reply id outcome) h = replies_good id outcome h _ refl
-  receives_good _ h = quiet_good t _ fits opens boots refl
+  receives_at_good : (port : Port) (m : Body) → UpBody p down m → Good p t.mode down (receives_at t v port m)
+  unfolding receives_at
+  receives_at_good One (Hello number version) h = greeted_good number version
+  receives_at_good One (Updated version) h = quiet_good (raised version t) _ fits opens boots refl
+  receives_at_good One (Read id offset count) h = reads_good id offset count _ refl
+  receives_at_good One (Reply id outcome) h = replies_good id outcome h _ refl
+  receives_at_good port _ h = quiet_good t _ fits opens boots refl
+
+  receives_good : (m : Letter) → UpFits p down m → Good p t.mode down (receives t v m)
+  receives_good m h = receives_at_good m.port m.body h
 
   times_out_good : (id : MessageId) (o : Option Question) → question_at id t.questions ≡ o → Good p t.mode down (times_out t v o)
   unfolding times_out
   times_out_good id None at = quiet_good t _ fits opens boots refl
   times_out_good id (Some q) at =
-      ended_good p t v down boots opens keeps q (Some context.Modified) _ (Abort q.id ∷ []) Quiet (leave (λ q. same_id q.id id) q p v.streams (core t) down at fits) tt (by_mode_good p t v down boots opens keeps TimedOut _) (plain_abort q.id) (abort_sent p q.id)
+      ended_good p t v down boots opens keeps q (Some context.Modified) _ (via One (Abort q.id) ∷ []) Quiet (leave (λ q. same_id q.id id) q p v.streams (core t) down at fits) tt (by_mode_good p t v down boots opens keeps TimedOut _) (plain_abort q.id) (abort_sent p q.id)
 
   disconnects_good : Good p t.mode down (disconnects t v)
   unfolding disconnects
@@ -437,7 +443,7 @@ accepted v c = go (change_of v c)
     go (Err f) h = absurd (cc (h))
 
 -- a change of a stream
-module _ (p : Past) (t : Table) (v w : Store) (down : List Body) (fits : FilterFits p v.streams (core t) down) (boots : t.boot ≡ w.boot) (opens : Each (OpenFits down) t.pended) (keeps : Keeps v (map now p.streams)) where
+module _ (p : Past) (t : Table) (v w : Store) (down : List Letter) (fits : FilterFits p v.streams (core t) down) (boots : t.boot ≡ w.boot) (opens : Each (OpenFits down) t.pended) (keeps : Keeps v (map now p.streams)) where
   written_good : (c : Change) (s : ℕ) → IsOf c s → (c ≡ Remove s → ⊥) → change_of v c ≡ Ok w → (o : Option Question) → question_of s t.questions ≡ o → Good (changes p c) t.mode down (rewritten t w s o)
   unfolding rewritten
   written_good c s of keep ok None at =
@@ -450,7 +456,7 @@ module _ (p : Past) (t : Table) (v w : Store) (down : List Body) (fits : FilterF
       let f = stream_written v w p.streams c keeps ok q.stream r.file of' (λ e. keep (e ∙ ap Remove same)) r.here in
       let away : FitsAway q.stream (changes p c) w.streams (core_without q.id (core t)) down =
       change_away c p v w (core_without q.id (core t)) down keeps ok q.stream of' (leave (λ q. q.stream == s) q p v.streams (core t) down at fits) in
-      again_good (changes p c) t w down boots opens (kept_change v w p.streams c keeps ok) q (Abort q.id ∷ []) f.0 away f.1 (asked_of p v.streams down q r) (plain_abort q.id) (abort_sent (changes p c) q.id)
+      again_good (changes p c) t w down boots opens (kept_change v w p.streams c keeps ok) q (via One (Abort q.id) ∷ []) f.0 away f.1 (asked_of p v.streams down q r) (plain_abort q.id) (abort_sent (changes p c) q.id)
 
   removed_good : (s : ℕ) → change_of v (Remove s) ≡ Ok w → (o : Option Question) → question_of s t.questions ≡ o → Good (changes p (Remove s)) t.mode down (removed t w s o)
   unfolding removed
@@ -463,10 +469,10 @@ module _ (p : Past) (t : Table) (v w : Store) (down : List Body) (fits : FilterF
       let same : q.stream ≡ s = eqb-true q.stream s (find_passes (λ (q : Question). q.stream == s) t.questions q at) in
       let away : FitsAway q.stream (changes p c) w.streams (core_without q.id (core t)) down =
       change_away c p v w (core_without q.id (core t)) down keeps ok q.stream (sym same) (leave (λ q. q.stream == s) q p v.streams (core t) down at fits) in
-      ended_good (changes p c) t w down boots opens (kept_change v w p.streams c keeps ok) q None _ (Abort q.id ∷ []) Quiet away tt
+      ended_good (changes p c) t w down boots opens (kept_change v w p.streams c keeps ok) q None _ (via One (Abort q.id) ∷ []) Quiet away tt
       (each_mapped (IsJustified t.mode (changes p c)) (λ (o : Pended). denied StreamRemoved o.held) (λ o. tt) _) (plain_abort q.id) (abort_sent (changes p c) q.id)
 
-changes_good : (c : Change) (p : Past) (t : Table) (v : Store) (down : List Body) → FilterFits p v.streams (core t) down → t.boot ≡ v.boot → Each (OpenFits down) t.pended → Keeps v (map now p.streams) → change_of v c ≡ Ok (changed_volume v c)
+changes_good : (c : Change) (p : Past) (t : Table) (v : Store) (down : List Letter) → FilterFits p v.streams (core t) down → t.boot ≡ v.boot → Each (OpenFits down) t.pended → Keeps v (map now p.streams) → change_of v c ≡ Ok (changed_volume v c)
     → Good (changes p c) t.mode down (conduct_of t v c)
 unfolding conduct_of
 changes_good (Create name) p t v down fits boots opens keeps ok =
@@ -480,12 +486,12 @@ changes_good (Remove s) p t v down fits boots opens keeps ok =
     removed_good p t v (changed_volume v (Remove s)) down fits (boots ∙ sym (changed_same v (Remove s)).boot) opens keeps s ok _ refl
 
 -- what is asked of an event that comes: a message tells the truth, and a change is not refused
-abbrev pub Comes : Past → List Body → Table → Store → FilterEvent → Type 0
+abbrev pub Comes : Past → List Letter → Table → Store → FilterEvent → Type 0
 Comes p down t v (Receives m) = UpFits p down m
 Comes p down t v (Changes c) = filter_refusal t v (Changes c) ≡ None
 Comes p down t v _ = Unit {0}
 
-pub filter_good : (p : Past) (t : Table) (v : Store) (down : List Body) → FilterFits p v.streams (core t) down → t.boot ≡ v.boot → Each (OpenFits down) t.pended → Keeps v (map now p.streams) → (e : FilterEvent) → Comes p down t v e
+pub filter_good : (p : Past) (t : Table) (v : Store) (down : List Letter) → FilterFits p v.streams (core t) down → t.boot ≡ v.boot → Each (OpenFits down) t.pended → Keeps v (map now p.streams) → (e : FilterEvent) → Comes p down t v e
     → Good (past_filter p e) t.mode down (filter_step t v e)
 unfolding filter_step opened filter_refusal
 filter_good p t v down fits boots opens keeps (Opens s least) h = found_good p (raised least t) (taken v) down fits boots opens (record { streams = keeps.streams; last = keeps.last }) s least _ refl

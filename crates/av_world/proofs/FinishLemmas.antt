@@ -8,6 +8,7 @@ use Rattle.std.specs.Int.{div_ceil}
 use Rattle.std.specs.List.{AllByRecursion as Each}
 use Rattle.av_base.specs.declared.limits.LimitValues.{LimitValues}
 use Rattle.av_base.specs.declared.mode.Mode.{Mode}
+use Rattle.av_base.specs.declared.port.Port.TheVariants.{One}
 use Rattle.av_base.specs.declared.verdict.Verdict.{Verdict}
 use Rattle.av_base.specs.MessageId.{same_id}
 use Rattle.av_filter.proofs.EachLemmas.{each_weaker, each-append, each-filter_passed, map_same}
@@ -33,7 +34,7 @@ use Rattle.av_world.specs.Past.{IsVerdictOf, past}
 use Rattle.av_world.specs.Path.{IsReady}
 use Rattle.av_world.specs.Progress.{GetsVerdict, IsCarrying, all_chunks, chunks, is_reply, last_up, onward, round, scan_comes, settling, settling_all, to_reply}
 use Rattle.av_world.specs.Safety.{Among}
-use Rattle.av_world.specs.World.{WorldState, after, given_at, member}
+use Rattle.av_world.specs.World.{WorldState, after, desk_of, given_at, member}
 
 -- ---- lists
 
@@ -100,10 +101,10 @@ settled_limits t q v r = refl
 
 -- ---- chunks
 
-chunks_same : (w x : WorldState) (q : Question) → x.volume ≡ w.volume → x.desk.limits ≡ w.desk.limits → x.table.limits ≡ w.table.limits → chunks x q ≡ chunks w q
+chunks_same : (w x : WorldState) (q : Question) → x.volume ≡ w.volume → (desk_of x One).limits ≡ (desk_of w One).limits → x.table.limits ≡ w.table.limits → chunks x q ≡ chunks w q
 chunks_same w x q v d t = λ i. div_ceil (length (present_bytes (v i) q.stream)) (min ((d i).chunk) ((t i).chunk))
 
-all_chunks_same : (w x : WorldState) (qs : List Question) → x.volume ≡ w.volume → x.desk.limits ≡ w.desk.limits → x.table.limits ≡ w.table.limits → all_chunks x qs ≡ all_chunks w qs
+all_chunks_same : (w x : WorldState) (qs : List Question) → x.volume ≡ w.volume → (desk_of x One).limits ≡ (desk_of w One).limits → x.table.limits ≡ w.table.limits → all_chunks x qs ≡ all_chunks w qs
 all_chunks_same w x [] v d t = refl
 all_chunks_same w x (q ∷ qs) v d t =
     let one = chunks_same w x q v d t in
@@ -125,12 +126,12 @@ reply_short (suc n) w =
 -- a world in which the service has just connected, or settled a question
 pub record Idle (mode : Mode) (w : WorldState) : Type 0 where
   pub steady : Steady mode w
-  pub version : w.desk.version ≡ latest w.sets
-  pub on : w.desk.connected ≡ true
-  pub idle : w.desk.jobs ≡ []
-  pub reached : w.table.floor ≤ w.desk.version
-  pub room : 1 ≤ w.desk.limits.jobs
-  pub chunk : 1 ≤ min w.desk.limits.chunk w.table.limits.chunk
+  pub version : (desk_of w One).version ≡ latest w.sets
+  pub on : (desk_of w One).connected ≡ true
+  pub idle : (desk_of w One).jobs ≡ []
+  pub reached : w.table.floor ≤ (desk_of w One).version
+  pub room : 1 ≤ (desk_of w One).limits.jobs
+  pub chunk : 1 ≤ min (desk_of w One).limits.chunk w.table.limits.chunk
 
 -- the world x in which all are settled, and how it was reached from w
 pub record AllSettled (w x : WorldState) (es : List Event) : Type 0 where
@@ -145,7 +146,7 @@ pub record AllSettled (w x : WorldState) (es : List Event) : Type 0 where
   pub answered : Each (GetsVerdict w given) w.table.pended
   pub count : length given ≡ length w.table.pended
 
-module _ (mode : Mode) (w : WorldState) (st : Idle mode w) (q : Question) (qs : List Question) (are : w.table.questions ≡ q ∷ qs) (leases : w.desk.last_lease + all_chunks w (q ∷ qs) ≤ most_leases) where
+module _ (mode : Mode) (w : WorldState) (st : Idle mode w) (q : Question) (qs : List Question) (are : w.table.questions ≡ q ∷ qs) (leases : (desk_of w One).last_lease + all_chunks w (q ∷ qs) ≤ most_leases) where
   order : AreInOrder (q ∷ qs)
   order = subst AreInOrder are st.steady.fits.order
 
@@ -159,7 +160,7 @@ module _ (mode : Mode) (w : WorldState) (st : Idle mode w) (q : Question) (qs : 
     no_job = ap (job_at q.id) st.idle;
     room = omega (arith, ap length st.idle, st.room);
     chunk = st.chunk;
-    enough = (div_ceil_times (length (present_bytes w.volume q.stream)) (min w.desk.limits.chunk w.table.limits.chunk) st.chunk).0;
+    enough = (div_ceil_times (length (present_bytes w.volume q.stream)) (min (desk_of w One).limits.chunk w.table.limits.chunk) st.chunk).0;
     leases = omega (arith, leases);
   }
 
@@ -173,7 +174,7 @@ module _ (mode : Mode) (w : WorldState) (st : Idle mode w) (q : Question) (qs : 
   one = question_settled mode w st.steady.sound q (chunks w q) ready st.idle st.reached
 
   next_limits : next.table.limits ≡ w.table.limits
-  next_limits = ap (λ (t : Table). t.limits) one.table ∙ settled_limits w.table q w.desk.version r
+  next_limits = ap (λ (t : Table). t.limits) one.table ∙ settled_limits w.table q (desk_of w One).version r
 
   next_idle : Idle mode next
   next_idle = record {
@@ -183,16 +184,16 @@ module _ (mode : Mode) (w : WorldState) (st : Idle mode w) (q : Question) (qs : 
     idle = one.no_jobs;
     reached = omega (arith, ap (λ (t : Table). t.floor) one.table, one.version);
     room = subst (λ (l : LimitValues). 1 ≤ l.jobs) (sym one.limits) st.room;
-    chunk = subst (λ (l : LimitValues). 1 ≤ min l.chunk next.table.limits.chunk) (sym one.limits) (subst (λ (l : LimitValues). 1 ≤ min w.desk.limits.chunk l.chunk) (sym next_limits) st.chunk);
+    chunk = subst (λ (l : LimitValues). 1 ≤ min l.chunk next.table.limits.chunk) (sym one.limits) (subst (λ (l : LimitValues). 1 ≤ min (desk_of w One).limits.chunk l.chunk) (sym next_limits) st.chunk);
   }
 
   next_questions : next.table.questions ≡ qs
-  next_questions = ap (λ (t : Table). t.questions) one.table ∙ (settled_questions w.table q w.desk.version r ∙ (ap (without_question q.id) are ∙ first_leaves q qs order))
+  next_questions = ap (λ (t : Table). t.questions) one.table ∙ (settled_questions w.table q (desk_of w One).version r ∙ (ap (without_question q.id) are ∙ first_leaves q qs order))
 
   next_pended : next.table.pended ≡ other_opens q.id w.table.pended
-  next_pended = ap (λ (t : Table). t.pended) one.table ∙ settled_pended w.table q w.desk.version r
+  next_pended = ap (λ (t : Table). t.pended) one.table ∙ settled_pended w.table q (desk_of w One).version r
 
-  next_leases : next.desk.last_lease + all_chunks next qs ≤ most_leases
+  next_leases : (desk_of next One).last_lease + all_chunks next qs ≤ most_leases
   next_leases = omega (arith, leases, one.leases, all_chunks_same w next qs one.volume one.limits next_limits)
 
   next_past : past next.history ≡ past w.history
@@ -200,7 +201,7 @@ module _ (mode : Mode) (w : WorldState) (st : Idle mode w) (q : Question) (qs : 
 
   -- the opens of the question get its verdict
   abbrev answer : Pended → Answer
-  answer p = answer_for r q.generation w.desk.version p.held
+  answer p = answer_for r q.generation (desk_of w One).version p.held
 
   abbrev given : List Given
   given = map (given_at one.event) (map answer (opens_of q.id w.table.pended))
@@ -222,12 +223,12 @@ module _ (mode : Mode) (w : WorldState) (st : Idle mode w) (q : Question) (qs : 
   gets more p same among = record {
     verdict = r;
     right = subst (λ v. IsVerdictOf (past w.history) p.held.stream (present_generation w.volume p.held.stream) v r) st.version
-        (subst (λ s. IsVerdictOf (past w.history) s (present_generation w.volume s) w.desk.version r) same
-        (subst (λ g. IsVerdictOf (past w.history) q.stream g w.desk.version r) generation (verdict_is mode w st.steady.sound q (chunks w q) ready st.idle st.reached)));
+        (subst (λ s. IsVerdictOf (past w.history) s (present_generation w.volume s) (desk_of w One).version r) same
+        (subst (λ g. IsVerdictOf (past w.history) q.stream g (desk_of w One).version r) generation (verdict_is mode w st.steady.sound q (chunks w q) ready st.idle st.reached)));
     event = one.event;
     given = subst (λ v. Among (given_at one.event (answer_for r (present_generation w.volume p.held.stream) v p.held)) (given ++ more)) st.version
-        (subst (λ s. Among (given_at one.event (answer_for r (present_generation w.volume s) w.desk.version p.held)) (given ++ more)) same
-        (subst (λ g. Among (given_at one.event (answer_for r g w.desk.version p.held)) (given ++ more)) generation (among_front (given_at one.event (answer p)) given more among)));
+        (subst (λ s. Among (given_at one.event (answer_for r (present_generation w.volume s) (desk_of w One).version p.held)) (given ++ more)) same
+        (subst (λ g. Among (given_at one.event (answer_for r g (desk_of w One).version p.held)) (given ++ more)) generation (among_front (given_at one.event (answer p)) given more among)));
   }
 
   own_gets : (more : List Given) → Each (GetsVerdict w (given ++ more)) (opens_of q.id w.table.pended)
@@ -278,7 +279,7 @@ module _ (mode : Mode) (w : WorldState) (st : Idle mode w) (q : Question) (qs : 
     count = counted f.given (f.count ∙ ap length next_pended);
   }
 
-pub all_settled : (mode : Mode) (qs : List Question) (w : WorldState) → Idle mode w → w.table.questions ≡ qs → w.desk.last_lease + all_chunks w qs ≤ most_leases → AllSettled w (onward (settling_all qs w) w) (settling_all qs w)
+pub all_settled : (mode : Mode) (qs : List Question) (w : WorldState) → Idle mode w → w.table.questions ≡ qs → (desk_of w One).last_lease + all_chunks w qs ≤ most_leases → AllSettled w (onward (settling_all qs w) w) (settling_all qs w)
 unfolding settling_all onward
 all_settled mode [] w st are leases =
     let none : w.table.pended ≡ [] = none_waits w.table.questions w.table.pended are st.steady.fits.asked in

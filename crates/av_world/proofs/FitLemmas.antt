@@ -4,6 +4,8 @@ use Rattle.std.specs.List.{AllByRecursion as Each}
 use Rattle.std.proofs.lemmas.Bool.{cases_eq, ne_eqb, and_left, and_right}
 use Rattle.av_base.specs.MessageId.{same_id}
 use Rattle.av_base.specs.declared.message_id.MessageId.{MessageId}
+use Rattle.av_base.specs.declared.port.Port.TheVariants.{One}
+use Rattle.av_base.specs.declared.port.Port.{Port}
 use Rattle.av_base.specs.declared.verdict.Verdict.{Verdict}
 use Rattle.av_cache.specs.declared.entry.Entry.{Entry}
 use Rattle.av_context.specs.Contexts.{set_at}
@@ -16,8 +18,9 @@ use Rattle.av_filter_table.specs.Asking.{lost_contexts}
 use Rattle.av_filter_table.specs.Answering.{stream_bytes, stream_generation}
 use Rattle.av_filter_table.specs.Table.{Table, context_of, question_of, without_question}
 use Rattle.av_filter_table.specs.declared.question.Question.{Question}
-use Rattle.av_frame.specs.declared.message.Body.{Body}
+use Rattle.av_frame.specs.Message.{Letter, via}
 use Rattle.av_frame.specs.declared.message.Body.TheVariants.{Scan, Chunk, Reply}
+use Rattle.av_frame.specs.declared.message.Body.{Body}
 use Rattle.av_frame.specs.declared.outcome.Outcome.{Outcome}
 use Rattle.av_frame.specs.declared.outcome.Outcome.TheVariants.{Judged, Failed}
 use Rattle.av_sigset.specs.Publication.{published_as}
@@ -50,55 +53,67 @@ same_past p = record { contents = λ s g c h. h; sets = λ v set h. h }
 pub change_grows : (p : Past) (c : Change) → Grown p (changes p c)
 change_grows p c = record { contents = content_grows p.streams c; sets = λ v set h. h }
 
-abbrev pub about : ℕ → ℕ → ℕ → Asked
-about s g l = record { stream = s; generation = g; length = l }
+abbrev pub about : Port → ℕ → ℕ → ℕ → Asked
+about port s g l = record { port = port; stream = s; generation = g; length = l }
 
 -- a message that was sent down tells what it names: a scan the stream's content, a chunk a part of it
-pub record ScanFits (p : Past) (down : List Body) (id : MessageId) (s g l : ℕ) : Type 0 where
-  pub told : asked down id ≡ Some (about s g l)
+pub record ScanFits (p : Past) (down : List Letter) (port : Port) (id : MessageId) (s g l : ℕ) : Type 0 where
+  pub told : asked down id ≡ Some (record { port = port; stream = s; generation = g; length = l })
   pub bytes : List ℕ
   pub held : content p.streams s g ≡ Some bytes
   pub size : length bytes ≡ l
 
-pub record ChunkFits (p : Past) (down : List Body) (id : MessageId) (o : ℕ) (b : List ℕ) : Type 0 where
+pub record ChunkFits (p : Past) (down : List Letter) (id : MessageId) (o : ℕ) (b : List ℕ) : Type 0 where
   pub of : Asked
   pub told : asked down id ≡ Some of
   pub bytes : List ℕ
   pub held : content p.streams of.stream of.generation ≡ Some bytes
   pub part : take (length b) (drop o bytes) ≡ b
 
-abbrev pub DownFits : Past → List Body → Body → Type 0
-DownFits p down (Scan id s g l) = ScanFits p down id s g l
-DownFits p down (Chunk id o b) = ChunkFits p down id o b
-DownFits p down _ = Unit {0}
+abbrev pub BodyFits : Past → List Letter → Port → Body → Type 0
+BodyFits p down port (Scan id s g l) = ScanFits p down port id s g l
+BodyFits p down port (Chunk id o b) = ChunkFits p down id o b
+BodyFits p down port _ = Unit {0}
+
+abbrev pub DownFits : Past → List Letter → Letter → Type 0
+DownFits p down m = BodyFits p down m.port m.body
 
 -- a reply that was sent up tells the verdict of what was asked about
-pub record ReplyFits (p : Past) (down : List Body) (id : MessageId) (v : ℕ) (r : Verdict) : Type 0 where
+pub record ReplyFits (p : Past) (down : List Letter) (id : MessageId) (v : ℕ) (r : Verdict) : Type 0 where
   pub of : Asked
   pub told : asked down id ≡ Some of
   pub right : IsVerdictOf p of.stream of.generation v r
 
-abbrev pub OutcomeFits : Past → List Body → MessageId → Outcome → Type 0
+abbrev pub OutcomeFits : Past → List Letter → MessageId → Outcome → Type 0
 OutcomeFits p down id (Judged v r) = ReplyFits p down id v r
 OutcomeFits p down id (Failed reason) = Unit {0}
 
-abbrev pub UpFits : Past → List Body → Body → Type 0
-UpFits p down (Reply id outcome) = OutcomeFits p down id outcome
-UpFits p down _ = Unit {0}
+abbrev pub UpBody : Past → List Letter → Body → Type 0
+UpBody p down (Reply id outcome) = OutcomeFits p down id outcome
+UpBody p down _ = Unit {0}
 
-pub down_grows : (p p' : Past) (down more : List Body) → Grown p p' → (m : Body) → DownFits p down m → DownFits p' (down ++ more) m
-down_grows p p' down more up (Scan id s g l) h = record { told = asked_more down more id _ h.told; bytes = h.bytes; held = up.contents s g h.bytes h.held; size = h.size }
-down_grows p p' down more up (Chunk id o b) h =
+abbrev pub UpFits : Past → List Letter → Letter → Type 0
+UpFits p down m = UpBody p down m.body
+
+body_grows : (p p' : Past) (down more : List Letter) → Grown p p' → (port : Port) (m : Body) → BodyFits p down port m → BodyFits p' (down ++ more) port m
+body_grows p p' down more up port (Scan id s g l) h = record { told = asked_more down more id _ h.told; bytes = h.bytes; held = up.contents s g h.bytes h.held; size = h.size }
+body_grows p p' down more up port (Chunk id o b) h =
     record { of = h.of; told = asked_more down more id _ h.told; bytes = h.bytes; held = up.contents h.of.stream h.of.generation h.bytes h.held; part = h.part }
-down_grows p p' down more up _ h = tt
+body_grows p p' down more up port _ h = tt
 
-outcome_grows : (p p' : Past) (down more : List Body) → Grown p p' → (id : MessageId) (o : Outcome) → OutcomeFits p down id o → OutcomeFits p' (down ++ more) id o
+pub down_grows : (p p' : Past) (down more : List Letter) → Grown p p' → (m : Letter) → DownFits p down m → DownFits p' (down ++ more) m
+down_grows p p' down more up m h = body_grows p p' down more up m.port m.body h
+
+outcome_grows : (p p' : Past) (down more : List Letter) → Grown p p' → (id : MessageId) (o : Outcome) → OutcomeFits p down id o → OutcomeFits p' (down ++ more) id o
 outcome_grows p p' down more up id (Judged v r) h = record { of = h.of; told = asked_more down more id _ h.told; right = right_grows p p' _ _ _ _ up h.right }
 outcome_grows p p' down more up id (Failed reason) h = tt
 
-pub up_grows : (p p' : Past) (down more : List Body) → Grown p p' → (m : Body) → UpFits p down m → UpFits p' (down ++ more) m
-up_grows p p' down more up (Reply id o) h = outcome_grows p p' down more up id o h
-up_grows p p' down more up _ h = tt
+up_body_grows : (p p' : Past) (down more : List Letter) → Grown p p' → (m : Body) → UpBody p down m → UpBody p' (down ++ more) m
+up_body_grows p p' down more up (Reply id o) h = outcome_grows p p' down more up id o h
+up_body_grows p p' down more up _ h = tt
+
+pub up_grows : (p p' : Past) (down more : List Letter) → Grown p p' → (m : Letter) → UpFits p down m → UpFits p' (down ++ more) m
+up_grows p p' down more up m h = up_body_grows p p' down more up m.body h
 
 -- what the invariant reads of a table
 pub record Core : Type 0 where
@@ -116,17 +131,17 @@ ContextFits p ss s (Some (context.Judged v r)) = (x : Stream) × (stream_at s ss
 ContextFits p ss s _ = Unit {0}
 
 -- a question is about the present content of a stream that is there, and its scan said so
-pub record QuestionFits (ss : Streams) (down : List Body) (q : Question) : Type 0 where
+pub record QuestionFits (ss : Streams) (down : List Letter) (q : Question) : Type 0 where
   pub file : Stream
   pub here : stream_at q.stream ss ≡ Some file
   pub present : q.generation ≡ stream_generation (stream_at q.stream ss)
-  pub told : asked down q.id ≡ Some (about q.stream q.generation (length (stream_bytes (stream_at q.stream ss))))
+  pub told : asked down q.id ≡ Some (about One q.stream q.generation (length (stream_bytes (stream_at q.stream ss))))
 
 -- ids that weren't given yet
 abbrev pub IsLater : ℕ → ℕ → MessageId → Type 0
 IsLater boot sequence id = (boot < id.boot) ⊎ ((boot ≡ id.boot) × (sequence < id.seq))
 
-pub record Fits (p : Past) (ss : Streams) (k : Core) (down : List Body) : Type 0 where
+pub record Fits (p : Past) (ss : Streams) (k : Core) (down : List Letter) : Type 0 where
   pub present : ss ≡ seen (map now p.streams)
   pub rises : Rises k.contexts
   pub contexts : (s : ℕ) → ContextFits p ss s (context_of k.contexts s)
@@ -138,7 +153,7 @@ pub record Fits (p : Past) (ss : Streams) (k : Core) (down : List Body) : Type 0
   pub sent : Each (DownFits p down) down
 
 -- the same, with one stream left out: it has no question, and its context doesn't count
-pub record FitsAway (s : ℕ) (p : Past) (ss : Streams) (k : Core) (down : List Body) : Type 0 where
+pub record FitsAway (s : ℕ) (p : Past) (ss : Streams) (k : Core) (down : List Letter) : Type 0 where
   pub present : ss ≡ seen (map now p.streams)
   pub rises : Rises k.contexts
   pub contexts : (u : ℕ) → u ≢ s → ContextFits p ss u (context_of k.contexts u)
@@ -154,7 +169,7 @@ abbrev pub core_without : MessageId → Core → Core
 core_without id k = record k { questions = without_question id k.questions }
 
 -- a question leaves, or there was none
-pub leave : (test : Question → Bool) (q : Question) (p : Past) (ss : Streams) (k : Core) (down : List Body) → find test k.questions ≡ Some q → Fits p ss k down → FitsAway q.stream p ss (core_without q.id k) down
+pub leave : (test : Question → Bool) (q : Question) (p : Past) (ss : Streams) (k : Core) (down : List Letter) → find test k.questions ≡ Some q → Fits p ss k down → FitsAway q.stream p ss (core_without q.id k) down
 leave test q p ss k down h f = record {
   present = f.present;
   rises = f.rises;
@@ -168,7 +183,7 @@ leave test q p ss k down h f = record {
   sent = f.sent;
 }
 
-pub leave_none : (s : ℕ) (p : Past) (ss : Streams) (k : Core) (down : List Body) → question_of s k.questions ≡ None → Fits p ss k down → FitsAway s p ss k down
+pub leave_none : (s : ℕ) (p : Past) (ss : Streams) (k : Core) (down : List Letter) → question_of s k.questions ≡ None → Fits p ss k down → FitsAway s p ss k down
 leave_none s p ss k down h f = record {
   present = f.present;
   rises = f.rises;
@@ -211,7 +226,7 @@ abbrev pub core_with : ℕ → Option ContextState → Core → Core
 core_with s c k = record k { contexts = set_at k.contexts s c }
 
 -- the stream that was left out gets a context that fits
-pub close : (s : ℕ) (c : Option ContextState) (p : Past) (ss : Streams) (k : Core) (down : List Body) → FitsAway s p ss k down → ContextFits p ss s c → Fits p ss (core_with s c k) down
+pub close : (s : ℕ) (c : Option ContextState) (p : Past) (ss : Streams) (k : Core) (down : List Letter) → FitsAway s p ss k down → ContextFits p ss s c → Fits p ss (core_with s c k) down
 close s c p ss k down f h = record {
   present = f.present;
   rises = rises-set k.contexts s c f.rises;
@@ -225,7 +240,7 @@ close s c p ss k down f h = record {
 }
 
 -- messages that ask nothing are sent
-pub tell : (p : Past) (ss : Streams) (k : Core) (down ms : List Body) → Fits p ss k down → IsPlain ms → Each (DownFits p (down ++ ms)) ms → Fits p ss k (down ++ ms)
+pub tell : (p : Past) (ss : Streams) (k : Core) (down ms : List Letter) → Fits p ss k down → IsPlain ms → Each (DownFits p (down ++ ms)) ms → Fits p ss k (down ++ ms)
 tell p ss k down ms f plain each = record {
   present = f.present;
   rises = f.rises;
@@ -255,23 +270,23 @@ core_asked k ss s =
       cache = k.cache;
     }
 
-abbrev pub asking : Core → Streams → ℕ → Body
-asking k ss s = Scan (given_id k) s (stream_generation (stream_at s ss)) (length (stream_bytes (stream_at s ss)))
+abbrev pub asking : Core → Streams → ℕ → Letter
+asking k ss s = via One (Scan (given_id k) s (stream_generation (stream_at s ss)) (length (stream_bytes (stream_at s ss))))
 
 -- an id after the given one is a later one, and another
 later_still : (k : Core) (id : MessageId) → IsLater k.boot (k.sequence + 1) id → IsLater k.boot k.sequence id × (same_id (given_id k) id ≡ false)
 later_still k id (inl lt) = (inl lt, and_left (k.boot == id.boot) (k.sequence + 1 == id.seq) (ne_eqb k.boot id.boot (λ e. omega arith)))
 later_still k id (inr h) = (inr (h.0, omega (arith, h.1)), and_right (k.boot == id.boot) (k.sequence + 1 == id.seq) (ne_eqb (k.sequence + 1) id.seq (λ e. omega (arith, h.1))))
 
-pub ask : (s : ℕ) (p : Past) (ss : Streams) (k : Core) (down early : List Body) (f : Stream) → FitsAway s p ss k down → stream_at s ss ≡ Some f → IsPlain early → ((d : List Body) → Each (DownFits p d) early)
+pub ask : (s : ℕ) (p : Past) (ss : Streams) (k : Core) (down early : List Letter) (f : Stream) → FitsAway s p ss k down → stream_at s ss ≡ Some f → IsPlain early → ((d : List Letter) → Each (DownFits p d) early)
     → Fits p ss (core_asked k ss s) (down ++ (early ++ asking k ss s ∷ []))
 ask s p ss k down early f a here plain each =
-    let ms : List Body = early ++ asking k ss s ∷ [] in
-    let all : List Body = down ++ ms in
+    let ms : List Letter = early ++ asking k ss s ∷ [] in
+    let all : List Letter = down ++ ms in
     let unused : asked down (given_id k) ≡ None = a.fresh (given_id k) (inr (refl, omega arith)) in
-    let told : asked all (given_id k) ≡ Some (about s (stream_generation (stream_at s ss)) (length (stream_bytes (stream_at s ss)))) =
+    let told : asked all (given_id k) ≡ Some (about One s (stream_generation (stream_at s ss)) (length (stream_bytes (stream_at s ss)))) =
     asked_new down ms (given_id k) unused ∙ asked_scan early plain (given_id k) s (stream_generation (stream_at s ss)) (length (stream_bytes (stream_at s ss))) in
-    let old : (m : Body) → DownFits p down m → DownFits p all m = down_grows p p down ms (same_past p) in
+    let old : (m : Letter) → DownFits p down m → DownFits p all m = down_grows p p down ms (same_past p) in
     let present = present_content p.streams ss s f a.present here in
     record {
       present = a.present;
@@ -308,13 +323,16 @@ context_kept p p' ss ss' u (Some context.Modified) up same h = tt
 context_kept p p' ss ss' u (Some (context.Scanning id)) up same h = tt
 context_kept p p' ss ss' u (Some (context.Judged v r)) up same h = (h.0, same h.0 h.1, right_grows p p' _ _ _ _ up h.2)
 
-pub down_same : (p p' : Past) (down : List Body) → Grown p p' → (m : Body) → DownFits p down m → DownFits p' down m
-down_same p p' down up (Scan id s g l) h = record { told = h.told; bytes = h.bytes; held = up.contents s g h.bytes h.held; size = h.size }
-down_same p p' down up (Chunk id o b) h = record { of = h.of; told = h.told; bytes = h.bytes; held = up.contents h.of.stream h.of.generation h.bytes h.held; part = h.part }
-down_same p p' down up _ h = tt
+body_same : (p p' : Past) (down : List Letter) → Grown p p' → (port : Port) (m : Body) → BodyFits p down port m → BodyFits p' down port m
+body_same p p' down up port (Scan id s g l) h = record { told = h.told; bytes = h.bytes; held = up.contents s g h.bytes h.held; size = h.size }
+body_same p p' down up port (Chunk id o b) h = record { of = h.of; told = h.told; bytes = h.bytes; held = up.contents h.of.stream h.of.generation h.bytes h.held; part = h.part }
+body_same p p' down up port _ h = tt
+
+pub down_same : (p p' : Past) (down : List Letter) → Grown p p' → (m : Letter) → DownFits p down m → DownFits p' down m
+down_same p p' down up m h = body_same p p' down up m.port m.body h
 
 -- an accepted change
-module _ (c : Change) (p : Past) (v w : Store) (k : Core) (down : List Body) (keeps : Keeps v (map now p.streams)) (done : change_of v c ≡ Ok w) where
+module _ (c : Change) (p : Past) (v w : Store) (k : Core) (down : List Letter) (keeps : Keeps v (map now p.streams)) (done : change_of v c ≡ Ok w) where
   abbrev p' : Past
   p' = changes p c
 
@@ -332,7 +350,7 @@ module _ (c : Change) (p : Past) (v w : Store) (k : Core) (down : List Body) (ke
     file = h.file;
     here = same ∙ h.here;
     present = h.present ∙ ap stream_generation (sym same);
-    told = h.told ∙ ap (λ o. Some (about q.stream q.generation (length (stream_bytes o)))) (sym same);
+    told = h.told ∙ ap (λ o. Some (about One q.stream q.generation (length (stream_bytes o)))) (sym same);
   }
 
   -- of the stream that was left out
@@ -355,7 +373,7 @@ module _ (c : Change) (p : Past) (v w : Store) (k : Core) (down : List Body) (ke
       questions_kept (q ∷ qs) h ne = (question_kept q (stream_away v w p.streams c keeps done s q.stream of ne.0) h.0, questions_kept qs h.1 ne.1)
 
 -- a creation
-pub create : (name : List ℕ) (p : Past) (v w : Store) (k : Core) (down : List Body) → Keeps v (map now p.streams) → change_of v (Create name) ≡ Ok w → Fits p v.streams k down → Fits (changes p (Create name)) w.streams k down
+pub create : (name : List ℕ) (p : Past) (v w : Store) (k : Core) (down : List Letter) → Keeps v (map now p.streams) → change_of v (Create name) ≡ Ok w → Fits p v.streams k down → Fits (changes p (Create name)) w.streams k down
 create name p v w k down keeps done a = record {
   present = (next (Create name) p v w k down keeps done).streams;
   rises = a.rises;

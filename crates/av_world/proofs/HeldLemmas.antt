@@ -4,18 +4,20 @@ use Rattle.std.specs.List.{cons_option, filter_map, flat_map}
 use Rattle.std.specs.Option.{option_map, option_or, option_to_list}
 use Rattle.std.proofs.lemmas.List.{append_assoc, drop_all}
 use Rattle.av_base.specs.declared.message_id.MessageId.{MessageId}
+use Rattle.av_base.specs.declared.port.Port.TheVariants.{One}
 use Rattle.av_base.specs.declared.verdict.Verdict.{Verdict}
 use Rattle.av_cache.specs.declared.entry.Entry.{Entry}
 use Rattle.av_context.specs.declared.context_state.ContextState.{ContextState}
 use Rattle.av_context.specs.declared.context_state.ContextState.TheVariants as context
 use Rattle.av_filter.specs.Verdict.{verdict_of}
 use Rattle.av_filter_table.specs.Table.{context_of}
-use Rattle.av_frame.specs.declared.message.Body.{Body}
+use Rattle.av_frame.specs.Message.{Letter}
 use Rattle.av_frame.specs.declared.message.Body.TheVariants as body
+use Rattle.av_frame.specs.declared.message.Body.{Body}
 use Rattle.av_frame.specs.declared.outcome.Outcome.TheVariants as outcome
 use Rattle.av_store.specs.Rows.{Streams}
-use Rattle.av_world.specs.Held.{Asked, asked, asked_by, entry, held, held_by, held_contexts, held_in, held_reply}
-use Rattle.av_world.specs.World.{WorldState}
+use Rattle.av_world.specs.Held.{Asked, asked, asked_by, entry, held, held_body, held_by, held_contexts, held_in, held_reply}
+use Rattle.av_world.specs.World.{WorldState, desk_of}
 
 -- ---- contexts
 
@@ -38,7 +40,7 @@ contexts_hold contexts (x ∷ xs) =
 -- ---- replies
 
 -- the entry of a reply, if it holds one
-abbrev pub reply_entry : List Body → Body → Option Entry
+abbrev pub reply_entry : List Letter → Letter → Option Entry
 reply_entry down m = slice_get (held_reply down m) 0
 
 pub listed_first : {A : Type 0} (o : Option A) (xs : List A) → option_to_list o ≡ xs → o ≡ slice_get xs 0
@@ -49,24 +51,27 @@ cons_by : (o : Option Asked) (v : ℕ) (r : Verdict) (es : List Entry) → cons_
 cons_by None v r es = refl
 cons_by (Some a) v r es = refl
 
-cons_reply : (down : List Body) (m : Body) (es : List Entry) → cons_option (reply_entry down m) es ≡ held_reply down m ++ es
-cons_reply down (body.Reply id (outcome.Judged v r)) es = cons_by (asked down id) v r es
-cons_reply down (body.Reply id (outcome.Failed c)) es = refl
-cons_reply down (body.Scan i s g l) es = refl
-cons_reply down (body.Chunk i o b) es = refl
-cons_reply down (body.NoChunk i o c) es = refl
-cons_reply down (body.Abort i) es = refl
-cons_reply down (body.Hello n v) es = refl
-cons_reply down (body.Read i o c) es = refl
-cons_reply down (body.Updated v) es = refl
+cons_body : (down : List Letter) (m : Body) (es : List Entry) → cons_option (slice_get (held_body down m) 0) es ≡ held_body down m ++ es
+cons_body down (body.Reply id (outcome.Judged v r)) es = cons_by (asked down id) v r es
+cons_body down (body.Reply id (outcome.Failed c)) es = refl
+cons_body down (body.Scan i s g l) es = refl
+cons_body down (body.Chunk i o b) es = refl
+cons_body down (body.NoChunk i o c) es = refl
+cons_body down (body.Abort i) es = refl
+cons_body down (body.Hello n v) es = refl
+cons_body down (body.Read i o c) es = refl
+cons_body down (body.Updated v) es = refl
 
-pub replies_hold : (down up : List Body) → filter_map (reply_entry down) up ≡ flat_map (held_reply down) up
+cons_reply : (down : List Letter) (m : Letter) (es : List Entry) → cons_option (reply_entry down m) es ≡ held_reply down m ++ es
+cons_reply down m es = cons_body down m.body es
+
+pub replies_hold : (down up : List Letter) → filter_map (reply_entry down) up ≡ flat_map (held_reply down) up
 replies_hold down [] = refl
 replies_hold down (m ∷ ms) = cons_reply down m _ ∙ ap (λ es. held_reply down m ++ es) (replies_hold down ms)
 
 -- ---- all of it
 
-pub held_parts : (w : WorldState) (contexts cached kept replied : List Entry) → contexts ≡ held_contexts w.table.contexts w.volume.streams → cached ≡ w.table.cache → kept ≡ w.desk.cache → replied ≡ flat_map (held_reply w.down) w.up → ((contexts ++ cached) ++ kept) ++ replied ≡ held w
+pub held_parts : (w : WorldState) (contexts cached kept replied : List Entry) → contexts ≡ held_contexts w.table.contexts w.volume.streams → cached ≡ w.table.cache → kept ≡ (desk_of w One).cache → replied ≡ flat_map (held_reply w.down) w.up → ((contexts ++ cached) ++ kept) ++ replied ≡ held w
 unfolding held
 held_parts w contexts cached kept replied a b c d = simp append_assoc (cc)
 
@@ -76,28 +81,28 @@ held_parts w contexts cached kept replied a b c d = simp append_assoc (cc)
 abbrev pub about : Option Asked → Option (ℕ × ℕ)
 about o = option_map (λ a. (a.stream, a.generation)) o
 
-later : (id : MessageId) (m : Body) (ms : List Body) → about (asked_by id m) ≡ None → asked (m ∷ ms) id ≡ asked ms id
+later : (id : MessageId) (m : Letter) (ms : List Letter) → about (asked_by id m) ≡ None → asked (m ∷ ms) id ≡ asked ms id
 unfolding asked
 later id m ms none = (elim (asked_by id m) as (λ o. about o ≡ None → option_or o (asked ms id) ≡ asked ms id) [ None ↦ λ h. refl | Some a ↦ λ h. absurd (cc) ]) none
 
-here : (id : MessageId) (m : Body) (ms : List Body) (p : ℕ × ℕ) → about (asked_by id m) ≡ Some p → about (asked (m ∷ ms) id) ≡ Some p
+here : (id : MessageId) (m : Letter) (ms : List Letter) (p : ℕ × ℕ) → about (asked_by id m) ≡ Some p → about (asked (m ∷ ms) id) ≡ Some p
 unfolding asked
 here id m ms p some = (elim (asked_by id m) as (λ o. about o ≡ Some p → about (option_or o (asked ms id)) ≡ Some p) [ None ↦ λ h. absurd (cc) | Some a ↦ λ h. h ]) some
 
-split_at : (ms : List Body) (i : ℕ) (m : Body) → i < length ms → m ≡ get_or ms i m → drop i ms ≡ m ∷ drop (suc i) ms
+split_at : (ms : List Letter) (i : ℕ) (m : Letter) → i < length ms → m ≡ get_or ms i m → drop i ms ≡ m ∷ drop (suc i) ms
 split_at ms i m within at = drop-cons ms i m within ∙ ap (λ x. x ∷ drop (suc i) ms) (sym at)
 
 -- messages that do not ask are passed over
-pub passes : (id : MessageId) (ms : List Body) (i : ℕ) (m : Body) → i < length ms → m ≡ get_or ms i m → about (asked_by id m) ≡ None → asked (drop i ms) id ≡ asked ms id → asked (drop (i + 1) ms) id ≡ asked ms id
+pub passes : (id : MessageId) (ms : List Letter) (i : ℕ) (m : Letter) → i < length ms → m ≡ get_or ms i m → about (asked_by id m) ≡ None → asked (drop i ms) id ≡ asked ms id → asked (drop (i + 1) ms) id ≡ asked ms id
 passes id ms i m within at none so_far =
     rw add-one
     (sym (later id m (drop (suc i) ms) none) ∙ sym (ap (λ xs. asked xs id) (split_at ms i m within at)) ∙ so_far)
 
 -- the first that asks tells what the id was asked about
-pub first_asks : (id : MessageId) (ms : List Body) (i : ℕ) (m : Body) (p : ℕ × ℕ) → i < length ms → m ≡ get_or ms i m → about (asked_by id m) ≡ Some p → asked (drop i ms) id ≡ asked ms id → Some p ≡ about (asked ms id)
+pub first_asks : (id : MessageId) (ms : List Letter) (i : ℕ) (m : Letter) (p : ℕ × ℕ) → i < length ms → m ≡ get_or ms i m → about (asked_by id m) ≡ Some p → asked (drop i ms) id ≡ asked ms id → Some p ≡ about (asked ms id)
 first_asks id ms i m p within at some so_far = sym (here id m (drop (suc i) ms) p some) ∙ ap (λ xs. about (asked xs id)) (sym (split_at ms i m within at)) ∙ ap about so_far
 
 -- where none asks, the id was not asked about
-pub none_asks : (id : MessageId) (ms : List Body) (i : ℕ) → length ms ≤ i → asked (drop i ms) id ≡ asked ms id → None ≡ about (asked ms id)
+pub none_asks : (id : MessageId) (ms : List Letter) (i : ℕ) → length ms ≤ i → asked (drop i ms) id ≡ asked ms id → None ≡ about (asked ms id)
 unfolding asked
 none_asks id ms i end so_far = ap (λ xs. about (asked xs id)) (sym (drop_all i ms end)) ∙ ap about so_far

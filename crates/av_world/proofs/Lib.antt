@@ -12,6 +12,7 @@ pub mod FitLemmas
 pub mod HeldLemmas
 pub mod HexLemmas
 pub mod JudgeLemmas
+pub mod LeaveLemmas
 pub mod NeedLemmas
 pub mod ObjectLemmas
 pub mod OnceLemmas

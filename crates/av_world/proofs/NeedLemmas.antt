@@ -8,31 +8,32 @@ use Rattle.av_base.specs.declared.limits.LimitValues.{LimitValues}
 use Rattle.av_base.specs.declared.message_id.MessageId.{MessageId}
 use Rattle.av_base.specs.declared.mode.Mode.{Mode}
 use Rattle.av_base.specs.declared.mode.Mode.TheVariants.{FailClosed, FailOpen}
+use Rattle.av_base.specs.declared.port.Port.TheVariants.{One}
+use Rattle.av_base.specs.declared.port.Port.{Port}
 use Rattle.av_filter.proofs.EachLemmas.{each-append, each-map, each_mapped}
 use Rattle.av_filter.specs.Again.{again}
 use Rattle.av_filter_table.specs.Asking.{again_cause, asks, ended, is_held, is_spent}
 use Rattle.av_filter.specs.Conduct.{filter_refusal, filter_step}
-use Rattle.av_filter.specs.Conduct as filter_events
 use Rattle.av_filter_table.specs.declared.pended.Pended.{Pended}
 use Rattle.av_filter_table.specs.declared.question.Question.{Question}
 use Rattle.av_filter.specs.Reaction.{Reaction}
 use Rattle.av_filter_table.specs.Answering.{present_bytes, present_generation, refused_now}
-use Rattle.av_filter.specs.Receiving.{greeted, reads, receives, replies}
+use Rattle.av_filter.specs.Receiving.{greeted, reads, receives, receives_at, replies}
 use Rattle.av_filter_table.specs.Table.{Table, sequence_left}
-use Rattle.av_frame.specs.declared.message.Body.{Body}
+use Rattle.av_frame.specs.Message.{Letter}
 use Rattle.av_frame.specs.declared.message.Body.TheVariants.{Hello, Read, Reply, Updated}
+use Rattle.av_frame.specs.declared.message.Body.{Body}
 use Rattle.av_frame.specs.declared.outcome.Outcome.{Outcome}
 use Rattle.av_frame.specs.declared.outcome.Outcome.TheVariants.{Judged, Failed}
 use Rattle.av_pend.specs.Pend.{refused}
 use Rattle.av_pend.specs.Waiting.{Waiting}
 use Rattle.av_service.specs.Conduct.{connect_refusal, service_step}
-use Rattle.av_service.specs.Conduct as service_events
 use Rattle.av_service.specs.declared.fault.ConnectFault.{ConnectFault}
 use Rattle.av_service.specs.Work.{WorkState}
 use Rattle.av_sigset.specs.Catalogue.{latest}
 use Rattle.av_sigset.specs.declared.signature.Pattern.{Pattern}
 use Rattle.av_store.specs.Store.{Store}
-use Rattle.av_world.proofs.FitLemmas.{UpFits}
+use Rattle.av_world.proofs.FitLemmas.{UpBody, UpFits}
 use Rattle.av_world.proofs.ProgressLemmas.{Steady, steady, steady_onward}
 use Rattle.av_world.proofs.PublishLemmas.{latest_same}
 use Rattle.av_world.proofs.SceneLemmas.{Falling}
@@ -42,7 +43,9 @@ use Rattle.av_world.specs.declared.given.Given.{Given}
 use Rattle.av_world.specs.Past.{past}
 use Rattle.av_world.specs.Progress.{GaveNoVerdict, IsCarrying, IsNoVerdict, onward}
 use Rattle.av_sigset.specs.Publication.{Publication, latest_as, publication_of, published_as}
-use Rattle.av_world.specs.World.{WorldState, after, back_at, connected, done, down_frame, given_at, member, reacted, responded, start, step_of, up_frame, work_at, work_event, world_of, world_or}
+use Rattle.av_world.specs.World.{WorldState, after, back_at, connected, done, down_frame, given_at, member, reacted, responded, start, step_of, up_frame, work_at, work_event, world_of, world_or, desk_of}
+use Rattle.av_filter.specs.Conduct as filter_events
+use Rattle.av_service.specs.Conduct as service_events
 
 -- what was published has at most the latest version
 published_below : (sets : List Publication) (v : ℕ) (ps : List Pattern) → Falling sets → published_as sets v ≡ Some ps → v ≤ latest_as sets
@@ -67,7 +70,7 @@ record Withholds (t : Table) (r : Reaction) : Type 0 where
 unsettled_cause : (p : Pended) → again_cause p ≢ Infected
 unsettled_cause p = (elim (is_spent p) as (λ b. (if b then Unsettled else Busy) ≢ Infected) [ true ↦ (λ e. absurd (cc (e))) | false ↦ (λ e. absurd (cc (e))) ])
 
-again_withholds : (t : Table) (v : Store) (q : Question) (early : List Body) → Withholds t (again t v q early)
+again_withholds : (t : Table) (v : Store) (q : Question) (early : List Letter) → Withholds t (again t v q early)
 unfolding again asks ended
 again_withholds t v q early =
     cond_both (list_any (is_held q.id) t.pended && sequence_left t) _ _ (Withholds t)
@@ -105,13 +108,13 @@ module _ (t : Table) (v : Store) where
   MayHear (Reply id outcome) = IsBelow outcome
   MayHear _ = Unit {0}
 
-  receives_withholds : (m : Body) → MayHear m → Withholds t (receives t v m)
-  unfolding receives
-  receives_withholds (Hello number version) h = greets number version
-  receives_withholds (Updated version) h = record { floor = omega arith; answers = tt }
-  receives_withholds (Read id offset count) h = reads_on id offset count _
-  receives_withholds (Reply id outcome) h = hears outcome _ h
-  receives_withholds _ h = record { floor = omega arith; answers = tt }
+  receives_withholds : (port : Port) (m : Body) → MayHear m → Withholds t (receives_at t v port m)
+  unfolding receives_at
+  receives_withholds One (Hello number version) h = greets number version
+  receives_withholds One (Updated version) h = record { floor = omega arith; answers = tt }
+  receives_withholds One (Read id offset count) h = reads_on id offset count _
+  receives_withholds One (Reply id outcome) h = hears outcome _ h
+  receives_withholds port _ h = record { floor = omega arith; answers = tt }
 
 -- ---- worlds
 
@@ -130,17 +133,17 @@ nothing_given w x h sets table answers = record {
 
 module _ (mode : Mode) (w : WorldState) (s : Steady mode w) (h : IsAbove w) where
   -- what was sent up tells no later version
-  may_hear : (m : Body) → UpFits (past w.history) w.down m → MayHear w.table w.volume m
+  may_hear : (m : Body) → UpBody (past w.history) w.down m → MayHear w.table w.volume m
   may_hear (Reply id (Judged version r)) fits =
       let below : version ≤ latest_as (past w.history).sets = published_below (past w.history).sets version fits.right.patterns s.sound.lawful.falling fits.right.published in
       omega (arith, below, h, latest_same w.sets, ap latest_as s.sound.sets)
   may_hear (Reply id (Failed why)) fits = tt
   may_hear _ fits = tt
 
-  comes_up : (k : ℕ) (m : Body) → UpFits (past w.history) w.down m → Refrains w (reacted w (Up k) (filter_step w.table w.volume (filter_events.Receives m)))
+  comes_up : (k : ℕ) (m : Letter) → UpFits (past w.history) w.down m → Refrains w (reacted w (Up k) (filter_step w.table w.volume (filter_events.Receives m)))
   unfolding filter_step
   comes_up k m fits =
-      let r : Withholds w.table (receives w.table w.volume m) = receives_withholds w.table w.volume m (may_hear m fits) in
+      let r : Withholds w.table (receives w.table w.volume m) = receives_withholds w.table w.volume m.port m.body (may_hear m.body fits) in
       record {
         above = omega (arith, h, r.floor);
         gave = record {
@@ -150,30 +153,30 @@ module _ (mode : Mode) (w : WorldState) (s : Steady mode w) (h : IsAbove w) wher
         };
       }
 
-  by_up : (k : ℕ) (o : Option Body) → member w.up k ≡ o → Refrains w (world_or w (up_frame w (Up k) o))
+  by_up : (k : ℕ) (o : Option Letter) → member w.up k ≡ o → Refrains w (world_or w (up_frame w (Up k) o))
   unfolding filter_refusal
   by_up k None at = nothing_given w w h refl refl refl
   by_up k (Some m) at = comes_up k m (member_each w.up k m s.sound.lawful.up at)
     where
-      get_each : (ms : List Body) (k : ℕ) (m : Body) → Each (UpFits (past w.history) w.down) ms → slice_get ms k ≡ Some m → UpFits (past w.history) w.down m
+      get_each : (ms : List Letter) (k : ℕ) (m : Letter) → Each (UpFits (past w.history) w.down) ms → slice_get ms k ≡ Some m → UpFits (past w.history) w.down m
       get_each [] k m all at = absurd (cc (at))
       get_each (x ∷ ms) zero m all at = let same : x ≡ m = cc (at) in subst (UpFits (past w.history) w.down) same all.0
       get_each (x ∷ ms) (suc k) m all at = get_each ms k m all.1 at
 
-      member_each : (ms : List Body) (k : ℕ) (m : Body) → Each (UpFits (past w.history) w.down) ms → member ms k ≡ Some m → UpFits (past w.history) w.down m
+      member_each : (ms : List Letter) (k : ℕ) (m : Letter) → Each (UpFits (past w.history) w.down) ms → member ms k ≡ Some m → UpFits (past w.history) w.down m
       member_each ms zero m all at = absurd (cc (at))
       member_each ms (suc k) m all at = get_each ms k m all at
 
-  by_down : (k : ℕ) (o : Option Body) → Refrains w (world_or w (down_frame w (Down k) o))
+  by_down : (k : ℕ) (o : Option Letter) → Refrains w (world_or w (down_frame w (Down k) o))
   by_down k None = nothing_given w w h refl refl refl
-  by_down k (Some m) = nothing_given w (responded w (Down k) (service_step w.desk (service_events.Receives m))) h refl refl refl
+  by_down k (Some m) = nothing_given w (responded w (Down k) One (service_step (desk_of w One) (service_events.Receives m))) h refl refl refl
 
   by_work : (k : ℕ) (o : Option WorkState) → Refrains w (world_or w (work_event w (Run k) k o))
   by_work k None = nothing_given w w h refl refl refl
-  by_work k (Some x) = nothing_given w (responded (back_at w k) (Run k) (service_step w.desk (done (map publication_of w.sets) x))) h refl refl refl
+  by_work k (Some x) = nothing_given w (responded (back_at w k) (Run k) One (service_step (desk_of w One) (done (map publication_of w.sets) x))) h refl refl refl
 
   by_connection : (o : Option ConnectFault) → Refrains w (world_or w (connected w Connect o))
-  by_connection None = nothing_given w (responded w Connect (service_step w.desk service_events.Connects)) h refl refl refl
+  by_connection None = nothing_given w (responded w Connect One (service_step (desk_of w One) service_events.Connects)) h refl refl refl
   by_connection (Some f) = nothing_given w w h refl refl refl
 
   one_event : (e : Event) → IsCarrying e → Refrains w (after w e)
@@ -181,8 +184,8 @@ module _ (mode : Mode) (w : WorldState) (s : Steady mode w) (h : IsAbove w) wher
   one_event (Down k) c = by_down k (member w.down k)
   one_event (Up k) c = by_up k (member w.up k) refl
   one_event (Run k) c = by_work k (work_at w.works k)
-  one_event Connect c = by_connection (connect_refusal w.desk)
-  one_event DisconnectService c = nothing_given w (responded w DisconnectService (service_step w.desk service_events.Disconnects)) h refl refl refl
+  one_event Connect c = by_connection (connect_refusal (desk_of w One))
+  one_event DisconnectService c = nothing_given w (responded w DisconnectService One (service_step (desk_of w One) service_events.Disconnects)) h refl refl refl
   one_event (Publish v ps) c = absurd c
   one_event (Create n) c = absurd c
   one_event (Write n o b) c = absurd c

@@ -6,25 +6,28 @@ use Rattle.std.specs.Option.{option_or}
 use Rattle.av_base.specs.declared.message_id.MessageId.{MessageId}
 use Rattle.av_base.specs.declared.mode.Mode.{Mode}
 use Rattle.av_base.specs.MessageId.{same_id}
+use Rattle.av_base.specs.declared.port.Port.TheVariants.{One}
+use Rattle.av_base.specs.declared.port.Port.{Port}
 use Rattle.av_filter.proofs.FitLemmas.{event_fits, mounted_fits}
 use Rattle.av_filter.proofs.QuestionLemmas.{same_id-true}
 use Rattle.av_filter.specs.Conduct.{filter_refusal, filter_step}
-use Rattle.av_filter.specs.Conduct as filter_events
 use Rattle.av_filter.specs.Fit.{Fits}
-use Rattle.av_frame.specs.declared.message.Body.{Body}
+use Rattle.av_frame.specs.Message.{Letter, via}
 use Rattle.av_frame.specs.declared.message.Body.TheVariants.{Scan}
+use Rattle.av_frame.specs.declared.message.Body.{Body}
 use Rattle.av_service.specs.Conduct.{connect_refusal, service_step}
-use Rattle.av_service.specs.Conduct as service_events
 use Rattle.av_service.specs.Work.{WorkState}
 use Rattle.av_world.proofs.SoundLemmas.{Sound, sound_filter, sound_service, sound_publish, sound_work, sound_start}
 use Rattle.av_world.proofs.StepLemmas.{Preserves, history_keeps, step_keeps}
 use Rattle.av_world.specs.declared.event.Event.{Event}
 use Rattle.av_world.specs.declared.event.Event.TheVariants.{Publish, Create, Write, Cut, Remove, Open, Cleanup, Down, Up, Run, Timeout, Connect, DisconnectFilter, DisconnectService, RestartFilter, RestartService}
-use Rattle.av_world.specs.Held.{Asked, asked}
+use Rattle.av_world.specs.Held.{Asked, asked, asked_at}
 use Rattle.av_world.specs.Past.{past}
 use Rattle.av_world.specs.Progress.{IsCarrying, before_scan, onward}
 use Rattle.av_sigset.specs.Publication.{publication_of}
-use Rattle.av_world.specs.World.{WorldState, after, back_at, connected, done, down_frame, member, reacted, responded, start, step_of, up_frame, work_at, work_event, world_of, world_or}
+use Rattle.av_world.specs.World.{WorldState, after, back_at, connected, done, down_frame, member, reacted, responded, start, step_of, up_frame, work_at, work_event, world_of, world_or, desk_of}
+use Rattle.av_filter.specs.Conduct as filter_events
+use Rattle.av_service.specs.Conduct as service_events
 
 -- ---- lists
 
@@ -47,23 +50,23 @@ unfolding onward
 onward-append [] ys w = refl
 onward-append (x ∷ xs) ys w = onward-append xs ys (after w x)
 
-pub down_step : (w : WorldState) (k : ℕ) (m : Body) → member w.down k ≡ Some m → after w (Down k) ≡ responded w (Down k) (service_step w.desk (service_events.Receives m))
+pub down_step : (w : WorldState) (k : ℕ) (m : Letter) → member w.down k ≡ Some m → after w (Down k) ≡ responded w (Down k) One (service_step (desk_of w One) (service_events.Receives m))
 unfolding step_of
 down_step w k m at = ap (λ o. world_or w (down_frame w (Down k) o)) at
 
-pub up_step : (w : WorldState) (k : ℕ) (m : Body) → member w.up k ≡ Some m → after w (Up k) ≡ reacted w (Up k) (filter_step w.table w.volume (filter_events.Receives m))
+pub up_step : (w : WorldState) (k : ℕ) (m : Letter) → member w.up k ≡ Some m → after w (Up k) ≡ reacted w (Up k) (filter_step w.table w.volume (filter_events.Receives m))
 unfolding step_of filter_refusal
 up_step w k m at = ap (λ o. world_or w (up_frame w (Up k) o)) at
 
-pub run_step : (w : WorldState) (k : ℕ) (x : WorkState) → work_at w.works k ≡ Some x → after w (Run k) ≡ responded (back_at w k) (Run k) (service_step w.desk (done (map publication_of w.sets) x))
+pub run_step : (w : WorldState) (k : ℕ) (x : WorkState) → work_at w.works k ≡ Some x → after w (Run k) ≡ responded (back_at w k) (Run k) One (service_step (desk_of w One) (done (map publication_of w.sets) x))
 unfolding step_of
 run_step w k x at = ap (λ o. world_or w (work_event w (Run k) k o)) at
 
-pub connect_step : (w : WorldState) → connect_refusal w.desk ≡ None → after w Connect ≡ responded w Connect (service_step w.desk service_events.Connects)
+pub connect_step : (w : WorldState) → connect_refusal (desk_of w One) ≡ None → after w Connect ≡ responded w Connect One (service_step (desk_of w One) service_events.Connects)
 unfolding step_of
 connect_step w at = ap (λ o. world_or w (connected w Connect o)) at
 
-pub disconnect_step : (w : WorldState) → after w DisconnectService ≡ responded w DisconnectService (service_step w.desk service_events.Disconnects)
+pub disconnect_step : (w : WorldState) → after w DisconnectService ≡ responded w DisconnectService One (service_step (desk_of w One) service_events.Disconnects)
 unfolding step_of
 disconnect_step w = refl
 
@@ -77,7 +80,7 @@ pub record Steady (mode : Mode) (w : WorldState) : Type 0 where
 steady_keeps : (mode : Mode) (w : WorldState) → Steady mode w → Preserves (λ e. Steady mode) w
 steady_keeps mode w s = record {
   filter = λ e f is ok. record { sound = sound_filter mode w s.sound e f is ok; fits = event_fits w.table w.volume f s.fits ok };
-  service = λ e x is. record { sound = sound_service mode w s.sound e x is; fits = s.fits };
+  service = λ e port x is. record { sound = sound_service mode w s.sound e port x is; fits = s.fits };
   publish = λ v ps set ok. record { sound = sound_publish mode w s.sound v ps set ok; fits = s.fits };
   work = λ k x at. record { sound = sound_work mode w s.sound k x at; fits = s.fits };
 }
@@ -115,23 +118,30 @@ past_kept (e ∷ es) h all = ap past (back_onto (e ∷ []) es h) ∙ (past_kept 
 
 -- ---- where the scan of a question stands
 
-abbrev pub the_asked : ℕ → ℕ → ℕ → Asked
-the_asked s g l = record { stream = s; generation = g; length = l }
+abbrev asked_with : Port → ℕ → ℕ → ℕ → Asked
+asked_with port s g l = record { port = port; stream = s; generation = g; length = l }
 
-pub scan_there : (ms : List Body) (id : MessageId) (s g l : ℕ) → asked ms id ≡ Some (record { stream = s; generation = g; length = l }) → slice_get ms (before_scan id ms) ≡ Some (Scan id s g l)
+abbrev pub the_asked : ℕ → ℕ → ℕ → Asked
+the_asked s g l = asked_with One s g l
+
+pub scan_there : (ms : List Letter) (id : MessageId) (s g l : ℕ) → asked ms id ≡ Some (the_asked s g l) → slice_get ms (before_scan id ms) ≡ Some (via One (Scan id s g l))
 unfolding asked before_scan
 scan_there [] id s g l h = absurd (cc (h))
-scan_there (Scan i s' g' l' ∷ ms) id s g l h =
-    let go : (b : Bool) → same_id i id ≡ b → option_or (if b then Some (record { stream = s'; generation = g'; length = l' }) else None) (asked ms id) ≡ Some (record { stream = s; generation = g; length = l })
-    → slice_get (Scan i s' g' l' ∷ ms) (if is_some (if b then Some (the_asked s' g' l') else None) then 0 else suc (before_scan id ms)) ≡ Some (Scan id s g l) = elim [
-      | true ↦ λ e k.
-          let same : the_asked s' g' l' ≡ the_asked s g l = cc (k) in
-          let it : i ≡ id = same_id-true i id e in
-          λ n. Some (Scan (it n) ((same n).stream) ((same n).generation) ((same n).length))
-      | false ↦ λ e k. scan_there ms id s g l k
-    ] in
-    go (same_id i id) refl h
-scan_there (_ ∷ ms) id s g l h = scan_there ms id s g l h
+scan_there (m ∷ ms) id s g l h = here (scan_there ms id s g l) m.port m.body h
+  where
+    here : (asked ms id ≡ Some (the_asked s g l) → slice_get ms (before_scan id ms) ≡ Some (via One (Scan id s g l))) → (port : Port) (b : Body) → option_or (asked_at id port b) (asked ms id) ≡ Some (the_asked s g l)
+        → slice_get (via port b ∷ ms) (if is_some (asked_at id port b) then 0 else suc (before_scan id ms)) ≡ Some (via One (Scan id s g l))
+    here later port (Scan i s' g' l') h =
+        let go : (b : Bool) → same_id i id ≡ b → option_or (if b then Some (asked_with port s' g' l') else None) (asked ms id) ≡ Some (the_asked s g l)
+        → slice_get (via port (Scan i s' g' l') ∷ ms) (if is_some (if b then Some (asked_with port s' g' l') else None) then 0 else suc (before_scan id ms)) ≡ Some (via One (Scan id s g l)) = elim [
+          | true ↦ λ e k.
+              let same : asked_with port s' g' l' ≡ the_asked s g l = cc (k) in
+              let it : i ≡ id = same_id-true i id e in
+              λ n. Some (via ((same n).port) (Scan (it n) ((same n).stream) ((same n).generation) ((same n).length)))
+          | false ↦ λ e k. later k
+        ] in
+        go (same_id i id) refl h
+    here later port _ h = later h
 
 -- events in order make the history longer by themselves
 pub onward_is : (w : WorldState) (es h : List Event) → onward es (world_of w h) ≡ world_of w (reverse es ++ h)

@@ -1,44 +1,38 @@
 -- From every world that can be reached, what waits can be finished.
-use Rattle.std.proofs.Common.{◌*◌, ◌≡◌, ℕ, zero, suc, ◌+◌, ◌-◌, ◌≤◌, false, not, ◌&&◌, List, [], ◌∷◌, ◌++◌, length, map, reverse, Option, Some, None, ◌==◌, nat_le, nat_lt, min, refl, sym, ap, ◌∙◌, subst, arith, eq-eqb, append-nil}
+use Rattle.std.proofs.Common.{◌*◌, ◌≡◌, ℕ, zero, suc, ◌+◌, ◌≤◌, false, not, ◌&&◌, List, [], ◌∷◌, ◌++◌, length, map, reverse, Option, Some, None, ◌==◌, min, refl, sym, ap, ◌∙◌, subst, arith, eq-eqb, append-nil}
 use Rattle.std.proofs.lemmas.Bool.{and_parts, cond_both, cond-true, cond-false, true≢false, ne_eqb}
-use Rattle.std.specs.List.{AllByRecursion as Each, list_any}
+use Rattle.std.specs.List.{AllByRecursion as Each}
 use Rattle.av_base.specs.declared.limits.LimitValues.{LimitValues}
-use Rattle.av_base.specs.declared.message_id.MessageId.{MessageId}
 use Rattle.av_base.specs.declared.mode.Mode.{Mode}
+use Rattle.av_base.specs.declared.port.Port.{Port}
+use Rattle.av_base.specs.declared.port.Port.TheVariants.{One}
 use Rattle.av_base.specs.declared.verdict.Verdict.{Verdict}
 use Rattle.av_cache.specs.declared.entry.Entry.{Entry}
 use Rattle.av_filter.proofs.EachLemmas.{each_weaker}
-use Rattle.av_filter.specs.Again.{again}
-use Rattle.av_filter_table.specs.Asking.{asks, ended, is_held}
 use Rattle.av_filter.specs.Changing.{changes, cleaned, removed, rewritten}
 use Rattle.av_filter.specs.Conduct.{FilterEvent, Opens, Changes, CleansUp, Receives, TimesOut, Disconnects, Restarts, disconnects, filter_step, restarts, times_out}
 use Rattle.av_filter_table.specs.declared.pended.Pended.{Pended}
 use Rattle.av_filter_table.specs.declared.question.Question.{Question}
 use Rattle.av_filter.specs.Opening.{open_asked, open_cached, open_found, open_judged, opened, taken}
 use Rattle.av_filter.specs.Reaction.{Reaction}
-use Rattle.av_filter_table.specs.Answering.{present_bytes, judged, present_generation}
-use Rattle.av_filter.specs.Receiving.{greeted, reads, receives, replies}
-use Rattle.av_filter_table.specs.Table.{Table, can_ask, context_of, has_room, is_modified, raised, sequence_left}
-use Rattle.av_frame.specs.declared.message.Body.{Body}
-use Rattle.av_frame.specs.declared.message.Body.TheVariants.{Hello, Read, Reply, Updated, Scan, Chunk, NoChunk, Abort}
-use Rattle.av_frame.specs.declared.outcome.Outcome.{Outcome}
-use Rattle.av_frame.specs.declared.outcome.Outcome.TheVariants.{Judged, Failed}
-use Rattle.av_match.specs.Scanning.{ScanState}
+use Rattle.av_filter_table.specs.Answering.{judged, present_generation}
+use Rattle.av_filter_table.specs.Table.{Table, can_ask, context_of, has_room, is_modified, raised}
+use Rattle.av_frame.specs.Message.{Letter}
 use Rattle.av_service.proofs.LendLemmas.{lends}
 use Rattle.av_service.specs.Conduct.{ServiceEvent, Connects, Publishes, connect_refusal, service_step}
 use Rattle.av_service.specs.Conduct as service_events
 use Rattle.av_service.specs.declared.fault.ConnectFault.TheVariants.{NoSignatures}
-use Rattle.av_service.specs.declared.job.Job.{Job}
-use Rattle.av_service.specs.Desk.{Desk, loan_count}
+use Rattle.av_service.specs.Desk.{Desk}
 use Rattle.av_service.specs.Lending.{finished}
 use Rattle.av_service.specs.Response.{Response}
-use Rattle.av_service.specs.Scanning.{awaits, chunk_found, dropped, most_leases, receives as service_receives, scan_cached, scan_found}
+use Rattle.av_service.specs.Scanning.{most_leases}
 use Rattle.av_service.specs.Sound.{version_after}
 use Rattle.av_sigset.specs.Catalogue.{latest}
 use Rattle.av_store.specs.declared.stream.Stream.{Stream}
-use Rattle.av_store.specs.Files.{Change, Create, Write, Cut, Remove}
+use Rattle.av_store.specs.Files.{Create, Write, Cut, Remove}
 use Rattle.av_store.specs.Store.{Store}
 use Rattle.av_world.proofs.FinishLemmas.{AllSettled, Idle, all_settled, none_waits}
+use Rattle.av_world.proofs.LeaveLemmas.{filter_leaves, service_leaves}
 use Rattle.av_world.proofs.ProgressLemmas.{Steady, back_onto, connect_step, disconnect_step, onward-append, past_kept, steady, steady_onward}
 use Rattle.av_world.proofs.PublishLemmas.{is_new, made_of}
 use Rattle.av_world.proofs.StepLemmas.{Preserves, history_keeps}
@@ -51,97 +45,7 @@ use Rattle.av_world.specs.Progress.{CanFinish, Finishes, GetsVerdict, IsCarrying
 use Rattle.av_sigset.specs.Publication.{Publication, publication_of}
 use Rattle.av_world.specs.Safety.{Among}
 use Rattle.av_service.specs.Audit.{IsNew}
-use Rattle.av_world.specs.World.{WorldState, after, back_at, done, given_at, member, responded, start, world_of}
-
--- ---- the filter's limits stay
-
-abbrev KeepsLimits : Table → Reaction → Type 0
-KeepsLimits t r = r.table.limits ≡ t.limits
-
-module _ (t : Table) (v : Store) where
-  again_limits : (q : Question) (early : List Body) → KeepsLimits t (again t v q early)
-  unfolding again asks ended
-  again_limits q early = cond_both (list_any (is_held q.id) t.pended && sequence_left t) _ _ (KeepsLimits t) (λ e. refl) (λ e. refl)
-
-  cached_limits : (s least : ℕ) (x : Stream) (o : Option Entry) → KeepsLimits t (open_cached t v s least x o)
-  unfolding open_cached asks
-  cached_limits s least x (Some e) = refl
-  cached_limits s least x None = cond_both (not (has_room t)) _ _ (KeepsLimits t) (λ e. refl) (λ e. cond_both (not t.connected) _ _ (KeepsLimits t) (λ e. refl) (λ e. cond_both (not (can_ask t)) _ _ (KeepsLimits t) (λ e. refl) (λ e. refl)))
-
-  asked_limits : (s least : ℕ) (x : Stream) (o : Option Question) → KeepsLimits t (open_asked t v s least x o)
-  unfolding open_asked
-  asked_limits s least x (Some q) = cond_both (has_room t) _ _ (KeepsLimits t) (λ e. refl) (λ e. refl)
-  asked_limits s least x None = cached_limits s least x _
-
-  judged_limits : (s least : ℕ) (x : Stream) (o : Option Verdict) → KeepsLimits t (open_judged t v s least x o)
-  unfolding open_judged
-  judged_limits s least x (Some r) = refl
-  judged_limits s least x None = asked_limits s least x _
-
-  found_limits : (s least : ℕ) (o : Option Stream) → KeepsLimits t (open_found t v s least o)
-  unfolding open_found
-  found_limits s least None = refl
-  found_limits s least (Some x) = judged_limits s least x _
-
-  written_limits : (s : ℕ) (o : Option Question) → KeepsLimits t (rewritten t v s o)
-  unfolding rewritten
-  written_limits s None = refl
-  written_limits s (Some q) = again_limits q _
-
-  removed_limits : (s : ℕ) (o : Option Question) → KeepsLimits t (removed t v s o)
-  unfolding removed ended
-  removed_limits s None = refl
-  removed_limits s (Some q) = refl
-
-  cleaned_limits : (s : ℕ) (o : Option Stream) → KeepsLimits t (cleaned t v s o)
-  unfolding cleaned asks
-  cleaned_limits s None = refl
-  cleaned_limits s (Some x) = cond_both (is_modified (context_of t.contexts s) && can_ask t) _ _ (KeepsLimits t) (λ e. refl) (λ e. refl)
-
-  greeted_limits : (number version : ℕ) → KeepsLimits t (greeted t v number version)
-  unfolding greeted
-  greeted_limits number version = cond_both (not (number == v.number)) _ _ (KeepsLimits t) (λ e. refl) (λ e. cond_both t.connected _ _ (KeepsLimits t) (λ e. refl) (λ e. cond_both (nat_lt version t.floor) _ _ (KeepsLimits t) (λ e. refl) (λ e. refl)))
-
-  reads_limits : (id : MessageId) (offset count : ℕ) (o : Option Question) → KeepsLimits t (reads t v id offset count o)
-  unfolding reads
-  reads_limits id offset count None = refl
-  reads_limits id offset count (Some q) = cond_both (nat_le (length (present_bytes v q.stream)) offset) _ _ (KeepsLimits t) (λ e. refl) (λ e. refl)
-
-  replies_limits : (outcome : Outcome) (o : Option Question) → KeepsLimits t (replies t v outcome o)
-  unfolding replies ended
-  replies_limits outcome None = refl
-  replies_limits (Failed why) (Some q) = refl
-  replies_limits (Judged version r) (Some q) = cond_both (nat_lt version t.floor) _ _ (KeepsLimits t) (λ e. again_limits q []) (λ e. refl)
-
-  receives_limits : (m : Body) → KeepsLimits t (receives t v m)
-  unfolding receives
-  receives_limits (Hello number version) = greeted_limits number version
-  receives_limits (Updated version) = refl
-  receives_limits (Read id offset count) = reads_limits id offset count _
-  receives_limits (Reply id outcome) = replies_limits outcome _
-  receives_limits _ = refl
-
-  timed_limits : (o : Option Question) → KeepsLimits t (times_out t v o)
-  unfolding times_out ended
-  timed_limits None = refl
-  timed_limits (Some q) = refl
-
-changes_limits : (t : Table) (v : Store) (c : Change) → KeepsLimits t (changes t v c)
-unfolding changes
-changes_limits t v (Create name) = refl
-changes_limits t v (Write s o b) = written_limits t _ s _
-changes_limits t v (Cut s n) = written_limits t _ s _
-changes_limits t v (Remove s) = removed_limits t _ s _
-
-filter_limits : (t : Table) (v : Store) (f : FilterEvent) → KeepsLimits t (filter_step t v f)
-unfolding filter_step opened disconnects restarts
-filter_limits t v (Opens s least) = found_limits (raised least t) (taken v) s least _
-filter_limits t v (Changes c) = changes_limits t v c
-filter_limits t v (CleansUp s) = cleaned_limits t v s _
-filter_limits t v (Receives m) = receives_limits t v m
-filter_limits t v (TimesOut seq) = timed_limits t v _
-filter_limits t v Disconnects = refl
-filter_limits t v Restarts = refl
+use Rattle.av_world.specs.World.{WorldState, after, back_at, desk_of, done, given_at, member, responded, start, world_of}
 
 -- ---- before anything was published
 
@@ -199,54 +103,7 @@ filter_unused t v f h off none =
     let same : unused t ≡ t = λ i. record t { connected = (sym off) i; questions = (sym none) i } in
     subst (λ k. IsUnused (filter_step k v f)) same (step_unused t v f h)
 
--- ---- the service's limits stay, and a service that isn't connected sends nothing
-
-abbrev KeepsDeskLimits : Desk → Response → Type 0
-KeepsDeskLimits d r = r.desk.limits ≡ d.limits
-
-module _ (d : Desk) where
-  scan_cached_limits : (j : Job) (o : Option Entry) → KeepsDeskLimits d (scan_cached d j o)
-  unfolding scan_cached
-  scan_cached_limits j (Some e) = refl
-  scan_cached_limits j None = cond_both (nat_le d.limits.jobs (length d.jobs)) _ _ (KeepsDeskLimits d) (λ e. refl) (λ e. cond_both (j.length == 0) _ _ (KeepsDeskLimits d) (λ e. refl) (λ e. refl))
-
-  scan_found_limits : (j : Job) (o : Option Job) → KeepsDeskLimits d (scan_found d j o)
-  unfolding scan_found
-  scan_found_limits j (Some k) = refl
-  scan_found_limits j None = scan_cached_limits j _
-
-  chunk_limits : (offset : ℕ) (bytes : List ℕ) (o : Option Job) → KeepsDeskLimits d (chunk_found d offset bytes o)
-  unfolding chunk_found
-  chunk_limits offset bytes None = refl
-  chunk_limits offset bytes (Some j) = cond_both (not (awaits j offset && nat_lt d.last_lease most_leases)) _ _ (KeepsDeskLimits d) (λ e. refl) (λ e. cond_both (nat_lt (j.length - offset) (length bytes)) _ _ (KeepsDeskLimits d) (λ e. refl) (λ e. refl))
-
-  dropped_limits : (o : Option Job) → KeepsDeskLimits d (dropped d o)
-  unfolding dropped
-  dropped_limits None = refl
-  dropped_limits (Some j) = refl
-
-  message_limits : (m : Body) → KeepsDeskLimits d (service_receives d m)
-  unfolding service_receives
-  message_limits (Scan id s g l) = scan_found_limits _ _
-  message_limits (Chunk id offset bytes) = chunk_limits offset bytes _
-  message_limits (NoChunk id offset cause) = dropped_limits _
-  message_limits (Abort id) = dropped_limits _
-  message_limits _ = refl
-
-  finished_limits : (scan : ScanState) (hit : Option Verdict) (o : Option Job) → KeepsDeskLimits d (finished d scan hit o)
-  unfolding finished
-  finished_limits scan hit None = refl
-  finished_limits scan (Some r) (Some j) = refl
-  finished_limits scan None (Some j) = cond_both (j.offset + loan_count j.loan == j.length) _ _ (KeepsDeskLimits d) (λ e. refl) (λ e. refl)
-
-  service_limits : (e : ServiceEvent) → KeepsDeskLimits d (service_step d e)
-  unfolding service_step
-  service_limits Connects = refl
-  service_limits service_events.Disconnects = refl
-  service_limits (service_events.Receives m) = cond_both d.connected _ _ (KeepsDeskLimits d) (λ e. message_limits m) (λ e. refl)
-  service_limits (service_events.Finishes lease scan hit) = finished_limits scan hit _
-  service_limits (Publishes version) = cond_both d.connected _ _ (KeepsDeskLimits d) (λ e. refl) (λ e. refl)
-  service_limits (service_events.Restarts latest) = refl
+-- ---- a service that isn't connected sends nothing
 
 abbrev resting : Desk → Desk
 resting d = record d { connected = false; jobs = [] }
@@ -275,16 +132,16 @@ service_resting d e h off none =
 -- nothing was sent up, and neither side is connected
 record IsUntouched (w : WorldState) : Type 0 where
   pub up : w.up ≡ []
-  pub service : w.desk.connected ≡ false
-  pub jobs : w.desk.jobs ≡ []
+  pub service : (desk_of w One).connected ≡ false
+  pub jobs : (desk_of w One).jobs ≡ []
   pub filter : w.table.connected ≡ false
   pub questions : w.table.questions ≡ []
 
 -- both sides have the world's limits, the service has the latest version, and nothing begins before one is published
 record Standing (limits : LimitValues) (w : WorldState) : Type 0 where
   pub table : w.table.limits ≡ limits
-  pub desk : w.desk.limits ≡ limits
-  pub version : w.desk.version ≡ latest w.sets
+  pub desk : (desk_of w One).limits ≡ limits
+  pub version : (desk_of w One).version ≡ latest w.sets
   pub before : latest w.sets ≡ 0 → IsUntouched w
 
 no_message : (w : WorldState) (e : Event) (f : FilterEvent) → IsFilterEvent w e f → w.up ≡ [] → IsNoMessage f
@@ -295,18 +152,18 @@ no_message w _ _ is none = (elim is as (λ e f i. IsNoMessage f) [
   | IsFilterEvent.removes name s n ↦ tt
   | IsFilterEvent.opens name least ↦ tt
   | IsFilterEvent.cleans name s n ↦ tt
-  | IsFilterEvent.comes_up k m h ↦ no_member k m (subst (λ (ms : List Body). member ms k ≡ Some m) none h)
+  | IsFilterEvent.comes_up k m h ↦ no_member k m (subst (λ (ms : List Letter). member ms k ≡ Some m) none h)
   | IsFilterEvent.times_out seq ↦ tt
   | IsFilterEvent.disconnects ↦ tt
   | IsFilterEvent.restarts ↦ tt
 ])
   where
-    no_member : (k : ℕ) (m : Body) → member [] k ≡ Some m → ⊥
+    no_member : (k : ℕ) (m : Letter) → member [] k ≡ Some m → ⊥
     no_member zero m h = absurd (cc (h))
     no_member (suc k) m h = absurd (cc (h))
 
-version_kept : (w : WorldState) (e : Event) (x : ServiceEvent) → IsServiceEvent w e x → w.desk.version ≡ latest w.sets → version_after w.desk.version x ≡ latest w.sets
-version_kept w _ _ is h = elim is as (λ e x i. version_after w.desk.version x ≡ latest w.sets) [
+version_kept : (w : WorldState) (e : Event) (port : Port) (x : ServiceEvent) → IsServiceEvent w e port x → (desk_of w port).version ≡ latest w.sets → version_after (desk_of w port).version x ≡ latest w.sets
+version_kept w _ _ _ is h = elim is as (λ e p x i. version_after (desk_of w p).version x ≡ latest w.sets) [
   | IsServiceEvent.connects ok ↦ h
   | IsServiceEvent.comes_down k m at ↦ h
   | IsServiceEvent.disconnects ↦ h
@@ -314,10 +171,10 @@ version_kept w _ _ is h = elim is as (λ e x i. version_after w.desk.version x �
 ]
 
 -- without a version there is no connection
-no_connection : (w : WorldState) (e : Event) (x : ServiceEvent) → IsServiceEvent w e x → w.desk.version ≡ 0 → x ≡ Connects → ⊥
-no_connection w _ _ is none = elim is as (λ e x i. x ≡ Connects → ⊥) [
+no_connection : (w : WorldState) (e : Event) (port : Port) (x : ServiceEvent) → IsServiceEvent w e port x → (desk_of w port).version ≡ 0 → x ≡ Connects → ⊥
+no_connection w _ _ _ is none = elim is as (λ e p x i. x ≡ Connects → ⊥) [
   | IsServiceEvent.connects ok ↦ λ same.
-      let refused : connect_refusal w.desk ≡ Some NoSignatures = cond-true (w.desk.version == 0) _ _ (eq-eqb w.desk.version 0 none) in
+      let refused : connect_refusal (desk_of w One) ≡ Some NoSignatures = cond-true ((desk_of w One).version == 0) _ _ (eq-eqb (desk_of w One).version 0 none) in
       let both : Some NoSignatures ≡ None = sym refused ∙ ok in
       absurd (cc (both))
   | IsServiceEvent.comes_down k m at ↦ λ same. absurd (cc (same))
@@ -325,13 +182,13 @@ no_connection w _ _ is none = elim is as (λ e x i. x ≡ Connects → ⊥) [
   | IsServiceEvent.restarts ↦ λ same. absurd (cc (same))
 ]
 
-rests : (w : WorldState) (r : Response) (e : Event) → IsUntouched w → IsAtRest r → IsUntouched (responded w e r)
-rests w r e u h = record { up = (λ i. u.up i ++ h.silent i); service = h.off; jobs = h.jobs; filter = u.filter; questions = u.questions }
+rests : (w : WorldState) (r : Response) (e : Event) (port : Port) → IsUntouched w → IsAtRest r → IsUntouched (responded w e port r)
+rests w r e port u h = record { up = (λ i. u.up i ++ h.silent i); service = h.off; jobs = h.jobs; filter = u.filter; questions = u.questions }
 
 standing_keeps : (limits : LimitValues) (w : WorldState) → Standing limits w → Preserves (λ e. Standing limits) w
 standing_keeps limits w s = record {
   filter = λ e f is ok. record {
-    table = filter_limits w.table w.volume f ∙ s.table;
+    table = (filter_leaves w.table w.volume f).0 ∙ s.table;
     desk = s.desk;
     version = s.version;
     before = λ none.
@@ -339,18 +196,18 @@ standing_keeps limits w s = record {
         let after : IsUnused (filter_step w.table w.volume f) = filter_unused w.table w.volume f (no_message w e f is u.up) u.filter u.questions in
         record { up = u.up; service = u.service; jobs = u.jobs; filter = after.0; questions = after.1 };
   };
-  service = λ e x is. record {
+  service = λ e port x is. record {
     table = s.table;
-    desk = service_limits w.desk x ∙ s.desk;
-    version = lends.version w.desk x ∙ version_kept w e x is s.version;
+    desk = (service_leaves (desk_of w port) x).0 ∙ s.desk;
+    version = lends.version (desk_of w port) x ∙ version_kept w e port x is s.version;
     before = λ none.
         let u : IsUntouched w = s.before none in
-        rests w (service_step w.desk x) e u (service_resting w.desk x (no_connection w e x is (s.version ∙ none)) u.service u.jobs);
+        rests w (service_step (desk_of w port) x) e port u (service_resting (desk_of w port) x (no_connection w e port x is (s.version ∙ none)) u.service u.jobs);
   };
   publish = λ v ps set ok. record {
     table = s.table;
-    desk = service_limits w.desk (Publishes set.version) ∙ s.desk;
-    version = lends.version w.desk (Publishes set.version);
+    desk = (service_leaves (desk_of w One) (Publishes set.version)).0 ∙ s.desk;
+    version = lends.version (desk_of w One) (Publishes set.version);
     before = λ none.
         let new : IsNew (map publication_of w.sets) v ps = is_new w (map publication_of w.sets) v ps set ok refl in
         let version : set.version ≡ v = ap (λ (x : Publication). x.version) (made_of v ps set ok.made) in
@@ -358,12 +215,12 @@ standing_keeps limits w s = record {
   };
   work = λ k x at. record {
     table = s.table;
-    desk = service_limits w.desk (done (map publication_of w.sets) x) ∙ s.desk;
-    version = lends.version w.desk (done (map publication_of w.sets) x) ∙ s.version;
+    desk = (service_leaves (desk_of w One) (done (map publication_of w.sets) x)).0 ∙ s.desk;
+    version = lends.version (desk_of w One) (done (map publication_of w.sets) x) ∙ s.version;
     before = λ none.
         let u : IsUntouched w = s.before none in
-        rests (back_at w k) (service_step w.desk (done (map publication_of w.sets) x)) (Run k) (record { up = u.up; service = u.service; jobs = u.jobs; filter = u.filter; questions = u.questions })
-        (service_resting w.desk (done (map publication_of w.sets) x) (λ same. absurd (cc (same))) u.service u.jobs);
+        rests (back_at w k) (service_step (desk_of w One) (done (map publication_of w.sets) x)) (Run k) One (record { up = u.up; service = u.service; jobs = u.jobs; filter = u.filter; questions = u.questions })
+        (service_resting (desk_of w One) (done (map publication_of w.sets) x) (λ same. absurd (cc (same))) u.service u.jobs);
   };
 }
 
@@ -376,19 +233,19 @@ standing number mode limits es =
 
 -- the service connects anew
 abbrev cut_off : WorldState → WorldState
-cut_off w = responded w DisconnectService (service_step w.desk service_events.Disconnects)
+cut_off w = responded w DisconnectService One (service_step (desk_of w One) service_events.Disconnects)
 
 abbrev back_on : WorldState → WorldState
-back_on w = responded (cut_off w) Connect (service_step (cut_off w).desk Connects)
+back_on w = responded (cut_off w) Connect One (service_step (desk_of (cut_off w) One) Connects)
 
-reconnected : (w : WorldState) → (w.desk.version ≡ 0 → ⊥) → onward reconnecting w ≡ back_on w
+reconnected : (w : WorldState) → ((desk_of w One).version ≡ 0 → ⊥) → onward reconnecting w ≡ back_on w
 unfolding onward service_step
 reconnected w some =
-    let may : connect_refusal (cut_off w).desk ≡ None = cond-false (w.desk.version == 0) _ _ (ne_eqb w.desk.version 0 some) in
+    let may : connect_refusal (desk_of (cut_off w) One) ≡ None = cond-false ((desk_of w One).version == 0) _ _ (ne_eqb (desk_of w One).version 0 some) in
     ap (λ x. after x Connect) (disconnect_step w) ∙ connect_step (cut_off w) may
 
 module _ (mode : Mode) (limits : LimitValues) (w : WorldState) (steady : Steady mode w) (stands : Standing limits w) (jobs : 1 ≤ limits.jobs) (chunk : 1 ≤ limits.chunk) where
-  some_chunk : 1 ≤ min w.desk.limits.chunk w.table.limits.chunk
+  some_chunk : 1 ≤ min (desk_of w One).limits.chunk w.table.limits.chunk
   some_chunk = omega (arith, ap (λ (l : LimitValues). l.chunk) stands.desk, ap (λ (l : LimitValues). l.chunk) stands.table, chunk)
 
   -- of the events, and the world that they lead to
@@ -410,7 +267,7 @@ module _ (mode : Mode) (limits : LimitValues) (w : WorldState) (steady : Steady 
       record { happens = f.happens; carries = f.carries; short = f.short; waits = f.waits; volume = f.volume; sets = f.sets; answers = f.answers; given = f.given; answered = f.answered; count = f.count }
 
   module _ (can : CanFinish w) (p : Pended) (ps : List Pended) (pend : w.table.pended ≡ p ∷ ps) (q : Question) (qs : List Question) (are : w.table.questions ≡ q ∷ qs) where
-    some_version : w.desk.version ≡ 0 → ⊥
+    some_version : (desk_of w One).version ≡ 0 → ⊥
     some_version none =
         let u : IsUntouched w = stands.before (sym stands.version ∙ none) in
         let both : [] ≡ q ∷ qs = sym u.questions ∙ are in
@@ -436,11 +293,11 @@ module _ (mode : Mode) (limits : LimitValues) (w : WorldState) (steady : Steady 
           chunk = some_chunk;
         })
 
-    anew_leases : anew.desk.last_lease + all_chunks anew (q ∷ qs) ≤ most_leases
+    anew_leases : (desk_of anew One).last_lease + all_chunks anew (q ∷ qs) ≤ most_leases
     unfolding service_step
     anew_leases =
-        subst (λ x. x.desk.last_lease + all_chunks x (q ∷ qs) ≤ most_leases) (sym is)
-        (subst (λ ks. w.desk.last_lease + all_chunks w ks ≤ most_leases) are can.leases)
+        subst (λ x. (desk_of x One).last_lease + all_chunks x (q ∷ qs) ≤ most_leases) (sym is)
+        (subst (λ ks. (desk_of w One).last_lease + all_chunks w ks ≤ most_leases) are can.leases)
 
     anew_questions : anew.table.questions ≡ q ∷ qs
     unfolding service_step

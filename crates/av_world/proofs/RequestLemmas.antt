@@ -4,10 +4,12 @@ use Rattle.std.proofs.lemmas.Bool.{eqb-false, true≢false}
 use Rattle.std.specs.List.{AllByRecursion}
 use Rattle.std.specs.Option.{option_map}
 use Rattle.std.specs.Prelude.{IsOk}
+use Rattle.av_base.specs.declared.port.Port.{Port}
+use Rattle.av_base.specs.declared.port.Port.TheVariants.{One}
 use Rattle.av_filter.specs.Conduct.{FilterEvent, filter_refusal}
 use Rattle.av_filter.specs.Conduct as filter
 use Rattle.av_filter.specs.declared.fault.FilterFault.{FilterFault}
-use Rattle.av_frame.specs.declared.message.Body.{Body}
+use Rattle.av_frame.specs.Message.{Letter}
 use Rattle.av_service.specs.Conduct.{Connects, ServiceEvent, connect_refusal, service_step}
 use Rattle.av_service.specs.Conduct as service
 use Rattle.av_service.specs.Work.{WorkState}
@@ -32,7 +34,7 @@ use Rattle.av_world.specs.Request.{Asks, frame_fault, outcome_of, served, work_f
 use Rattle.av_world.specs.Serving.{TakesServed, service_refusal}
 use Rattle.av_world.specs.Stage.{Happens, Takes, at_history}
 use Rattle.av_world.specs.Whole.{IsWhole}
-use Rattle.av_world.specs.World.{WorldState, added, connected, down_frame, filter_event, member, no_line, published, service_outcome, step_fault, step_of, up_frame, work_event}
+use Rattle.av_world.specs.World.{WorldState, added, connected, desk_of, down_frame, filter_event, member, no_line, published, service_outcome, step_fault, step_of, up_frame, work_event}
 use Rattle.av_world.specs.declared.event.Event.{Event}
 use Rattle.av_world.specs.declared.event.Event.TheVariants.{Connect}
 use Rattle.av_world.specs.declared.fault.StepFault.{StepFault}
@@ -42,12 +44,12 @@ use Rattle.av_world.specs.declared.report.Line.TheVariants.{Silent}
 use Rattle.av_world.specs.declared.report.Report.{Report}
 use Rattle.av_world.specs.declared.world.request.Request.{Request}
 
-connects_as : (w : WorldState) (o : Option ConnectFault) → connected w Connect o ≡ unless (option_map fault.Connect o) (service_outcome w Connect Silent (service_step w.desk Connects))
+connects_as : (w : WorldState) (o : Option ConnectFault) → connected w Connect o ≡ unless (option_map fault.Connect o) (service_outcome w Connect One Silent (service_step (desk_of w One) Connects))
 connects_as w None = refl
 connects_as w (Some f) = refl
 
-pub connects : (w : WorldState) → connected w Connect (connect_refusal w.desk) ≡ served w Connect Connects
-connects w = connects_as w (connect_refusal w.desk)
+pub connects : (w : WorldState) → connected w Connect (connect_refusal (desk_of w One)) ≡ served w Connect One Connects
+connects w = connects_as w (connect_refusal (desk_of w One))
 
 pub member_at : {A : Type 0} (xs : List A) (k index : ℕ) → k ≡ suc index → member xs k ≡ slice_get xs index
 member_at xs k index is = ap (member xs) is
@@ -94,14 +96,14 @@ refused_serve : (o : Option ConnectFault) (x : Report × WorldState) → IsFault
 refused_serve None x = refl
 refused_serve (Some f) x = refl
 
-pub refused_service : (w : WorldState) (e : Event) (s : ServiceEvent) → IsFaultOf (served w e s) (option_map fault.Connect (service_refusal w.desk s))
-refused_service w e s = refused_serve (service_refusal w.desk s) _
+pub refused_service : (w : WorldState) (e : Event) (port : Port) (s : ServiceEvent) → IsFaultOf (served w e port s) (option_map fault.Connect (service_refusal (desk_of w port) s))
+refused_service w e port s = refused_serve (service_refusal (desk_of w port) s) _
 
-pub refused_down : (w : WorldState) (e : Event) (o : Option Body) → IsFaultOf (down_frame w e o) (frame_fault o)
+pub refused_down : (w : WorldState) (e : Event) (o : Option Letter) → IsFaultOf (down_frame w e o) (frame_fault o)
 refused_down w e None = refl
 refused_down w e (Some m) = refl
 
-pub refused_up : (w : WorldState) (e : Event) (o : Option Body) → IsFaultOf (up_frame w e o) (frame_fault o)
+pub refused_up : (w : WorldState) (e : Event) (o : Option Letter) → IsFaultOf (up_frame w e o) (frame_fault o)
 unfolding filter_refusal
 refused_up w e None = refl
 refused_up w e (Some m) = refl
@@ -130,17 +132,17 @@ can_be_published w e version ps =
     ]
 
 -- a request that takes what the event takes
-pub delivers_down : (r : Option Report) (old new : WorldState) (h : List Event) (e : Event) (k : ℕ) (m : Body) → member old.down k ≡ Some m → TakesServed old new h e (service.Receives m) r → Takes old new h e (down_frame (at_history h old) e (member old.down k)) r
+pub delivers_down : (r : Option Report) (old new : WorldState) (h : List Event) (e : Event) (k : ℕ) (m : Letter) → member old.down k ≡ Some m → TakesServed old new h e One (service.Receives m) r → Takes old new h e (down_frame (at_history h old) e (member old.down k)) r
 delivers_down None old new h e k m there is = is
 delivers_down (Some report) old new h e k m there is = ap (down_frame (at_history h old) e) there ∙ is.1
 
-pub delivers_up : (r : Option Report) (old new : WorldState) (h : List Event) (e : Event) (k : ℕ) (m : Body) → member old.up k ≡ Some m → Takes old new h e (filter_event (at_history h old) e no_line (filter.Receives m)) r → Takes old new h e (up_frame (at_history h old) e (member old.up k)) r
+pub delivers_up : (r : Option Report) (old new : WorldState) (h : List Event) (e : Event) (k : ℕ) (m : Letter) → member old.up k ≡ Some m → Takes old new h e (filter_event (at_history h old) e no_line (filter.Receives m)) r → Takes old new h e (up_frame (at_history h old) e (member old.up k)) r
 delivers_up None old new h e k m there is = is
 delivers_up (Some report) old new h e k m there is = ap (up_frame (at_history h old) e) there ∙ is
 
-pub serves : (r : Option Report) (old new : WorldState) (h : List Event) (e : Event) (s : ServiceEvent) → TakesServed old new h e s r → Takes old new h e (served (at_history h old) e s) r
-serves None old new h e s is = is
-serves (Some report) old new h e s is = ap (λ o. unless (option_map fault.Connect o) (service_outcome (at_history h old) e Silent (service_step old.desk s))) is.0 ∙ is.1
+pub serves : (r : Option Report) (old new : WorldState) (h : List Event) (e : Event) (port : Port) (s : ServiceEvent) → TakesServed old new h e port s r → Takes old new h e (served (at_history h old) e port s) r
+serves None old new h e port s is = is
+serves (Some report) old new h e port s is = ap (λ o. unless (option_map fault.Connect o) (service_outcome (at_history h old) e port Silent (service_step (desk_of old port) s))) is.0 ∙ is.1
 
 -- what a request takes, its event takes
 pub happens : (r : Option Report) (old new : WorldState) (h : List Event) (e : Event) (q : Request) → Asks h old e (Ok q) → Takes old new h e (outcome_of (at_history h old) e q) r → Happens old new h e r
@@ -171,9 +173,9 @@ published_below (s ∷ sets) version x falls found =
       | false ↦ λ is g. below_latest s sets version x falls.0 g
     ]) refl found
 
-pub not_above : (w : WorldState) → IsWhole w → IsFalling w.sets → w.desk.version ≤ latest w.sets
+pub not_above : (w : WorldState) → IsWhole w → IsFalling w.sets → (desk_of w One).version ≤ latest w.sets
 not_above w whole falls =
-    (elim (w.desk.version == 0) as (λ b. (w.desk.version == 0) ≡ b → w.desk.version ≤ latest w.sets) [
-      | true ↦ λ is. let zero = eqb-true w.desk.version 0 is in omega (arith, zero)
-      | false ↦ λ is. let there = whole.present (eqb-false w.desk.version 0 is) in published_below w.sets w.desk.version there.0 falls there.1
+    (elim ((desk_of w One).version == 0) as (λ b. ((desk_of w One).version == 0) ≡ b → (desk_of w One).version ≤ latest w.sets) [
+      | true ↦ λ is. let zero = eqb-true (desk_of w One).version 0 is in omega (arith, zero)
+      | false ↦ λ is. let there = whole.present (eqb-false (desk_of w One).version 0 is) in published_below w.sets (desk_of w One).version there.0 falls there.1
     ]) refl

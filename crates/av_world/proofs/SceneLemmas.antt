@@ -6,6 +6,7 @@ use Rattle.std.proofs.lemmas.Bool.{true≢false, ne_eqb, cond_both}
 use Rattle.std.specs.Ordering.{is_eq}
 use Rattle.av_base.specs.declared.limits.LimitValues.{LimitValues}
 use Rattle.av_base.specs.declared.mode.Mode.{Mode}
+use Rattle.av_base.specs.declared.port.Port.{Port}
 use Rattle.av_context.specs.declared.context_state.ContextState.{ContextState}
 use Rattle.av_context.specs.declared.context_state.ContextState.TheVariants as context
 use Rattle.av_context.proofs.RowsLemmas.{cmp-above, cmp-same}
@@ -14,8 +15,9 @@ use Rattle.av_filter.specs.Conduct.{FilterEvent, Opens, Changes, CleansUp, Times
 use Rattle.av_filter.specs.Conduct as filter_events
 use Rattle.av_filter.specs.Reaction.{Reaction}
 use Rattle.av_filter_table.specs.Table.{Table, context_of}
-use Rattle.av_frame.specs.declared.message.Body.{Body}
+use Rattle.av_frame.specs.Message.{Letter}
 use Rattle.av_frame.specs.declared.message.Body.TheVariants.{Scan, Chunk, NoChunk, Abort, Hello, Read, Reply, Updated}
+use Rattle.av_frame.specs.declared.message.Body.{Body}
 use Rattle.av_frame.specs.declared.outcome.Outcome.TheVariants.{Judged, Failed}
 use Rattle.av_service.specs.Audit.{By, Call, IsCatalogue, Publishes}
 use Rattle.av_service.specs.Conduct.{ServiceEvent, Connects, Disconnects, Receives, Finishes, Restarts, service_step}
@@ -35,9 +37,9 @@ use Rattle.av_world.proofs.DeskLemmas.{DeskFits, IsSolid, Told, desk_grows, conn
 use Rattle.av_filter.proofs.EachLemmas.{each_weaker, each-append, each-flat_map}
 use Rattle.av_world.proofs.FilterLemmas.{Comes, Good, OpenFits, filter_good}
 use Rattle.av_world.proofs.FitLemmas
-use Rattle.av_world.proofs.FitLemmas.{Fits as FilterFits, Grown, core, DownFits, UpFits, ContextFits, same_past, change_grows, up_grows, down_grows, right_grows}
+use Rattle.av_world.proofs.FitLemmas.{Fits as FilterFits, Grown, core, DownFits, UpBody, UpFits, ContextFits, same_past, change_grows, up_grows, down_grows, right_grows}
 use Rattle.av_world.specs.Headline.{IsJustified}
-use Rattle.av_world.specs.Held.{asked, held_among, held_by, held_contexts, held_in, held_reply}
+use Rattle.av_world.specs.Held.{asked, held_among, held_body, held_by, held_contexts, held_in, held_reply}
 use Rattle.av_world.specs.Past.{Past, IsVerdictOf, IsRightEntry}
 use Rattle.av_world.specs.Safety.{Among}
 use Rattle.av_world.specs.Scene.{MayReact, MayRespond, Scene, after_call, after_event, known_since, opening, past_call, past_filter, responds}
@@ -112,8 +114,8 @@ lawful_filter mode c f l may =
 lawful_response : (mode : Mode) (c : Scene) (q : Past) (r : Response) → Lawful mode c → Grown c.past q → q.streams ≡ c.past.streams → Each IsSolid q.sets → Falling q.sets → Told q c.down c.works r → Lawful mode (responds c q r)
 lawful_response mode c q r l up streams solid falling told =
     let p : Past = c.past in
-    let grow : (m : Body) → UpFits p c.down m → UpFits q c.down m = λ m h. subst (λ (d : List Body). UpFits q d m) (append-nil c.down) (up_grows p q c.down [] up m h) in
-    let grow_down : (m : Body) → DownFits p c.down m → DownFits q c.down m = λ m h. subst (λ (d : List Body). DownFits q d m) (append-nil c.down) (down_grows p q c.down [] up m h) in
+    let grow : (m : Letter) → UpFits p c.down m → UpFits q c.down m = λ m h. subst (λ (d : List Letter). UpFits q d m) (append-nil c.down) (up_grows p q c.down [] up m h) in
+    let grow_down : (m : Letter) → DownFits p c.down m → DownFits q c.down m = λ m h. subst (λ (d : List Letter). DownFits q d m) (append-nil c.down) (down_grows p q c.down [] up m h) in
     record {
       filter = record {
         present = l.filter.present ∙ ap (λ hs. seen (map now hs)) (sym streams);
@@ -169,7 +171,7 @@ lawful_call mode c (Publishes v set) l may =
           rw (ne_eqb v u (λ e. absurd (omega (arith, may.later, le)))) h;
     } in
     let at : published_as q.sets v ≡ Some set = rw (eq-eqb v v refl) refl in
-    let grown : DeskFits q c.down c.works c.desk = subst (λ (d : List Body). DeskFits q d c.works c.desk) (append-nil c.down) (desk_grows p q c.down [] c.works c.desk up l.desk) in
+    let grown : DeskFits q c.down c.works c.desk = subst (λ (d : List Letter). DeskFits q d c.works c.desk) (append-nil c.down) (desk_grows p q c.down [] c.works c.desk up l.desk) in
     lawful_response mode c q (service_step c.desk (service_events.Publishes v)) l up refl (may.solid, l.solid) (may.later, l.falling) (publishes_told q c.down c.works c.desk grown (may.solid, l.solid) v set at (λ z. absurd (omega (arith, may.later))))
 
 catalogue_falls : (sets : List Publication) → IsCatalogue sets → Falling sets
@@ -185,9 +187,9 @@ unfolding generation_after
 now_known [] = refl
 now_known (f ∷ fs) = ap (λ gs. f ∷ gs) (now_known fs)
 
-pub lawful_opening : (fs : List File) (v : Store) (mode : Mode) (limits : LimitValues) (number : ℕ) (service_limits : LimitValues) (sets : List Publication) → Keeps v fs → IsCatalogue sets → Lawful mode (opening fs v mode limits number service_limits sets)
+pub lawful_opening : (fs : List File) (v : Store) (mode : Mode) (limits : LimitValues) (number : ℕ) (port : Port) (service_limits : LimitValues) (sets : List Publication) → Keeps v fs → IsCatalogue sets → Lawful mode (opening fs v mode limits number port service_limits sets)
 unfolding asked Rises
-lawful_opening fs v mode limits number service_limits sets keeps ok =
+lawful_opening fs v mode limits number port service_limits sets keeps ok =
     let known : Keeps v (map now (map known_since fs)) = subst (Keeps v) (sym (now_known fs)) keeps in
     record {
       filter = record { present = known.streams; rises = tt; contexts = λ s. tt; questions = tt; apart = tt; scanning = tt; cache = tt; fresh = λ id later. refl; sent = tt };
@@ -245,18 +247,21 @@ contexts_held p ss contexts fits [] found = tt
 contexts_held p ss contexts fits (x ∷ xs) found =
     each-append (IsRightEntry p) (held_in x.0 x.1.generation (context_of contexts x.0)) (held_contexts contexts xs) (context_held p ss x.0 x.1 (context_of contexts x.0) found.0 (fits x.0)) (contexts_held p ss contexts fits xs found.1)
 
-reply_held : (p : Past) (down : List Body) (m : Body) → UpFits p down m → Each (IsRightEntry p) (held_reply down m)
-reply_held p down (Reply id (Judged v r)) h = subst (λ o. Each (IsRightEntry p) (held_by o v r)) (sym h.told) (h.right, tt)
-reply_held p down (Reply id (Failed why)) h = tt
-reply_held p down (Scan id s g l) h = tt
-reply_held p down (Chunk id o b) h = tt
-reply_held p down (NoChunk id o r) h = tt
-reply_held p down (Abort id) h = tt
-reply_held p down (Hello n v) h = tt
-reply_held p down (Read id o c) h = tt
-reply_held p down (Updated v) h = tt
+body_held : (p : Past) (down : List Letter) (m : Body) → UpBody p down m → Each (IsRightEntry p) (held_body down m)
+body_held p down (Reply id (Judged v r)) h = subst (λ o. Each (IsRightEntry p) (held_by o v r)) (sym h.told) (h.right, tt)
+body_held p down (Reply id (Failed why)) h = tt
+body_held p down (Scan id s g l) h = tt
+body_held p down (Chunk id o b) h = tt
+body_held p down (NoChunk id o r) h = tt
+body_held p down (Abort id) h = tt
+body_held p down (Hello n v) h = tt
+body_held p down (Read id o c) h = tt
+body_held p down (Updated v) h = tt
 
-pub held_right : (p : Past) (v : Store) (t : Table) (d : Desk) (down up : List Body) (works : List WorkState) → FilterFits p v.streams (core t) down → Keeps v (map now p.streams) → DeskFits p down works d → Each (UpFits p down) up
+reply_held : (p : Past) (down : List Letter) (m : Letter) → UpFits p down m → Each (IsRightEntry p) (held_reply down m)
+reply_held p down m h = body_held p down m.body h
+
+pub held_right : (p : Past) (v : Store) (t : Table) (d : Desk) (down up : List Letter) (works : List WorkState) → FilterFits p v.streams (core t) down → Keeps v (map now p.streams) → DeskFits p down works d → Each (UpFits p down) up
     → All (IsRightEntry p) (held_among t v.streams d down up)
 held_right p v t d down up works f keeps k u =
     All-from_recursion (IsRightEntry p) (held_among t v.streams d down up)

@@ -1,15 +1,18 @@
 -- What calls of the service answer is what an event asks of it, and is little.
-use Rattle.std.proofs.Common.{ℕ, ◌≡◌, ◌+◌, ◌≤◌, ◌==◌, not, nat_le, nat_lt, Bool, true, false, cond, List, length, Option, Some, None, Result, Ok, Err, arith, sym, subst}
+use Rattle.std.proofs.Common.{ℕ, ◌≡◌, ◌+◌, ◌≤◌, ◌==◌, not, nat_le, nat_lt, Bool, true, false, cond, List, length, map, Option, Some, None, Result, Ok, Err, arith, sym, subst}
 use Rattle.std.proofs.lemmas.List.{length-map}
 use Rattle.std.specs.Prelude.{◌-◌, ◌&&◌, IfOk, IfSome}
 use Rattle.std.specs.Result.{result_ok}
+use Rattle.av_base.specs.Port.{same_port}
+use Rattle.av_base.specs.declared.port.Port.TheVariants.{One}
 use Rattle.av_base.specs.declared.refusal.Refusal.{Refusal}
 use Rattle.av_base.specs.declared.refusal.Refusal.TheVariants.{Fault, NoMemory}
 use Rattle.av_base.specs.declared.verdict.Verdict.{Verdict}
 use Rattle.av_cache.specs.Cache.{look}
 use Rattle.av_cache.specs.declared.entry.Entry.{Entry}
-use Rattle.av_frame.specs.declared.message.Body.{Body}
+use Rattle.av_frame.specs.Message.{via}
 use Rattle.av_frame.specs.declared.message.Body.TheVariants as body
+use Rattle.av_frame.specs.declared.message.Body.{Body}
 use Rattle.av_match.specs.Scanning.{ScanState}
 use Rattle.av_service.specs.Call.{Meets, MeetsAlways, Responds}
 use Rattle.av_service.specs.Conduct.{ServiceEvent, Connects, Disconnects, Finishes, Publishes, Receives, Restarts, connect_refusal, service_step}
@@ -87,9 +90,9 @@ small_finished n d scan None (Some j) = either n (j.offset + loan_count j.loan =
 pub small_response : (d : Desk) (s : ServiceEvent) → IsSmall (length d.jobs) (service_step d s)
 unfolding service_step
 small_response d Connects = one (length d.jobs)
-small_response d (Receives m) = either (length d.jobs) d.connected _ _ (small_received (length d.jobs) d m) (none (length d.jobs))
+small_response d (Receives m) = either (length d.jobs) (d.connected && same_port m.port d.port) _ _ (small_received (length d.jobs) d m.body) (none (length d.jobs))
 small_response d (Finishes lease scan hit) = small_finished (length d.jobs) d scan hit (lent_under lease d.jobs)
-small_response d (Publishes version) = either (length d.jobs) d.connected _ _ (let same = length-map d.jobs (λ j. read_message d.limits (afresh version j)) in omega (arith, same)) (none (length d.jobs))
+small_response d (Publishes version) = either (length d.jobs) d.connected _ _ (let same = length-map d.jobs (λ j. read_message d.limits (afresh version j)) in let sent = length-map (map (λ j. read_message d.limits (afresh version j)) d.jobs) (via d.port) in omega (arith, same, sent)) (none (length d.jobs))
 small_response d Disconnects = none (length d.jobs)
 small_response d (Restarts latest) = none (length d.jobs)
 

@@ -6,13 +6,16 @@ use Rattle.std.proofs.lemmas.List.Elements.{All-from_recursion}
 use Rattle.std.proofs.lemmas.Bool.{lt-leb}
 use Rattle.av_base.specs.declared.limits.LimitValues.{LimitValues}
 use Rattle.av_base.specs.declared.mode.Mode.{Mode}
+use Rattle.av_base.specs.declared.port.Port.{Port}
+use Rattle.av_base.specs.declared.port.Port.TheVariants.{One}
 use Rattle.av_base.specs.declared.verdict.Verdict.{Verdict}
 use Rattle.av_cache.specs.declared.entry.Entry.{Entry}
 use Rattle.av_filter.specs.Conduct.{FilterEvent, filter_refusal, filter_step}
 use Rattle.av_filter.specs.Reaction.{Reaction}
-use Rattle.av_frame.specs.declared.message.Body.{Body}
+use Rattle.av_frame.specs.Message.{Letter}
 use Rattle.av_match.specs.Match.{verdict}
 use Rattle.av_pend.specs.declared.answer.Answer.{Answer}
+use Rattle.av_service.proofs.PortLemmas.{stays_on_its_port}
 use Rattle.av_service.specs.Audit.{By, Publishes}
 use Rattle.av_service.specs.Conduct.{ServiceEvent, service_step}
 use Rattle.av_service.specs.Conduct as service_events
@@ -35,16 +38,16 @@ use Rattle.av_world.specs.Cores.{IsFilterEvent, IsServiceEvent, Names}
 use Rattle.av_world.specs.Headline.{GrantsOnlyClean, HoldsOneVerdict, IsJustified, NeverDiffers}
 use Rattle.av_world.specs.Held.{held, history_at}
 use Rattle.av_world.specs.Past.{IsRightEntry, IsVerdictOf, Past, changes, number_then, past}
-use Rattle.av_world.specs.Safety.{Among, IsWorkOf, JudgesItsContent as JobFits, LoanFits, works_of}
+use Rattle.av_world.specs.Safety.{Among, IsWorkOf, JudgesItsContent as JobFits, JudgesRightly, LoanFits, works_of}
 use Rattle.av_world.specs.Scene.{MayReact, MayRespond, Scene, past_call, past_filter, responds}
-use Rattle.av_world.specs.World.{WorldState, back_at, done, given_at, if_there, member, responded, start, with_set, work_at, world_of}
+use Rattle.av_world.specs.World.{WorldState, back_at, desk_of, done, given_at, if_there, member, responded, start, with_set, work_at, world_of}
 use Rattle.av_world.specs.declared.event.Event.{Event}
 use Rattle.av_world.specs.declared.event.Event.TheVariants.{Publish, Run}
 use Rattle.av_world.specs.declared.given.Given.{Given}
 
 -- the scene of a world
 abbrev pub scene_of : WorldState → Scene
-scene_of w = record { past = past w.history; volume = w.volume; table = w.table; desk = w.desk; down = w.down; up = w.up; works = works_of w.works }
+scene_of w = record { past = past w.history; volume = w.volume; table = w.table; desk = desk_of w One; down = w.down; up = w.up; works = works_of w.works }
 
 -- an answer is justified by the history at its event
 abbrev pub IsJust : Mode → List Event → Given → Type 0
@@ -54,6 +57,12 @@ pub record Sound (mode : Mode) (w : WorldState) : Type 0 where
   pub lawful : Lawful mode (scene_of w)
   pub sets : (past w.history).sets ≡ map publication_of w.sets
   pub answers : Each (IsJust mode w.history) w.answers
+  pub port : (desk_of w One).port ≡ One
+
+-- the jobs of the first port's service judge what was asked there
+pub jobs_right : (mode : Mode) (w : WorldState) → Sound mode w → Each (JudgesRightly w) (desk_of w One).jobs
+jobs_right mode w s =
+    subst (λ port. Each (JobFits (past w.history) w.down port (works_of w.works) (desk_of w One).last_lease (desk_of w One).version) (desk_of w One).jobs) s.port s.lawful.desk.jobs
 
 -- the number that a name has now, it had then
 named_then : (w : WorldState) (name : List ℕ) (s : ℕ) → Keeps w.volume (map now (past w.history).streams) → Names w name s → number_then (past w.history) name ≡ s
@@ -75,9 +84,9 @@ past_of w _ _ k is = elim is as (λ e f i. past (e ∷ w.history) ≡ past_filte
   | IsFilterEvent.restarts ↦ refl
 ]
 
-pub past_of_service : (w : WorldState) (e : Event) (s : ServiceEvent) → IsServiceEvent w e s → past (e ∷ w.history) ≡ past w.history
+pub past_of_service : (w : WorldState) (e : Event) (port : Port) (s : ServiceEvent) → IsServiceEvent w e port s → past (e ∷ w.history) ≡ past w.history
 unfolding past
-past_of_service w _ _ is = elim is as (λ e s i. past (e ∷ w.history) ≡ past w.history) [
+past_of_service w _ _ _ is = elim is as (λ e p s i. past (e ∷ w.history) ≡ past w.history) [
   | IsServiceEvent.connects h ↦ refl
   | IsServiceEvent.comes_down k m h ↦ refl
   | IsServiceEvent.disconnects ↦ refl
@@ -90,7 +99,7 @@ get_among [] k x at = absurd cc
 get_among (y ∷ xs) zero x at = let same : y ≡ x = cc at in inl (sym same)
 get_among (y ∷ xs) (suc k) x at = inr (get_among xs k x at)
 
-frame_among : (ms : List Body) (k : ℕ) (m : Body) → member ms k ≡ Some m → Among m ms
+frame_among : (ms : List Letter) (k : ℕ) (m : Letter) → member ms k ≡ Some m → Among m ms
 frame_among ms zero m at = absurd (cc (at))
 frame_among ms (suc k) m at = get_among ms k m at
 
@@ -108,8 +117,8 @@ may_react w _ _ is = elim is as (λ e f i. filter_refusal w.table w.volume f ≡
   | IsFilterEvent.restarts ↦ λ ok. ok
 ]
 
-may_respond : (w : WorldState) (e : Event) (x : ServiceEvent) → (past w.history).sets ≡ map publication_of w.sets → IsServiceEvent w e x → MayRespond (scene_of w) (By x)
-may_respond w _ _ sets is = elim is as (λ e x i. MayRespond (scene_of w) (By x)) [
+may_respond : (w : WorldState) (e : Event) (port : Port) (x : ServiceEvent) → (past w.history).sets ≡ map publication_of w.sets → IsServiceEvent w e port x → MayRespond (scene_of w) (By x)
+may_respond w _ _ _ sets is = elim is as (λ e p x i. MayRespond (scene_of w) (By x)) [
   | IsServiceEvent.connects h ↦ h
   | IsServiceEvent.comes_down k m h ↦ frame_among w.down k m h
   | IsServiceEvent.disconnects ↦ tt
@@ -145,6 +154,7 @@ sound_filter mode w s e f is ok =
           each-append (IsJust mode (e ∷ w.history)) w.answers (map (given_at (suc (length w.history))) r.answers)
           (each_weaker (IsJust mode w.history) (IsJust mode (e ∷ w.history)) (just_later mode e w.history) w.answers s.answers)
           (each-map (IsJust mode (e ∷ w.history)) (IsJustified mode (past (e ∷ w.history))) (given_at (suc (length w.history))) (just_now mode e w.history) r.answers just);
+      port = s.port;
     }
 
 -- ---- works
@@ -178,7 +188,7 @@ module _ (mode : Mode) (c : Scene) (ws : List WorkState) (fewer : (P : WorkState
   loan_fewer last version j rest None h = tt
   loan_fewer last version j rest (Some l) h = (h.0, h.1, fewer (IsWorkOf version j.scan rest l) h.2)
 
-  job_fewer : (j : Job) → JobFits c.past c.down c.works c.desk.last_lease c.desk.version j → JobFits c.past c.down ws c.desk.last_lease c.desk.version j
+  job_fewer : (j : Job) → JobFits c.past c.down c.desk.port c.works c.desk.last_lease c.desk.version j → JobFits c.past c.down c.desk.port ws c.desk.last_lease c.desk.version j
   job_fewer j h = record {
     told = h.told;
     bytes = h.bytes;
@@ -204,7 +214,7 @@ module _ (mode : Mode) (c : Scene) (ws : List WorkState) (fewer : (P : WorkState
     solid = l.solid;
     falling = l.falling;
     desk = record {
-      jobs = each_weaker (JobFits c.past c.down c.works c.desk.last_lease c.desk.version) (JobFits c.past c.down ws c.desk.last_lease c.desk.version) job_fewer c.desk.jobs l.desk.jobs;
+      jobs = each_weaker (JobFits c.past c.down c.desk.port c.works c.desk.last_lease c.desk.version) (JobFits c.past c.down c.desk.port ws c.desk.last_lease c.desk.version) job_fewer c.desk.jobs l.desk.jobs;
       cache = l.desk.cache;
       published = l.desk.published;
       versioned = l.desk.versioned;
@@ -215,10 +225,10 @@ module _ (mode : Mode) (c : Scene) (ws : List WorkState) (fewer : (P : WorkState
   }
 
 -- one event of the service, from that of the scene
-by_response : (mode : Mode) (w : WorldState) (e : Event) (r : Response) (sets : List NumberedSet) (works : List (Option WorkState)) → Sound mode w → (q : Past) → past (e ∷ w.history) ≡ q → q.sets ≡ map publication_of sets
-    → ((P : WorkState → Type 0) → Each P (works_of w.works) → Each P (works_of works)) → Lawful mode (responds (scene_of w) q r) → Sound mode (responded (record w { sets = sets; works = works }) e r)
-by_response mode w e r sets works s q is same fewer l =
-    let w' : WorldState = responded (record w { sets = sets; works = works }) e r in
+by_response : (mode : Mode) (w : WorldState) (e : Event) (port : Port) (r : Response) (sets : List NumberedSet) (works : List (Option WorkState)) → Sound mode w → (q : Past) → past (e ∷ w.history) ≡ q → q.sets ≡ map publication_of sets
+    → ((P : WorkState → Type 0) → Each P (works_of w.works) → Each P (works_of works)) → Lawful mode (responds (scene_of w) q r) → r.desk.port ≡ (desk_of w One).port → Sound mode (responded (record w { sets = sets; works = works }) e port r)
+by_response mode w e port r sets works s q is same fewer l stays =
+    let w' : WorldState = responded (record w { sets = sets; works = works }) e port r in
     let c : Scene = responds (scene_of w) q r in
     let less : Lawful mode (record c { works = works_of works ++ r.works }) =
     lawful_fewer mode c (works_of works ++ r.works) (λ P all. each-append P (works_of works) r.works (fewer P (each_front P (works_of w.works) r.works all)) (each_back P (works_of w.works) r.works all)) l in
@@ -226,11 +236,12 @@ by_response mode w e r sets works s q is same fewer l =
       lawful = subst (λ p. Lawful mode (record (scene_of w') { past = p })) (sym is) (subst (λ ks. Lawful mode (record c { works = ks })) (sym (works_more works r.works)) less);
       sets = ap (λ (p : Past). p.sets) is ∙ same;
       answers = each_weaker (IsJust mode w.history) (IsJust mode (e ∷ w.history)) (just_later mode e w.history) w.answers s.answers;
+      port = stays ∙ s.port;
     }
 
-pub sound_service : (mode : Mode) (w : WorldState) → Sound mode w → (e : Event) (x : ServiceEvent) → IsServiceEvent w e x → Sound mode (after_service w e x)
-sound_service mode w s e x is =
-    by_response mode w e (service_step w.desk x) w.sets w.works s (past w.history) (past_of_service w e x is) s.sets (λ P all. all) (lawful_call mode (scene_of w) (By x) s.lawful (may_respond w e x s.sets is))
+pub sound_service : (mode : Mode) (w : WorldState) → Sound mode w → (e : Event) (port : Port) (x : ServiceEvent) → IsServiceEvent w e port x → Sound mode (after_service w e port x)
+sound_service mode w s e port x is =
+    by_response mode w e port (service_step (desk_of w port) x) w.sets w.works s (past w.history) (past_of_service w e port x is) s.sets (λ P all. all) (lawful_call mode (scene_of w) (By x) s.lawful (may_respond w e port x s.sets is)) (stays_on_its_port.stays (desk_of w port) x)
 
 -- a work
 work_found : (ws : List (Option WorkState)) (k : ℕ) (x : WorkState) (o : Option (Option WorkState)) → slice_get ws k ≡ o → if_there o ≡ Some x → slice_get ws k ≡ Some (Some x)
@@ -244,29 +255,29 @@ work_among (Some y ∷ ws) zero x at = let same : y ≡ x = cc (at) in inl (sym 
 work_among (None ∷ ws) (suc k) x at = work_among ws k x at
 work_among (Some y ∷ ws) (suc k) x at = inr (work_among ws k x at)
 
-pub sound_work : (mode : Mode) (w : WorldState) → Sound mode w → (k : ℕ) (x : WorkState) → work_at w.works k ≡ Some x → Sound mode (after_service (back_at w k) (Run k) (done (map publication_of w.sets) x))
+pub sound_work : (mode : Mode) (w : WorldState) → Sound mode w → (k : ℕ) (x : WorkState) → work_at w.works k ≡ Some x → Sound mode (after_service (back_at w k) (Run k) One (done (map publication_of w.sets) x))
 unfolding past
 sound_work mode w s zero x at = absurd (cc (at))
 sound_work mode w s (suc k) x at =
     let among : Among x (works_of w.works) = work_among w.works k x (work_found w.works k x (slice_get w.works k) refl at) in
     let d : ServiceEvent = done (map publication_of w.sets) x in
-    by_response mode w (Run (suc k)) (service_step w.desk d) w.sets (slice_set w.works k None) s (past w.history) refl s.sets (λ P all. works_less P w.works k all)
-    (lawful_call mode (scene_of w) (By d) s.lawful (x, among, ap (λ sets. done sets x) (sym s.sets)))
+    by_response mode w (Run (suc k)) One (service_step (desk_of w One) d) w.sets (slice_set w.works k None) s (past w.history) refl s.sets (λ P all. works_less P w.works k all)
+    (lawful_call mode (scene_of w) (By d) s.lawful (x, among, ap (λ sets. done sets x) (sym s.sets))) (stays_on_its_port.stays (desk_of w One) d)
 
 -- a publication
-pub sound_publish : (mode : Mode) (w : WorldState) → Sound mode w → (v : ℕ) (ps : List Pattern) (s : NumberedSet) → IsPublished w v ps s → Sound mode (after_service (with_set w s) (Publish v ps) (service_events.Publishes s.version))
+pub sound_publish : (mode : Mode) (w : WorldState) → Sound mode w → (v : ℕ) (ps : List Pattern) (s : NumberedSet) → IsPublished w v ps s → Sound mode (after_service (with_set w s) (Publish v ps) One (service_events.Publishes s.version))
 unfolding past
 sound_publish mode w s v ps set ok =
     let made : publication_of set ≡ record { version = v; patterns = ps } = made_of v ps set ok.made in
     let version : set.version ≡ v = ap (λ (x : Publication). x.version) made in
-    subst (λ n. Sound mode (after_service (with_set w set) (Publish v ps) (service_events.Publishes n))) (sym version)
-    (by_response mode w (Publish v ps) (service_step w.desk (service_events.Publishes v)) (set ∷ w.sets) w.works s (past_call (past w.history) (Publishes v ps)) refl (ap (λ (x : Publication). x ∷ (past w.history).sets) (sym made) ∙ ap (λ sets. publication_of set ∷ sets) s.sets) (λ P all. all)
-    (lawful_call mode (scene_of w) (Publishes v ps) s.lawful (is_new w (past w.history).sets v ps set ok s.sets)))
+    subst (λ n. Sound mode (after_service (with_set w set) (Publish v ps) One (service_events.Publishes n))) (sym version)
+    (by_response mode w (Publish v ps) One (service_step (desk_of w One) (service_events.Publishes v)) (set ∷ w.sets) w.works s (past_call (past w.history) (Publishes v ps)) refl (ap (λ (x : Publication). x ∷ (past w.history).sets) (sym made) ∙ ap (λ sets. publication_of set ∷ sets) s.sets) (λ P all. all)
+    (lawful_call mode (scene_of w) (Publishes v ps) s.lawful (is_new w (past w.history).sets v ps set ok s.sets)) (stays_on_its_port.stays (desk_of w One) (service_events.Publishes v)))
 
 pub sound_keeps : (mode : Mode) (w : WorldState) → Sound mode w → Preserves (λ e. Sound mode) w
 sound_keeps mode w s = record {
   filter = λ e f is ok. sound_filter mode w s e f is ok;
-  service = λ e x is. sound_service mode w s e x is;
+  service = λ e port x is. sound_service mode w s e port x is;
   publish = λ v ps set ok. sound_publish mode w s v ps set ok;
   work = λ k x at. sound_work mode w s k x at;
 }
@@ -275,7 +286,7 @@ pub sound_start : (number : ℕ) (mode : Mode) (limits : LimitValues) → Sound 
 unfolding past
 sound_start number mode limits =
     let k = follows.starts number limits in
-    record { lawful = lawful_opening [] (start number mode limits).volume mode limits number limits [] (record { streams = k.streams; last = k.last }) tt; sets = refl; answers = tt }
+    record { lawful = lawful_opening [] (start number mode limits).volume mode limits number One limits [] (record { streams = k.streams; last = k.last }) tt; sets = refl; answers = tt; port = refl }
 
 pub sound : (number : ℕ) (mode : Mode) (limits : LimitValues) (es : List Event) → Sound mode (world_of (start number mode limits) es)
 sound number mode limits es = history_keeps (Sound mode) (sound_keeps mode) (start number mode limits) (sound_start number mode limits) es
@@ -285,7 +296,7 @@ unfolding held
 holds_one_verdict number mode limits es =
     let w : WorldState = world_of (start number mode limits) es in
     let s : Sound mode w = sound number mode limits es in
-    held_right (past w.history) w.volume w.table w.desk w.down w.up (works_of w.works) s.lawful.filter s.lawful.keeps s.lawful.desk s.lawful.up
+    held_right (past w.history) w.volume w.table (desk_of w One) w.down w.up (works_of w.works) s.lawful.filter s.lawful.keeps s.lawful.desk s.lawful.up
 
 pub grants_only_clean : (number : ℕ) (mode : Mode) (limits : LimitValues) (es : List Event) → GrantsOnlyClean mode (world_of (start number mode limits) es)
 grants_only_clean number mode limits es =

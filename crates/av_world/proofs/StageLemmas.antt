@@ -15,7 +15,7 @@ use Rattle.av_filter.specs.declared.fault.FilterFault.TheVariants as fault
 use Rattle.av_filter.specs.declared.note.Note.TheVariants.{Quiet}
 use Rattle.av_filter.specs.declared.out.Out.{Out}
 use Rattle.av_filter_table.specs.Table.{Table}
-use Rattle.av_frame.specs.declared.message.Body.{Body}
+use Rattle.av_frame.specs.Message.{Letter}
 use Rattle.av_store.specs.Files as change
 use Rattle.av_store.specs.Rows.{stream_at}
 use Rattle.av_store.specs.Seen.{change_of, kept_or, volume_of}
@@ -35,7 +35,7 @@ pub cleaned_up : {E : Type 0} (r : Result Out E) (t : Table) (v : Store) (t' : T
 unfolding filter_step filter_refusal
 cleaned_up r t v t' s h = meets_always r t v t' (CleansUp s) refl h
 
-pub received : {E : Type 0} (r : Result Out E) (t : Table) (v : Store) (t' : Table) (m : Body) → MeetsAlways t v t' v r (receives t v m) → Calls t v t' v (Receives m) (result_ok r)
+pub received : {E : Type 0} (r : Result Out E) (t : Table) (v : Store) (t' : Table) (m : Letter) → MeetsAlways t v t' v r (receives t v m) → Calls t v t' v (Receives m) (result_ok r)
 unfolding filter_step filter_refusal
 received r t v t' m h = meets_always r t v t' (Receives m) refl h
 

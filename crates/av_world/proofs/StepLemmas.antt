@@ -1,10 +1,12 @@
 -- What each event of the filter, each of the service, each publication and each work keeps, every run keeps.
 use Rattle.std.proofs.Common.{◌≡◌, ℕ, List, [], ◌∷◌, map, Option, Some, None, Result, Ok, Err, refl}
 use Rattle.std.specs.Option.{option_map}
+use Rattle.av_base.specs.declared.port.Port.{Port}
+use Rattle.av_base.specs.declared.port.Port.TheVariants.{One}
 use Rattle.av_filter.specs.Conduct.{FilterEvent, Opens, Changes, CleansUp, TimesOut, filter_refusal, filter_step}
 use Rattle.av_filter.specs.Conduct as filter_events
 use Rattle.av_filter.specs.declared.fault.FilterFault.{FilterFault}
-use Rattle.av_frame.specs.declared.message.Body.{Body}
+use Rattle.av_frame.specs.Message.{Letter}
 use Rattle.av_service.specs.Conduct.{ServiceEvent, connect_refusal, service_step}
 use Rattle.av_service.specs.Conduct as service_events
 use Rattle.av_service.specs.declared.fault.ConnectFault.{ConnectFault}
@@ -21,7 +23,7 @@ use Rattle.av_store.specs.Rows.{number_named}
 use Rattle.av_store.specs.Store.{Store}
 use Rattle.av_world.specs.Cores.{IsFilterEvent, IsServiceEvent, Names}
 use Rattle.av_world.specs.Cores as cores
-use Rattle.av_world.specs.World.{WorldState, added, after, back_at, changed_line, connected, done, down_frame, filter_event, member, named_event, no_line, published, reacted, responded, step_fault, step_of, up_frame, with_set, work_at, work_event, world_of, world_or}
+use Rattle.av_world.specs.World.{WorldState, added, after, back_at, changed_line, connected, desk_of, done, down_frame, filter_event, member, named_event, no_line, published, reacted, responded, step_fault, step_of, up_frame, with_set, work_at, work_event, world_of, world_or}
 use Rattle.av_base.specs.Refused.{unless}
 use Rattle.av_world.specs.declared.event.Event.{Event}
 use Rattle.av_world.specs.declared.event.Event.TheVariants.{Publish, Create, Write, Cut, Remove, Open, Cleanup, Down, Up, Run, Timeout, Connect, DisconnectFilter, DisconnectService, RestartFilter, RestartService}
@@ -32,8 +34,8 @@ use Rattle.av_world.specs.declared.report.Report.{Report}
 abbrev pub after_filter : WorldState → Event → FilterEvent → WorldState
 after_filter w e f = reacted w e (filter_step w.table w.volume f)
 
-abbrev pub after_service : WorldState → Event → ServiceEvent → WorldState
-after_service w e s = responded w e (service_step w.desk s)
+abbrev pub after_service : WorldState → Event → Port → ServiceEvent → WorldState
+after_service w e port s = responded w e port (service_step (desk_of w port) s)
 
 -- a set of these patterns is published
 pub record IsPublished (w : WorldState) (v : ℕ) (ps : List Pattern) (s : NumberedSet) : Type 0 where
@@ -43,9 +45,9 @@ pub record IsPublished (w : WorldState) (v : ℕ) (ps : List Pattern) (s : Numbe
 -- what each kind of event keeps
 pub record Preserves (P : Event → WorldState → Type 0) (w : WorldState) : Type 0 where
   pub filter : (e : Event) (f : FilterEvent) → IsFilterEvent w e f → filter_refusal w.table w.volume f ≡ None → P e (after_filter w e f)
-  pub service : (e : Event) (s : ServiceEvent) → IsServiceEvent w e s → P e (after_service w e s)
-  pub publish : (v : ℕ) (ps : List Pattern) (s : NumberedSet) → IsPublished w v ps s → P (Publish v ps) (after_service (with_set w s) (Publish v ps) (service_events.Publishes s.version))
-  pub work : (k : ℕ) (x : WorkState) → work_at w.works k ≡ Some x → P (Run k) (after_service (back_at w k) (Run k) (done (map publication_of w.sets) x))
+  pub service : (e : Event) (port : Port) (s : ServiceEvent) → IsServiceEvent w e port s → P e (after_service w e port s)
+  pub publish : (v : ℕ) (ps : List Pattern) (s : NumberedSet) → IsPublished w v ps s → P (Publish v ps) (after_service (with_set w s) (Publish v ps) One (service_events.Publishes s.version))
+  pub work : (k : ℕ) (x : WorkState) → work_at w.works k ≡ Some x → P (Run k) (after_service (back_at w k) (Run k) One (done (map publication_of w.sets) x))
 
 module _ (P : Event → WorldState → Type 0) (w : WorldState) (before : (e : Event) → P e w) where
   unrefused : (e : Event) (o : Option FilterFault) (x : Report × WorldState) → (o ≡ None → P e x.1) → P e (world_or w (unless (option_map step_fault o) x))
@@ -59,11 +61,11 @@ module _ (P : Event → WorldState → Type 0) (w : WorldState) (before : (e : E
   by_name k e line f name None at is = before e
   by_name k e line f name (Some s) at is = by_filter k e (line s) (f s) (is s at)
 
-  by_down : Preserves P w → (k : ℕ) (o : Option Body) → member w.down k ≡ o → P (Down k) (world_or w (down_frame w (Down k) o))
+  by_down : Preserves P w → (k : ℕ) (o : Option Letter) → member w.down k ≡ o → P (Down k) (world_or w (down_frame w (Down k) o))
   by_down keeps k None is = before (Down k)
-  by_down keeps k (Some m) is = keeps.service (Down k) (service_events.Receives m) (cores.comes_down k m is)
+  by_down keeps k (Some m) is = keeps.service (Down k) One (service_events.Receives m) (cores.comes_down k m is)
 
-  by_up : Preserves P w → (k : ℕ) (o : Option Body) → member w.up k ≡ o → P (Up k) (world_or w (up_frame w (Up k) o))
+  by_up : Preserves P w → (k : ℕ) (o : Option Letter) → member w.up k ≡ o → P (Up k) (world_or w (up_frame w (Up k) o))
   by_up keeps k None is = before (Up k)
   by_up keeps k (Some m) is = by_filter keeps (Up k) no_line (filter_events.Receives m) (cores.comes_up k m is)
 
@@ -80,8 +82,8 @@ module _ (P : Event → WorldState → Type 0) (w : WorldState) (before : (e : E
   by_set keeps v ps (Ok s) is = by_catalogue keeps v ps s is (may_publish w.sets s.version) refl
   by_set keeps v ps (Err f) is = before (Publish v ps)
 
-  by_connection : Preserves P w → (o : Option ConnectFault) → connect_refusal w.desk ≡ o → P Connect (world_or w (connected w Connect o))
-  by_connection keeps None is = keeps.service Connect service_events.Connects (cores.connects is)
+  by_connection : Preserves P w → (o : Option ConnectFault) → connect_refusal (desk_of w One) ≡ o → P Connect (world_or w (connected w Connect o))
+  by_connection keeps None is = keeps.service Connect One service_events.Connects (cores.connects is)
   by_connection keeps (Some f) is = before Connect
 
   pub step_keeps : Preserves P w → (e : Event) → P e (after w e)
@@ -97,11 +99,11 @@ module _ (P : Event → WorldState → Type 0) (w : WorldState) (before : (e : E
   step_keeps k (Up n) = by_up k n (member w.up n) refl
   step_keeps k (Run n) = by_work k n (work_at w.works n) refl
   step_keeps k (Timeout seq) = by_filter k _ no_line _ (cores.times_out seq)
-  step_keeps k Connect = by_connection k (connect_refusal w.desk) refl
+  step_keeps k Connect = by_connection k (connect_refusal (desk_of w One)) refl
   step_keeps k DisconnectFilter = by_filter k _ no_line _ cores.IsFilterEvent.disconnects
-  step_keeps k DisconnectService = k.service DisconnectService service_events.Disconnects cores.IsServiceEvent.disconnects
+  step_keeps k DisconnectService = k.service DisconnectService One service_events.Disconnects cores.IsServiceEvent.disconnects
   step_keeps k RestartFilter = by_filter k _ (λ v. Booted v.boot) _ cores.IsFilterEvent.restarts
-  step_keeps k RestartService = k.service RestartService (service_events.Restarts (latest w.sets)) cores.IsServiceEvent.restarts
+  step_keeps k RestartService = k.service RestartService One (service_events.Restarts (latest w.sets)) cores.IsServiceEvent.restarts
 
 -- what every event keeps, every history keeps
 pub history_keeps : (P : WorldState → Type 0) → ((w : WorldState) → P w → Preserves (λ e. P) w) → (w : WorldState) → P w → (es : List Event) → P (world_of w es)

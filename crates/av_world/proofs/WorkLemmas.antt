@@ -4,7 +4,8 @@ use Rattle.std.proofs.lemmas.List.{length-set}
 use Rattle.std.proofs.lemmas.Option.{none-some, same_Some}
 use Rattle.std.specs.Option.{option_to_list}
 use Rattle.std.specs.Result.{result_ok}
-use Rattle.av_frame.specs.declared.message.Body.{Body}
+use Rattle.av_base.specs.declared.port.Port.TheVariants.{One}
+use Rattle.av_frame.specs.Message.{Letter}
 use Rattle.av_match.specs.Scanning.{Compiled, ScanState, fitting, if_found, run}
 use Rattle.av_service.specs.Call.{Responds}
 use Rattle.av_service.specs.Conduct.{Finishes, ServiceEvent, service_step}
@@ -16,11 +17,9 @@ use Rattle.av_sigset.specs.Publication.{publication_of, published_as}
 use Rattle.av_sigset.specs.Set.{NumberedSet, patterns_of}
 use Rattle.av_world.proofs.PublishLemmas.{found_published}
 use Rattle.av_world.specs.Prepared.{Compiles}
-use Rattle.av_world.specs.World.{WorldState, back_at, done, or_none, places_of, responded, service_outcome, work_at, work_event}
-use Rattle.av_filter_table.specs.Table.{Table}
-use Rattle.av_store.specs.Store.{Store}
+use Rattle.av_world.specs.Stage.{at_history}
+use Rattle.av_world.specs.World.{WorldState, back_at, desk_of, done, or_none, places_of, responded, service_outcome, with_desk, work_at, work_event}
 use Rattle.av_world.specs.declared.event.Event.{Event}
-use Rattle.av_world.specs.declared.given.Given.{Given}
 use Rattle.av_world.specs.declared.report.Line.TheVariants.{Silent}
 use Rattle.av_world.specs.declared.report.Note.TheVariants as note
 
@@ -57,31 +56,35 @@ done_as sets x a lease scan of same is =
     let ran : run (or_none (published_as (map publication_of sets) x.version)) x.scan (fitting x.scan x.chunk) ≡ scan = ap (λ ps. run ps x.scan (fitting x.scan x.chunk)) (patterns_run sets x a (set_at sets x.version) refl of) ∙ sym is in
     ap (λ s. Finishes x.lease s (if_found s)) ran ∙ ap (λ l. Finishes l scan (if_found scan)) (sym same)
 
--- the world that is left
-abbrev pub left : WorldState → Event → Desk → List Body → List (Option WorkState) → WorldState
-left w e d up works = record w { history = e ∷ w.history; desk = d; up = up; works = works }
+-- a world with another service, and what it sent and lent
+abbrev pub worked_on : WorldState → Desk → List Letter → List (Option WorkState) → WorldState
+worked_on w d up works = record (with_desk w One d) { up = up; works = works }
 
-worked_at : (w : WorldState) (e : Event) (index : ℕ) (x : WorkState) (a : Compiled) (lease : ℕ) (scan : ScanState) (out : ServiceOut) (d : Desk) (up : List Body) (works : List (Option WorkState)) → slice_get w.works index ≡ Some (Some x)
-    → Compiles (set_at w.sets x.version) a → lease ≡ x.lease → scan ≡ run a.patterns x.scan (fitting x.scan x.chunk) → Responds out d (service_step w.desk (Finishes lease scan (if_found scan))) → up ≡ w.up ++ out.messages.items
+-- the world that is left
+abbrev pub left : WorldState → Event → Desk → List Letter → List (Option WorkState) → WorldState
+left w e d up works = at_history (e ∷ w.history) (worked_on w d up works)
+
+worked_at : (w : WorldState) (e : Event) (index : ℕ) (x : WorkState) (a : Compiled) (lease : ℕ) (scan : ScanState) (out : ServiceOut) (d : Desk) (up : List Letter) (works : List (Option WorkState)) → slice_get w.works index ≡ Some (Some x)
+    → Compiles (set_at w.sets x.version) a → lease ≡ x.lease → scan ≡ run a.patterns x.scan (fitting x.scan x.chunk) → Responds out d (service_step (desk_of w One) (Finishes lease scan (if_found scan))) → up ≡ w.up ++ out.messages.items
     → works ≡ slice_set w.works index None ++ map Some (option_to_list out.work)
     → work_event w e (suc index) (work_at w.works (suc index)) ≡ Ok (record { line = Silent; before = places_of (back_at w (suc index)); after = places_of (left w e d up works); note = note.Service out.note }, left w e d up works)
 worked_at w e index x a lease scan out d up works there of same ran is ups more =
     let f : ServiceEvent = Finishes lease scan (if_found scan) in
-    let r = service_step w.desk f in
+    let r = service_step (desk_of w One) f in
     let event : done (map publication_of w.sets) x ≡ f = done_as w.sets x a lease scan of same ran in
-    let start : work_event w e (suc index) (work_at w.works (suc index)) ≡ Ok (service_outcome (back_at w (suc index)) e Silent r) = rw there (ap (λ g. Ok (service_outcome (back_at w (suc index)) e Silent (service_step w.desk g))) event) in
+    let start : work_event w e (suc index) (work_at w.works (suc index)) ≡ Ok (service_outcome (back_at w (suc index)) e One Silent r) = rw there (ap (λ g. Ok (service_outcome (back_at w (suc index)) e One Silent (service_step (desk_of w One) g))) event) in
     let ups_is : w.up ++ r.messages ≡ up = ap (λ ms. w.up ++ ms) (sym is.messages) ∙ sym ups in
     let works_is : slice_set w.works index None ++ map Some r.works ≡ works = ap (λ ks. slice_set w.works index None ++ map Some ks) (sym is.works) ∙ sym more in
-    let next : responded (back_at w (suc index)) e r ≡ left w e d up works =
-    ap (λ us. record w { history = e ∷ w.history; desk = r.desk; up = us; works = slice_set w.works index None ++ map Some r.works }) ups_is
-    ∙ ap (λ ks. record w { history = e ∷ w.history; desk = r.desk; up = up; works = ks }) works_is
-    ∙ ap (λ (dd : Desk). record w { history = e ∷ w.history; desk = dd; up = up; works = works }) (sym is.desk) in
+    let next : responded (back_at w (suc index)) e One r ≡ left w e d up works =
+    ap (λ us. left w e r.desk us (slice_set w.works index None ++ map Some r.works)) ups_is
+    ∙ ap (left w e r.desk up) works_is
+    ∙ ap (λ (dd : Desk). left w e dd up works) (sym is.desk) in
     start
     ∙ ap (λ (u : WorldState). Ok (record { line = Silent; before = places_of (back_at w (suc index)); after = places_of u; note = note.Service r.note }, u)) next
     ∙ ap (λ n. Ok (record { line = Silent; before = places_of (back_at w (suc index)); after = places_of (left w e d up works); note = note.Service n }, left w e d up works)) (sym is.note)
 
-pub worked : (w : WorldState) (e : Event) (k index : ℕ) (x : WorkState) (a : Compiled) (lease : ℕ) (scan : ScanState) (out : ServiceOut) (d : Desk) (up : List Body) (works : List (Option WorkState)) → k ≡ suc index → slice_get w.works index ≡ Some (Some x)
-    → Compiles (set_at w.sets x.version) a → lease ≡ x.lease → scan ≡ run a.patterns x.scan (fitting x.scan x.chunk) → Responds out d (service_step w.desk (Finishes lease scan (if_found scan))) → up ≡ w.up ++ out.messages.items
+pub worked : (w : WorldState) (e : Event) (k index : ℕ) (x : WorkState) (a : Compiled) (lease : ℕ) (scan : ScanState) (out : ServiceOut) (d : Desk) (up : List Letter) (works : List (Option WorkState)) → k ≡ suc index → slice_get w.works index ≡ Some (Some x)
+    → Compiles (set_at w.sets x.version) a → lease ≡ x.lease → scan ≡ run a.patterns x.scan (fitting x.scan x.chunk) → Responds out d (service_step (desk_of w One) (Finishes lease scan (if_found scan))) → up ≡ w.up ++ out.messages.items
     → works ≡ slice_set w.works index None ++ map Some (option_to_list out.work)
     → work_event w e k (work_at w.works k) ≡ Ok (record { line = Silent; before = places_of w; after = places_of (left w e d up works); note = note.Service out.note }, left w e d up works)
 worked w e k index x a lease scan out d up works place there of same ran is ups more =
@@ -90,6 +93,6 @@ worked w e k index x a lease scan out d up works place there of same ran is ups 
     (worked_at w e index x a lease scan out d up works there of same ran is ups more
     ∙ ap (λ n. Ok (record { line = Silent; before = record { answers = length w.answers; down = length w.down; up = length w.up; works = n }; after = places_of (left w e d up works); note = note.Service out.note }, left w e d up works)) kept)
 
--- the stage of these parts
-abbrev pub stage : Store → List NumberedSet → Table → List Body → List Given → Desk → List Body → List (Option WorkState) → WorldState
-stage volume sets table down answers desk up works = record { history = []; volume = volume; sets = sets; table = table; desk = desk; down = down; up = up; works = works; answers = answers }
+-- the world that another one is said to be
+abbrev pub first_of : (w now : WorldState) → w ≡ now → WorldState
+first_of w now is = w

@@ -6,7 +6,7 @@ use Rattle.av_filter.specs.Changing.{changes, cleaned, removed, rewritten}
 use Rattle.av_filter.specs.Conduct.{disconnects, filter_refusal, filter_step, restarts, times_out}
 use Rattle.av_filter_table.specs.Asking.{lost_contexts}
 use Rattle.av_filter.specs.Opening.{open_asked, open_cached, open_found, open_judged, opened}
-use Rattle.av_filter.specs.Receiving.{greeted, reads, receives, replies}
+use Rattle.av_filter.specs.Receiving.{greeted, reads, receives_at, replies}
 use Rattle.av_match.specs.Scanning.{index_of, is_past, moved, resting, run as scan_run, word_after}
 use Rattle.av_service.specs.Conduct.{service_step}
 use Rattle.av_service.specs.Lending.{finished}
@@ -22,7 +22,7 @@ use Rattle.av_sigset.specs.Publication.{published_as}
 use Rattle.av_world.specs.World.{step_of}
 
 abbrev computed : Bool
-unfolding again asks ended changes cleaned removed rewritten disconnects filter_refusal filter_step lost_contexts restarts times_out open_asked open_cached open_found open_judged opened greeted reads receives replies index_of is_past moved resting scan_run word_after service_step finished chunk_found dropped service_receives scan_cached scan_found fault_in serial_signatures seen_from change_of asked_in held held_contexts published_as step_of run says before_scan finishing onward settling_all to_reply
+unfolding again asks ended changes cleaned removed rewritten disconnects filter_refusal filter_step lost_contexts restarts times_out open_asked open_cached open_found open_judged opened greeted reads receives_at replies index_of is_past moved resting scan_run word_after service_step finished chunk_found dropped service_receives scan_cached scan_found fault_in serial_signatures seen_from change_of asked_in held held_contexts published_as step_of run says before_scan finishing onward settling_all to_reply
 computed = true
 
 two_scans : TwoScans

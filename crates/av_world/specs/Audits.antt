@@ -2,11 +2,12 @@
 use Rattle.std.specs.Prelude.{◌≡◌, ℕ, List, [], ◌∷◌, ◌++◌, map, All}
 use Rattle.av_base.specs.declared.limits.LimitValues.{LimitValues}
 use Rattle.av_base.specs.declared.mode.Mode.{Mode}
+use Rattle.av_base.specs.declared.port.Port.{Port}
 use Rattle.av_filter.specs.Audit.{FilterEntry, IsFilterAudit, filter_end, sent_down}
 use Rattle.av_filter.specs.Conduct.{FilterEvent}
 use Rattle.av_filter.specs.Conduct as filter
 use Rattle.av_filter_table.specs.Table.{Table, mounted}
-use Rattle.av_frame.specs.declared.message.Body.{Body}
+use Rattle.av_frame.specs.Message.{Letter}
 use Rattle.av_service.specs.Audit.{By, Call, IsCatalogue, IsServiceAudit, ServiceEntry, desk_end, lent_by, sent_up, sets_after}
 use Rattle.av_service.specs.Conduct.{Receives, Finishes}
 use Rattle.av_service.specs.Desk.{Desk, just_started}
@@ -51,17 +52,17 @@ service_side (OfFilter x ∷ es) = service_side es
 service_side (OfService x ∷ es) = x ∷ service_side es
 
 -- each message that came had been sent by the other side before
-abbrev pub CameUp : List Body → FilterEvent → Type 0
+abbrev pub CameUp : List Letter → FilterEvent → Type 0
 CameUp up (filter.Receives m) = Among m up
 CameUp up _ = Unit {0}
 
 -- a message that comes to the service had been sent by the filter
-abbrev pub CameDown : List Body → Call → Type 0
+abbrev pub CameDown : List Letter → Call → Type 0
 CameDown down (By (Receives m)) = Among m down
 CameDown down _ = Unit {0}
 
 -- each message that comes had been sent by the other side before
-abbrev pub IsDelivered : List Body → List Body → List SideEntry → Type 0
+abbrev pub IsDelivered : List Letter → List Letter → List SideEntry → Type 0
 IsDelivered down up [] = Unit {0}
 IsDelivered down up (OfFilter x ∷ es) = CameUp up x.event × IsDelivered (down ++ x.messages) up es
 IsDelivered down up (OfService x ∷ es) = CameDown down x.call × IsDelivered down (up ++ x.messages) es
@@ -86,11 +87,11 @@ AuditsHoldOneVerdict fs t v sets d es =
     (held_among k.table k.volume.streams (desk_end d (service_side es))
     (sent_down [] (filter_side es)) (sent_up [] (service_side es)))
 
--- each job has judged the content that it was asked about, and keeps the scan of what it has judged
+-- each job has judged the content that it was asked about at its service's port, and keeps the scan of what it has judged
 abbrev pub AuditsJudgeRightly : List File → List Publication → Desk → List SideEntry → Type 0
 AuditsJudgeRightly fs sets d es =
     let end = desk_end d (service_side es) in
-    All (JudgesItsContent (past_end (opening_past fs sets) es) (sent_down [] (filter_side es)) (lent_by [] (service_side es))
+    All (JudgesItsContent (past_end (opening_past fs sets) es) (sent_down [] (filter_side es)) end.port (lent_by [] (service_side es))
     end.last_lease end.version) end.jobs
 
 -- each answer of two audits is justified by the past at which it was given
@@ -99,11 +100,11 @@ AuditsGrantOnlyClean mode fs sets es = All (λ a. IsJustified mode a.past a.answ
 
 -- both audits are legal from their openings, a catalogue that publications made among these, and each message that came had
 -- been sent
-pub record AreLegal (mode : Mode) (limits : LimitValues) (number : ℕ) (service_limits : LimitValues) (fs : List File)
+pub record AreLegal (mode : Mode) (limits : LimitValues) (number : ℕ) (port : Port) (service_limits : LimitValues) (fs : List File)
     (v : Store) (sets : List Publication) (es : List SideEntry) : Type 0 where
   pub volume : Keeps v fs
   pub catalogue : IsCatalogue sets
   pub filter : IsFilterAudit (mounted mode limits v.boot) v (filter_side es)
-  pub service : IsServiceAudit sets (just_started number service_limits (latest_as sets)) (service_side es)
+  pub service : IsServiceAudit sets (just_started number port service_limits (latest_as sets)) (service_side es)
   pub works : FinishesItsWorks sets [] (service_side es)
   pub delivered : IsDelivered [] [] es

@@ -7,13 +7,15 @@ use Rattle.av_base.specs.declared.limits.LimitValues.{LimitValues}
 use Rattle.av_base.specs.declared.message_id.MessageId.{MessageId}
 use Rattle.av_base.specs.declared.mode.Mode.{Mode}
 use Rattle.av_base.specs.declared.mode.Mode.TheVariants.{FailClosed, FailOpen}
+use Rattle.av_base.specs.declared.port.Port.TheVariants.{One}
 use Rattle.av_base.specs.declared.verdict.Verdict.TheVariants.{Clean, Infected}
 use Rattle.av_cache.specs.declared.entry.Entry.{Entry}
 use Rattle.av_filter.specs.declared.note.Note.TheVariants as filter_note
 use Rattle.av_frame.specs.declared.cause.FailCause.TheVariants.{JobsFull}
 use Rattle.av_frame.specs.declared.cause.NoChunkCause.TheVariants.{NoQuestion}
-use Rattle.av_frame.specs.declared.message.Body.{Body}
+use Rattle.av_frame.specs.Message.{Letter, via}
 use Rattle.av_frame.specs.declared.message.Body.TheVariants.{Scan, Chunk, NoChunk, Abort, Hello, Read, Reply, Updated}
+use Rattle.av_frame.specs.declared.message.Body.{Body}
 use Rattle.av_frame.specs.declared.outcome.Outcome.{Outcome}
 use Rattle.av_frame.specs.declared.outcome.Outcome.TheVariants.{Judged, Failed}
 use Rattle.av_pend.specs.declared.answer.Answer.{Answer}
@@ -66,14 +68,18 @@ word_of (Service service_note.Orphan) = Orphan
 
 -- what a command says: its answers, the messages down and up, and its note; or why it is refused
 pub data Said : Type 0 where
-  Told : (answers : List Answer) (down up : List Body) (note : Word) → Said
+  Gives : (answers : List Answer) (down up : List Letter) (note : Word) → Said
   Not : (why : StepFault) → Said
+
+-- the same, of messages of these fields at the first port
+abbrev pub Told : List Answer → List Body → List Body → Word → Said
+Told answers down up note = Gives answers (map (via One) down) (map (via One) up) note
 
 -- what an outcome adds to the lists of a world, or why there is none
 abbrev pub said_by : WorldState → world.Outcome → Said
 said_by w (Err why) = Not why
 said_by w (Ok p) =
-    Told (map (λ a. a.answer) (drop (length w.answers) p.1.answers)) (drop (length w.down) p.1.down) (drop (length w.up) p.1.up)
+    Gives (map (λ a. a.answer) (drop (length w.answers) p.1.answers)) (drop (length w.down) p.1.down) (drop (length w.up) p.1.up)
     (word_of p.0.note)
 
 -- what each of these events says, one after the other
@@ -443,11 +449,11 @@ volume_of_abc =
 
 -- an entry of the filter
 abbrev pub reply : FilterEvent → List Answer → List Body → filter_notes.Note → SideEntry
-reply f given ms n = OfFilter (record { event = f; answers = given; messages = ms; note = n })
+reply f given ms n = OfFilter (record { event = f; answers = given; messages = map (via One) ms; note = n })
 
 -- an entry of the service
 abbrev pub response : ServiceEvent → List Body → List WorkState → SideEntry
-response e ms ks = OfService (record { call = audit.By e; messages = ms; works = ks; note = service_note.Quiet })
+response e ms ks = OfService (record { call = audit.By e; messages = map (via One) ms; works = ks; note = service_note.Quiet })
 
 -- a lent work that was begun and not run
 abbrev pub some_work : WorkState
@@ -458,19 +464,19 @@ abbrev pub some_audits : List SideEntry
 some_audits =
     OfService (record { call = audit.Publishes 3 xx; messages = []; works = []; note = service_note.Quiet })
     ∷ response service.Connects (Hello 1 3 ∷ []) []
-    ∷ reply (filter.Receives (Hello 1 3)) [] [] filter_note.Welcome
+    ∷ reply (filter.Receives (via One (Hello 1 3))) [] [] filter_note.Welcome
     ∷ reply (filter.Opens 1 0) [] (Scan (id 1 1) 1 5 3 ∷ []) (filter_note.Submitted 8)
-    ∷ response (service.Receives (Scan (id 1 1) 1 5 3)) (Read (id 1 1) 0 3 ∷ []) []
-    ∷ reply (filter.Receives (Read (id 1 1) 0 3)) [] (Chunk (id 1 1) 0 abc ∷ []) filter_note.Quiet
-    ∷ response (service.Receives (Chunk (id 1 1) 0 abc)) [] (some_work ∷ [])
+    ∷ response (service.Receives (via One (Scan (id 1 1) 1 5 3))) (Read (id 1 1) 0 3 ∷ []) []
+    ∷ reply (filter.Receives (via One (Read (id 1 1) 0 3))) [] (Chunk (id 1 1) 0 abc ∷ []) filter_note.Quiet
+    ∷ response (service.Receives (via One (Chunk (id 1 1) 0 abc))) [] (some_work ∷ [])
     ∷ response (service.Finishes 1 (record { version = 3; length = 3; fed = 3; node = 0; hit = None }) None)
     (Reply (id 1 1) (clean 3) ∷ []) []
-    ∷ reply (filter.Receives (Reply (id 1 1) (clean 3))) (Granted 8 0 1 5 3 ∷ []) [] filter_note.Quiet
+    ∷ reply (filter.Receives (via One (Reply (id 1 1) (clean 3)))) (Granted 8 0 1 5 3 ∷ []) [] filter_note.Quiet
     ∷ []
 
 -- there are legal audits
 abbrev pub CanBeLegal : Type 0
-CanBeLegal = AreLegal FailClosed greatest_values 1 greatest_values (file_of_abc ∷ []) volume_of_abc [] some_audits
+CanBeLegal = AreLegal FailClosed greatest_values 1 One greatest_values (file_of_abc ∷ []) volume_of_abc [] some_audits
 
 -- every script above, and both premises
 pub record ComeTrue : Type 0 where

@@ -3,34 +3,43 @@ use Rattle.std.specs.Prelude.{ℕ, suc, ◌+◌, nat_le, List, [], ◌∷◌, �
 use Rattle.std.specs.Option.{option_or}
 use Rattle.av_base.specs.MessageId.{same_id}
 use Rattle.av_base.specs.declared.message_id.MessageId.{MessageId}
+use Rattle.av_base.specs.declared.port.Port.{Port}
+use Rattle.av_base.specs.declared.port.Port.TheVariants.{One}
 use Rattle.av_base.specs.declared.verdict.Verdict.{Verdict}
 use Rattle.av_cache.specs.declared.entry.Entry.{Entry}
 use Rattle.av_context.specs.declared.context_state.ContextState.{ContextState}
-use Rattle.av_context.specs.declared.context_state.ContextState.TheVariants as context
 use Rattle.av_filter_table.specs.Table.{Table, context_of}
-use Rattle.av_frame.specs.declared.message.Body.{Body}
+use Rattle.av_frame.specs.Message.{Letter}
 use Rattle.av_frame.specs.declared.message.Body.TheVariants.{Scan, Reply}
+use Rattle.av_frame.specs.declared.message.Body.{Body}
 use Rattle.av_frame.specs.declared.outcome.Outcome.TheVariants.{Judged}
 use Rattle.av_pend.specs.Pend.{open_of}
 use Rattle.av_service.specs.Desk.{Desk}
 use Rattle.av_store.specs.Rows.{Streams}
 use Rattle.av_world.specs.declared.event.Event.{Event}
 use Rattle.av_world.specs.declared.event.Event.TheVariants.{Open}
-use Rattle.av_world.specs.World.{WorldState}
+use Rattle.av_world.specs.World.{WorldState, desk_of}
+use Rattle.av_context.specs.declared.context_state.ContextState.TheVariants as context
 
--- what the scan of an id was asked about
+-- where and about what the scan of an id was asked
 pub record Asked : Type 0 where
+  pub port : Port
   pub stream : ℕ
   pub generation : ℕ
   pub length : ℕ
 
+-- what these fields ask about at a port, where they ask under this id
+abbrev pub asked_at : MessageId → Port → Body → Option Asked
+asked_at id port (Scan i s g l) =
+    if same_id i id then Some (record { port = port; stream = s; generation = g; length = l }) else None
+asked_at id port _ = None
+
 -- what a message asks about, where it asks under this id
-abbrev pub asked_by : MessageId → Body → Option Asked
-asked_by id (Scan i s g l) = if same_id i id then Some (record { stream = s; generation = g; length = l }) else None
-asked_by id _ = None
+abbrev pub asked_by : MessageId → Letter → Option Asked
+asked_by id m = asked_at id m.port m.body
 
 -- what a question asked about: what the first Scan of its id names
-unfoldable pub asked : List Body → MessageId → Option Asked
+unfoldable pub asked : List Letter → MessageId → Option Asked
 asked [] id = None
 asked (m ∷ ms) id = option_or (asked_by id m) (asked ms id)
 
@@ -61,18 +70,22 @@ abbrev pub held_by : Option Asked → ℕ → Verdict → List Entry
 held_by None v r = []
 held_by (Some a) v r = entry a.stream a.generation v r ∷ []
 
--- the verdict that a reply carries, about what its question asked
-abbrev pub held_reply : List Body → Body → List Entry
-held_reply down (Reply id (Judged v r)) = held_by (asked down id) v r
-held_reply down _ = []
+-- the verdict that these fields of a reply carry, about what its question asked
+abbrev pub held_body : List Letter → Body → List Entry
+held_body down (Reply id (Judged v r)) = held_by (asked down id) v r
+held_body down _ = []
+
+-- the same of a message
+abbrev pub held_reply : List Letter → Letter → List Entry
+held_reply down m = held_body down m.body
 
 -- every verdict that stands in contexts, caches and replies
-abbrev pub held_among : Table → Streams → Desk → List Body → List Body → List Entry
+abbrev pub held_among : Table → Streams → Desk → List Letter → List Letter → List Entry
 held_among t streams d down up = held_contexts t.contexts streams ++ t.cache ++ d.cache ++ flat_map (held_reply down) up
 
 -- every verdict that stands in a world
 unfoldable pub held : WorldState → List Entry
-held w = held_among w.table w.volume.streams w.desk w.down w.up
+held w = held_among w.table w.volume.streams (desk_of w One) w.down w.up
 
 -- ---- opens
 

@@ -1,11 +1,12 @@
 -- The whole path of one question: its scan comes, and then each read, chunk and work in turn, with no other event between.
 use Rattle.std.specs.Prelude.{◌≡◌, ℕ, zero, suc, ◌+◌, ◌*◌, ◌<◌, ◌≤◌, true, min, List, [], ◌∷◌, length, map, Some, None}
+use Rattle.av_base.specs.declared.port.Port.TheVariants.{One}
 use Rattle.av_filter.specs.Conduct.{filter_step}
 use Rattle.av_filter.specs.Conduct as filter_events
 use Rattle.av_filter_table.specs.Answering.{present_bytes}
 use Rattle.av_filter_table.specs.Table.{Table, question_at}
 use Rattle.av_filter_table.specs.declared.question.Question.{Question}
-use Rattle.av_frame.specs.declared.message.Body.{Body}
+use Rattle.av_frame.specs.Message.{Letter, via}
 use Rattle.av_frame.specs.declared.message.Body.TheVariants.{Scan, Reply}
 use Rattle.av_frame.specs.declared.outcome.Outcome.TheVariants.{Judged}
 use Rattle.av_match.specs.Match.{verdict}
@@ -21,7 +22,7 @@ use Rattle.av_sigset.specs.declared.signature.Pattern.{Pattern}
 use Rattle.av_store.specs.History.{content}
 use Rattle.av_store.specs.Store.{Store}
 use Rattle.av_world.specs.Past.{past}
-use Rattle.av_world.specs.World.{WorldState, done}
+use Rattle.av_world.specs.World.{WorldState, desk_of, done}
 
 -- the work that was lent is run and finished
 abbrev pub carry_work : List Publication → Desk → List WorkState → Response
@@ -29,12 +30,12 @@ carry_work sets d [] = says d Quiet
 carry_work sets d (k ∷ ks) = service_step d (done sets k)
 
 -- the filter's message goes to the service, and its work is done
-abbrev pub carry_down : List Publication → Desk → List Body → Response
+abbrev pub carry_down : List Publication → Desk → List Letter → Response
 carry_down sets d [] = says d Quiet
 carry_down sets d (m ∷ ms) = let r = service_step d (service_events.Receives m) in carry_work sets r.desk r.works
 
 -- one round: the service's message goes to the filter, and what that sends goes back
-abbrev pub carry_up : Table → Store → List Publication → Desk → List Body → Response
+abbrev pub carry_up : Table → Store → List Publication → Desk → List Letter → Response
 carry_up t v sets d [] = says d Quiet
 carry_up t v sets d (m ∷ ms) = carry_down sets d (filter_step t v (filter_events.Receives m)).messages
 
@@ -46,26 +47,26 @@ rounds t v sets (suc n) r = rounds t v sets n (carry_up t v sets r.desk r.messag
 -- the question runs, both sides are connected, and the service has room for its scan and n leases left
 pub record IsReady (w : WorldState) (q : Question) (n : ℕ) : Type 0 where
   pub runs : question_at q.id w.table.questions ≡ Some q
-  pub connected : w.desk.connected ≡ true
-  pub no_job : job_at q.id w.desk.jobs ≡ None
-  pub room : length w.desk.jobs < w.desk.limits.jobs
-  pub chunk : 1 ≤ min w.desk.limits.chunk w.table.limits.chunk
-  pub enough : length (present_bytes w.volume q.stream) ≤ n * min w.desk.limits.chunk w.table.limits.chunk
-  pub leases : w.desk.last_lease + n ≤ most_leases
+  pub connected : (desk_of w One).connected ≡ true
+  pub no_job : job_at q.id (desk_of w One).jobs ≡ None
+  pub room : length (desk_of w One).jobs < (desk_of w One).limits.jobs
+  pub chunk : 1 ≤ min (desk_of w One).limits.chunk w.table.limits.chunk
+  pub enough : length (present_bytes w.volume q.stream) ≤ n * min (desk_of w One).limits.chunk w.table.limits.chunk
+  pub leases : (desk_of w One).last_lease + n ≤ most_leases
 
 -- the Scan message of a question
-abbrev pub scan_for : WorldState → Question → Body
-scan_for w q = Scan q.id q.stream q.generation (length (present_bytes w.volume q.stream))
+abbrev pub scan_for : WorldState → Question → Letter
+scan_for w q = via One (Scan q.id q.stream q.generation (length (present_bytes w.volume q.stream)))
 
 -- after at most n rounds the last message up is the reply: the verdict of what was asked about, under the service's version
 pub record EndsWithVerdict (w : WorldState) (q : Question) (n : ℕ) : Type 0 where
   pub bytes : List ℕ
   pub held : content (past w.history).streams q.stream q.generation ≡ Some bytes
   pub patterns : List Pattern
-  pub published : published_as (map publication_of w.sets) w.desk.version ≡ Some patterns
+  pub published : published_as (map publication_of w.sets) (desk_of w One).version ≡ Some patterns
   pub count : ℕ
   pub within : count ≤ n
   pub replied :
       (rounds w.table w.volume (map publication_of w.sets) count
-      (service_step w.desk (service_events.Receives (scan_for w q)))).messages
-      ≡ Reply q.id (Judged w.desk.version (verdict patterns bytes)) ∷ []
+      (service_step (desk_of w One) (service_events.Receives (scan_for w q)))).messages
+      ≡ via One (Reply q.id (Judged (desk_of w One).version (verdict patterns bytes))) ∷ []

@@ -4,12 +4,14 @@ use Rattle.std.specs.Int.{div_ceil}
 use Rattle.std.specs.List.{AllByRecursion}
 use Rattle.av_base.specs.declared.cause.Cause.TheVariants.{Infected}
 use Rattle.av_base.specs.declared.message_id.MessageId.{MessageId}
+use Rattle.av_base.specs.declared.port.Port.TheVariants.{One}
 use Rattle.av_base.specs.declared.verdict.Verdict.{Verdict}
 use Rattle.av_filter_table.specs.Answering.{judged, present_bytes, present_generation}
 use Rattle.av_filter_table.specs.declared.pended.Pended.{Pended}
 use Rattle.av_filter_table.specs.declared.question.Question.{Question}
-use Rattle.av_frame.specs.declared.message.Body.{Body}
+use Rattle.av_frame.specs.Message.{Letter}
 use Rattle.av_frame.specs.declared.message.Body.TheVariants.{Reply}
+use Rattle.av_frame.specs.declared.message.Body.{Body}
 use Rattle.av_pend.specs.declared.answer.Answer.{Answer}
 use Rattle.av_pend.specs.declared.answer.Answer.TheVariants.{Granted, Unscanned, Denied}
 use Rattle.av_service.specs.Scanning.{most_leases}
@@ -17,7 +19,7 @@ use Rattle.av_sigset.specs.Catalogue.{latest}
 use Rattle.av_world.specs.Held.{asked_by}
 use Rattle.av_world.specs.Past.{IsVerdictOf, past}
 use Rattle.av_world.specs.Safety.{Among}
-use Rattle.av_world.specs.World.{WorldState, after, given_at, member}
+use Rattle.av_world.specs.World.{WorldState, after, desk_of, given_at, member}
 use Rattle.av_world.specs.declared.event.Event.{Event}
 use Rattle.av_world.specs.declared.event.Event.TheVariants.{Down, Up, Run, Connect, DisconnectService}
 use Rattle.av_world.specs.declared.given.Given.{Given}
@@ -28,7 +30,7 @@ onward [] w = w
 onward (e ∷ es) w = onward es (after w e)
 
 -- how many messages were sent down before the scan of an id
-unfoldable pub before_scan : MessageId → List Body → ℕ
+unfoldable pub before_scan : MessageId → List Letter → ℕ
 before_scan id [] = 0
 before_scan id (m ∷ ms) = if is_some (asked_by id m) then 0 else suc (before_scan id ms)
 
@@ -40,11 +42,15 @@ last_up w = Up (length w.up)
 abbrev pub round : WorldState → List Event
 round w = Up (length w.up) ∷ Down (suc (length w.down)) ∷ Run (suc (length w.works)) ∷ []
 
+-- these fields are a reply's
+abbrev pub is_reply_body : Body → Bool
+is_reply_body (Reply id outcome) = true
+is_reply_body _ = false
+
 -- the message is a reply
-abbrev pub is_reply : Option Body → Bool
+abbrev pub is_reply : Option Letter → Bool
 is_reply None = false
-is_reply (Some (Reply id outcome)) = true
-is_reply (Some _) = false
+is_reply (Some m) = is_reply_body m.body
 
 -- rounds, up to the one after which the last message up is a reply, but n at most; and that message comes
 unfoldable pub to_reply : ℕ → WorldState → List Event
@@ -53,7 +59,7 @@ to_reply (suc n) w = if is_reply (member w.up (length w.up)) then last_up w ∷ 
 
 -- how many chunks the content is that a question is about
 abbrev pub chunks : WorldState → Question → ℕ
-chunks w q = div_ceil (length (present_bytes w.volume q.stream)) (min w.desk.limits.chunk w.table.limits.chunk)
+chunks w q = div_ceil (length (present_bytes w.volume q.stream)) (min (desk_of w One).limits.chunk w.table.limits.chunk)
 
 -- one question: its scan comes, and each read, chunk and work that follows, and the reply
 abbrev pub scan_comes : WorldState → Question → Event
@@ -99,7 +105,7 @@ IsWaiting w = w.table.pended ≢ []
 -- a version was published that an open may be granted under, and a lease is left for each chunk
 pub record CanFinish (w : WorldState) : Type 0 where
   pub reached : w.table.floor ≤ latest w.sets
-  pub leases : w.desk.last_lease + all_chunks w w.table.questions ≤ most_leases
+  pub leases : (desk_of w One).last_lease + all_chunks w w.table.questions ≤ most_leases
 
 -- ---- what holds after it
 

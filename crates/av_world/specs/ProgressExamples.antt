@@ -4,13 +4,14 @@ use Rattle.av_base.specs.Limits.{greatest_values}
 use Rattle.av_base.specs.declared.cause.Cause.TheVariants.{Infected, ScanFailed}
 use Rattle.av_base.specs.declared.limits.LimitValues.{LimitValues}
 use Rattle.av_base.specs.declared.mode.Mode.TheVariants.{FailClosed}
+use Rattle.av_base.specs.declared.port.Port.TheVariants.{One}
 use Rattle.av_pend.specs.declared.answer.Answer.{Answer}
 use Rattle.av_pend.specs.declared.answer.Answer.TheVariants.{Granted, Denied}
 use Rattle.av_service.specs.Scanning.{most_leases}
 use Rattle.av_world.specs.Examples.{a, b, prepared, run, scanned}
 use Rattle.av_world.specs.Held.{pended}
 use Rattle.av_world.specs.Progress.{CanFinish, at_last, finishing}
-use Rattle.av_world.specs.World.{WorldState, start}
+use Rattle.av_world.specs.World.{WorldState, desk_of, start, with_desk}
 use Rattle.av_world.specs.declared.event.Event.{Event}
 use Rattle.av_world.specs.declared.event.Event.TheVariants.{Create, Write, Open, Down, Up, Run, Connect, DisconnectFilter, DisconnectService, RestartService}
 
@@ -103,7 +104,7 @@ Unpublished = waiting_then (led greatest_values (prepared ++ Open a 9 ∷ [])) �
 
 -- no lease is left: the chunk is ignored. No history can be written that is so long, so the counter is set by hand
 abbrev pub without_leases : WorldState → WorldState
-without_leases w = record w { desk = record w.desk { last_lease = most_leases } }
+without_leases w = with_desk w One (record (desk_of w One) { last_lease = most_leases })
 
 -- with no lease left the open waits on
 abbrev pub NoLease : Type 0

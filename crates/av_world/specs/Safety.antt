@@ -6,6 +6,8 @@ use Rattle.av_base.specs.declared.cause.Cause.{Cause}
 use Rattle.av_base.specs.declared.cause.Cause.TheVariants.{NoStream, NotConnected, Busy, TimedOut, PortDisconnected, ScanFailed, Unsettled, StreamRemoved, FilterRestart}
 use Rattle.av_base.specs.declared.cause.Cause.TheVariants as cause
 use Rattle.av_base.specs.declared.message_id.MessageId.{MessageId}
+use Rattle.av_base.specs.declared.port.Port.{Port}
+use Rattle.av_base.specs.declared.port.Port.TheVariants.{One}
 use Rattle.av_base.specs.declared.verdict.Verdict.{Verdict}
 use Rattle.av_base.specs.declared.verdict.Verdict.TheVariants.{Infected}
 use Rattle.av_filter.specs.Conduct.{FilterEvent, Opens, Changes, Receives, TimesOut, Disconnects, Restarts}
@@ -13,7 +15,7 @@ use Rattle.av_filter_table.specs.Table.{Table, question_at, question_of}
 use Rattle.av_filter_table.specs.declared.pended.Pended.{Pended}
 use Rattle.av_filter_table.specs.declared.question.Question.{Question}
 use Rattle.av_frame.specs.declared.cause.FailCause.{FailCause}
-use Rattle.av_frame.specs.declared.message.Body.{Body}
+use Rattle.av_frame.specs.Message.{Letter, via}
 use Rattle.av_frame.specs.declared.message.Body.TheVariants.{Reply}
 use Rattle.av_frame.specs.declared.outcome.Outcome.{Outcome}
 use Rattle.av_frame.specs.declared.outcome.Outcome.TheVariants.{Judged, Failed}
@@ -33,7 +35,7 @@ use Rattle.av_store.specs.Store.{Store, greatest}
 use Rattle.av_world.specs.Cores.{IsFilterEvent}
 use Rattle.av_world.specs.Held.{asked, submitted}
 use Rattle.av_world.specs.Past.{Past, number_then, past, IsVerdictOf}
-use Rattle.av_world.specs.World.{WorldState}
+use Rattle.av_world.specs.World.{WorldState, desk_of}
 use Rattle.av_world.specs.declared.event.Event.{Event}
 use Rattle.av_world.specs.declared.event.Event.TheVariants.{Open}
 
@@ -58,10 +60,11 @@ works_of [] = []
 works_of (None ∷ works) = works_of works
 works_of (Some k ∷ works) = k ∷ works_of works
 
--- a job has judged a beginning of the content that its scan was asked about, as many bytes as its offset, and keeps their
--- scan under the set of this version; what is lent goes on from there
-pub record JudgesItsContent (p : Past) (down : List Body) (works : List WorkState) (last version : ℕ) (j : Job) : Type 0 where
-  pub told : asked down j.id ≡ Some (record { stream = j.stream; generation = j.generation; length = j.length })
+-- a job has judged a beginning of the content that its scan was asked about at this port, as many bytes as its offset, and keeps
+-- their scan under the set of this version; what is lent goes on from there
+pub record JudgesItsContent (p : Past) (down : List Letter) (port : Port) (works : List WorkState) (last version : ℕ)
+    (j : Job) : Type 0 where
+  pub told : asked down j.id ≡ Some (record { port = port; stream = j.stream; generation = j.generation; length = j.length })
   pub bytes : List ℕ
   pub held : content p.streams j.stream j.generation ≡ Some bytes
   pub size : length bytes ≡ j.length
@@ -76,11 +79,12 @@ pub record JudgesItsContent (p : Past) (down : List Body) (works : List WorkStat
 
 -- a job of the service judges the content that it was asked about
 abbrev pub JudgesRightly : WorldState → Job → Type 0
-JudgesRightly w j = JudgesItsContent (past w.history) w.down (works_of w.works) w.desk.last_lease w.desk.version j
+JudgesRightly w j =
+    JudgesItsContent (past w.history) w.down One (works_of w.works) (desk_of w One).last_lease (desk_of w One).version j
 
 -- all jobs do
 abbrev pub JobsJudgeRightly : WorldState → Type 0
-JobsJudgeRightly w = All (JudgesRightly w) w.desk.jobs
+JobsJudgeRightly w = All (JudgesRightly w) (desk_of w One).jobs
 
 -- x is a member
 abbrev pub Among : {A : Type 0} → A → List A → Type 0
@@ -115,7 +119,7 @@ pub data Explains (p : Past) (t : Table) (v : Store) : FilterEvent → ℕ → C
   judged_late : (id : MessageId) (o : Outcome) (q : Question) (n version index end_at : ℕ) → question_at id t.questions ≡ Some q
       → (w : Waits t q.id n) → w.waiting.held.least ≤ version
       → IsVerdictOf p q.stream (generation_of p.streams q.stream) version (Infected index end_at)
-      → Explains p t v (Receives (Reply id o)) n cause.Infected
+      → Explains p t v (Receives (via One (Reply id o))) n cause.Infected
   not_connected : (s least : ℕ) → t.connected ≡ false → Explains p t v (Opens s least) (next_open v) NotConnected
   opens_full : (s least : ℕ) → t.limits.pended ≤ length t.pended → Explains p t v (Opens s least) (next_open v) Busy
   questions_full : (s least : ℕ) → t.limits.questions ≤ length t.questions → Explains p t v (Opens s least) (next_open v) Busy
@@ -123,15 +127,15 @@ pub data Explains (p : Past) (t : Table) (v : Store) : FilterEvent → ℕ → C
   no_number_changed : (c : Change) (s : ℕ) (q : Question) (n : ℕ) → Rewrites s c → question_of s t.questions ≡ Some q
       → Waits t q.id n → greatest ≤ t.sequence → Explains p t v (Changes c) n Busy
   no_number_stale : (id : MessageId) (version : ℕ) (r : Verdict) (n : ℕ) → version < t.floor → Waits t id n
-      → greatest ≤ t.sequence → Explains p t v (Receives (Reply id (Judged version r))) n Busy
+      → greatest ≤ t.sequence → Explains p t v (Receives (via One (Reply id (Judged version r)))) n Busy
   timed_out : (seq n : ℕ) → Waits t (record { boot = t.boot; seq = seq }) n → Explains p t v (TimesOut seq) n TimedOut
   disconnected : (id : MessageId) (n : ℕ) → Waits t id n → Explains p t v Disconnects n PortDisconnected
   failed : (id : MessageId) (why : FailCause) (n : ℕ) → Waits t id n
-      → Explains p t v (Receives (Reply id (Failed why))) n ScanFailed
+      → Explains p t v (Receives (via One (Reply id (Failed why)))) n ScanFailed
   unsettled_changed : (c : Change) (s : ℕ) (q : Question) (n : ℕ) → Rewrites s c → question_of s t.questions ≡ Some q
       → (w : Waits t q.id n) → 8 ≤ w.waiting.held.rescans → Explains p t v (Changes c) n Unsettled
   unsettled_stale : (id : MessageId) (version : ℕ) (r : Verdict) (n : ℕ) → version < t.floor → (w : Waits t id n)
-      → 8 ≤ w.waiting.held.rescans → Explains p t v (Receives (Reply id (Judged version r))) n Unsettled
+      → 8 ≤ w.waiting.held.rescans → Explains p t v (Receives (via One (Reply id (Judged version r)))) n Unsettled
   removed : (s : ℕ) (q : Question) (n : ℕ) → question_of s t.questions ≡ Some q → Waits t q.id n
       → Explains p t v (Changes (change.Remove s)) n StreamRemoved
   restarted : (id : MessageId) (n : ℕ) → Waits t id n → Explains p t v Restarts n FilterRestart

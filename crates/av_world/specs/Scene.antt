@@ -2,11 +2,12 @@
 use Rattle.std.specs.Prelude.{◌≡◌, ℕ, List, [], ◌++◌, map, None}
 use Rattle.av_base.specs.declared.limits.LimitValues.{LimitValues}
 use Rattle.av_base.specs.declared.mode.Mode.{Mode}
+use Rattle.av_base.specs.declared.port.Port.{Port}
 use Rattle.av_filter.specs.Conduct.{FilterEvent, Opens, Changes, CleansUp, TimesOut, filter_refusal, filter_step}
 use Rattle.av_filter.specs.Conduct as filter
 use Rattle.av_filter.specs.Reaction.{Reaction}
 use Rattle.av_filter_table.specs.Table.{Table, mounted}
-use Rattle.av_frame.specs.declared.message.Body.{Body}
+use Rattle.av_frame.specs.Message.{Letter}
 use Rattle.av_pend.specs.declared.answer.Answer.{Answer}
 use Rattle.av_service.specs.Audit.{By, Call, IsNew, Publishes, respond, sets_after}
 use Rattle.av_service.specs.Conduct.{ServiceEvent, Connects, Disconnects, Receives, Finishes, Restarts, connect_refusal}
@@ -33,8 +34,8 @@ pub record Scene : Type 0 where
   pub volume : Store
   pub table : Table
   pub desk : Desk
-  pub down : List Body
-  pub up : List Body
+  pub down : List Letter
+  pub up : List Letter
   pub works : List WorkState
 
 -- the past after an event of the filter
@@ -81,7 +82,7 @@ MayRespond c (By (service.Publishes v)) = ⊥
 MayRespond c (By (Restarts v)) = v ≡ latest_as c.past.sets
 MayRespond c (Publishes v ps) = IsNew c.past.sets v ps
 
--- at the opening: a filter just mounted on a volume, and a service just started over a catalogue. Of each stream the present
+-- at the opening: a filter just mounted on a volume, and a service just started at a port over a catalogue. Of each stream the present
 -- content is known, and none before it
 abbrev pub known_since : File → StreamHistory
 known_since f = record { name = f.name; here = f.here; first = f.generation; bytes = f.bytes; earlier = [] }
@@ -91,13 +92,13 @@ abbrev pub opening_past : List File → List Publication → Past
 opening_past fs sets = record { streams = map known_since fs; sets = sets }
 
 -- the scene at the opening
-abbrev pub opening : List File → Store → Mode → LimitValues → ℕ → LimitValues → List Publication → Scene
-opening fs v mode limits number service_limits sets =
+abbrev pub opening : List File → Store → Mode → LimitValues → ℕ → Port → LimitValues → List Publication → Scene
+opening fs v mode limits number port service_limits sets =
     record {
       past = opening_past fs sets;
       volume = v;
       table = mounted mode limits v.boot;
-      desk = just_started number service_limits (latest_as sets);
+      desk = just_started number port service_limits (latest_as sets);
       down = [];
       up = [];
       works = [];

@@ -1,16 +1,17 @@
 -- What a world asks of its service.
 use Rattle.std.specs.Prelude.{ℕ, ◌≡◌, ◌<◌, ◌≤◌, ◌+◌, ◌∷◌, ◌++◌, length, map, List, Option, None, Some, Ok}
+use Rattle.av_base.specs.declared.port.Port.{Port}
 use Rattle.av_service.specs.Call.{Responds}
 use Rattle.av_service.specs.Conduct.{ServiceEvent, Connects, Disconnects, Finishes, Publishes, Receives, Restarts, connect_refusal, service_step}
 use Rattle.av_service.specs.Desk.{Desk}
-use Rattle.av_frame.specs.declared.message.Body.{Body}
+use Rattle.av_frame.specs.Message.{Letter}
 use Rattle.av_service.specs.Work.{WorkState}
 use Rattle.av_service.specs.declared.fault.ConnectFault.{ConnectFault}
 use Rattle.av_service.specs.declared.out.ServiceOut.{ServiceOut}
 use Rattle.av_sigset.specs.Catalogue.{latest}
 use Rattle.av_sigset.specs.Set.{NumberedSet}
 use Rattle.av_world.specs.Stage.{at_history}
-use Rattle.av_world.specs.World.{WorldState, service_event}
+use Rattle.av_world.specs.World.{WorldState, desk_of, service_event}
 use Rattle.av_world.specs.declared.event.Event.{Event}
 use Rattle.av_world.specs.declared.report.Line.TheVariants.{Silent}
 use Rattle.av_world.specs.declared.report.Note.{Note}
@@ -44,7 +45,7 @@ service_refusal d (Finishes lease scan hit) = None
 service_refusal d (Publishes version) = None
 service_refusal d (Restarts version) = None
 
--- the service responded as it is to, or nothing has changed
+-- the service responded as it One is to, or nothing has changed
 abbrev pub Serves : Desk → Desk → ServiceEvent → Option ServiceOut → Type 0
 Serves d d' s None = d' ≡ d
 Serves d d' s (Some out) = (service_refusal d s ≡ None) × Responds out d' (service_step d s)
@@ -54,15 +55,15 @@ abbrev pub IsSmallResponse : ℕ → ServiceOut → Type 0
 IsSmallResponse n out = length out.messages.items ≤ n + 1
 
 -- the service's event has happened, and what it gave out stands behind what was there; or nothing has changed
-abbrev pub Served : Desk → List Body → List (Option WorkState) → Desk → List Body → List (Option WorkState) → ServiceEvent
+abbrev pub Served : Desk → List Letter → List (Option WorkState) → Desk → List Letter → List (Option WorkState) → ServiceEvent
     → Option Note → Type 0
 Served d up works d' up' works' s None = (d' ≡ d) × (up' ≡ up) × (works' ≡ works)
 Served d up works d' up' works' s (Some n) =
     (service_refusal d s ≡ None) × (d' ≡ (service_step d s).desk) × (up' ≡ up ++ (service_step d s).messages)
     × (works' ≡ works ++ map Some (service_step d s).works) × (n ≡ note.Service (service_step d s).note)
 
--- where a report is given the service's event has happened, behind this history; else nothing has changed
-abbrev pub TakesServed : WorldState → WorldState → List Event → Event → ServiceEvent → Option Report → Type 0
-TakesServed old new h e s None = new ≡ old
-TakesServed old new h e s (Some report) =
-    (service_refusal old.desk s ≡ None) × (service_event (at_history h old) e Silent s ≡ Ok (report, at_history (e ∷ h) new))
+-- where a report is given the event of the service of a port has happened, behind this history; else nothing has changed
+abbrev pub TakesServed : WorldState → WorldState → List Event → Event → Port → ServiceEvent → Option Report → Type 0
+TakesServed old new h e port s None = new ≡ old
+TakesServed old new h e port s (Some report) =
+    (service_refusal (desk_of old port) s ≡ None) × (service_event (at_history h old) e port Silent s ≡ Ok (report, at_history (e ∷ h) new))

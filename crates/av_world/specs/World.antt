@@ -3,6 +3,8 @@ use Rattle.std.specs.Prelude.{ℕ, zero, suc, pred, ◌≡◌, ◌⊎◌, List, 
 use Rattle.std.specs.Option.{option_map}
 use Rattle.av_base.specs.declared.limits.LimitValues.{LimitValues}
 use Rattle.av_base.specs.declared.mode.Mode.{Mode}
+use Rattle.av_base.specs.declared.port.Port.{Port}
+use Rattle.av_base.specs.declared.port.Port.TheVariants.{One}
 use Rattle.av_base.specs.declared.refusal.Refused.{Refused}
 use Rattle.av_filter.specs.Conduct.{FilterEvent, Opens, Changes, CleansUp, TimesOut, filter_refusal, filter_step}
 use Rattle.av_filter.specs.Conduct as filter
@@ -10,7 +12,7 @@ use Rattle.av_filter.specs.Reaction.{Reaction}
 use Rattle.av_filter_table.specs.Table.{Table, mounted}
 use Rattle.av_filter.specs.declared.fault.FilterFault.{FilterFault}
 use Rattle.av_filter.specs.declared.fault.FilterFault.TheVariants as filter_fault
-use Rattle.av_frame.specs.declared.message.Body.{Body}
+use Rattle.av_frame.specs.Message.{Letter}
 use Rattle.av_match.specs.Scanning.{ScanState, fitting, scanner}
 use Rattle.av_pend.specs.declared.answer.Answer.{Answer}
 use Rattle.av_service.specs.Conduct.{ServiceEvent, Finishes, connect_refusal, service_step}
@@ -50,12 +52,20 @@ pub record WorldState : Type 0 where
   pub sets : List NumberedSet  -- the published sets, the newest first
   pub table : Table
   pub desk : Desk
-  pub down : List Body  -- each message that was ever sent to the service, the oldest first
-  pub up : List Body  -- and to the filter
+  pub down : List Letter  -- each message that was ever sent to the service, the oldest first
+  pub up : List Letter  -- and to the filter
   pub works : List (Option WorkState)  -- each piece of work that was lent, the oldest first, or none where it came back
   pub answers : List Given
 
--- at the start the volume is empty, and a filter was mounted on it; the service was started, with no set
+-- the service of a port: there is one, whatever port is asked for
+abbrev pub desk_of : WorldState → Port → Desk
+desk_of w port = w.desk
+
+-- another in its place
+abbrev pub with_desk : WorldState → Port → Desk → WorldState
+with_desk w port d = record w { desk = d }
+
+-- at the start the volume is empty, and a filter was mounted on it; the service was started at the first port, with no set
 abbrev pub start : ℕ → Mode → LimitValues → WorldState
 start number mode limits =
     record {
@@ -63,7 +73,7 @@ start number mode limits =
       volume = record (empty_store number limits) { boot = 1 };
       sets = [];
       table = mounted mode limits 1;
-      desk = just_started number limits 0;
+      desk = just_started number One limits 0;
       down = [];
       up = [];
       works = [];
@@ -102,10 +112,10 @@ reacted w e r =
       answers = w.answers ++ map (given_at (suc (length w.history))) r.answers;
     }
 
--- a world after a response of the service
-abbrev pub responded : WorldState → Event → Response → WorldState
-responded w e r =
-    record w { history = e ∷ w.history; desk = r.desk; up = w.up ++ r.messages; works = w.works ++ map Some r.works }
+-- a world after a response of the service of a port
+abbrev pub responded : WorldState → Event → Port → Response → WorldState
+responded w e port r =
+    record (with_desk w port r.desk) { history = e ∷ w.history; up = w.up ++ r.messages; works = w.works ++ map Some r.works }
 
 -- an answer of a step: its report, and the world after it
 abbrev pub Outcome : Type 0
@@ -128,12 +138,12 @@ filter_event w e line f =
     (filter_outcome w e line (filter_step w.table w.volume f))
 
 -- the report of a response, and the world after it
-abbrev pub service_outcome : WorldState → Event → Line → Response → Report × WorldState
-service_outcome w e line r = (report_of w (responded w e r) line (note.Service r.note), responded w e r)
+abbrev pub service_outcome : WorldState → Event → Port → Line → Response → Report × WorldState
+service_outcome w e port line r = (report_of w (responded w e port r) line (note.Service r.note), responded w e port r)
 
--- an event of the service, and the world after it
-abbrev pub service_event : WorldState → Event → Line → ServiceEvent → Outcome
-service_event w e line s = Ok (service_outcome w e line (service_step w.desk s))
+-- an event of the service of a port, and the world after it
+abbrev pub service_event : WorldState → Event → Port → Line → ServiceEvent → Outcome
+service_event w e port line s = Ok (service_outcome w e port line (service_step (desk_of w port) s))
 
 -- nothing of the volume is told
 abbrev pub no_line : Store → Line
@@ -158,12 +168,12 @@ member xs zero = None
 member xs (suc k) = slice_get xs k
 
 -- a message from the filter comes to the service, if there is one
-abbrev pub down_frame : WorldState → Event → Option Body → Outcome
+abbrev pub down_frame : WorldState → Event → Option Letter → Outcome
 down_frame w e None = Err fault.NoSuchFrame
-down_frame w e (Some m) = service_event w e Silent (service.Receives m)
+down_frame w e (Some m) = service_event w e One Silent (service.Receives m)
 
 -- a message from the service comes to the filter, if there is one
-abbrev pub up_frame : WorldState → Event → Option Body → Outcome
+abbrev pub up_frame : WorldState → Event → Option Letter → Outcome
 up_frame w e None = Err fault.NoSuchFrame
 up_frame w e (Some m) = filter_event w e no_line (filter.Receives m)
 
@@ -196,7 +206,7 @@ back_at w k = record w { works = slice_set w.works (pred k) None }
 -- a work is run, if it is there
 abbrev pub work_event : WorldState → Event → ℕ → Option WorkState → Outcome
 work_event w e k None = Err fault.NoSuchWork
-work_event w e k (Some x) = service_event (back_at w k) e Silent (done (map publication_of w.sets) x)
+work_event w e k (Some x) = service_event (back_at w k) e One Silent (done (map publication_of w.sets) x)
 
 -- ---- publications and connections
 
@@ -206,7 +216,7 @@ with_set w s = record w { sets = s ∷ w.sets }
 
 -- a set joins the catalogue, and the service hears of its version
 abbrev pub added : WorldState → Event → NumberedSet → Result (Unit {0}) CatalogueFault → Outcome
-added w e s (Ok free) = service_event (with_set w s) e (Published s.version (length s.signatures)) (service.Publishes s.version)
+added w e s (Ok free) = service_event (with_set w s) e One (Published s.version (length s.signatures)) (service.Publishes s.version)
 added w e s (Err f) = Err (fault.Catalogue f)
 
 -- a set is judged by itself before its version is
@@ -216,7 +226,7 @@ published w e (Err f) = Err fault.BadSet
 
 -- the service connects, unless it may not
 abbrev pub connected : WorldState → Event → Option ConnectFault → Outcome
-connected w e None = service_event w e Silent service.Connects
+connected w e None = service_event w e One Silent service.Connects
 connected w e (Some f) = Err (fault.Connect f)
 
 -- ---- steps
@@ -239,11 +249,11 @@ step_of w (Down k) = down_frame w (Down k) (member w.down k)
 step_of w (Up k) = up_frame w (Up k) (member w.up k)
 step_of w (Run k) = work_event w (Run k) k (work_at w.works k)
 step_of w (Timeout seq) = filter_event w (Timeout seq) no_line (TimesOut seq)
-step_of w Connect = connected w Connect (connect_refusal w.desk)
+step_of w Connect = connected w Connect (connect_refusal (desk_of w One))
 step_of w DisconnectFilter = filter_event w DisconnectFilter no_line filter.Disconnects
-step_of w DisconnectService = service_event w DisconnectService Silent service.Disconnects
+step_of w DisconnectService = service_event w DisconnectService One Silent service.Disconnects
 step_of w RestartFilter = filter_event w RestartFilter (λ v. Booted v.boot) filter.Restarts
-step_of w RestartService = service_event w RestartService Silent (service.Restarts (latest w.sets))
+step_of w RestartService = service_event w RestartService One Silent (service.Restarts (latest w.sets))
 
 -- an accepted event joins the history; a refused one changes nothing
 abbrev pub world_or : WorldState → Outcome → WorldState

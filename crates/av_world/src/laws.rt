@@ -4,6 +4,7 @@ ghost use Rattle.std.specs.List.{AllByRecursion};
 ghost use Rattle.av_base.specs.Limits.{AreInRange};
 ghost use Rattle.av_base.specs.declared.limits.LimitValues.{LimitValues};
 ghost use Rattle.av_base.specs.declared.mode.Mode.{Mode};
+ghost use Rattle.av_base.specs.declared.port.Port.{Port};
 ghost use Rattle.av_filter.specs.Audit.{FilterEntry, IsFilterAudit};
 ghost use Rattle.av_filter.specs.Once.{AuditAnswersOnce};
 ghost use Rattle.av_filter_table.specs.Table.{mounted};
@@ -64,15 +65,17 @@ pub fn whole_path()
 /// scan of what it has judged of the content that it was asked about. The third part is the filter's alone; open numbers are
 /// counted from the opening volume's last.
 pub fn audits()
-    ensures one_verdict { (mode : Mode) (limits : LimitValues) (number : ℕ) (service_limits : LimitValues) (files : List File)
-        (v : Store) (sets : List Publication) (es : List SideEntry) → AreLegal mode limits number service_limits files v sets es
-        → AuditsHoldOneVerdict files (mounted mode limits v.boot) v sets
-        (just_started number service_limits (latest_as sets)) es }
-    ensures judged_bytes { (mode : Mode) (limits : LimitValues) (number : ℕ) (service_limits : LimitValues) (files : List File)
-        (v : Store) (sets : List Publication) (es : List SideEntry) → AreLegal mode limits number service_limits files v sets es
-        → AuditsJudgeRightly files sets (just_started number service_limits (latest_as sets)) es }
-    ensures only_clean { (mode : Mode) (limits : LimitValues) (number : ℕ) (service_limits : LimitValues) (files : List File)
-        (v : Store) (sets : List Publication) (es : List SideEntry) → AreLegal mode limits number service_limits files v sets es
+    ensures one_verdict { (mode : Mode) (limits : LimitValues) (number : ℕ) (port : Port) (service_limits : LimitValues)
+        (files : List File) (v : Store) (sets : List Publication) (es : List SideEntry)
+        → AreLegal mode limits number port service_limits files v sets es
+        → AuditsHoldOneVerdict files (mounted mode limits v.boot) v sets (just_started number port service_limits (latest_as sets)) es }
+    ensures judged_bytes { (mode : Mode) (limits : LimitValues) (number : ℕ) (port : Port) (service_limits : LimitValues)
+        (files : List File) (v : Store) (sets : List Publication) (es : List SideEntry)
+        → AreLegal mode limits number port service_limits files v sets es
+        → AuditsJudgeRightly files sets (just_started number port service_limits (latest_as sets)) es }
+    ensures only_clean { (mode : Mode) (limits : LimitValues) (number : ℕ) (port : Port) (service_limits : LimitValues)
+        (files : List File) (v : Store) (sets : List Publication) (es : List SideEntry)
+        → AreLegal mode limits number port service_limits files v sets es
         → AuditsGrantOnlyClean mode files sets es }
     ensures answers_once { (v : Store) (mode : Mode) (limits : LimitValues) (xs : List FilterEntry)
         → IsFilterAudit (mounted mode limits v.boot) v xs → AuditAnswersOnce (mounted mode limits v.boot) v xs }

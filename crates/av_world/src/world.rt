@@ -2,6 +2,7 @@ ghost use Rattle.std.specs.Prelude.{◌≡◌, ◌∷◌, length, reverse, IfOk,
 ghost use Rattle.std.specs.Io.KnownBytes.{Appends};
 ghost use Rattle.std.specs.Option.{option_copied};
 ghost use Rattle.av_base.specs.Device.{AppendsPrefix};
+ghost use Rattle.av_base.specs.declared.port.Port.TheVariants.{One};
 ghost use Rattle.av_json.specs.Member.{Puts};
 ghost use Rattle.av_sigset.specs.Catalogue.{newest};
 ghost use Rattle.av_store.specs.Rows.{number_named};
@@ -11,7 +12,7 @@ ghost use Rattle.av_world.specs.Objects.{report_tokens};
 ghost use Rattle.av_world.specs.Past.{IsRight, IsTold, past};
 ghost use Rattle.av_world.specs.Reached.{KeepsPromise};
 ghost use Rattle.av_world.specs.Text.{report_text};
-ghost use Rattle.av_world.specs.World.{Gives, Passes, Steps, start, world_of};
+ghost use Rattle.av_world.specs.World.{Gives, Passes, Steps, desk_of, start, world_of};
 
 mod delivery;
 mod filtering;
@@ -227,7 +228,7 @@ impl World {
 
     /// Whether the service is connected.
     pub fn connected(&self) -> bool
-        ensures { result ≡ self.now.desk.connected }
+        ensures { result ≡ (desk_of self.now One).connected }
     {
         self.stage.service.connected()
     }

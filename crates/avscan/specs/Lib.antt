@@ -1,1 +1,6 @@
 pub mod Run
+pub mod Ask
+pub mod Chart
+pub mod Generate
+pub mod Import
+pub mod List

@@ -1,25 +1,24 @@
-use crate::list::{all_names, list_text};
+ghost use Rattle.std.specs.Prelude.{◌≡◌, IfErr, IfOk};
+ghost use Rattle.std.specs.Io.KnownBytes.{Appends};
+ghost use Rattle.av_files.specs.Opened.{IsDoneOrFault, ended_tally, opened_lines, tally_from};
+ghost use Rattle.av_status.specs.Status.{EndsWell, IsFault};
+ghost use Rattle.av_status.specs.Tally.{concluded, no_files};
+ghost use Rattle.avscan.specs.Ask.{AreAsked, answered, failed_of};
+
+use crate::list::{failing, names_of};
 use crate::reading::{is_folder, read_file};
+use crate::serving::meeting;
 use av_daemon::{Asker, AskingFault};
-use av_files::{Failing, MAX_FILE, Met, Opened, Walk, conclude_opened, print_opened};
+use av_files::{MAX_FILE, Met, Opened, Walk, conclude_opened, count_opened, print_opened};
 use av_host::Hosting;
 use av_pend::Answer;
+use av_sockets::SocketFault;
 use av_sockets::fault::socket_failed;
-use av_sockets::{Meeting, SocketFault};
 use av_status::faults::{bad_entry, out_of_memory, too_large, unreadable};
 use av_status::{Progress, Status, Tally, Wishes};
-use av_words::{Finding, List};
+use av_words::{Ask, Finding};
 use std::alloc::{AllocError, Global};
 use std::io::Write;
-
-/// What is asked about, of which guard, and what is told of it.
-#[derive(Clone, Copy)]
-pub struct Asking<'a> {
-    pub meeting: Meeting<'a>,
-    pub list: Option<List<'a>>,
-    pub finding: Finding,
-    pub wishes: Wishes,
-}
 
 /// Asks a guard about files by their names, and writes a line for each that it answered, in the order given. One buffer holds each
 /// content on its way.
@@ -27,64 +26,69 @@ pub fn ask_named<R: Hosting, W: Write, E: Write>(
     rt: &HostRuntime,
     system: &R,
     alloc: Global,
-    asked: Asking<'_>,
-    names: &[&str],
+    asked: &Ask<'_>,
     out: &mut W,
     err: &mut Progress<'_, HostRuntime, E>,
-) -> Status {
-    let listed = match list_text(rt, alloc, asked.list, err) {
-        Ok(listed) => listed,
-        Err(status) => return status,
-    };
+) -> Status
+    ensures { EndsWell result → AreAsked asked.now.named.wishes (W.contents out.old) (W.contents out.new) result }
+{
+    let mut text = Vec::new(alloc);
     let mut tally = Tally::new();
-    let named = all_names(
+    match names_of(
+        rt,
         alloc,
-        names,
-        asked.list,
-        listed.as_slice(),
+        &asked.named,
+        &mut text,
         failing(asked.finding),
         &mut tally,
         err,
-    );
-    let found = match named {
-        Ok(names) => files_below(rt, alloc, asked.finding, names.as_slice(), &mut tally, err),
-        Err(status) => Err(status),
-    };
-    match found {
-        Ok(found) => ask_found(rt, system, alloc, asked, found, tally.worst, out, err),
+    ) {
+        Ok(names) => ask_names(rt, system, alloc, asked, names.as_slice(), tally, out, err),
         Err(status) => status,
     }
 }
 
-fn failing(finding: Finding) -> Failing {
-    if finding.keeps_going {
-        Failing::Passes
-    } else {
-        Failing::Ends
+// Asks about the files of these names, and about those below each that is a folder, where folders stand for files.
+fn ask_names<R: Hosting, W: Write, E: Write>(
+    rt: &HostRuntime,
+    system: &R,
+    alloc: Global,
+    asked: &Ask<'_>,
+    names: &[&str],
+    mut tally: Tally,
+    out: &mut W,
+    err: &mut Progress<'_, HostRuntime, E>,
+) -> Status
+    ensures { EndsWell result → AreAsked asked.now.named.wishes (W.contents out.old) (W.contents out.new) result }
+{
+    let mut found = Vec::new(alloc);
+    match add_files(rt, alloc, asked.finding, names, &mut found, &mut tally, err) {
+        Ok(()) => {
+            let found = found.as_slice();
+            ask_found(rt, system, alloc, asked, found, tally.worst, out, err)
+        }
+        Err(_) => out_of_memory(err),
     }
 }
 
-// These files, and those below each that is a folder, where folders stand for files.
-fn files_below<E: Write>(
+fn add_files<E: Write>(
     rt: &HostRuntime,
     alloc: Global,
     finding: Finding,
     names: &[&str],
+    found: &mut Vec<String>,
     tally: &mut Tally,
     err: &mut E,
-) -> Result<Vec<String>, Status> {
-    let mut found = Vec::new(alloc);
+) -> Result<(), AllocError> {
     'names: for name in names {
-        let added = if finding.is_recursive && is_folder(rt, name) {
-            add_folder(rt, alloc, name, &mut found, tally, err)
+        if finding.is_recursive && is_folder(rt, name) {
+            let mut walk = Walk::new(rt, alloc, name)?;
+            add_entries(&mut walk, found, tally, err)?;
         } else {
-            add_name(alloc, name, &mut found)
-        };
-        if added.is_err() {
-            return Err(out_of_memory(err));
+            add_name(alloc, name, found)?;
         }
     }
-    Ok(found)
+    Ok(())
 }
 
 fn add_name(alloc: Global, name: &str, found: &mut Vec<String>) -> Result<(), AllocError> {
@@ -92,15 +96,13 @@ fn add_name(alloc: Global, name: &str, found: &mut Vec<String>) -> Result<(), Al
     Ok(())
 }
 
-fn add_folder<E: Write>(
-    rt: &HostRuntime,
-    alloc: Global,
-    folder: &str,
+// Adds what a walk meets from here on.
+fn add_entries<E: Write>(
+    walk: &mut Walk<'_, HostRuntime>,
     found: &mut Vec<String>,
     tally: &mut Tally,
     err: &mut E,
 ) -> Result<(), AllocError> {
-    let mut walk = Walk::new(rt, alloc, folder)?;
     'entries: for _ in 0..u64::MAX {
         match walk.next()? {
             Some(Met::File(path)) => found.push(path)?,
@@ -117,34 +119,91 @@ fn ask_found<R: Hosting, W: Write, E: Write>(
     rt: &HostRuntime,
     system: &R,
     alloc: Global,
-    asked: Asking<'_>,
-    found: Vec<String>,
+    asked: &Ask<'_>,
+    found: &[String],
     missed: Status,
     out: &mut W,
     err: &mut Progress<'_, HostRuntime, E>,
-) -> Status {
+) -> Status
+    ensures { EndsWell result → AreAsked asked.now.named.wishes (W.contents out.old) (W.contents out.new) result }
+{
     let Ok(mut buffer) = vec![in alloc; 0u8; MAX_FILE + 2] else {
         return out_of_memory(err);
     };
-    let mut asker = match Asker::connect(system, alloc, asked.meeting) {
-        Ok(asker) => asker,
-        Err(fault) => return socket_failed(err, asked.meeting.path, fault),
-    };
+    match Asker::connect(system, alloc, meeting(asked.opens, asked.wait)) {
+        Ok(mut asker) => {
+            let asker = &mut asker;
+            ask_all(
+                rt,
+                alloc,
+                asker,
+                asked,
+                found,
+                missed,
+                &mut buffer,
+                out,
+                err,
+            )
+        }
+        Err(fault) => socket_failed(err, asked.opens, fault),
+    }
+}
+
+// The same, over a connection.
+fn ask_all<R: Hosting, W: Write, E: Write>(
+    rt: &HostRuntime,
+    alloc: Global,
+    asker: &mut Asker<'_, R>,
+    asked: &Ask<'_>,
+    found: &[String],
+    missed: Status,
+    buffer: &mut [u8],
+    out: &mut W,
+    err: &mut Progress<'_, HostRuntime, E>,
+) -> Status
+    ensures { EndsWell result → AreAsked asked.now.named.wishes (W.contents out.old) (W.contents out.new) result }
+{
     let mut names = Vec::new(alloc);
+    match ask_each(rt, asker, asked, found, &mut names, missed, buffer, err) {
+        Ok(ended) => {
+            let ended = ended.or_graver(finished(asker, asked.opens, err));
+            let names = names.as_slice();
+            let wishes = asked.named.wishes;
+            print_answers(
+                alloc,
+                names,
+                asker.answers(),
+                found.len(),
+                ended,
+                wishes,
+                out,
+                err,
+            )
+        }
+        Err(status) => status,
+    }
+}
+
+// Asks about each file in turn, and gives what went wrong of it, or of what ends it all.
+fn ask_each<'b, R: Hosting, E: Write>(
+    rt: &HostRuntime,
+    asker: &mut Asker<'_, R>,
+    asked: &Ask<'_>,
+    found: &'b [String],
+    names: &mut Vec<&'b str>,
+    missed: Status,
+    buffer: &mut [u8],
+    err: &mut Progress<'_, HostRuntime, E>,
+) -> Result<Status, Status>
+    ensures { IfErr result (λ status. IsFault status) }
+{
     let mut ended = missed;
     'files: for (done, name) in found.iter().enumerate() {
         err.step("asked", done, found.len());
-        match ask_one(
-            rt,
-            &mut asker,
-            asked.meeting.path,
-            name.as_str(),
-            &mut buffer,
-            err,
-        ) {
+        match ask_one(rt, asker, asked.opens, name.as_str(), buffer, err) {
             Ok(()) => {
                 if names.push(name.as_str()).is_err() {
-                    return out_of_memory(err);
+                    return Err(out_of_memory(err));
                 }
             }
             Err(failed) if failed.is_last => {
@@ -152,25 +211,26 @@ fn ask_found<R: Hosting, W: Write, E: Write>(
                 break;
             }
             Err(failed) if asked.finding.keeps_going => ended = ended.or_graver(failed.status),
-            Err(failed) => return failed.status,
+            Err(failed) => return Err(failed.status),
         }
     }
+    Ok(ended)
+}
+
+// Waits until all is answered, and gives what went wrong of it.
+fn finished<R: Hosting, E: Write>(
+    asker: &mut Asker<'_, R>,
+    socket: &str,
+    err: &mut Progress<'_, HostRuntime, E>,
+) -> Status
+    ensures { IsDoneOrFault result }
+{
     let heard = asker.finish();
     err.wipe();
-    if let Err(fault) = heard {
-        let failed = asking_failed(err, asked.meeting.path, "", fault);
-        ended = ended.or_graver(failed.status);
+    match heard {
+        Ok(()) => Status::Done,
+        Err(fault) => asking_failed(err, socket, "", fault).status,
     }
-    print_answers(
-        alloc,
-        names.as_slice(),
-        asker.answers(),
-        found.len(),
-        ended,
-        asked.wishes,
-        out,
-        err,
-    )
 }
 
 // Why a file was not asked about, and whether no other can be.
@@ -187,7 +247,9 @@ fn ask_one<R: Hosting, E: Write>(
     name: &str,
     buffer: &mut [u8],
     err: &mut Progress<'_, HostRuntime, E>,
-) -> Result<(), Failed> {
+) -> Result<(), Failed>
+    ensures { IfErr result (λ failed. IsFault failed.status) }
+{
     let content = match read_file(rt, name, buffer).readable(err) {
         Ok(content) => content,
         Err(status) => return Err(Failed {
@@ -202,7 +264,9 @@ fn ask_one<R: Hosting, E: Write>(
 }
 
 // Says why a file, or any from here on, is not answered.
-fn asking_failed<E: Write>(err: &mut E, socket: &str, name: &str, fault: AskingFault) -> Failed {
+fn asking_failed<E: Write>(err: &mut E, socket: &str, name: &str, fault: AskingFault) -> Failed
+    ensures { result ≡ failed_of fault }
+{
     match fault {
         AskingFault::TooLarge => Failed {
             status: too_large(err, name),
@@ -229,21 +293,37 @@ fn print_answers<W: Write, E: Write>(
     wishes: Wishes,
     out: &mut W,
     err: &mut E,
-) -> Status {
-    let mut opened = Vec::new(alloc);
-    'files: for (name, answer) in names.iter().zip(answers) {
-        if let Some(answer) = answer {
-            let file = Opened {
-                name,
-                answer: *answer,
-            };
-            if opened.push(file).is_err() {
-                return out_of_memory(err);
-            }
-        }
-    }
+) -> Status
+    ensures lines { EndsWell result → Appends (W.contents out.old) (W.contents out.new) (opened_lines wishes (answered names.now answers.now)) }
+    ensures ended { EndsWell result → result ≡ concluded wishes (ended_tally (tally_from no_files (answered names.now answers.now)) files ended) }
+{
+    let Ok(opened) = opened_of(alloc, names, answers) else {
+        return out_of_memory(err);
+    };
     match print_opened(alloc, opened.as_slice(), wishes, out, err) {
-        Status::Done => conclude_opened(opened.as_slice(), files, ended, wishes, err),
+        Status::Done => {
+            let mut tally = Tally::new();
+            count_opened(&mut tally, opened.as_slice());
+            conclude_opened(tally, files, ended, wishes, err)
+        }
         failed => failed,
     }
+}
+
+// The files that were answered.
+fn opened_of<'a>(
+    alloc: Global,
+    names: &[&'a str],
+    answers: &[Option<Answer>],
+) -> Result<Vec<Opened<'a>>, AllocError>
+    ensures { IfOk result (λ opened. opened.items ≡ answered names.now answers.now) }
+{
+    names
+        .iter()
+        .zip(answers)
+        .filter_map(|(name, answer)| {
+            let answer = (*answer)?;
+            Some(Opened { name, answer })
+        })
+        .collect(alloc)
 }

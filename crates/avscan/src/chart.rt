@@ -1,3 +1,8 @@
+ghost use Rattle.std.specs.Prelude.{◌≡◌, ◌≢◌, IfSome};
+ghost use Rattle.av_chart.specs.Chart.{Draws, IsTrueOf, Leaves};
+ghost use Rattle.av_status.specs.declared.status.Status.TheVariants.{Done, Refused, Usage};
+ghost use Rattle.avscan.specs.Chart.{IsFaultOf, status_of};
+
 use av_base::Part;
 use av_chart::{ChartFault, Lines, write_chart};
 use av_files::TURNS;
@@ -5,6 +10,7 @@ use av_status::faults::{
     bad_script, device_failed, out_of_memory, say, script_too_long, text, unreadable,
 };
 use av_status::status::Status;
+use av_words::Chart;
 use std::alloc::Global;
 use std::fs;
 use std::io::{Read, Write};
@@ -13,36 +19,56 @@ use std::io::{Read, Write};
 pub fn chart_named<W: Write, E: Write>(
     rt: &HostRuntime,
     alloc: Global,
-    script: &str,
-    lines: Lines,
+    asked: Chart<'_>,
     out: &mut W,
     err: &mut E,
-) -> Status {
+) -> Status
+    ensures words { result ≢ Usage }
+{
+    let script = asked.script;
+    let title = name_of(script);
+    let lines = Lines {
+        from: asked.from,
+        to: asked.to,
+    };
     if script == "-" {
-        return chart(alloc, script, lines, &mut rt.stdin(), out, err);
+        return chart(alloc, title, lines, &mut rt.stdin(), out, err);
     }
     match fs::open(rt, script) {
-        Ok(mut file) => chart(alloc, script, lines, &mut file, out, err),
+        Ok(mut file) => chart(alloc, title, lines, &mut file, out, err),
         Err(_) => unreadable(err, script),
     }
 }
 
-// Draws the run of the script that a reader gives, under the last part of its path.
+// Draws the run of the script that a reader gives, under this title.
 fn chart<R: Read, W: Write, E: Write>(
     alloc: Global,
-    path: &str,
+    title: &str,
     lines: Lines,
     reader: &mut R,
     out: &mut W,
     err: &mut E,
-) -> Status {
-    match write_chart(alloc, name_of(path).as_bytes(), lines, reader, out, TURNS) {
+) -> Status
+    ensures done { result ≡ Done → IfSome (R.remaining reader.old) (Draws lines title.now (W.contents out.old) (W.contents out.new)) }
+    ensures failed { result ≢ Done → IsFaultOf lines title.now (R.remaining reader.old) (W.contents out.old) (W.contents out.new) result }
+    ensures words { result ≢ Usage }
+{
+    match write_chart(alloc, title.as_bytes(), lines, reader, out, TURNS) {
         Ok(()) => Status::Done,
-        Err(ChartFault::Read | ChartFault::Write) => device_failed(err),
-        Err(ChartFault::TooLong) => script_too_long(err),
-        Err(ChartFault::BadScript { line }) => bad_script(err, line),
-        Err(ChartFault::NoLines) => no_command(err, lines),
-        Err(ChartFault::NoMemory) => out_of_memory(err),
+        Err(fault) => failed(err, lines, fault),
+    }
+}
+
+// Says why no picture was drawn.
+fn failed<E: Write>(err: &mut E, lines: Lines, fault: ChartFault) -> Status
+    ensures { result ≡ status_of fault }
+{
+    match fault {
+        ChartFault::Read | ChartFault::Write => device_failed(err),
+        ChartFault::TooLong => script_too_long(err),
+        ChartFault::BadScript { line } => bad_script(err, line),
+        ChartFault::NoLines => no_command(err, lines),
+        ChartFault::NoMemory => out_of_memory(err),
     }
 }
 
@@ -54,7 +80,9 @@ fn name_of(path: &str) -> &str {
     }
 }
 
-fn no_command<E: Write>(err: &mut E, lines: Lines) -> Status {
+fn no_command<E: Write>(err: &mut E, lines: Lines) -> Status
+    ensures { result ≡ Refused }
+{
     say(
         err,
         &[

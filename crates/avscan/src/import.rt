@@ -1,9 +1,15 @@
+ghost use Rattle.std.specs.Prelude.{◌≡◌, IfErr};
+ghost use Rattle.av_files.specs.Opened.{IsDoneOrFault};
+ghost use Rattle.av_import.specs.Import.{Taken};
+ghost use Rattle.av_status.specs.Status.{IsFault};
+ghost use Rattle.av_status.specs.declared.status.Status.TheVariants.{Done};
+ghost use Rattle.avscan.specs.Import.{Writes, status_of};
+
 use crate::list::whole_text;
 use av_base::Part;
 use av_import::{Import, ImportFault, Rules};
 use av_status::faults::{device_failed, out_of_memory, say, text};
 use av_status::status::Status;
-use av_words::Taking;
 use std::alloc::Global;
 use std::io::Write;
 
@@ -11,21 +17,22 @@ use std::io::Write;
 pub fn import_named<W: Write, E: Write>(
     rt: &HostRuntime,
     alloc: Global,
-    names: &[&str],
-    version: u64,
-    taking: Taking,
+    asked: &av_words::Import<'_>,
     out: &mut W,
     err: &mut E,
-) -> Status {
+) -> Status
+    ensures done { result ≡ Done → (import : Taken) × Writes asked.now import (W.contents out.old) (W.contents out.new) }
+    ensures ended { IsDoneOrFault result }
+{
     let mut import = Import::new(
         alloc,
         Rules {
-            takes_any_target: taking.takes_any_target,
-            has_ranges: !taking.has_format_1,
+            takes_any_target: asked.taking.takes_any_target,
+            has_ranges: !asked.taking.has_format_1,
         },
     );
-    match take_all(rt, alloc, names, &mut import, err) {
-        Ok(()) => conclude(&import, version, taking, out, err),
+    match take_all(rt, alloc, asked.files.as_slice(), &mut import, err) {
+        Ok(()) => conclude(&import, asked, out, err),
         Err(status) => status,
     }
 }
@@ -37,7 +44,9 @@ fn take_all<E: Write>(
     names: &[&str],
     import: &mut Import,
     err: &mut E,
-) -> Result<(), Status> {
+) -> Result<(), Status>
+    ensures { IfErr result (λ status. IsFault status) }
+{
     'files: for name in names {
         let content = whole_text(rt, alloc, name, err)?;
         if let Err(fault) = import.take(name, content.as_slice(), err) {
@@ -50,11 +59,13 @@ fn take_all<E: Write>(
 // Says how much was taken, and writes it.
 fn conclude<W: Write, E: Write>(
     import: &Import,
-    version: u64,
-    taking: Taking,
+    asked: &av_words::Import<'_>,
     out: &mut W,
     err: &mut E,
-) -> Status {
+) -> Status
+    ensures done { result ≡ Done → Writes asked.now import.now (W.contents out.old) (W.contents out.new) }
+    ensures ended { IsDoneOrFault result }
+{
     say(
         err,
         &[
@@ -64,10 +75,10 @@ fn conclude<W: Write, E: Write>(
             text(" lines left out"),
         ],
     );
-    if taking.wants_all && import.left() > 0 {
+    if asked.taking.wants_all && import.left() > 0 {
         return Status::Refused;
     }
-    if let Err(fault) = import.write(version, out) {
+    if let Err(fault) = import.write(asked.version, out) {
         return failed(err, fault);
     }
     if out.flush().is_err() {
@@ -76,7 +87,10 @@ fn conclude<W: Write, E: Write>(
     Status::Done
 }
 
-fn failed<E: Write>(err: &mut E, fault: ImportFault) -> Status {
+// Says why signatures were not taken, or not written.
+fn failed<E: Write>(err: &mut E, fault: ImportFault) -> Status
+    ensures { result ≡ status_of fault }
+{
     match fault {
         ImportFault::NoMemory => out_of_memory(err),
         ImportFault::Write => device_failed(err),

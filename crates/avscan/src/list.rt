@@ -1,20 +1,56 @@
+ghost use Rattle.std.specs.Prelude.{◌≡◌, [], IfErr, IfOk, IfSome, IsOkAnd, None};
+ghost use Rattle.av_status.specs.Status.{IsFault};
+ghost use Rattle.avscan.specs.List.{failing_of};
+
 use av_base::ReadFault;
 use av_base::device::read_whole;
 use av_files::{Failing, TURNS, with_listed};
 use av_status::faults::{out_of_memory, unreadable};
 use av_status::{Status, Tally};
-use av_words::List;
+use av_words::{Finding, List, Named};
 use std::alloc::Global;
 use std::fs;
 use std::io::{Read, Write};
 
-/// The text of a list, where one is asked for.
-pub fn list_text<E: Write>(
+/// The names that were given, and behind them those of a list, where there is one: its text is put into this room.
+pub fn names_of<'a, 'b: 'a, E: Write>(
+    rt: &HostRuntime,
+    alloc: Global,
+    named: &Named<'b>,
+    room: &'a mut Vec<u8>,
+    failing: Failing,
+    tally: &mut Tally,
+    err: &mut E,
+) -> Result<Vec<&'a str>, Status>
+    ensures { IfErr result (λ status. IsFault status) }
+{
+    *room = list_text(rt, alloc, named.list, err)?;
+    let (path, end) = match named.list {
+        Some(list) => (list.path, list.end),
+        None => ("", 0),
+    };
+    with_listed(
+        alloc,
+        named.files.as_slice(),
+        path,
+        room.as_slice(),
+        end,
+        failing,
+        tally,
+        err,
+    )
+}
+
+// The text of a list, where one is asked for.
+fn list_text<E: Write>(
     rt: &HostRuntime,
     alloc: Global,
     list: Option<List<'_>>,
     err: &mut E,
-) -> Result<Vec<u8>, Status> {
+) -> Result<Vec<u8>, Status>
+    ensures none { list.entry ≡ None → IsOkAnd result (λ text. text.items ≡ []) }
+    ensures fault { IfErr result (λ status. IsFault status) }
+{
     match list {
         Some(List { path: "-", .. }) => text_of(alloc, "-", &mut rt.stdin(), err),
         Some(List { path, .. }) => whole_text(rt, alloc, path, err),
@@ -28,19 +64,25 @@ pub fn whole_text<E: Write>(
     alloc: Global,
     path: &str,
     err: &mut E,
-) -> Result<Vec<u8>, Status> {
+) -> Result<Vec<u8>, Status>
+    ensures { IfErr result (λ status. IsFault status) }
+{
     match fs::open(rt, path) {
         Ok(mut file) => text_of(alloc, path, &mut file, err),
         Err(_) => Err(unreadable(err, path)),
     }
 }
 
+// All that a reader has left.
 fn text_of<R: Read, E: Write>(
     alloc: Global,
     path: &str,
     reader: &mut R,
     err: &mut E,
-) -> Result<Vec<u8>, Status> {
+) -> Result<Vec<u8>, Status>
+    ensures whole { IfOk result (λ text. IfSome (R.remaining reader.old) (λ input. text.items ≡ input)) }
+    ensures fault { IfErr result (λ status. IsFault status) }
+{
     match read_whole(alloc, reader, usize::MAX, TURNS) {
         Ok(text) => Ok(text),
         Err(ReadFault::NoMemory) => Err(out_of_memory(err)),
@@ -48,19 +90,13 @@ fn text_of<R: Read, E: Write>(
     }
 }
 
-/// The names that were given, and behind them those of a list, where there is one.
-pub fn all_names<'a, 'b: 'a, E: Write>(
-    alloc: Global,
-    given: &[&'b str],
-    list: Option<List<'_>>,
-    text: &'a [u8],
-    failing: Failing,
-    tally: &mut Tally,
-    err: &mut E,
-) -> Result<Vec<&'a str>, Status> {
-    let (path, end) = match list {
-        Some(list) => (list.path, list.end),
-        None => ("", 0),
-    };
-    with_listed(alloc, given, path, text, end, failing, tally, err)
+/// What becomes of a run where a file fails.
+pub fn failing(finding: Finding) -> Failing
+    ensures { result ≡ failing_of finding }
+{
+    if finding.keeps_going {
+        Failing::Passes
+    } else {
+        Failing::Ends
+    }
 }

@@ -1,3 +1,5 @@
+ghost use Rattle.std.specs.Prelude.{◌≡◌};
+
 use av_base::device::read_into;
 use av_files::{Input, MAX_FILE, TURNS};
 use std::fs;
@@ -5,7 +7,9 @@ use std::fs::File;
 use std::io::Read;
 
 /// A file with its content as far as one byte past the limit, where it can be read.
-pub fn read_file<'a>(rt: &HostRuntime, name: &'a str, buffer: &'a mut [u8]) -> Input<'a> {
+pub fn read_file<'a>(rt: &HostRuntime, name: &'a str, buffer: &'a mut [u8]) -> Input<'a>
+    ensures { result.name ≡ name.entry }
+{
     let unread = Input {
         name,
         content: None,
@@ -28,6 +32,14 @@ pub fn open_file(rt: &HostRuntime, name: &str) -> Option<File> {
         fs::open(rt, name).ok()
     } else {
         None
+    }
+}
+
+/// How many bytes a file has, where it can be opened and may be waited for. Of one that was handed open nobody may know.
+pub fn size_of(rt: &HostRuntime, name: &str) -> Option<u64> {
+    match open_file(rt, name)?.metadata() {
+        Ok(metadata) => Some(metadata.len()),
+        Err(_) => None,
     }
 }
 

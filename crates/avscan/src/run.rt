@@ -4,13 +4,34 @@ ghost use Rattle.avscan.specs.Run.{PrintsIn, PrintsInFront, status_of};
 
 use av_files::TURNS;
 use av_status::Form;
-use av_status::faults::{bad_script, device_failed, out_of_memory, script_too_long};
+use av_status::faults::{bad_script, device_failed, out_of_memory, script_too_long, unreadable};
 use av_status::status::Status;
+use av_words::Script;
 use av_world::RunFault;
 use av_world::run_json::run_json;
 use av_world::run_script::run_script;
 use std::alloc::Global;
+use std::fs;
 use std::io::{Read, Write};
+
+/// Runs the script in this file, or on standard input for `-`.
+pub fn run_named<W: Write, E: Write>(
+    rt: &HostRuntime,
+    alloc: Global,
+    script: Script<'_>,
+    out: &mut W,
+    err: &mut E,
+) -> Status
+    ensures words { result ≢ Usage }
+{
+    if script.path == "-" {
+        return run_text(script.form, alloc, &mut rt.stdin(), out, err);
+    }
+    match fs::open(rt, script.path) {
+        Ok(mut file) => run_text(script.form, alloc, &mut file, out, err),
+        Err(_) => unreadable(err, script.path),
+    }
+}
 
 /// Runs the script that a reader gives. The lines that it prints in this form go to `out`; where it does not end well one line
 /// to `err` says why, as far as that can be written.

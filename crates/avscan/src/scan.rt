@@ -1,6 +1,6 @@
 ghost use Rattle.std.specs.Prelude.{◌≡◌, ◌<◌, length};
 
-use crate::list::{all_names, list_text};
+use crate::list::{failing, names_of};
 use crate::reading::{is_folder, open_file, read_file};
 use av_base::Verdict;
 use av_files::{
@@ -8,27 +8,17 @@ use av_files::{
 };
 use av_status::faults::{bad_entry, device_failed, out_of_memory, unreadable};
 use av_status::{Progress, Status, Tally, Wishes, conclude};
-use av_words::{Finding, List};
+use av_words::{Finding, Named, Scan};
 use std::alloc::Global;
 use std::fs;
 use std::fs::File;
 use std::io::{IsTerminal, Write};
 
-/// What is scanned, and what is told of it.
-#[derive(Clone, Copy)]
-pub struct Scanning<'a> {
-    pub set: &'a str,
-    pub list: Option<List<'a>>,
-    pub finding: Finding,
-    pub wishes: Wishes,
-}
-
 /// Scans files by their names, as `scan_files` does by their contents. One buffer holds the pieces of each content in turn.
 pub fn scan_named<W: Write, E: Write>(
     rt: &HostRuntime,
     alloc: Global,
-    asked: Scanning<'_>,
-    names: &[&str],
+    asked: &Scan<'_>,
     out: &mut W,
     err: &mut Progress<'_, HostRuntime, E>,
 ) -> Status {
@@ -42,10 +32,10 @@ pub fn scan_named<W: Write, E: Write>(
                 alloc,
                 scanner: &scanner,
                 finding: asked.finding,
-                wishes: asked.wishes,
+                wishes: asked.named.wishes,
                 is_live: rt.stdout().is_terminal(),
             };
-            scan_listed(means, names, asked.list, &mut buffer, out, err)
+            scan_listed(means, &asked.named, &mut buffer, out, err)
         }
         Err(status) => status,
     }
@@ -54,42 +44,25 @@ pub fn scan_named<W: Write, E: Write>(
 // Scans the files that were given, and behind them those of a list.
 fn scan_listed<W: Write, E: Write>(
     means: Means<'_, '_>,
-    given: &[&str],
-    list: Option<List<'_>>,
+    named: &Named<'_>,
     buffer: &mut [u8],
     out: &mut W,
     err: &mut Progress<'_, HostRuntime, E>,
 ) -> Status
     requires { 0 < length buffer.old }
 {
-    match list_text(means.rt, means.alloc, list, err) {
-        Ok(listed) => {
-            let listed = listed.as_slice();
-            scan_files_of(means, given, list, listed, buffer, out, err)
-        }
-        Err(status) => status,
-    }
-}
-
-// The same, with the list's text.
-fn scan_files_of<W: Write, E: Write>(
-    means: Means<'_, '_>,
-    given: &[&str],
-    list: Option<List<'_>>,
-    listed: &[u8],
-    buffer: &mut [u8],
-    out: &mut W,
-    err: &mut Progress<'_, HostRuntime, E>,
-) -> Status
-    requires { 0 < length buffer.old }
-{
-    let failing = if means.finding.keeps_going {
-        Failing::Passes
-    } else {
-        Failing::Ends
-    };
+    let failing = failing(means.finding);
     let mut tally = Tally::new();
-    match all_names(means.alloc, given, list, listed, failing, &mut tally, err) {
+    let mut text = Vec::new(means.alloc);
+    match names_of(
+        means.rt,
+        means.alloc,
+        named,
+        &mut text,
+        failing,
+        &mut tally,
+        err,
+    ) {
         Ok(names) => match failing {
             Failing::Ends => scan_all(means, names.as_slice(), buffer, out, err),
             Failing::Passes => scan_on(means, names.as_slice(), buffer, tally, out, err),

@@ -8,7 +8,7 @@ ghost use Rattle.av_world.specs.World.{member};
 ghost use Rattle.av_chart.specs.Life.{lives_of};
 ghost use Rattle.av_chart.specs.Marks.{submitted_id};
 ghost use Rattle.av_chart.specs.Row.{asked_lines, is_noted, spanned};
-ghost use Rattle.av_chart.specs.Story.{answered, asked, how_answered, how_found, how_judged, how_replied, how_worked, in_turn, jobs_over, lent, message_drops, moment, name_in, number_id, opened, questions_over, reply_ends, run_ends, worked};
+ghost use Rattle.av_chart.specs.Story.{answered, asked, asked_by, how_answered, how_found, how_judged, how_replied, how_worked, in_turn, jobs_over, lent, message_drops, moment, name_in, number_id, opened, questions_over, reply_ends, run_ends, worked, worked_by};
 
 use crate::happened::{Step, Way};
 use crate::happening::marks::{Deed, id_of, submitted_id};
@@ -154,7 +154,7 @@ fn ask_one<'a>(
     body: &Body,
 ) -> Result<(), AllocError>
     ensures { OnOk result (lives_of questions.new
-        ≡ asked (map (λ n. n.now) names.now) at line body.now (lives_of questions.old)) }
+        ≡ asked_by (map (λ n. n.now) names.now) at line body.now (lives_of questions.old)) }
 {
     let at = moment(at, 0, line);
     match body {
@@ -278,7 +278,7 @@ fn work_one(
     behind: usize,
     body: &Body,
 ) -> Result<(), AllocError>
-    ensures { OnOk result (lives_of jobs.new ≡ worked at (first + behind) body.now (lives_of jobs.old)) }
+    ensures { OnOk result (lives_of jobs.new ≡ worked_by at (first + behind) body.now (lives_of jobs.old)) }
 {
     let at = moment(at, first, behind);
     match body {

@@ -1,5 +1,8 @@
 //! What goes out, and who is waited for too long.
 
+ghost use Rattle.std.specs.Prelude.{◌≡◌};
+ghost use Rattle.av_daemon.specs.Late.{is_late};
+
 use super::{Daemon, MOST_IN_LINE, SERVING, Stop};
 use av_guard::Guard;
 use std::fs::Files;
@@ -165,9 +168,11 @@ impl<'a, R: Files + Net + Clock> Daemon<'a, R> {
 }
 
 // Whether who is waited for since then is waited for too long.
-fn is_late(since: Option<Duration>, now: Duration, wait: Duration) -> bool {
+fn is_late(since: Option<Duration>, now: Duration, wait: Duration) -> bool
+    ensures { result ≡ is_late since now wait }
+{
     match since {
-        Some(since) => now.saturating_sub(since) >= wait,
+        Some(since) => now.saturating_sub(since).as_nanos() >= wait.as_nanos(),
         None => false,
     }
 }

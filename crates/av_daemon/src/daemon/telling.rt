@@ -46,7 +46,7 @@ impl<'a, R: Files + Net + Clock> Daemon<'a, R> {
         let Some(service) = &mut self.service else {
             return Ok(());
         };
-        encode_into(message, service.line.out())?;
+        encode_into(message, &mut service.line.waiting)?;
         self.wants_to_send(SERVING)
     }
 
@@ -57,7 +57,8 @@ impl<'a, R: Files + Net + Clock> Daemon<'a, R> {
             return Ok(());
         };
         let done = if client.is_of_clamd() {
-            let name = self.names.name_in(self.rt, self.alloc, told.answer);
+            self.names.look(self.rt, self.alloc, told.answer);
+            let name = self.names.name_in(told.answer);
             client.tell(told, name)
         } else {
             client.tell(told, None)

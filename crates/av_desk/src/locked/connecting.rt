@@ -91,21 +91,21 @@ fn latest_of(catalogue: &Catalogue) -> Version
 // These events of the service give out no work.
 
 fn connect(service: &mut Service, alloc: Global) -> Result<ServiceOut, Refusal<ConnectFault>>
-    ensures event { Meets service.old service.new result (connect_refusal service.old) (service_step service.old Connects) }
+    ensures event { Meets service.old.desk service.new.desk result (connect_refusal service.old.desk) (service_step service.old.desk Connects) }
     ensures silent { IfOk result (λ out. out.work ≡ None) }
 {
     service.connect(alloc)
 }
 
 fn disconnect(service: &mut Service, alloc: Global) -> ServiceOut
-    ensures event { Responds result service.new (service_step service.old Disconnects) }
+    ensures event { Responds result service.new.desk (service_step service.old.desk Disconnects) }
     ensures silent { result.work ≡ None }
 {
     service.disconnect(alloc)
 }
 
 fn restart(service: &mut Service, alloc: Global, catalogue: &Catalogue) -> ServiceOut
-    ensures event { Responds result service.new (service_step service.old (Restarts (latest catalogue.now.sets))) }
+    ensures event { Responds result service.new.desk (service_step service.old.desk (Restarts (latest catalogue.now.sets))) }
     ensures silent { result.work ≡ None }
 {
     service.restart(alloc, catalogue)

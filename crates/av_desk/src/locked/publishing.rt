@@ -76,8 +76,8 @@ impl Locked {
 
 // Tells the service of a publication, which gives out no work.
 fn publish(service: &mut Service, alloc: Global, version: Version) -> Result<ServiceOut, AllocError>
-    requires { service.old.version < version }
-    ensures event { MeetsAlways service.old service.new result (service_step service.old (conduct.Publishes version)) }
+    requires { service.old.desk.version < version }
+    ensures event { MeetsAlways service.old.desk service.new.desk result (service_step service.old.desk (conduct.Publishes version)) }
     ensures silent { IfOk result (λ out. out.work ≡ None) }
 {
     service.publish(alloc, version)

@@ -79,10 +79,10 @@ impl Locked {
 
 // Takes a work back, which gives out no other.
 fn finish(service: &mut Service, alloc: Global, done: Done) -> Result<ServiceOut, AllocFailed<Done>>
-    ensures ok { IfOk result (λ out. Responds out service.new
-        (service_step service.old (Finishes done.lease done.scan (if_found done.scan)))) }
+    ensures ok { IfOk result (λ out. Responds out service.new.desk
+        (service_step service.old.desk (Finishes done.lease done.scan (if_found done.scan)))) }
     ensures silent { IfOk result (λ out. out.work ≡ None) }
-    ensures err { IfErr result (λ e. (e.value ≡ done) × (service.new ≡ service.old)) }
+    ensures err { IfErr result (λ e. (e.value ≡ done) × (service.new.desk ≡ service.old.desk)) }
 {
     service.finish(alloc, done)
 }

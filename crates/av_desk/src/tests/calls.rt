@@ -3,8 +3,8 @@
 use crate::tests::said::{Said, all_said};
 use crate::{Desk, DeskFault, Lent, Taken};
 use av_base::{
-    ByteList, Generation, LimitField, LimitValues, Limits, MessageId, Refusal, Refused, StreamId,
-    Version,
+    ByteList, Generation, LimitField, LimitValues, Limits, MessageId, Port, Refusal, Refused,
+    StreamId, Version,
 };
 use av_fakes::{may_refuse, refuse_no_more};
 use av_frame::{Body, Message};
@@ -34,14 +34,23 @@ pub fn catalogue(alloc: Global, pattern: &[u8]) -> Result<Catalogue, Fail> {
 }
 
 pub fn desk_of(alloc: Global, catalogue: Catalogue, limits: Limits) -> Result<Desk, Fail> {
+    desk_at(alloc, Port::One, catalogue, limits)
+}
+
+pub fn desk_at(
+    alloc: Global,
+    port: Port,
+    catalogue: Catalogue,
+    limits: Limits,
+) -> Result<Desk, Fail> {
     may_refuse(alloc);
-    let first = Desk::new(alloc, 7, catalogue, limits);
+    let first = Desk::new(alloc, 7, port, catalogue, limits);
     refuse_no_more(alloc);
     match first {
         Ok(desk) => Ok(desk),
         Err(failed) => {
             let AllocFailed { value } = failed;
-            Ok(Desk::new(alloc, 7, value, limits)?)
+            Ok(Desk::new(alloc, 7, port, value, limits)?)
         }
     }
 }
@@ -51,9 +60,9 @@ pub fn desk(alloc: Global, pattern: &[u8]) -> Result<Desk, Fail> {
     desk_of(alloc, catalogue(alloc, pattern)?, Limits::greatest())
 }
 
-fn message_of(body: Body) -> Result<Message, Fail> {
+fn message_of(port: Port, body: Body) -> Result<Message, Fail> {
     if body.is_in_range() {
-        Ok(Message::new(body))
+        Ok(Message::new(port, body))
     } else {
         Err(Fail::new("out of range"))
     }
@@ -61,20 +70,26 @@ fn message_of(body: Body) -> Result<Message, Fail> {
 
 // The question of that number about the stream of that number.
 pub fn scan(seq: u64, length: u64) -> Result<Message, Fail> {
-    message_of(Body::Scan {
+    scan_at(Port::One, seq, length)
+}
+
+pub fn scan_at(port: Port, seq: u64, length: u64) -> Result<Message, Fail> {
+    let body = Body::Scan {
         id: MessageId { boot: 1, seq },
         stream: StreamId::new(seq),
         generation: Generation::new(2),
         length,
-    })
+    };
+    message_of(port, body)
 }
 
 pub fn chunk(alloc: Global, seq: u64, offset: u64, bytes: &[u8]) -> Result<Message, Fail> {
-    message_of(Body::Chunk {
+    let body = Body::Chunk {
         id: MessageId { boot: 1, seq },
         offset,
         bytes: ByteList::copied(alloc, bytes)?,
-    })
+    };
+    message_of(Port::One, body)
 }
 
 pub fn connect<R: Wait>(rt: &R, alloc: Global, desk: &Desk) -> Result<Note, Fail> {

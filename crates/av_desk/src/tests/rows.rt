@@ -2,7 +2,7 @@
 use crate::tests::calls;
 use crate::tests::said::{Asked, Row, Said, rows};
 use crate::{Desk, Lent};
-use av_base::{Limits, Verdict};
+use av_base::{Limits, Port, Verdict};
 use av_service::Note;
 use std::alloc::Global;
 use std::process::Abort;
@@ -136,4 +136,23 @@ fn check_audit<R: Wait + Abort>(rt: &R, alloc: Global) -> Result<(), Fail> {
 #[test]
 fn refused_or_not_the_audit_has_each_call_with_its_arguments(rt: HostRuntime) -> Result<(), Fail> {
     check_audit(&rt, rt.alloc())
+}
+
+fn check_second_port<R: Wait + Abort>(rt: &R, alloc: Global) -> Result<(), Fail> {
+    let catalogue = calls::catalogue(alloc, b"XX")?;
+    let desk = calls::desk_at(alloc, Port::Two, catalogue, Limits::greatest())?;
+    calls::connect(rt, alloc, &desk)?;
+    let at_one = calls::quiet(rt, alloc, &desk, calls::scan(1, 3)?)?;
+    let at_two = calls::quiet(rt, alloc, &desk, calls::scan_at(Port::Two, 1, 3)?)?;
+    assert_eq!(rt; (at_one, at_two), (Note::Ignored, Note::Quiet));
+    let sent = desk.take_outgoing(rt, alloc)?;
+    let ports: Vec<Port> = sent.iter().map(|message| message.port()).collect(alloc)?;
+    assert_eq!(rt; ports.as_slice(), [Port::Two, Port::Two].as_slice());
+    assert_eq!(rt; desk.close().port, Port::Two);
+    Ok(())
+}
+
+#[test]
+fn a_desk_of_the_second_port_speaks_there(rt: HostRuntime) -> Result<(), Fail> {
+    check_second_port(&rt, rt.alloc())
 }

@@ -119,6 +119,41 @@ fn two_threads_judge_at_once(rt: HostRuntime) -> Result<(), Fail> {
     shared_by_two(&rt, rt.alloc())
 }
 
+fn finish_quietly<R: Wait>(rt: &R, alloc: Global, desk: &Desk, lent: Lent) -> Result<(), Fail> {
+    match desk.finish_quietly(rt, alloc, lent.run()) {
+        Ok(_) => Ok(()),
+        Err(refused) => {
+            let Refused { value, why: _ } = refused;
+            value.discard();
+            Err(Fail::new("refused"))
+        }
+    }
+}
+
+fn judged_quietly<R: Wait + Abort>(rt: &R, alloc: Global) -> Result<(), Fail> {
+    let desk = calls::desk(alloc, b"XX")?;
+    calls::connect(rt, alloc, &desk)?;
+    for message in questions(alloc, &[1])? {
+        let Ok(Taken { lent, note: _ }) = desk.message_quietly(rt, alloc, message) else {
+            return Err(Fail::new("refused"));
+        };
+        if let Some(lent) = lent {
+            finish_quietly(rt, alloc, &desk, lent)?;
+        }
+    }
+    assert!(rt; desk.await_outgoing(rt) && desk.await_outgoing(rt));
+    assert_eq!(rt; calls::take(rt, alloc, &desk)?.len(), 3);
+    desk.stop(rt);
+    assert!(rt; !desk.await_outgoing(rt));
+    assert_eq!(rt; desk.close().events.len(), 4);
+    Ok(())
+}
+
+#[test]
+fn quiet_calls_are_events_like_others_and_their_messages_wait(rt: HostRuntime) -> Result<(), Fail> {
+    judged_quietly(&rt, rt.alloc())
+}
+
 // Waits once.
 fn waited<R: Wait>(rt: &R, alloc: Global, desk: &Desk) -> Result<usize, AllocError> {
     Ok(match desk.wait_outgoing(rt, alloc)? {

@@ -2,7 +2,7 @@
 use crate::end::End;
 use crate::tests::frames::DOWN;
 use crate::tests::sides::{limits_with, served, served_within};
-use av_base::{ByteList, Generation, LimitField, MessageId, StreamId};
+use av_base::{ByteList, Generation, LimitField, MessageId, Port, StreamId};
 use av_fakes::{FakeReader, FakeWriter};
 use av_frame::encode::encode_into;
 use av_frame::{FailCause, Message, Outcome};
@@ -16,7 +16,7 @@ fn put_scan(bytes: &mut Vec<u8>, seq: u64) -> Result<(), Fail> {
         boot: 1,
         seq: number,
     };
-    let message = Message::scan(id, StreamId::new(number), Generation::new(2), 1);
+    let message = Message::scan(Port::One, id, StreamId::new(number), Generation::new(2), 1);
     Ok(encode_into(&message, bytes)?)
 }
 
@@ -25,7 +25,7 @@ fn put_read(bytes: &mut Vec<u8>, seq: u64) -> Result<(), Fail> {
         boot: 1,
         seq: seq.max(1),
     };
-    Ok(encode_into(&Message::read(id, 0, 1), bytes)?)
+    Ok(encode_into(&Message::read(Port::One, id, 0, 1), bytes)?)
 }
 
 fn put_failed(bytes: &mut Vec<u8>, seq: u64, cause: FailCause) -> Result<(), Fail> {
@@ -33,7 +33,10 @@ fn put_failed(bytes: &mut Vec<u8>, seq: u64, cause: FailCause) -> Result<(), Fai
         boot: 1,
         seq: seq.max(1),
     };
-    Ok(encode_into(&Message::reply(id, Outcome::Failed { cause }), bytes)?)
+    Ok(encode_into(
+        &Message::reply(Port::One, id, Outcome::Failed { cause }),
+        bytes,
+    )?)
 }
 
 fn put_abort(bytes: &mut Vec<u8>, seq: u64) -> Result<(), Fail> {
@@ -41,7 +44,7 @@ fn put_abort(bytes: &mut Vec<u8>, seq: u64) -> Result<(), Fail> {
         boot: 1,
         seq: seq.max(1),
     };
-    Ok(encode_into(&Message::abort(id), bytes)?)
+    Ok(encode_into(&Message::abort(Port::One, id), bytes)?)
 }
 
 fn flood(alloc: Global) -> Result<Vec<u8>, Fail> {
@@ -86,7 +89,7 @@ fn a_flood_of_scans_is_answered_one_by_one(rt: HostRuntime) -> Result<(), Fail> 
     )?;
     assert!(rt; end == End::Closed);
     let answers = answers_to_flood(alloc)?;
-    assert!(rt; is_from(writer.taken(), 21, &answers));
+    assert!(rt; is_from(writer.taken(), 22, &answers));
     Ok(())
 }
 
@@ -96,7 +99,7 @@ fn a_chunk_past_the_length_ends_its_job_and_the_next_one_is_ignored(
 ) -> Result<(), Fail> {
     let alloc = rt.alloc();
     let mut input = Vec::new(alloc);
-    input.extend_from_slice(&DOWN[..45])?;
+    input.extend_from_slice(&DOWN[..46])?;
     for _ in 0..2u8 {
         let bytes = ByteList::from_vec(Vec::from_slice(alloc, b"ABCD")?);
         put_chunk(&mut input, bytes)?;
@@ -106,7 +109,7 @@ fn a_chunk_past_the_length_ends_its_job_and_the_next_one_is_ignored(
     let mut writer = FakeWriter::new(alloc);
     let end = served(alloc, &mut FakeReader::new(&input), &mut writer, 1_000)?;
     assert!(rt; end == End::Closed);
-    assert!(rt; is_from(writer.taken(), 54, &failed));
+    assert!(rt; is_from(writer.taken(), 56, &failed));
     Ok(())
 }
 
@@ -115,5 +118,5 @@ fn put_chunk(bytes: &mut Vec<u8>, chunk: ByteList) -> Result<(), Fail> {
     if !av_frame::message::is_chunk(id, 0, chunk.as_slice()) {
         return Err("no chunk".into());
     }
-    Ok(encode_into(&Message::chunk(id, 0, chunk), bytes)?)
+    Ok(encode_into(&Message::chunk(Port::One, id, 0, chunk), bytes)?)
 }

@@ -5,7 +5,7 @@ use crate::serving::serve_fresh;
 use crate::tests::frames::{CHUNK, CLEAN, HELLO, READ, SCAN};
 use crate::tests::sides::{Unmade, catalogue_of_one};
 use crate::tests::text::bytes_of;
-use av_base::{Limits, Refusal, Version};
+use av_base::{Limits, Port, Refusal, Version};
 use av_fakes::{FakeWriter, may_refuse, refuse_no_more};
 use av_service::Service;
 use av_sigset::{Catalogue, CatalogueFault, SignatureSet};
@@ -140,7 +140,7 @@ fn served_over(
     writer: &mut FakeWriter,
     turns: u64,
 ) -> Result<End, Unmade> {
-    let Ok(mut service) = Service::start(alloc, 1, &catalogue, Limits::greatest()) else {
+    let Ok(mut service) = Service::start(alloc, 1, Port::One, &catalogue, Limits::greatest()) else {
         return Err(Unmade);
     };
     let Some(version) = service.version() else {
@@ -164,9 +164,9 @@ fn served_over(
 }
 
 // Updated to version 2, and Reply 1.1 infected by signature 0 that ends at 2 under it.
-const UPDATED: &str = "00000009 08 [2]";
+const UPDATED: &str = "0000000a 0801 [2]";
 
-const INFECTED: &str = "00000026 07 [1] [1] 01 [2] 00000000 [2]";
+const INFECTED: &str = "00000027 0701 [1] [1] 01 [2] 00000000 [2]";
 
 #[test]
 fn a_set_that_comes_is_told_and_its_jobs_begin_anew(rt: HostRuntime) -> Result<(), Fail> {
@@ -278,10 +278,10 @@ fn behind_4095_versions_one_is_published_and_the_others_are_told_as_too_many(
     let sent = bytes_of(
         alloc,
         &[
-            "00000011 05 [1] [4095]",
-            "00000009 08 [4096]",
+            "00000012 0501 [1] [4095]",
+            "0000000a 0801 [4096]",
             READ,
-            "00000026 07 [1] [1] 01 [4096] 00000000 [2]",
+            "00000027 0701 [1] [1] 01 [4096] 00000000 [2]",
         ],
     )?;
     assert_eq!(rt; end, End::Closed);

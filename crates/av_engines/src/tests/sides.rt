@@ -5,7 +5,7 @@ use crate::end::End;
 use crate::serving::serve_service;
 use crate::tests::frames::{DOWN, UP};
 use crate::watching::{Watched, serve_filter};
-use av_base::{LimitField, LimitValues, Limits, Mode, StreamId, Version};
+use av_base::{LimitField, LimitValues, Limits, Mode, Port, StreamId, Version};
 use av_fakes::{FakeReader, FakeWriter, may_refuse, refuse_no_more};
 use av_filter::Filter;
 use av_service::Service;
@@ -164,7 +164,7 @@ pub fn served_within<R: Read, W: Write>(
     turns: u64,
 ) -> Result<End, Unmade> {
     let mut catalogue = catalogue_of_one(alloc)?;
-    let Ok(mut service) = Service::start(alloc, 1, &catalogue, limits) else {
+    let Ok(mut service) = Service::start(alloc, 1, Port::One, &catalogue, limits) else {
         return Err(Unmade);
     };
     let Some(version) = service.version() else {

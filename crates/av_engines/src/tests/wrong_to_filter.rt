@@ -7,16 +7,16 @@ use av_base::{Cause, LimitField};
 use std::test::Fail;
 
 // Hello of volume 1 and version 2.
-const HELLO_2: &str = "00000011 05 [1] [2]";
+const HELLO_2: &str = "00000012 0501 [1] [2]";
 
 // Hello of volume 2 and version 9.
-const HELLO_OF_2: &str = "00000011 05 [2] [9]";
+const HELLO_OF_2: &str = "00000012 0501 [2] [9]";
 
 // NoChunk 1.1 from 0: there is no such question.
-const NO_QUESTION: &str = "0000001a 03 [1] [1] [0] 01";
+const NO_QUESTION: &str = "0000001b 0301 [1] [1] [0] 01";
 
 // Updated to version 2.
-const UPDATED_2: &str = "00000009 08 [2]";
+const UPDATED_2: &str = "0000000a 0801 [2]";
 
 const GREETINGS: [Case<'static>; 7] = [
     Case {
@@ -51,7 +51,7 @@ const GREETINGS: [Case<'static>; 7] = [
         name: "under an older version than was told, then under that one",
         limit: FULL,
         // Hello, Reply 1.1 clean under version 2.
-        comes: &[UPDATED_2, HELLO, HELLO_2, "0000001a 07 [1] [1] 00 [2]"],
+        comes: &[UPDATED_2, HELLO, HELLO_2, "0000001b 0701 [1] [1] 00 [2]"],
         sends: &[SCAN],
         side: Side::Filter(End::Done, Told::Granted(2)),
     },
@@ -78,14 +78,14 @@ const READS: [Case<'static>; 7] = [
         // Read 1.2 of 3 bytes from 0; Read 2.1 of 1 byte from 5.
         comes: &[
             HELLO,
-            "0000001d 06 [1] [2] [0] 00000003",
-            "0000001d 06 [2] [1] [5] 00000001",
+            "0000001e 0601 [1] [2] [0] 00000003",
+            "0000001e 0601 [2] [1] [5] 00000001",
         ],
         // NoChunk 1.2 from 0, cause 1; NoChunk 2.1 from 5, cause 1.
         sends: &[
             SCAN,
-            "0000001a 03 [1] [2] [0] 01",
-            "0000001a 03 [2] [1] [5] 01",
+            "0000001b 0301 [1] [2] [0] 01",
+            "0000001b 0301 [2] [1] [5] 01",
         ],
         side: Side::Filter(End::Closed, LOST),
     },
@@ -102,14 +102,14 @@ const READS: [Case<'static>; 7] = [
         // Read 1.1 of 1 byte from 3; Read 1.1 of 4,096 bytes from 1,048,576.
         comes: &[
             HELLO,
-            "0000001d 06 [1] [1] [3] 00000001",
-            "0000001d 06 [1] [1] [1048576] 00001000",
+            "0000001e 0601 [1] [1] [3] 00000001",
+            "0000001e 0601 [1] [1] [1048576] 00001000",
         ],
         // NoChunk 1.1 from 3, cause 2; NoChunk 1.1 from 1,048,576, cause 2.
         sends: &[
             SCAN,
-            "0000001a 03 [1] [1] [3] 02",
-            "0000001a 03 [1] [1] [1048576] 02",
+            "0000001b 0301 [1] [1] [3] 02",
+            "0000001b 0301 [1] [1] [1048576] 02",
         ],
         side: Side::Filter(End::Closed, LOST),
     },
@@ -117,9 +117,9 @@ const READS: [Case<'static>; 7] = [
         name: "of more than is left",
         limit: FULL,
         // Read 1.1 of 4,096 bytes from 2.
-        comes: &[HELLO, "0000001d 06 [1] [1] [2] 00001000"],
+        comes: &[HELLO, "0000001e 0601 [1] [1] [2] 00001000"],
         // Chunk 1.1 from 2, `C`.
-        sends: &[SCAN, "0000001a 02 [1] [1] [2] 43"],
+        sends: &[SCAN, "0000001b 0201 [1] [1] [2] 43"],
         side: Side::Filter(End::Closed, LOST),
     },
     Case {
@@ -127,16 +127,22 @@ const READS: [Case<'static>; 7] = [
         limit: (LimitField::Chunk, 2),
         comes: &[HELLO, READ],
         // Chunk 1.1 from 0, `AB`.
-        sends: &[SCAN, "0000001b 02 [1] [1] [0] 4142"],
+        sends: &[SCAN, "0000001c 0201 [1] [1] [0] 4142"],
         side: Side::Filter(End::Closed, LOST),
     },
     Case {
         name: "twice, and backwards",
         limit: FULL,
         // Read 1.1 of 1 byte from 2.
-        comes: &[HELLO, READ, READ, "0000001d 06 [1] [1] [2] 00000001", READ],
+        comes: &[
+            HELLO,
+            READ,
+            READ,
+            "0000001e 0601 [1] [1] [2] 00000001",
+            READ,
+        ],
         // Chunk 1.1 from 2, `C`.
-        sends: &[SCAN, CHUNK, CHUNK, "0000001a 02 [1] [1] [2] 43", CHUNK],
+        sends: &[SCAN, CHUNK, CHUNK, "0000001b 0201 [1] [1] [2] 43", CHUNK],
         side: Side::Filter(End::Closed, LOST),
     },
     Case {
@@ -155,9 +161,9 @@ const REPLIES: [Case<'static>; 10] = [
         // Reply 1.2 clean under version 1; 1.2 infected, signature 0 ends at 2; 2.1 failed, cause 1.
         comes: &[
             HELLO,
-            "0000001a 07 [1] [2] 00 [1]",
-            "00000026 07 [1] [2] 01 [1] 00000000 [2]",
-            "00000013 07 [2] [1] 02 01",
+            "0000001b 0701 [1] [2] 00 [1]",
+            "00000027 0701 [1] [2] 01 [1] 00000000 [2]",
+            "00000014 0701 [2] [1] 02 01",
         ],
         sends: &[SCAN],
         side: Side::Filter(End::Closed, LOST),
@@ -166,7 +172,7 @@ const REPLIES: [Case<'static>; 10] = [
         name: "of another version, a later one",
         limit: FULL,
         // Reply 1.1 clean under version 9.
-        comes: &[HELLO, "0000001a 07 [1] [1] 00 [9]"],
+        comes: &[HELLO, "0000001b 0701 [1] [1] 00 [9]"],
         sends: &[SCAN],
         side: Side::Filter(End::Done, Told::Granted(9)),
     },
@@ -174,7 +180,7 @@ const REPLIES: [Case<'static>; 10] = [
         name: "of another version, an older one: it is asked again",
         limit: FULL,
         // Reply 1.1 infected under version 1, signature 0 ends at 2.
-        comes: &[HELLO_2, "00000026 07 [1] [1] 01 [1] 00000000 [2]"],
+        comes: &[HELLO_2, "00000027 0701 [1] [1] 01 [1] 00000000 [2]"],
         sends: &[SCAN, SCAN_2],
         side: Side::Filter(End::Closed, LOST),
     },
@@ -182,7 +188,7 @@ const REPLIES: [Case<'static>; 10] = [
         name: "twice: the second finds no waiter",
         limit: FULL,
         // Reply 1.2 clean under version 2.
-        comes: &[HELLO_2, CLEAN, CLEAN, "0000001a 07 [1] [2] 00 [2]"],
+        comes: &[HELLO_2, CLEAN, CLEAN, "0000001b 0701 [1] [2] 00 [2]"],
         sends: &[SCAN, SCAN_2],
         side: Side::Filter(End::Done, Told::Granted(2)),
     },
@@ -197,7 +203,7 @@ const REPLIES: [Case<'static>; 10] = [
         name: "behind an older version that was told, which lowers nothing",
         limit: FULL,
         // Updated to version 1.
-        comes: &[HELLO_2, "00000009 08 [1]", CLEAN],
+        comes: &[HELLO_2, "0000000a 0801 [1]", CLEAN],
         sends: &[SCAN, SCAN_2],
         side: Side::Filter(End::Closed, LOST),
     },
@@ -205,7 +211,7 @@ const REPLIES: [Case<'static>; 10] = [
         name: "that the scan failed: as many as may ran",
         limit: FULL,
         // Reply 1.1 failed, cause 1.
-        comes: &[HELLO, "00000013 07 [1] [1] 02 01"],
+        comes: &[HELLO, "00000014 0701 [1] [1] 02 01"],
         sends: &[SCAN],
         side: Side::Filter(End::Done, Told::Denied(Cause::ScanFailed)),
     },
@@ -213,7 +219,7 @@ const REPLIES: [Case<'static>; 10] = [
         name: "that the scan failed: a chunk went past the length",
         limit: FULL,
         // Reply 1.1 failed, cause 2.
-        comes: &[HELLO, "00000013 07 [1] [1] 02 02"],
+        comes: &[HELLO, "00000014 0701 [1] [1] 02 02"],
         sends: &[SCAN],
         side: Side::Filter(End::Done, Told::Denied(Cause::ScanFailed)),
     },
@@ -221,7 +227,7 @@ const REPLIES: [Case<'static>; 10] = [
         name: "infected past the end of the content, by the last signature that a set can have",
         limit: FULL,
         // Reply 1.1 infected under version 1, signature 1,023 ends at 1,048,576.
-        comes: &[HELLO, "00000026 07 [1] [1] 01 [1] 000003ff [1048576]"],
+        comes: &[HELLO, "00000027 0701 [1] [1] 01 [1] 000003ff [1048576]"],
         sends: &[SCAN],
         side: Side::Filter(End::Done, Told::Denied(Cause::Infected)),
     },
@@ -232,26 +238,26 @@ const REPLIES: [Case<'static>; 10] = [
         comes: &[
             HELLO_2,
             CLEAN,
-            "0000001a 07 [1] [2] 00 [1]",
-            "0000001a 07 [1] [3] 00 [1]",
-            "0000001a 07 [1] [4] 00 [1]",
-            "0000001a 07 [1] [5] 00 [1]",
-            "0000001a 07 [1] [6] 00 [1]",
-            "0000001a 07 [1] [7] 00 [1]",
-            "0000001a 07 [1] [8] 00 [1]",
-            "0000001a 07 [1] [9] 00 [1]",
+            "0000001b 0701 [1] [2] 00 [1]",
+            "0000001b 0701 [1] [3] 00 [1]",
+            "0000001b 0701 [1] [4] 00 [1]",
+            "0000001b 0701 [1] [5] 00 [1]",
+            "0000001b 0701 [1] [6] 00 [1]",
+            "0000001b 0701 [1] [7] 00 [1]",
+            "0000001b 0701 [1] [8] 00 [1]",
+            "0000001b 0701 [1] [9] 00 [1]",
         ],
         // Scan 1.1 to 1.9.
         sends: &[
             SCAN,
             SCAN_2,
-            "00000029 01 [1] [3] [1] [2] [3]",
-            "00000029 01 [1] [4] [1] [2] [3]",
-            "00000029 01 [1] [5] [1] [2] [3]",
-            "00000029 01 [1] [6] [1] [2] [3]",
-            "00000029 01 [1] [7] [1] [2] [3]",
-            "00000029 01 [1] [8] [1] [2] [3]",
-            "00000029 01 [1] [9] [1] [2] [3]",
+            "0000002a 0101 [1] [3] [1] [2] [3]",
+            "0000002a 0101 [1] [4] [1] [2] [3]",
+            "0000002a 0101 [1] [5] [1] [2] [3]",
+            "0000002a 0101 [1] [6] [1] [2] [3]",
+            "0000002a 0101 [1] [7] [1] [2] [3]",
+            "0000002a 0101 [1] [8] [1] [2] [3]",
+            "0000002a 0101 [1] [9] [1] [2] [3]",
         ],
         side: Side::Filter(End::Done, Told::Denied(Cause::Unsettled)),
     },

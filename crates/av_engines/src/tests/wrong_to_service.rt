@@ -6,23 +6,23 @@ use av_base::LimitField;
 use std::test::Fail;
 
 // Scan 1.2 of stream 2, generation 2, 3 bytes.
-const SCAN_OF_2: &str = "00000029 01 [1] [2] [2] [2] [3]";
+const SCAN_OF_2: &str = "0000002a 0101 [1] [2] [2] [2] [3]";
 
 // Read 1.2 of 3 bytes from 0.
-const READ_2: &str = "0000001d 06 [1] [2] [0] 00000003";
+const READ_2: &str = "0000001e 0601 [1] [2] [0] 00000003";
 
 // Chunk 1.2 from 0, `ABC`.
-const CHUNK_2: &str = "0000001c 02 [1] [2] [0] 414243";
+const CHUNK_2: &str = "0000001d 0201 [1] [2] [0] 414243";
 
 // Reply 1.2 clean under version 1.
-const CLEAN_2: &str = "0000001a 07 [1] [2] 00 [1]";
+const CLEAN_2: &str = "0000001b 0701 [1] [2] 00 [1]";
 
 const SCANS: [Case<'static>; 9] = [
     Case {
         name: "again while it runs, of another content",
         limit: FULL,
         // Scan 1.1 of stream 2, generation 3, 9 bytes.
-        comes: &[SCAN, "00000029 01 [1] [1] [2] [3] [9]", CHUNK],
+        comes: &[SCAN, "0000002a 0101 [1] [1] [2] [3] [9]", CHUNK],
         sends: &[HELLO, READ, CLEAN],
         side: Side::Service(End::Closed),
     },
@@ -37,7 +37,7 @@ const SCANS: [Case<'static>; 9] = [
         name: "of the next generation of what was judged",
         limit: FULL,
         // Scan 1.2 of stream 1, generation 3, 3 bytes.
-        comes: &[SCAN, CHUNK, "00000029 01 [1] [2] [1] [3] [3]"],
+        comes: &[SCAN, CHUNK, "0000002a 0101 [1] [2] [1] [3] [3]"],
         sends: &[HELLO, READ, CLEAN, READ_2],
         side: Side::Service(End::Closed),
     },
@@ -52,7 +52,7 @@ const SCANS: [Case<'static>; 9] = [
         name: "of a content without bytes: there is no job, and none comes back",
         limit: FULL,
         // Scan 1.1 of stream 1, generation 2, no byte.
-        comes: &["00000029 01 [1] [1] [1] [2] [0]", CHUNK, ABORT],
+        comes: &["0000002a 0101 [1] [1] [1] [2] [0]", CHUNK, ABORT],
         sends: &[HELLO, CLEAN],
         side: Side::Service(End::Closed),
     },
@@ -63,7 +63,7 @@ const SCANS: [Case<'static>; 9] = [
         comes: &[
             SCAN,
             SCAN_OF_2,
-            "00000029 01 [1] [3] [3] [1] [0]",
+            "0000002a 0101 [1] [3] [3] [1] [0]",
             SCAN,
             CHUNK,
             SCAN_OF_2,
@@ -72,8 +72,8 @@ const SCANS: [Case<'static>; 9] = [
         sends: &[
             HELLO,
             READ,
-            "00000013 07 [1] [2] 02 01",
-            "00000013 07 [1] [3] 02 01",
+            "00000014 0701 [1] [2] 02 01",
+            "00000014 0701 [1] [3] 02 01",
             CLEAN,
             READ_2,
         ],
@@ -83,9 +83,9 @@ const SCANS: [Case<'static>; 9] = [
         name: "more than may run, of a content that was judged",
         limit: (LimitField::Jobs, 1),
         // Scan 1.3 of stream 1, generation 2, 3 bytes.
-        comes: &[SCAN, CHUNK, SCAN_OF_2, "00000029 01 [1] [3] [1] [2] [3]"],
+        comes: &[SCAN, CHUNK, SCAN_OF_2, "0000002a 0101 [1] [3] [1] [2] [3]"],
         // Reply 1.3 clean under version 1.
-        sends: &[HELLO, READ, CLEAN, READ_2, "0000001a 07 [1] [3] 00 [1]"],
+        sends: &[HELLO, READ, CLEAN, READ_2, "0000001b 0701 [1] [3] 00 [1]"],
         side: Side::Service(End::Closed),
     },
     Case {
@@ -93,21 +93,21 @@ const SCANS: [Case<'static>; 9] = [
         limit: (LimitField::Jobs, 1),
         // Scan 1.1 of stream 1, generation 2, no byte; Scan 1.3 of the same.
         comes: &[
-            "00000029 01 [1] [1] [1] [2] [0]",
+            "0000002a 0101 [1] [1] [1] [2] [0]",
             SCAN_OF_2,
-            "00000029 01 [1] [3] [1] [2] [0]",
+            "0000002a 0101 [1] [3] [1] [2] [0]",
         ],
         // Reply 1.3 clean under version 1.
-        sends: &[HELLO, CLEAN, READ_2, "0000001a 07 [1] [3] 00 [1]"],
+        sends: &[HELLO, CLEAN, READ_2, "0000001b 0701 [1] [3] 00 [1]"],
         side: Side::Service(End::Closed),
     },
     Case {
         name: "of the longest content",
         limit: FULL,
         // Scan 1.1 of stream 1, generation 2, 1,048,576 bytes.
-        comes: &["00000029 01 [1] [1] [1] [2] [1048576]"],
+        comes: &["0000002a 0101 [1] [1] [1] [2] [1048576]"],
         // Read 1.1 of 4,096 bytes from 0.
-        sends: &[HELLO, "0000001d 06 [1] [1] [0] 00001000"],
+        sends: &[HELLO, "0000001e 0601 [1] [1] [0] 00001000"],
         side: Side::Service(End::Closed),
     },
 ];
@@ -121,7 +121,7 @@ const CHUNKS: [Case<'static>; 7] = [
             CHUNK,
             SCAN,
             CHUNK_2,
-            "0000001c 02 [2] [1] [0] 414243",
+            "0000001d 0201 [2] [1] [0] 414243",
             CHUNK,
         ],
         sends: &[HELLO, READ, CLEAN],
@@ -133,8 +133,8 @@ const CHUNKS: [Case<'static>; 7] = [
         // Chunk 1.1 from 1, `BC`; Chunk 1.1 from 3, `D`.
         comes: &[
             SCAN,
-            "0000001b 02 [1] [1] [1] 4243",
-            "0000001a 02 [1] [1] [3] 44",
+            "0000001c 0201 [1] [1] [1] 4243",
+            "0000001b 0201 [1] [1] [3] 44",
             CHUNK,
         ],
         sends: &[HELLO, READ, CLEAN],
@@ -146,13 +146,13 @@ const CHUNKS: [Case<'static>; 7] = [
         // Chunk 1.1 from 0, `A`, twice; Chunk 1.1 from 1, `BC`.
         comes: &[
             SCAN,
-            "0000001a 02 [1] [1] [0] 41",
-            "0000001a 02 [1] [1] [0] 41",
+            "0000001b 0201 [1] [1] [0] 41",
+            "0000001b 0201 [1] [1] [0] 41",
             CHUNK,
-            "0000001b 02 [1] [1] [1] 4243",
+            "0000001c 0201 [1] [1] [1] 4243",
         ],
         // Read 1.1 of 2 bytes from 1.
-        sends: &[HELLO, READ, "0000001d 06 [1] [1] [1] 00000002", CLEAN],
+        sends: &[HELLO, READ, "0000001e 0601 [1] [1] [1] 00000002", CLEAN],
         side: Side::Service(End::Closed),
     },
     Case {
@@ -161,14 +161,14 @@ const CHUNKS: [Case<'static>; 7] = [
         // Chunk 1.1 from 0, `AB`; Chunk 1.1 from 2, `C`.
         comes: &[
             SCAN,
-            "0000001b 02 [1] [1] [0] 4142",
-            "0000001a 02 [1] [1] [2] 43",
+            "0000001c 0201 [1] [1] [0] 4142",
+            "0000001b 0201 [1] [1] [2] 43",
         ],
         // Read 1.1 of 1 byte from 0; Read 1.1 of 1 byte from 2.
         sends: &[
             HELLO,
-            "0000001d 06 [1] [1] [0] 00000001",
-            "0000001d 06 [1] [1] [2] 00000001",
+            "0000001e 0601 [1] [1] [0] 00000001",
+            "0000001e 0601 [1] [1] [2] 00000001",
             CLEAN,
         ],
         side: Side::Service(End::Closed),
@@ -179,17 +179,17 @@ const CHUNKS: [Case<'static>; 7] = [
         // Chunk 1.1 from 0, `AB`; from 2, `CD`; from 2, `C`.
         comes: &[
             SCAN,
-            "0000001b 02 [1] [1] [0] 4142",
-            "0000001b 02 [1] [1] [2] 4344",
-            "0000001a 02 [1] [1] [2] 43",
+            "0000001c 0201 [1] [1] [0] 4142",
+            "0000001c 0201 [1] [1] [2] 4344",
+            "0000001b 0201 [1] [1] [2] 43",
             SCAN,
         ],
         // Read 1.1 of 1 byte from 2; Reply 1.1 failed, cause 2.
         sends: &[
             HELLO,
             READ,
-            "0000001d 06 [1] [1] [2] 00000001",
-            "00000013 07 [1] [1] 02 02",
+            "0000001e 0601 [1] [1] [2] 00000001",
+            "00000014 0701 [1] [1] 02 02",
             READ,
         ],
         side: Side::Service(End::Closed),
@@ -200,8 +200,8 @@ const CHUNKS: [Case<'static>; 7] = [
         // Chunk 1.1 from 0, `XX`; Chunk 1.1 from 2, `C`.
         comes: &[
             SCAN,
-            "0000001b 02 [1] [1] [0] 5858",
-            "0000001a 02 [1] [1] [2] 43",
+            "0000001c 0201 [1] [1] [0] 5858",
+            "0000001b 0201 [1] [1] [2] 43",
             SCAN,
             SCAN_2,
         ],
@@ -209,9 +209,9 @@ const CHUNKS: [Case<'static>; 7] = [
         sends: &[
             HELLO,
             READ,
-            "00000026 07 [1] [1] 01 [1] 00000000 [2]",
-            "00000026 07 [1] [1] 01 [1] 00000000 [2]",
-            "00000026 07 [1] [2] 01 [1] 00000000 [2]",
+            "00000027 0701 [1] [1] 01 [1] 00000000 [2]",
+            "00000027 0701 [1] [1] 01 [1] 00000000 [2]",
+            "00000027 0701 [1] [2] 01 [1] 00000000 [2]",
         ],
         side: Side::Service(End::Closed),
     },
@@ -221,16 +221,16 @@ const CHUNKS: [Case<'static>; 7] = [
         // Chunk 1.1 from 0, `AX`; from 1, `XX`; from 2, `X`.
         comes: &[
             SCAN,
-            "0000001b 02 [1] [1] [0] 4158",
-            "0000001b 02 [1] [1] [1] 5858",
-            "0000001a 02 [1] [1] [2] 58",
+            "0000001c 0201 [1] [1] [0] 4158",
+            "0000001c 0201 [1] [1] [1] 5858",
+            "0000001b 0201 [1] [1] [2] 58",
         ],
         // Read 1.1 of 1 byte from 2; Reply 1.1 infected under version 1, signature 0 ends at 3.
         sends: &[
             HELLO,
             READ,
-            "0000001d 06 [1] [1] [2] 00000001",
-            "00000026 07 [1] [1] 01 [1] 00000000 [3]",
+            "0000001e 0601 [1] [1] [2] 00000001",
+            "00000027 0701 [1] [1] 01 [1] 00000000 [3]",
         ],
         side: Side::Service(End::Closed),
     },
@@ -242,10 +242,10 @@ const ENDS: [Case<'static>; 5] = [
         limit: FULL,
         // NoChunk 1.1 from 0, cause 1, before its Scan; NoChunk 1.2 from 0, cause 1; NoChunk 2.1 from 0, cause 2.
         comes: &[
-            "0000001a 03 [1] [1] [0] 01",
+            "0000001b 0301 [1] [1] [0] 01",
             SCAN,
-            "0000001a 03 [1] [2] [0] 01",
-            "0000001a 03 [2] [1] [0] 02",
+            "0000001b 0301 [1] [2] [0] 01",
+            "0000001b 0301 [2] [1] [0] 02",
             CHUNK,
         ],
         sends: &[HELLO, READ, CLEAN],
@@ -255,7 +255,13 @@ const ENDS: [Case<'static>; 5] = [
         name: "a NoChunk of a job, from an offset that was not asked for",
         limit: FULL,
         // NoChunk 1.1 from 1,048,576, cause 2.
-        comes: &[SCAN, "0000001a 03 [1] [1] [1048576] 02", CHUNK, SCAN, CHUNK],
+        comes: &[
+            SCAN,
+            "0000001b 0301 [1] [1] [1048576] 02",
+            CHUNK,
+            SCAN,
+            CHUNK,
+        ],
         sends: &[HELLO, READ, READ, CLEAN],
         side: Side::Service(End::Closed),
     },
@@ -266,8 +272,8 @@ const ENDS: [Case<'static>; 5] = [
         comes: &[
             ABORT,
             SCAN,
-            "00000011 04 [1] [2]",
-            "00000011 04 [2] [1]",
+            "00000012 0401 [1] [2]",
+            "00000012 0401 [2] [1]",
             CHUNK,
             ABORT,
         ],
@@ -293,8 +299,8 @@ const ENDS: [Case<'static>; 5] = [
             HELLO,
             READ,
             CLEAN,
-            "00000009 08 [9]",
-            "00000013 07 [1] [1] 02 01",
+            "0000000a 0801 [9]",
+            "00000014 0701 [1] [1] 02 01",
             CHUNK,
         ],
         sends: &[HELLO, READ, CLEAN],

@@ -20,7 +20,7 @@ const WELCOME: &str = "note Welcome";
 
 const ASKED: &str = "scan 1.1 stream 1 generation 2 length 3, number 1";
 
-pub const ROWS: [Row<'static>; 18] = [
+pub const ROWS: [Row<'static>; 19] = [
     Row {
         name: "a clean reply grants, and the next open is granted at once",
         mode: Mode::FailClosed,
@@ -410,6 +410,34 @@ pub const ROWS: [Row<'static>; 18] = [
             (Step::Hello(1, 2), "note Connected"),
             (Step::Hello(1, 9), "note Connected"),
             (Step::Abort(1, 1), "note Ignored"),
+        ],
+        restart: None,
+        after: &[],
+    },
+    Row {
+        name: "what comes at the second port is passed over",
+        mode: Mode::FailClosed,
+        limit: FULL,
+        steps: &[
+            (Step::AtTwo(&Step::Hello(1, 1)), "note Ignored"),
+            (Step::Write(1, 0, b"ABC"), ""),
+            (Step::Open(1, 0), "open 1 denied cause 3, number 1"),
+            (Step::AtTwo(&Step::Updated(9)), "note Ignored"),
+            (Step::Hello(1, 1), WELCOME),
+            (Step::AtTwo(&Step::Hello(1, 1)), "note Ignored"),
+            (
+                Step::Open(1, 0),
+                "scan 1.1 stream 1 generation 2 length 3, number 2",
+            ),
+            (Step::AtTwo(&Step::Read(1, 1, 0, 3)), "note Ignored"),
+            (Step::AtTwo(&Step::Clean(1, 1, 1)), "note Ignored"),
+            (Step::AtTwo(&Step::Failed(1, 1)), "note Ignored"),
+            (Step::AtTwo(&Step::Abort(1, 1)), "note Ignored"),
+            (Step::Read(1, 1, 0, 3), "chunk 1.1 offset 0 bytes 65 66 67"),
+            (
+                Step::Clean(1, 1, 1),
+                "open 2 granted stream 1 generation 2 version 1 least 0",
+            ),
         ],
         restart: None,
         after: &[],

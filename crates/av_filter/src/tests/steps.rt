@@ -1,5 +1,5 @@
 // What happens to a filter, step by step.
-use av_base::{MessageId, Verdict, Version};
+use av_base::{MessageId, Port, Verdict, Version};
 use av_frame::{Body, FailCause, Message, Outcome};
 
 // One step: streams, versions, boots and numbers of questions as numbers.
@@ -26,13 +26,18 @@ pub enum Step<'a> {
     Abort(u64, u64),
     Timeout(u64),
     Disconnect,
+    // The message of this step comes at the second port.
+    AtTwo(&'a Step<'a>),
 }
 
 // The message that a step sends, where it is one and its numbers are in range.
 pub fn message_of(step: Step<'_>) -> Option<Message> {
-    let body = body_of(step)?;
+    let (port, body) = match step {
+        Step::AtTwo(step) => (Port::Two, body_of(*step)?),
+        _ => (Port::One, body_of(step)?),
+    };
     if body.is_in_range() {
-        Some(Message::new(body))
+        Some(Message::new(port, body))
     } else {
         None
     }

@@ -3,7 +3,7 @@ use crate::decode::decode;
 use crate::feed::Feed;
 use crate::message::{Body, Message};
 use crate::outcome::Outcome;
-use av_base::{MessageId, Verdict};
+use av_base::{MessageId, Port, Verdict};
 use std::alloc::{AllocError, Global};
 use std::test::Fail;
 
@@ -63,9 +63,17 @@ pub fn framed(alloc: Global, body: &[u8]) -> Result<Vec<u8>, Fail> {
     Ok(frame)
 }
 
-// A message as scripts print it, but for a chunk's bytes, of which it says how many there are.
+// A message as scripts print it, but for a chunk's bytes, of which it says how many there are. The second port stands last.
 pub fn words(alloc: Global, message: &Message) -> Result<String, AllocError> {
-    match message.body() {
+    let mut text = body_words(alloc, message.body())?;
+    if message.port() == Port::Two {
+        text.push_str(" port 2")?;
+    }
+    Ok(text)
+}
+
+fn body_words(alloc: Global, body: &Body) -> Result<String, AllocError> {
+    match body {
         Body::Scan {
             id,
             stream,

@@ -1,6 +1,6 @@
 // Steps of a gate, and what they say, as plain numbers.
 use crate::GateFault;
-use av_base::{Cause, MessageId, Refusal, Verdict, Version};
+use av_base::{Cause, MessageId, Port, Refusal, Verdict, Version};
 use av_filter::{FilterFault, Note};
 use av_frame::{Body, Message, Outcome};
 use av_pend::Answer;
@@ -121,7 +121,7 @@ pub fn message_of(step: Step<'_>) -> Option<Message> {
         _ => return None,
     };
     if body.is_in_range() {
-        Some(Message::new(body))
+        Some(Message::new(Port::One, body))
     } else {
         None
     }

@@ -7,6 +7,7 @@ use super::{closed, gate_of_two, take};
 use crate::{Audit, CloseFault, Gate, GateFault, Seat};
 use av_base::{Limits, Mode, Refusal};
 use av_ends::{Receipt, Ticket};
+use av_filter::Note;
 use std::alloc::Global;
 use std::process::Abort;
 use std::sync::Wait;
@@ -129,6 +130,44 @@ fn an_open_is_held_while_another_is_answered(rt: HostRuntime) -> Result<(), Fail
     let (gate, seat) = gate_of_two(alloc, Mode::FailClosed, Limits::greatest())?;
     let left = two_seats(&rt, alloc, &gate, seat);
     assert_eq!(rt; count(end(gate, left)?), Ok(9));
+    Ok(())
+}
+
+// An open of a that quiet messages answer.
+fn answered_quietly<R: Wait + Abort>(
+    rt: &R,
+    alloc: Global,
+    gate: &Gate,
+    mut seat: Seat,
+) -> Result<(Vec<Seat>, Vec<Receipt>), Fail>
+    requires { IsSeatOf gate.now seat }
+{
+    let (Some(hello), Some(clean)) = (message_of(Step::Hello(1)), message_of(Step::Clean(1, 1)))
+    else {
+        return Err(Fail::new("no message"));
+    };
+    let note = gate.message_quietly(rt, alloc, &mut seat, &hello)?;
+    assert_eq!(rt; (note, gate.floor(&mut seat).get()), (Note::Welcome, 1));
+    let ticket = gate.open(rt, alloc, &mut seat, b"a")?;
+    assert!(rt; gate.await_outgoing(rt) && gate.await_outgoing(rt));
+    assert_eq!(rt; gate.take_outgoing(rt, alloc)?.len(), 1);
+    gate.stop(rt);
+    assert!(rt; !gate.await_outgoing(rt));
+    gate.message_quietly(rt, alloc, &mut seat, &clean)?;
+    assert_eq!(rt; shown(&ticket), Told::Granted(2, 1));
+    let mut seats = Vec::new(alloc);
+    seats.push(seat)?;
+    Ok((seats, Vec::new(alloc)))
+}
+
+#[test]
+fn quiet_messages_are_events_like_others_and_what_they_give_out_waits(
+    rt: HostRuntime,
+) -> Result<(), Fail> {
+    let alloc = rt.alloc();
+    let (gate, seat) = gate_of_two(alloc, Mode::FailClosed, Limits::greatest())?;
+    let left = answered_quietly(&rt, alloc, &gate, seat);
+    assert_eq!(rt; count(end(gate, left)?), Ok(3));
     Ok(())
 }
 

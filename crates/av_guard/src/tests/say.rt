@@ -1,7 +1,7 @@
 ghost use Rattle.std.specs.Prelude.{◌≤◌};
 
 use crate::{Answered, Given};
-use av_base::{MessageId, Verdict, Version};
+use av_base::{MessageId, Port, Verdict, Version};
 use av_frame::{Body, Message, Outcome};
 use std::fmt::Write;
 use std::test::Fail;
@@ -15,11 +15,11 @@ fn version_of(number: u64) -> Version
 
 /// A service of this version greets.
 pub(crate) fn hello(version: u64) -> Message {
-    Message::hello(1, version_of(version))
+    Message::hello(Port::One, 1, version_of(version))
 }
 
 pub(crate) fn updated(version: u64) -> Message {
-    Message::updated(version_of(version))
+    Message::updated(Port::One, version_of(version))
 }
 
 /// The reply to a question of boot 1.
@@ -40,7 +40,7 @@ pub(crate) fn reply(seq: u64, version: u64, infected: bool) -> Message {
         boot: 1,
         seq: seq.max(1),
     };
-    Message::reply(id, outcome)
+    Message::reply(Port::One, id, outcome)
 }
 
 /// Adds what was given out.

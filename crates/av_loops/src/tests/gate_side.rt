@@ -2,7 +2,7 @@
 ghost use Rattle.std.specs.Prelude.{IfOk};
 ghost use Rattle.av_gate.specs.Seats.{IsSeatOf};
 
-use crate::{gate_in, gate_out};
+use crate::{Sender, gate_in, gate_out};
 use av_base::{Cause, LimitValues, Limits, Mode, OpenId};
 use av_engines::End;
 use av_fakes::{FakeReader, FakeWriter, Fault, may_refuse, refuse_no_more};
@@ -16,14 +16,21 @@ use std::sync::Wait;
 use std::test::Fail;
 
 // The frame of Hello of volume 1 and version 1, and the same with a body of an unknown kind behind it.
-const HELLO: &[u8] = b"\0\0\0\x11\x05\0\0\0\0\0\0\0\x01\0\0\0\0\0\0\0\x01";
+const HELLO: &[u8] = b"\0\0\0\x12\x05\x01\0\0\0\0\0\0\0\x01\0\0\0\0\0\0\0\x01";
 
 const HELLO_AND_NO_MESSAGE: &[u8] =
-    b"\0\0\0\x11\x05\0\0\0\0\0\0\0\x01\0\0\0\0\0\0\0\x01\0\0\0\x01\x09";
+    b"\0\0\0\x12\x05\x01\0\0\0\0\0\0\0\x01\0\0\0\0\0\0\0\x01\0\0\0\x01\x09";
 
 // The frame of Scan of question 1.1, stream 1, generation 2, length 3.
 const SCAN: &[u8] =
-    b"\0\0\0\x29\x01\0\0\0\0\0\0\0\x01\0\0\0\0\0\0\0\x01\0\0\0\0\0\0\0\x01\0\0\0\0\0\0\0\x02\0\0\0\0\0\0\0\x03";
+    b"\0\0\0\x2a\x01\x01\0\0\0\0\0\0\0\x01\0\0\0\0\0\0\0\x01\0\0\0\0\0\0\0\x01\0\0\0\0\0\0\0\x02\0\0\0\0\0\0\0\x03";
+
+// The frame of Read of question 1.1, of 3 bytes from the first on, twice; and that of the Chunk that answers it, which holds ABC.
+const TWO_READS: &[u8] =
+    b"\0\0\0\x1e\x06\x01\0\0\0\0\0\0\0\x01\0\0\0\0\0\0\0\x01\0\0\0\0\0\0\0\0\0\0\0\x03\
+\0\0\0\x1e\x06\x01\0\0\0\0\0\0\0\x01\0\0\0\0\0\0\0\x01\0\0\0\0\0\0\0\0\0\0\0\x03";
+
+const CHUNK: &[u8] = b"\0\0\0\x1d\x02\x01\0\0\0\0\0\0\0\x01\0\0\0\0\0\0\0\x01\0\0\0\0\0\0\0\0ABC";
 
 // A volume with the stream a, which holds ABC.
 fn volume_of_one(alloc: Global, limits: Limits) -> Result<Volume, Fail> {
@@ -56,7 +63,8 @@ fn ends_in<R: Wait>(
     turns: u64,
 ) -> Result<(End, usize, bool), Fail> {
     let (gate, mut seat) = gate_of_one(alloc, limits)?;
-    let end = gate_in(rt, alloc, &gate, &mut seat, reader, turns);
+    let sender = Sender::new(alloc, FakeWriter::new(alloc));
+    let end = gate_in(rt, alloc, &gate, &mut seat, reader, &sender, turns);
     let (events, disconnects) = ended(alloc, gate, seat)?;
     Ok((end, events, disconnects))
 }
@@ -128,18 +136,20 @@ fn a_full_audit_ends_a_loop_without_an_event(rt: HostRuntime) -> Result<(), Fail
     Ok(())
 }
 
-// Opens a behind a welcome, and lets the messages out to a writer: how the loop ended, how many events there were, and what
-// the open was told.
+// Opens a behind a welcome, and lets the messages out to a writer, by the loop into the gate over this reader, or by the loop out
+// of it: how the loop ended, how many events there were, what the open was told, and what was written.
 fn ends_out<R: Wait>(
     rt: &R,
     alloc: Global,
-    writer: &mut FakeWriter,
-) -> Result<(End, usize, Option<Answer>), Fail> {
+    reader: Option<FakeReader<'_>>,
+    writer: FakeWriter,
+) -> Result<(End, usize, Option<Answer>, FakeWriter), Fail> {
     let (gate, mut seat) = gate_of_one(alloc, Limits::greatest())?;
-    match out_of(rt, alloc, &gate, &mut seat, writer) {
+    let sender = Sender::new(alloc, writer);
+    match out_of(rt, alloc, &gate, &mut seat, reader, &sender) {
         Ok((end, answer)) => {
             let (events, _) = ended(alloc, gate, seat)?;
-            Ok((end, events, answer))
+            Ok((end, events, answer, sender.into_writer()))
         }
         Err(why) => {
             gate.abandon();
@@ -153,16 +163,20 @@ fn out_of<R: Wait>(
     alloc: Global,
     gate: &Gate,
     seat: &mut Seat,
-    writer: &mut FakeWriter,
+    reader: Option<FakeReader<'_>>,
+    sender: &Sender<FakeWriter>,
 ) -> Result<(End, Option<Answer>), Fail>
     requires { IsSeatOf gate.now seat.old }
     ensures { IsSeatOf gate.now seat.new }
 {
-    let mut reader = FakeReader::new(HELLO_AND_NO_MESSAGE);
-    let _ = welcome(rt, alloc, gate, seat, &mut reader)?;
+    let mut hello = FakeReader::new(HELLO_AND_NO_MESSAGE);
+    let _ = welcome(rt, alloc, gate, seat, &mut hello)?;
     let ticket = gate.open(rt, alloc, seat, b"a")?;
     gate.stop(rt);
-    let end = gate_out(rt, alloc, gate, seat, writer);
+    let end = match reader {
+        Some(mut reader) => gate_in(rt, alloc, gate, seat, &mut reader, sender, 10),
+        None => gate_out(rt, alloc, gate, seat, sender),
+    };
     let answer = ticket.poll(&mut ticket.note()).copied();
     gate.disconnect(rt, alloc, seat)?;
     Ok((end, answer))
@@ -188,26 +202,48 @@ fn welcome<R: Wait>(
 
 #[test]
 fn what_a_gate_sends_goes_out_as_frames(rt: HostRuntime) -> Result<(), Fail> {
-    let mut writer = FakeWriter::new(rt.alloc()).in_pieces_of(1);
-    let (end, events, answer) = ends_out(&rt, rt.alloc(), &mut writer)?;
+    let writer = FakeWriter::new(rt.alloc()).in_pieces_of(1);
+    let (end, events, answer, writer) = ends_out(&rt, rt.alloc(), None, writer)?;
     assert!(&rt; end == End::Done && events == 3 && answer == None);
     assert!(&rt; writer.taken() == SCAN);
     Ok(())
 }
 
 #[test]
+fn what_one_read_brings_is_answered_in_one_write(rt: HostRuntime) -> Result<(), Fail> {
+    let alloc = rt.alloc();
+    for (piece, writes) in [(34, 3u64), (1_000, 2u64)] {
+        let reader = FakeReader::new(TWO_READS).in_pieces_of(piece);
+        let (end, events, _, writer) = ends_out(&rt, alloc, Some(reader), FakeWriter::new(alloc))?;
+        assert!(&rt; end == End::Closed && events == 6);
+        let taken = writer.taken();
+        assert!(&rt; taken.len() == 112 && &taken[..46] == SCAN);
+        assert!(&rt; &taken[46..79] == CHUNK && &taken[79..] == CHUNK && writer.writes() == writes);
+    }
+    Ok(())
+}
+
+#[test]
 fn a_write_that_fails_is_a_disconnection(rt: HostRuntime) -> Result<(), Fail> {
+    let alloc = rt.alloc();
     let lost = Answer::Denied {
         open_id: OpenId::new(1),
         cause: Cause::PortDisconnected,
     };
     for write in 1..46 {
-        let mut writer = FakeWriter::new(rt.alloc())
-            .in_pieces_of(1)
-            .with(Fault::Fails { write });
-        let (end, events, answer) = ends_out(&rt, rt.alloc(), &mut writer)?;
-        assert!(&rt; end == End::WriteFault && events == 4 && answer == Some(lost));
-        assert!(&rt; writer.taken() == &SCAN[..write as usize - 1]);
+        for is_into in [false, true] {
+            let writer = FakeWriter::new(alloc)
+                .in_pieces_of(1)
+                .with(Fault::Fails { write });
+            let reader = if is_into {
+                Some(FakeReader::new(TWO_READS))
+            } else {
+                None
+            };
+            let (end, events, answer, writer) = ends_out(&rt, alloc, reader, writer)?;
+            assert!(&rt; end == End::WriteFault && events == 4 && answer == Some(lost));
+            assert!(&rt; writer.taken() == &SCAN[..write as usize - 1]);
+        }
     }
     Ok(())
 }
@@ -217,8 +253,9 @@ fn refused_or_not_a_loop_into_a_gate_comes_to_an_end(rt: HostRuntime) -> Result<
     let alloc = rt.alloc();
     let (gate, mut seat) = gate_of_one(alloc, Limits::greatest())?;
     let mut reader = FakeReader::new(HELLO);
+    let sender = Sender::new(alloc, FakeWriter::new(alloc));
     may_refuse(alloc);
-    let end = gate_in(&rt, alloc, &gate, &mut seat, &mut reader, 10);
+    let end = gate_in(&rt, alloc, &gate, &mut seat, &mut reader, &sender, 10);
     refuse_no_more(alloc);
     let (events, disconnects) = ended(alloc, gate, seat)?;
     assert!(&rt;

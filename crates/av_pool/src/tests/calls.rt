@@ -2,7 +2,7 @@
 ghost use Rattle.std.specs.Prelude.{◌≡◌};
 
 use crate::{Giver, Stopped, Taker};
-use av_base::{ByteList, Generation, Limits, MessageId, StreamId, Verdict, Version};
+use av_base::{ByteList, Generation, Limits, MessageId, Port, StreamId, Verdict, Version};
 use av_desk::{Desk, Lent, Taken};
 use av_frame::{Body, Message};
 use av_service::Done;
@@ -25,7 +25,7 @@ pub fn desk<R: Wait>(rt: &R, alloc: Global) -> Option<Desk> {
     let set = SignatureSet::from_patterns(alloc, Version::new(1), &[pattern]).ok()?;
     let mut catalogue = Catalogue::new(alloc);
     catalogue.publish(set).ok()?;
-    let desk = Desk::new(alloc, 7, catalogue, Limits::greatest()).ok()?;
+    let desk = Desk::new(alloc, 7, Port::One, catalogue, Limits::greatest()).ok()?;
     desk.connect(rt, alloc).ok()?;
     Some(desk)
 }
@@ -64,7 +64,7 @@ fn received<R: Wait>(rt: &R, alloc: Global, desk: &Desk, body: Body) -> Option<L
     if !body.is_in_range() {
         return None;
     }
-    match desk.message(rt, alloc, Message::new(body)) {
+    match desk.message(rt, alloc, Message::new(Port::One, body)) {
         Ok(taken) => {
             let Taken { lent, note: _ } = taken;
             lent

@@ -7,7 +7,7 @@ use crate::fault::ConnectFault;
 use crate::out::ServiceOut;
 use crate::service::Service;
 use crate::tests::say::readers;
-use av_base::{Lease, Limits, Refusal, Verdict, Version};
+use av_base::{Lease, Limits, Port, Refusal, Verdict, Version};
 use av_frame::Message;
 use av_sigset::Catalogue;
 use std::alloc::{AllocError, AllocFailed, Global};
@@ -24,13 +24,18 @@ fn mark(alloc: Global, size: usize) {
     drop(room);
 }
 
-pub fn start(alloc: Global, catalogue: &Catalogue, limits: Limits) -> Result<Service, AllocError> {
+pub fn start(
+    alloc: Global,
+    port: Port,
+    catalogue: &Catalogue,
+    limits: Limits,
+) -> Result<Service, AllocError> {
     mark(alloc, COUNT);
-    let first = Service::start(alloc, 1, catalogue, limits);
+    let first = Service::start(alloc, 1, port, catalogue, limits);
     mark(alloc, COUNT_NO_MORE);
     match first {
         Ok(service) => Ok(service),
-        Err(_) => Service::start(alloc, 1, catalogue, limits),
+        Err(_) => Service::start(alloc, 1, port, catalogue, limits),
     }
 }
 
@@ -76,16 +81,42 @@ pub fn message(
     }
 }
 
-pub fn publish(alloc: Global, service: &mut Service, version: Version) -> Result<ServiceOut, Fail>
-    requires { service.old.version < version }
+pub fn room(alloc: Global, service: &mut Service, version: Version) -> Result<(), Fail> {
+    let before = readers(alloc, service)?;
+    mark(alloc, COUNT);
+    let first = service.room(version);
+    mark(alloc, COUNT_NO_MORE);
+    if first.is_err() {
+        still(alloc, service, &before)?;
+        service.room(version)?;
+    }
+    still(alloc, service, &before)
+}
+
+// Whether room was made for what a publication sends.
+#[derive(Clone, Copy)]
+pub enum Reserve {
+    Made,
+    NotMade,
+}
+
+// Where room was made it takes no memory, and no request of it can be refused.
+pub fn publish(
+    alloc: Global,
+    service: &mut Service,
+    version: Version,
+    room: Reserve,
+) -> Result<ServiceOut, Fail>
+    requires { service.old.desk.version < version }
 {
     let before = readers(alloc, service)?;
     mark(alloc, COUNT);
     let first = service.publish(alloc, version);
     mark(alloc, COUNT_NO_MORE);
-    match first {
-        Ok(out) => Ok(out),
-        Err(_) => {
+    match (first, room) {
+        (Ok(out), _) => Ok(out),
+        (Err(_), Reserve::Made) => Err(Fail::new("refused although room was made")),
+        (Err(_), Reserve::NotMade) => {
             still(alloc, service, &before)?;
             Ok(service.publish(alloc, version)?)
         }

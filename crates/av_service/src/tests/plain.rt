@@ -210,7 +210,7 @@ impl Plain {
     pub fn readers(&self, alloc: Global) -> Result<String, AllocError> {
         let (version, connected, jobs) = (self.version, self.connected, self.jobs.len());
         let mut text = format!(in alloc;
-            "volume 1 version {version} connected {connected} jobs {jobs}"
+            "volume 1 port 1 version {version} connected {connected} jobs {jobs}"
         )?;
         for kept in &self.cache {
             let verdict = hit_text(alloc, kept.hit)?;

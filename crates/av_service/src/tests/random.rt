@@ -1,9 +1,10 @@
 // A service and the plain one through the same events, picked by a fixed sequence of numbers.
+use crate::tests::calls::Reserve;
 use crate::tests::plain::{CACHE, CHUNK, Content, Id, JOBS, Plain, patterns_of};
 use crate::tests::say::{readers, told};
 use crate::tests::steps::{Stand, connect, discard_all, finish, message, publish};
 use crate::work::Work;
-use av_base::{ByteList, Generation, LimitField, LimitValues, MessageId, StreamId, Version};
+use av_base::{ByteList, Generation, LimitField, LimitValues, MessageId, Port, StreamId, Version};
 use av_frame::{Body, NoChunkCause};
 use std::alloc::{AllocError, Global};
 use std::collections::VecDeque;
@@ -53,7 +54,7 @@ fn run(
         .with(LimitField::Jobs, JOBS as u64)
         .with(LimitField::Cache, CACHE as u64)
         .with(LimitField::Chunk, CHUNK);
-    let mut stand = Stand::with_limits(alloc, values)?;
+    let mut stand = Stand::with_limits(alloc, Port::One, values)?;
     let mut plain = Plain::new(alloc);
     run_beside(alloc, &mut stand, &mut plain, works, seed, events, counts)
 }
@@ -260,6 +261,7 @@ fn published(
         works,
         Version::new(version),
         patterns_of(version),
+        Reserve::NotMade,
     )?;
     Ok((said, plain.publish(alloc, version)?))
 }

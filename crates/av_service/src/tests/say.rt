@@ -3,7 +3,7 @@ use crate::note::Note;
 use crate::out::ServiceOut;
 use crate::service::Service;
 use crate::work::Work;
-use av_base::{MessageId, Verdict};
+use av_base::{MessageId, Port, Verdict};
 use av_cache::Entry;
 use av_frame::{Body, Message, Outcome};
 use std::alloc::{AllocError, AllocFailed, Global};
@@ -27,6 +27,10 @@ pub fn told(alloc: Global, out: ServiceOut, works: &mut VecDeque<Work>) -> Resul
             text.push_str(", ")?;
         }
         text.push_str(line_of(alloc, message)?.as_str())?;
+        text.push_str(match message.port() {
+            Port::One => "",
+            Port::Two => " port 2",
+        })?;
     }
     text.push_str(lent.as_str())?;
     text.push_str(match note {
@@ -88,13 +92,14 @@ pub fn readers(alloc: Global, service: &Service) -> Result<String, AllocError> {
         Some(version) => version.get(),
         None => 0,
     };
-    let (volume, connected, jobs) = (
+    let (volume, port, connected, jobs) = (
         service.volume_number(),
+        service.port().number(),
         service.connected(),
         service.job_count(),
     );
     let mut text = format!(in alloc;
-        "volume {volume} version {version} connected {connected} jobs {jobs}"
+        "volume {volume} port {port} version {version} connected {connected} jobs {jobs}"
     )?;
     for place in 0..service.cache().len() {
         if let Some(entry) = service.cache().entry(place) {

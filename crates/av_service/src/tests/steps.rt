@@ -1,10 +1,10 @@
 // What happens to a service, step by step, with what it says.
 use crate::service::Service;
-use crate::tests::calls;
+use crate::tests::calls::{self, Reserve};
 use crate::tests::say::told;
 use crate::work::Work;
 use av_base::{
-    ByteList, Generation, LimitField, LimitValues, Limits, MessageId, StreamId, Version,
+    ByteList, Generation, LimitField, LimitValues, Limits, MessageId, Port, StreamId, Version,
 };
 use av_frame::{Body, Message, NoChunkCause};
 use av_match::Automaton;
@@ -17,6 +17,8 @@ use std::test::Fail;
 #[derive(Clone, Copy)]
 pub enum Step<'a> {
     Publish(u64, &'a [u8]),
+    // The same behind a call that makes room for it.
+    PublishInRoom(u64, &'a [u8]),
     Connect,
     // seq, stream, length
     Scan(u64, u64, u64),
@@ -26,6 +28,8 @@ pub enum Step<'a> {
     Abort(u64),
     // A message of the service, sent to it.
     Hello,
+    // The message of this step comes at the other port.
+    AtTheOther(&'a Step<'a>),
     // The oldest work that is out comes back.
     Finish,
     Disconnect,
@@ -40,16 +44,21 @@ pub struct Stand {
 }
 
 impl Stand {
-    // A service at the greatest limits but this one, where nothing was published.
+    // A service of the first port at the greatest limits but this one, where nothing was published.
     pub fn new(alloc: Global, limit: (LimitField, u64)) -> Result<Stand, Fail> {
-        let (field, value) = limit;
-        Stand::with_limits(alloc, LimitValues::greatest().with(field, value))
+        Stand::at(alloc, Port::One, limit)
     }
 
-    pub fn with_limits(alloc: Global, values: LimitValues) -> Result<Stand, Fail> {
+    // The same at this port.
+    pub fn at(alloc: Global, port: Port, limit: (LimitField, u64)) -> Result<Stand, Fail> {
+        let (field, value) = limit;
+        Stand::with_limits(alloc, port, LimitValues::greatest().with(field, value))
+    }
+
+    pub fn with_limits(alloc: Global, port: Port, values: LimitValues) -> Result<Stand, Fail> {
         let limits = Limits::check(values)?;
         let catalogue = Catalogue::new(alloc);
-        let service = calls::start(alloc, &catalogue, limits)?;
+        let service = calls::start(alloc, port, &catalogue, limits)?;
         Ok(Stand { service, catalogue })
     }
 
@@ -62,12 +71,22 @@ impl Stand {
     ) -> Result<String, Fail> {
         match step {
             Step::Publish(version, pattern) => {
-                publish(alloc, self, works, Version::new(version), &[pattern])
+                let version = Version::new(version);
+                publish(alloc, self, works, version, &[pattern], Reserve::NotMade)
+            }
+            Step::PublishInRoom(version, pattern) => {
+                let version = Version::new(version);
+                calls::room(alloc, &mut self.service, version)?;
+                publish(alloc, self, works, version, &[pattern], Reserve::Made)
             }
             Step::Connect => connect(alloc, self, works),
             Step::Finish => finish(alloc, self, works, 0),
             Step::Disconnect => told(alloc, self.service.disconnect(alloc), works),
             Step::Restart => told(alloc, self.service.restart(alloc, &self.catalogue), works),
+            Step::AtTheOther(step) => {
+                let other = self.service.port().other();
+                message_at(alloc, self, works, other, body_of(alloc, *step)?)
+            }
             _ => message(alloc, self, works, body_of(alloc, step)?),
         }
     }
@@ -127,6 +146,7 @@ pub fn publish(
     works: &mut VecDeque<Work>,
     version: Version,
     patterns: &[&[u8]],
+    room: Reserve,
 ) -> Result<String, Fail> {
     let set = SignatureSet::from_patterns(alloc, version, patterns)?;
     let present = match stand.service.version() {
@@ -138,7 +158,7 @@ pub fn publish(
     }
     let said = told(
         alloc,
-        calls::publish(alloc, &mut stand.service, version)?,
+        calls::publish(alloc, &mut stand.service, version, room)?,
         works,
     )?;
     match stand.catalogue.publish(set) {
@@ -153,10 +173,20 @@ pub fn message(
     works: &mut VecDeque<Work>,
     body: Body,
 ) -> Result<String, Fail> {
+    message_at(alloc, stand, works, stand.service.port(), body)
+}
+
+fn message_at(
+    alloc: Global,
+    stand: &mut Stand,
+    works: &mut VecDeque<Work>,
+    port: Port,
+    body: Body,
+) -> Result<String, Fail> {
     if !body.is_in_range() {
         return Err(Fail::new("no message"));
     }
-    let message = Message::new(body);
+    let message = Message::new(port, body);
     told(
         alloc,
         calls::message(alloc, &mut stand.service, &message)?,

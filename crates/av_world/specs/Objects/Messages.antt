@@ -2,10 +2,11 @@
 use Rattle.std.specs.Prelude.{ℕ, List, [], ◌∷◌, Option, None, Some, length, codes}
 use Rattle.hex.specs.Hex.{encode_lower}
 use Rattle.json.specs.Token.{Token}
+use Rattle.av_frame.specs.declared.message.Body.{Body}
 use Rattle.av_json.specs.Member.{number_tokens, object_tokens, text_tokens}
 use Rattle.av_base.specs.declared.message_id.MessageId.{MessageId}
 use Rattle.av_frame.specs.Cause.{fail_number, no_chunk_number}
-use Rattle.av_frame.specs.declared.message.Body.{Body}
+use Rattle.av_frame.specs.Message.{Letter}
 use Rattle.av_frame.specs.declared.message.Body.TheVariants.{Scan, Chunk, NoChunk, Abort, Hello, Read, Reply, Updated}
 use Rattle.av_frame.specs.declared.outcome.Outcome.{Outcome}
 use Rattle.av_frame.specs.declared.outcome.Outcome.TheVariants.{Judged, Failed}
@@ -56,10 +57,13 @@ message_members (Read id offset count) =
 message_members (Reply id outcome) = id_then id (outcome_members outcome)
 message_members (Updated version) = number_tokens (codes "version") version ∷ []
 
--- the object of a message, by its way and place
-abbrev pub message_tokens : Way → ℕ → Body → List Token
-message_tokens way place message =
-    object_tokens (is (kind_of message) ∷ number_tokens (way_name way) place ∷ message_members message)
+-- the object of a message of these fields, by its way and place
+abbrev pub body_tokens : Way → ℕ → Body → List Token
+body_tokens way place body = object_tokens (is (kind_of body) ∷ number_tokens (way_name way) place ∷ message_members body)
+
+-- the object of a message
+abbrev pub message_tokens : Way → ℕ → Letter → List Token
+message_tokens way place m = body_tokens way place m.body
 
 -- the object of work that was lent: its job's id, where its bytes begin, and how many they are
 abbrev pub work_tokens : ℕ → Option WorkState → List Token

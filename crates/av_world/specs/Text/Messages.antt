@@ -4,8 +4,9 @@ use Rattle.hex.specs.Hex.{encode_lower}
 use Rattle.av_base.specs.Part.{spelt}
 use Rattle.av_base.specs.declared.message_id.MessageId.{MessageId}
 use Rattle.av_frame.specs.Cause.{fail_number, no_chunk_number}
-use Rattle.av_frame.specs.declared.message.Body.{Body}
+use Rattle.av_frame.specs.Message.{Letter}
 use Rattle.av_frame.specs.declared.message.Body.TheVariants.{Scan, Chunk, NoChunk, Abort, Hello, Read, Reply, Updated}
+use Rattle.av_frame.specs.declared.message.Body.{Body}
 use Rattle.av_frame.specs.declared.outcome.Outcome.{Outcome}
 use Rattle.av_frame.specs.declared.outcome.Outcome.TheVariants.{Judged, Failed}
 use Rattle.av_service.specs.Work.{WorkState}
@@ -46,9 +47,13 @@ message_parts (Read id offset count) =
 message_parts (Reply id outcome) = codes " reply " ∷ id_then id (outcome_parts outcome)
 message_parts (Updated version) = codes " updated " ∷ decimal version ∷ codes "\n" ∷ []
 
--- the line of a message, by its way and place
-abbrev pub message_text : Way → ℕ → Body → List ℕ
-message_text way place message = spelt (way_word way ∷ decimal place ∷ message_parts message)
+-- the line of a message of these fields, by its way and place
+abbrev pub body_text : Way → ℕ → Body → List ℕ
+body_text way place body = spelt (way_word way ∷ decimal place ∷ message_parts body)
+
+-- the line of a message
+abbrev pub message_text : Way → ℕ → Letter → List ℕ
+message_text way place m = body_text way place m.body
 
 -- what is told of all that stands in a list from a place on, each with its place
 abbrev pub placed : {A B : Type 0} → (ℕ → A → List B) → ℕ → List A → List B

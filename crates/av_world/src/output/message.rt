@@ -5,7 +5,7 @@ ghost use Rattle.av_base.specs.Device.{AppendsPrefix};
 ghost use Rattle.av_base.specs.declared.verdict.Verdict.TheVariants.{Clean, Infected};
 ghost use Rattle.av_frame.specs.declared.message.Body.TheVariants.{Scan, Chunk, NoChunk, Abort, Hello, Read, Reply, Updated};
 ghost use Rattle.av_frame.specs.declared.outcome.Outcome.TheVariants.{Failed, Judged};
-ghost use Rattle.av_world.specs.Text.Messages.{message_text, placed, way_word};
+ghost use Rattle.av_world.specs.Text.Messages.{body_text, message_text, placed, way_word};
 
 use crate::output::part;
 use av_base::parts::write_parts;
@@ -100,9 +100,9 @@ fn print_scan<W: Write>(
     writer: &mut W,
 ) -> Result<(), WriteFault>
     ensures ok { OnOk result (Appends (W.contents writer.old) (W.contents writer.new)
-        (message_text place.way place.number (Scan id stream generation length))) }
+        (body_text place.way place.number (Scan id stream generation length))) }
     ensures err { OnErr result (AppendsPrefix (W.contents writer.old) (W.contents writer.new)
-        (message_text place.way place.number (Scan id stream generation length))) }
+        (body_text place.way place.number (Scan id stream generation length))) }
 {
     write_parts(
         writer,
@@ -132,9 +132,9 @@ fn print_chunk<W: Write>(
     writer: &mut W,
 ) -> Result<(), WriteFault>
     ensures ok { OnOk result (Appends (W.contents writer.old) (W.contents writer.new)
-        (message_text place.way place.number (Chunk id offset bytes.now))) }
+        (body_text place.way place.number (Chunk id offset bytes.now))) }
     ensures err { OnErr result (AppendsPrefix (W.contents writer.old) (W.contents writer.new)
-        (message_text place.way place.number (Chunk id offset bytes.now))) }
+        (body_text place.way place.number (Chunk id offset bytes.now))) }
 {
     write_parts(
         writer,
@@ -162,9 +162,9 @@ fn print_no_chunk<W: Write>(
     writer: &mut W,
 ) -> Result<(), WriteFault>
     ensures ok { OnOk result (Appends (W.contents writer.old) (W.contents writer.new)
-        (message_text place.way place.number (NoChunk id offset cause))) }
+        (body_text place.way place.number (NoChunk id offset cause))) }
     ensures err { OnErr result (AppendsPrefix (W.contents writer.old) (W.contents writer.new)
-        (message_text place.way place.number (NoChunk id offset cause))) }
+        (body_text place.way place.number (NoChunk id offset cause))) }
 {
     write_parts(
         writer,
@@ -186,9 +186,9 @@ fn print_no_chunk<W: Write>(
 
 fn print_abort<W: Write>(place: Place, id: MessageId, writer: &mut W) -> Result<(), WriteFault>
     ensures ok { OnOk result
-        (Appends (W.contents writer.old) (W.contents writer.new) (message_text place.way place.number (Abort id))) }
+        (Appends (W.contents writer.old) (W.contents writer.new) (body_text place.way place.number (Abort id))) }
     ensures err { OnErr result
-        (AppendsPrefix (W.contents writer.old) (W.contents writer.new) (message_text place.way place.number (Abort id))) }
+        (AppendsPrefix (W.contents writer.old) (W.contents writer.new) (body_text place.way place.number (Abort id))) }
 {
     write_parts(
         writer,
@@ -211,9 +211,9 @@ fn print_hello<W: Write>(
     writer: &mut W,
 ) -> Result<(), WriteFault>
     ensures ok { OnOk result
-        (Appends (W.contents writer.old) (W.contents writer.new) (message_text place.way place.number (Hello volume version))) }
+        (Appends (W.contents writer.old) (W.contents writer.new) (body_text place.way place.number (Hello volume version))) }
     ensures err { OnErr result (AppendsPrefix (W.contents writer.old) (W.contents writer.new)
-        (message_text place.way place.number (Hello volume version))) }
+        (body_text place.way place.number (Hello volume version))) }
 {
     write_parts(
         writer,
@@ -237,9 +237,9 @@ fn print_read<W: Write>(
     writer: &mut W,
 ) -> Result<(), WriteFault>
     ensures ok { OnOk result
-        (Appends (W.contents writer.old) (W.contents writer.new) (message_text place.way place.number (Read id offset count))) }
+        (Appends (W.contents writer.old) (W.contents writer.new) (body_text place.way place.number (Read id offset count))) }
     ensures err { OnErr result (AppendsPrefix (W.contents writer.old) (W.contents writer.new)
-        (message_text place.way place.number (Read id offset count))) }
+        (body_text place.way place.number (Read id offset count))) }
 {
     write_parts(
         writer,
@@ -261,9 +261,9 @@ fn print_read<W: Write>(
 
 fn print_updated<W: Write>(place: Place, version: Version, writer: &mut W) -> Result<(), WriteFault>
     ensures ok { OnOk result
-        (Appends (W.contents writer.old) (W.contents writer.new) (message_text place.way place.number (Updated version))) }
+        (Appends (W.contents writer.old) (W.contents writer.new) (body_text place.way place.number (Updated version))) }
     ensures err { OnErr result (AppendsPrefix (W.contents writer.old) (W.contents writer.new)
-        (message_text place.way place.number (Updated version))) }
+        (body_text place.way place.number (Updated version))) }
 {
     write_parts(
         writer,
@@ -284,9 +284,9 @@ fn print_reply<W: Write>(
     writer: &mut W,
 ) -> Result<(), WriteFault>
     ensures ok { OnOk result
-        (Appends (W.contents writer.old) (W.contents writer.new) (message_text place.way place.number (Reply id outcome))) }
+        (Appends (W.contents writer.old) (W.contents writer.new) (body_text place.way place.number (Reply id outcome))) }
     ensures err { OnErr result (AppendsPrefix (W.contents writer.old) (W.contents writer.new)
-        (message_text place.way place.number (Reply id outcome))) }
+        (body_text place.way place.number (Reply id outcome))) }
 {
     match outcome {
         Outcome::Judged { version, verdict } => match verdict {
@@ -306,9 +306,9 @@ fn print_clean<W: Write>(
     writer: &mut W,
 ) -> Result<(), WriteFault>
     ensures ok { OnOk result (Appends (W.contents writer.old) (W.contents writer.new)
-        (message_text place.way place.number (Reply id (Judged version Clean)))) }
+        (body_text place.way place.number (Reply id (Judged version Clean)))) }
     ensures err { OnErr result (AppendsPrefix (W.contents writer.old) (W.contents writer.new)
-        (message_text place.way place.number (Reply id (Judged version Clean)))) }
+        (body_text place.way place.number (Reply id (Judged version Clean)))) }
 {
     write_parts(
         writer,
@@ -335,9 +335,9 @@ fn print_infected<W: Write>(
     writer: &mut W,
 ) -> Result<(), WriteFault>
     ensures ok { OnOk result (Appends (W.contents writer.old) (W.contents writer.new)
-        (message_text place.way place.number (Reply id (Judged version (Infected index end_at))))) }
+        (body_text place.way place.number (Reply id (Judged version (Infected index end_at))))) }
     ensures err { OnErr result (AppendsPrefix (W.contents writer.old) (W.contents writer.new)
-        (message_text place.way place.number (Reply id (Judged version (Infected index end_at))))) }
+        (body_text place.way place.number (Reply id (Judged version (Infected index end_at))))) }
 {
     write_parts(
         writer,
@@ -366,9 +366,9 @@ fn print_failed<W: Write>(
     writer: &mut W,
 ) -> Result<(), WriteFault>
     ensures ok { OnOk result (Appends (W.contents writer.old) (W.contents writer.new)
-        (message_text place.way place.number (Reply id (Failed cause)))) }
+        (body_text place.way place.number (Reply id (Failed cause)))) }
     ensures err { OnErr result (AppendsPrefix (W.contents writer.old) (W.contents writer.new)
-        (message_text place.way place.number (Reply id (Failed cause)))) }
+        (body_text place.way place.number (Reply id (Failed cause)))) }
 {
     write_parts(
         writer,

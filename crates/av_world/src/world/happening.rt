@@ -1,11 +1,12 @@
 ghost use Rattle.std.specs.Prelude.{◌≡◌, ◌≤◌, List, reverse};
+ghost use Rattle.av_base.specs.declared.port.Port.TheVariants.{One};
 ghost use Rattle.av_filter.specs.Fit.{Fits};
 ghost use Rattle.av_sigset.specs.Catalogue.{latest};
 ghost use Rattle.av_world.specs.Request.{MayAsk, outcome_of, served};
 ghost use Rattle.av_world.specs.Serving.{MayCall, event_called};
 ghost use Rattle.av_world.specs.Stage.{Happens, Takes, at_history};
 ghost use Rattle.av_world.specs.Whole.{IsWhole};
-ghost use Rattle.av_world.specs.World.{down_frame, member, up_frame};
+ghost use Rattle.av_world.specs.World.{desk_of, down_frame, member, up_frame};
 ghost use Rattle.av_world.specs.declared.event.Event.{Event};
 
 use super::delivery::delivered;
@@ -35,8 +36,8 @@ impl Stage {
     // Does what an event asks for.
     fn answer(&mut self, alloc: Global, history: &[Event], request: &Request<'_>) -> Option<Report>
         requires fits { Fits self.old.table self.old.volume }
-        requires version { self.old.desk.version ≤ latest self.old.sets }
-        requires may { MayAsk self.old.desk.version request.now }
+        requires version { (desk_of self.old One).version ≤ latest self.old.sets }
+        requires may { MayAsk (desk_of self.old One).version request.now }
         ensures { (e : Event)
             → Takes self.old self.new (reverse history.now) e
             (outcome_of (at_history (reverse history.now) self.old) e request.now) result }
@@ -53,9 +54,9 @@ impl Stage {
 
     // Lets the service do what it is asked.
     fn serve_event(&mut self, alloc: Global, call: &ServiceCall<'_>) -> Option<Report>
-        requires { MayCall self.old.desk.version call.now }
+        requires { MayCall (desk_of self.old One).version call.now }
         ensures { (h : List Event) (e : Event)
-            → Takes self.old self.new h e (served (at_history h self.old) e (event_called self.old.sets call.now)) result }
+            → Takes self.old self.new h e (served (at_history h self.old) e One (event_called self.old.sets call.now)) result }
     {
         self.service_event(alloc, call)
     }

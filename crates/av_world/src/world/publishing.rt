@@ -1,8 +1,9 @@
 ghost use Rattle.std.specs.Prelude.{◌≡◌, ◌≤◌, List};
+ghost use Rattle.av_base.specs.declared.port.Port.TheVariants.{One};
 ghost use Rattle.av_sigset.specs.Catalogue.{latest};
 ghost use Rattle.av_sigset.specs.Made.{set_made};
 ghost use Rattle.av_world.specs.Stage.{Takes, at_history};
-ghost use Rattle.av_world.specs.World.{published};
+ghost use Rattle.av_world.specs.World.{desk_of, published};
 ghost use Rattle.av_world.specs.declared.event.Event.{Event};
 
 use super::serving::{ServiceCall, serve};
@@ -14,15 +15,15 @@ use av_sigset::SignatureSet;
 use std::alloc::Global;
 
 impl Stage {
-    /// Publishes a set, to the service and then to the catalogue, as the event behind any history. None where that is
-    /// refused: nothing has changed.
+    /// Publishes a set, to the service and then to the catalogue, as the event behind any history. Both have made room before
+    /// either learns of it. None where that is refused: nothing has changed.
     pub fn publish(
         &mut self,
         alloc: Global,
         version: Version,
         patterns: &Patterns,
     ) -> Option<Report>
-        requires { self.old.desk.version ≤ latest self.old.sets }
+        requires { (desk_of self.old One).version ≤ latest self.old.sets }
         ensures { (h : List Event) (e : Event)
             → Takes self.old self.new h e
             (published (at_history h self.old) e (set_made version patterns.now)) result }
@@ -30,6 +31,7 @@ impl Stage {
         let before = self.places();
         let set = SignatureSet::from_patterns(alloc, version, patterns.as_slice()).ok()?;
         self.catalogue.room(version).ok()?;
+        self.service.room(version).ok()?;
         let line = Line::Published {
             version: set.version(),
             signatures: set.len() as u64,

@@ -1,5 +1,6 @@
 ghost use Rattle.std.specs.Prelude.{◌≡◌, List, Some, None, IsSome, slice_get, is_some};
 ghost use Rattle.std.specs.Option.{option_map};
+ghost use Rattle.av_base.specs.declared.port.Port.TheVariants.{One};
 ghost use Rattle.av_filter.specs.Conduct.{filter_refusal};
 ghost use Rattle.av_sigset.specs.Made.{set_made};
 ghost use Rattle.av_world.specs.Request.{frame_fault, outcome_of, work_fault};
@@ -7,7 +8,7 @@ ghost use Rattle.av_base.specs.Refused.{IsFaultOf, IsRefusal};
 ghost use Rattle.av_world.specs.Serving.{service_refusal};
 ghost use Rattle.av_world.specs.Serving as serving;
 ghost use Rattle.av_world.specs.Stage.{at_history, event_called};
-ghost use Rattle.av_world.specs.World.{member, published, step_fault, step_of, work_at};
+ghost use Rattle.av_world.specs.World.{desk_of, member, published, step_fault, step_of, work_at};
 ghost use Rattle.av_world.specs.declared.event.Event.{Event};
 ghost use Rattle.av_world.specs.declared.fault.StepFault.TheVariants as fault;
 
@@ -114,7 +115,7 @@ impl Stage {
     // The fault of the service.
     fn service_refusal(&self, call: &ServiceCall<'_>) -> Option<StepFault>
         ensures { result
-            ≡ option_map fault.Connect (service_refusal self.now.desk (serving.event_called self.now.sets call.now)) }
+            ≡ option_map fault.Connect (service_refusal (desk_of self.now One) (serving.event_called self.now.sets call.now)) }
     {
         let ServiceCall::Connect = *call else {
             return None;

@@ -1,5 +1,7 @@
 ghost use Rattle.std.specs.Prelude.{◌≡◌, IfOk, List};
+ghost use Rattle.av_base.specs.declared.port.Port.TheVariants.{One};
 ghost use Rattle.av_world.specs.Request.{Asks, MayAsk, Names};
+ghost use Rattle.av_world.specs.World.{desk_of};
 ghost use Rattle.av_world.specs.declared.event.Event.{Event};
 
 use super::filtering::FilterCall;
@@ -50,7 +52,7 @@ impl Stage {
     #[tactic(auto, using(crate::proofs::RequestLemmas::connects), unfolding(crate::specs::World::step_of))]
     pub fn request<'a>(&self, event: &'a Event) -> Result<Request<'a>, StepFault>
         ensures asks { (h : List Event) → Asks h self.now event.now result }
-        ensures may { IfOk result (MayAsk self.now.desk.version) }
+        ensures may { IfOk result (MayAsk (desk_of self.now One).version) }
     {
         let call = match event {
             Event::Publish { version, patterns } => {

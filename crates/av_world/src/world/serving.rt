@@ -1,7 +1,9 @@
 ghost use Rattle.std.specs.Prelude.{◌≡◌, ◌≤◌, ◌+◌, ◌++◌, List, length, map, Some, IfSome, vec_len};
 ghost use Rattle.std.specs.Option.{option_to_list};
 ghost use Rattle.std.specs.Vec.{vec_capacity};
+ghost use Rattle.av_base.specs.declared.port.Port.TheVariants.{One};
 ghost use Rattle.av_world.specs.Serving.{IsSmallResponse, MayCall, Served, Serves, TakesServed, event_called};
+ghost use Rattle.av_world.specs.World.{desk_of};
 ghost use Rattle.av_world.specs.declared.event.Event.{Event};
 ghost use Rattle.av_world.specs.declared.report.Note.TheVariants as note;
 
@@ -31,9 +33,9 @@ fn ask(
     alloc: Global,
     call: &ServiceCall<'_>,
 ) -> Option<ServiceOut>
-    requires { MayCall service.old.version call.now }
-    ensures responds { Serves service.old service.new (event_called catalogue.now.sets call.now) result }
-    ensures few { IfSome result (IsSmallResponse (length service.old.jobs)) }
+    requires { MayCall service.old.desk.version call.now }
+    ensures responds { Serves service.old.desk service.new.desk (event_called catalogue.now.sets call.now) result }
+    ensures few { IfSome result (IsSmallResponse (length service.old.desk.jobs)) }
 {
     answer(service, catalogue, alloc, call)
 }
@@ -46,8 +48,8 @@ fn answer(
     alloc: Global,
     call: &ServiceCall<'_>,
 ) -> Option<ServiceOut>
-    requires { MayCall service.old.version call.now }
-    ensures { Serves service.old service.new (event_called catalogue.now.sets call.now) result }
+    requires { MayCall service.old.desk.version call.now }
+    ensures { Serves service.old.desk service.new.desk (event_called catalogue.now.sets call.now) result }
 {
     match *call {
         ServiceCall::Connect => service.connect(alloc).ok(),
@@ -89,8 +91,8 @@ pub(super) fn serve(
     alloc: Global,
     call: &ServiceCall<'_>,
 ) -> Option<Note>
-    requires { MayCall service.old.version call.now }
-    ensures { Served service.old up.old.items works.old.items service.new up.new.items works.new.items
+    requires { MayCall service.old.desk.version call.now }
+    ensures { Served service.old.desk up.old.items works.old.items service.new.desk up.new.items works.new.items
         (event_called catalogue.now.sets call.now) result }
 {
     let most = service.job_count().checked_add(1)?;
@@ -104,8 +106,8 @@ impl Stage {
     /// Lets the service do what it is asked, as the event behind any history. None where that is refused: nothing has
     /// changed.
     pub fn service_event(&mut self, alloc: Global, call: &ServiceCall<'_>) -> Option<Report>
-        requires { MayCall self.old.desk.version call.now }
-        ensures { (h : List Event) (e : Event) → TakesServed self.old self.new h e (event_called self.old.sets call.now) result }
+        requires { MayCall (desk_of self.old One).version call.now }
+        ensures { (h : List Event) (e : Event) → TakesServed self.old self.new h e One (event_called self.old.sets call.now) result }
     {
         let before = self.places();
         let note = serve(

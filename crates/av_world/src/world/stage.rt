@@ -3,7 +3,7 @@ ghost use Rattle.av_world.specs.World.{places_of, start};
 
 use crate::given::Given;
 use crate::report::Places;
-use av_base::{Limits, Mode};
+use av_base::{Limits, Mode, Port};
 use av_filter::Filter;
 use av_frame::Message;
 use av_match::Automaton;
@@ -39,7 +39,7 @@ impl Model for Stage {
       volume = s.volume;
       sets = s.catalogue.sets;
       table = s.filter;
-      desk = s.service;
+      desk = s.service.desk;
       down = s.down.items;
       up = s.up.items;
       works = s.works.items;
@@ -56,7 +56,7 @@ impl Stage {
     {
         let mut volume = Volume::new(alloc, number, limits);
         let catalogue = Catalogue::new(alloc);
-        let service = Service::start(alloc, number, &catalogue, limits)?;
+        let service = Service::start(alloc, number, Port::One, &catalogue, limits)?;
         let Ok(filter) = Filter::mount(alloc, &mut volume, mode, limits) else {
             return Err(AllocError);
         };

@@ -59,9 +59,9 @@ impl Stage {
 #[tactic(auto, using(crate::proofs::ServingLemmas::small_finish))]
 fn finish(service: &mut Service, alloc: Global, done: Done) -> Result<ServiceOut, AllocFailed<Done>>
     ensures ok { IfOk result
-        (λ out. Responds out service.new (service_step service.old (Finishes done.lease done.scan (if_found done.scan)))) }
-    ensures few { IfOk result (IsSmallResponse (length service.old.jobs)) }
-    ensures err { IfErr result (λ e. (e.value ≡ done) × (service.new ≡ service.old)) }
+        (λ out. Responds out service.new.desk (service_step service.old.desk (Finishes done.lease done.scan (if_found done.scan)))) }
+    ensures few { IfOk result (IsSmallResponse (length service.old.desk.jobs)) }
+    ensures err { IfErr result (λ e. (e.value ≡ done) × (service.new.desk ≡ service.old.desk)) }
 {
     service.finish(alloc, done)
 }

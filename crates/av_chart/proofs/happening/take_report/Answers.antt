@@ -1,5 +1,5 @@
 use Rattle.std.proofs.Common.{rules, ◌≡◌, ◌∙◌, List, Result, Ok, Err, OnOk, length, refl, ap}
-use Rattle.av_frame.specs.declared.message.Body.{Body}
+use Rattle.av_frame.specs.Message.{Letter}
 use Rattle.av_world.specs.declared.given.Given.{Given}
 use Rattle.av_chart.proofs.ReportLemmas.{report_taken}
 use Rattle.av_chart.specs.Row.{spanned}
@@ -18,8 +18,8 @@ returns c =
     let step : Step = c.step_of-step.result in
     let is_at : c.len-at.result ≡ length c.args.happened.now.steps.items = search rules in
     let is_given = c.span_of-given.ensures ∙ ap (λ (xs : List Given). spanned step.answers xs) c.answers.ensures in
-    let is_down = c.span_of-down.ensures ∙ ap (λ (xs : List Body). spanned step.down xs) c.down.ensures in
-    let is_up = c.span_of-up.ensures ∙ ap (λ (xs : List Body). spanned step.up xs) c.up.ensures in
+    let is_down = c.span_of-down.ensures ∙ ap (λ (xs : List Letter). spanned step.down xs) c.down.ensures in
+    let is_up = c.span_of-up.ensures ∙ ap (λ (xs : List Letter). spanned step.up xs) c.up.ensures in
     on_ok c.add.result c.add.ensures
     (λ h.
     h

@@ -8,11 +8,11 @@ use Rattle.av_engines.proofs.serving.hear_all.Given as goal
 -- what happened so far was handled
 abbrev pub invariant-looks : goal.invariant-looks
 invariant-looks g l = record {
-  goes : Goes l.initial.catalogue.sets l.catalogue.sets l.initial.service l.service (g.F.Fresh.coming l.initial.fresh) (g.F.Fresh.coming l.fresh)
+  goes : Goes l.initial.catalogue.sets l.catalogue.sets l.initial.service.desk l.service.desk (g.F.Fresh.coming l.initial.fresh) (g.F.Fresh.coming l.fresh)
       l.initial.exchange.incoming l.exchange.incoming l.initial.exchange.outgoing l.exchange.outgoing
       (g.R.Read.remaining l.initial.reader) (g.R.Read.remaining l.reader) (g.W.Write.contents l.initial.writer) (g.W.Write.contents l.writer);
-  newest : l.service.version ≤ latest l.catalogue.sets;
-  patterns : l.automaton.patterns ≡ patterns_at l.catalogue.sets l.service.version;
+  newest : l.service.desk.version ≤ latest l.catalogue.sets;
+  patterns : l.automaton.patterns ≡ patterns_at l.catalogue.sets l.service.desk.version;
 }
 
 abbrev pub decreases-looks : goal.decreases-looks

@@ -6,6 +6,8 @@ use Rattle.av_context.specs.declared.context_state.ContextState.TheVariants.{Sca
 use Rattle.av_filter.specs.Again.{scan_message}
 use Rattle.av_filter_table.specs.Answering.{present_bytes, present_generation}
 use Rattle.av_filter_table.specs.Table.{Table, can_ask, has_room, next_id}
+use Rattle.av_base.specs.declared.port.Port.TheVariants.{One}
+use Rattle.av_frame.specs.Message.{via}
 use Rattle.av_frame.specs.declared.message.Body.TheVariants.{Scan}
 use Rattle.av_filter.proofs.opening.open_unknown.Goals as goal
 
@@ -54,7 +56,7 @@ returns-in-Ok-clause-ok c =
     let near : t.connected ≡ true = search rules in
     let can : can_ask t ≡ true = search rules in
     let sent : c.asks.result.messages.items ≡ c.scan_message.result ∷ [] = search rules in
-    let is : c.scan_message.result ≡ scan_message t v a.stream = c.scan_message.ensures ∙ ap (λ id. Scan id a.stream (present_generation v a.stream) (length (present_bytes v a.stream))) c.in-Ok.ensures.id in
+    let is : c.scan_message.result ≡ scan_message t v a.stream = c.scan_message.ensures ∙ ap (λ id. via One (Scan id a.stream (present_generation v a.stream) (length (present_bytes v a.stream)))) c.in-Ok.ensures.id in
     asked c.asks.result t c.ask_for.new.self c.raise.new.self v a c.scan_message.result c.requires.arrival c.requires.unjudged c.requires.unasked c.requires.miss room near can
     (c.in-Ok.ensures.ok
     ∙ ap {B = Table} (λ w. record t {

@@ -12,7 +12,7 @@ use Rattle.av_store.specs.Seen.{Keeps}
 use Rattle.av_world.specs.Audits.{AreLegal, SideEntry}
 
 legal : (g : GateAudit) (d : DeskAudit) (files : List File) (es : List SideEntry) → Keeps g.volume files → IsLegal g → IsServiceAudit (opened_by d) (started_by d) d.events.items → IsCatalogue (opened_by d)
-    → AreOneHistory g d es → AreLegal g.mode g.limits d.volume_number d.limits files g.volume (opened_by d) es
+    → AreOneHistory g d es → AreLegal g.mode g.limits d.volume_number d.port d.limits files g.volume (opened_by d) es
 legal g d files es keeps gate desk catalogue one = record {
   volume = keeps;
   catalogue = catalogue;
@@ -23,10 +23,10 @@ legal g d files es keeps gate desk catalogue one = record {
 }
 
 pub returns-clause-one_verdict : goal.returns-clause-one_verdict
-returns-clause-one_verdict c = λ files es keeps one. c.audits.ensures.one_verdict _ _ _ _ files _ _ es (legal _ _ files es keeps c.requires.gate c.requires.desk c.requires.catalogue one)
+returns-clause-one_verdict c = λ files es keeps one. c.audits.ensures.one_verdict _ _ _ _ _ files _ _ es (legal _ _ files es keeps c.requires.gate c.requires.desk c.requires.catalogue one)
 
 pub returns-clause-only_clean : goal.returns-clause-only_clean
-returns-clause-only_clean c = λ files es keeps one. c.audits.ensures.only_clean _ _ _ _ files _ _ es (legal _ _ files es keeps c.requires.gate c.requires.desk c.requires.catalogue one)
+returns-clause-only_clean c = λ files es keeps one. c.audits.ensures.only_clean _ _ _ _ _ files _ _ es (legal _ _ files es keeps c.requires.gate c.requires.desk c.requires.catalogue one)
 
 pub returns-clause-answers_once : goal.returns-clause-answers_once
 returns-clause-answers_once c = c.audits.ensures.answers_once _ _ _ _ c.requires.gate

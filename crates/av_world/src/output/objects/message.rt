@@ -4,7 +4,7 @@ ghost use Rattle.av_base.specs.declared.verdict.Verdict.TheVariants.{Clean, Infe
 ghost use Rattle.av_frame.specs.declared.message.Body.TheVariants.{Scan, Chunk, NoChunk, Abort, Hello, Read, Reply, Updated};
 ghost use Rattle.av_frame.specs.declared.outcome.Outcome.TheVariants.{Failed, Judged};
 ghost use Rattle.av_json.specs.Member.{Puts};
-ghost use Rattle.av_world.specs.Objects.Messages.{message_tokens, way_name};
+ghost use Rattle.av_world.specs.Objects.Messages.{body_tokens, message_tokens, way_name};
 ghost use Rattle.av_world.specs.Text.Messages.{placed};
 
 use crate::output::message::{Place, Way};
@@ -81,7 +81,7 @@ fn put_scan(
     length: u64,
     line: &mut Writer,
 ) -> Result<(), AllocError>
-    ensures { Puts result line.old line.new (message_tokens place.way place.number (Scan id stream generation length)) }
+    ensures { Puts result line.old line.new (body_tokens place.way place.number (Scan id stream generation length)) }
 {
     put_object(
         line,
@@ -105,7 +105,7 @@ fn put_chunk(
     bytes: &[u8],
     line: &mut Writer,
 ) -> Result<(), AllocError>
-    ensures { Puts result line.old line.new (message_tokens place.way place.number (Chunk id offset bytes.now)) }
+    ensures { Puts result line.old line.new (body_tokens place.way place.number (Chunk id offset bytes.now)) }
 {
     let digits = hex::encode(alloc, bytes)?;
     put_object(
@@ -128,7 +128,7 @@ fn put_no_chunk(
     cause: NoChunkCause,
     line: &mut Writer,
 ) -> Result<(), AllocError>
-    ensures { Puts result line.old line.new (message_tokens place.way place.number (NoChunk id offset cause)) }
+    ensures { Puts result line.old line.new (body_tokens place.way place.number (NoChunk id offset cause)) }
 {
     put_object(
         line,
@@ -144,7 +144,7 @@ fn put_no_chunk(
 }
 
 fn put_abort(place: Place, id: MessageId, line: &mut Writer) -> Result<(), AllocError>
-    ensures { Puts result line.old line.new (message_tokens place.way place.number (Abort id)) }
+    ensures { Puts result line.old line.new (body_tokens place.way place.number (Abort id)) }
 {
     put_object(
         line,
@@ -163,7 +163,7 @@ fn put_hello(
     version: Version,
     line: &mut Writer,
 ) -> Result<(), AllocError>
-    ensures { Puts result line.old line.new (message_tokens place.way place.number (Hello volume version)) }
+    ensures { Puts result line.old line.new (body_tokens place.way place.number (Hello volume version)) }
 {
     put_object(
         line,
@@ -183,7 +183,7 @@ fn put_read(
     count: u32,
     line: &mut Writer,
 ) -> Result<(), AllocError>
-    ensures { Puts result line.old line.new (message_tokens place.way place.number (Read id offset count)) }
+    ensures { Puts result line.old line.new (body_tokens place.way place.number (Read id offset count)) }
 {
     put_object(
         line,
@@ -199,7 +199,7 @@ fn put_read(
 }
 
 fn put_updated(place: Place, version: Version, line: &mut Writer) -> Result<(), AllocError>
-    ensures { Puts result line.old line.new (message_tokens place.way place.number (Updated version)) }
+    ensures { Puts result line.old line.new (body_tokens place.way place.number (Updated version)) }
 {
     put_object(
         line,
@@ -217,7 +217,7 @@ fn put_reply(
     outcome: Outcome,
     line: &mut Writer,
 ) -> Result<(), AllocError>
-    ensures { Puts result line.old line.new (message_tokens place.way place.number (Reply id outcome)) }
+    ensures { Puts result line.old line.new (body_tokens place.way place.number (Reply id outcome)) }
 {
     match outcome {
         Outcome::Judged { version, verdict } => match verdict {
@@ -236,7 +236,7 @@ fn put_clean(
     version: Version,
     line: &mut Writer,
 ) -> Result<(), AllocError>
-    ensures { Puts result line.old line.new (message_tokens place.way place.number (Reply id (Judged version Clean))) }
+    ensures { Puts result line.old line.new (body_tokens place.way place.number (Reply id (Judged version Clean))) }
 {
     put_object(
         line,
@@ -260,7 +260,7 @@ fn put_infected(
     line: &mut Writer,
 ) -> Result<(), AllocError>
     ensures { Puts result line.old line.new
-        (message_tokens place.way place.number (Reply id (Judged version (Infected index end_at)))) }
+        (body_tokens place.way place.number (Reply id (Judged version (Infected index end_at)))) }
 {
     put_object(
         line,
@@ -283,7 +283,7 @@ fn put_failed(
     cause: FailCause,
     line: &mut Writer,
 ) -> Result<(), AllocError>
-    ensures { Puts result line.old line.new (message_tokens place.way place.number (Reply id (Failed cause))) }
+    ensures { Puts result line.old line.new (body_tokens place.way place.number (Reply id (Failed cause))) }
 {
     put_object(
         line,

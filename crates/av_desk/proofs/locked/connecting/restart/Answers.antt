@@ -4,4 +4,4 @@ use Rattle.av_service.specs.Conduct.{Restarts}
 use Rattle.av_sigset.specs.Catalogue.{latest}
 
 pub returns-clause-silent : goal.returns-clause-silent
-returns-clause-silent c = silent c.restart.result c.args.service.now c.restart.new.self (Restarts (latest c.args.catalogue.now.sets)) tt c.restart.ensures
+returns-clause-silent c = silent c.restart.result c.args.service.now.desk c.restart.new.self.desk (Restarts (latest c.args.catalogue.now.sets)) tt c.restart.ensures

@@ -3,4 +3,4 @@ use Rattle.av_desk.proofs.locked.publishing.publish.Goals as goal
 use Rattle.av_service.specs.Conduct.{Publishes}
 
 pub returns-clause-silent : goal.returns-clause-silent
-returns-clause-silent c = silent_always c.publish.result c.args.service.now c.publish.new.self (Publishes c.args.version) tt c.publish.ensures
+returns-clause-silent c = silent_always c.publish.result c.args.service.now.desk c.publish.new.self.desk (Publishes c.args.version) tt c.publish.ensures.event

@@ -7,7 +7,7 @@ use Rattle.av_service.proofs.service.Service.finish.Goals as goal
 
 pub returns-in-Ok-clause-scans : goal.returns-in-Ok-clause-scans
 returns-in-Ok-clause-scans c =
-    let d = c.args.self.now in
+    let d = c.args.self.now.desk in
     let k = c.args.done in
-    let desk : c.finished.new.self ≡ (finished d k.scan (if_found k.scan) (lent_under k.lease d.jobs)).desk = search rules in
-    keeps_scans d k.lease k.work k.scan (if_found k.scan) c.finished.new.self desk
+    let desk : c.finished.new.self.desk ≡ (finished d k.scan (if_found k.scan) (lent_under k.lease d.jobs)).desk = search rules in
+    keeps_scans d k.lease k.work k.scan (if_found k.scan) c.finished.new.self.desk desk

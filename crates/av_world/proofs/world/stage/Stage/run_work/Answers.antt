@@ -4,11 +4,8 @@ use Rattle.av_sigset.specs.Catalogue.{set_at}
 use Rattle.av_match.specs.Scanning.{fitting, if_found, run}
 use Rattle.av_service.specs.Call.{Responds}
 use Rattle.av_service.specs.Conduct.{Finishes, service_step}
-use Rattle.av_world.proofs.WorkLemmas.{put_back_same, stage, worked}
+use Rattle.av_world.proofs.WorkLemmas.{first_of, put_back_same, worked, worked_on}
 use Rattle.av_world.specs.Working.{IsVersionOf}
-use Rattle.av_frame.specs.declared.message.Body.{Body}
-use Rattle.av_service.specs.Desk.{Desk}
-use Rattle.av_service.specs.Work.{WorkState}
 use Rattle.av_world.specs.World.{WorldState, places_of, work_at, work_event}
 use Rattle.av_world.specs.declared.report.Line.TheVariants.{Silent}
 use Rattle.av_world.specs.declared.report.Note.TheVariants as note
@@ -29,16 +26,16 @@ returns-in-Ok c h e =
     let for : IsPreparedFor (set_at here.catalogue.sets x.version) (Some c.in_ok-automaton.automaton.now) = subst (λ v. IsPreparedFor (set_at here.catalogue.sets v) (Some c.in_ok-automaton.automaton.now)) version (subst (IsPreparedFor (set_at here.catalogue.sets c.in_ok-version.version)) kept made) in
     let of : Compiles (set_at here.catalogue.sets x.version) c.in_ok-automaton.automaton.now = for in
     let ran : c.run.result.scan ≡ run c.in_ok-automaton.automaton.now.patterns x.scan (fitting x.scan x.chunk) = search rules in
-    let is : Responds c.in-Ok.out c.finish.new.service (service_step here.service (Finishes c.run.result.lease c.run.result.scan (if_found c.run.result.scan))) = search rules in
+    let is : Responds c.in-Ok.out c.finish.new.service.desk (service_step here.service.desk (Finishes c.run.result.lease c.run.result.scan (if_found c.run.result.scan))) = search rules in
     let ups : c.record-note.new.up.items ≡ here.up.items ++ c.in-Ok.out.messages.items = search rules in
     let told : c.record-note.result ≡ note.Service c.in-Ok.out.note = c.record-note.ensures.note in
-    let before : WorldState = stage here.volume here.catalogue.sets here.filter here.down.items here.answers.items here.service here.up.items here.works.items in
-    let after : WorldState = stage here.volume here.catalogue.sets here.filter here.down.items here.answers.items c.finish.new.service c.record-note.new.up.items c.record-note.new.works.items in
+    let before : WorldState = first_of _ _ c.self.view_is in
+    let after : WorldState = worked_on before c.finish.new.service.desk c.record-note.new.up.items c.record-note.new.works.items in
     let befores : c.places-before.result ≡ places_of before = search rules in
     let afters : c.places.result ≡ places_of after = search rules in
     let more : c.record-note.new.works.items ≡ slice_set here.works.items c.in_ok-index.index None ++ map Some (option_to_list c.in-Ok.out.work) = search rules in
     let ran_so : work_event (at_history h before) e c.args.place (work_at before.works c.args.place) ≡ Ok (record { line = Silent; before = places_of before; after = places_of after; note = note.Service c.in-Ok.out.note }, at_history (e ∷ h) after) =
-    worked (at_history h before) e c.args.place c.in_ok-index.index x c.in_ok-automaton.automaton.now c.run.result.lease c.run.result.scan c.in-Ok.out c.finish.new.service c.record-note.new.up.items c.record-note.new.works.items place there of c.run.ensures.lease ran is ups more in
+    worked (at_history h before) e c.args.place c.in_ok-index.index x c.in_ok-automaton.automaton.now c.run.result.lease c.run.result.scan c.in-Ok.out c.finish.new.service.desk c.record-note.new.up.items c.record-note.new.works.items place there of c.run.ensures.lease ran is ups more in
     let told_so : work_event (at_history h before) e c.args.place (work_at before.works c.args.place) ≡ Ok (record { line = Silent; before = c.places-before.result; after = c.places.result; note = c.record-note.result }, at_history (e ∷ h) after) = rw befores (rw afters (rw told ran_so)) in
     subst (λ (w : WorldState). work_event (at_history h w) e c.args.place (work_at w.works c.args.place) ≡ Ok (record { line = Silent; before = c.places-before.result; after = c.places.result; note = c.record-note.result }, at_history (e ∷ h) after)) c.self.view_is told_so
 
@@ -51,6 +48,6 @@ returns-in-Err c h e =
     let undone : c.put_back.new.works.items ≡ slice_set (slice_set here.works.items i None) i (Some x) = search rules in
     let works : c.put_back.new.works.items ≡ here.works.items = undone ∙ put_back_same here.works.items i (Some x) None there in
     let ups : c.reserve.new.self.items ≡ here.up.items = search rules in
-    let service : c.finish.new.service ≡ here.service = search rules in
-    let at : Desk → List Body → List (Option WorkState) → WorldState = stage here.volume here.catalogue.sets here.filter here.down.items here.answers.items in
-    ap (λ d. at d c.reserve.new.self.items c.put_back.new.works.items) service ∙ ap (λ us. at here.service us c.put_back.new.works.items) ups ∙ ap (λ ks. at here.service here.up.items ks) works ∙ c.self.view_is
+    let service : c.finish.new.service.desk ≡ here.service.desk = search rules in
+    let before : WorldState = first_of _ _ c.self.view_is in
+    ap (λ d. worked_on before d c.reserve.new.self.items c.put_back.new.works.items) service ∙ ap (λ us. worked_on before here.service.desk us c.put_back.new.works.items) ups ∙ ap (worked_on before here.service.desk here.up.items) works ∙ c.self.view_is

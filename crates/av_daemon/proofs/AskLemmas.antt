@@ -1,0 +1,37 @@
+-- Asks that are put and taken.
+use Rattle.std.proofs.Common.{ℕ, ◌≡◌, ◌≤◌, ◌<◌, length, Bool, nat_lt, true, false, cond, List, ◌++◌, ◌∷◌, [], Result, Ok, Err, refl, sym, ◌∙◌, ap, append_assoc, append-nil}
+use Rattle.std.specs.Prelude.{Option, Some, None}
+use Rattle.std.specs.List.{flat_map}
+use Rattle.std.proofs.lemmas.Grind.{flat_map-append}
+use Rattle.av_asks.specs.Feed.{Fed, by_front, given}
+use Rattle.std.proofs.lemmas.Bool.{le-ltb, ltb-true}
+use Rattle.av_asks.specs.Spelling.{Asked, ask_frame, written}
+use Rattle.av_asks.specs.declared.fault.TooLong.{TooLong}
+use Rattle.av_asks.specs.declared.fault.TooLong.TheVariants as long
+use Rattle.av_asks.specs.declared.sizes.TheConstants.{MAX_CONTENT, MAX_LABEL}
+
+none_in_front : {A F : Type 0} (rest : List ℕ) (front : Result (Option (A × ℕ)) F) (new : Fed) → by_front rest front ≡ (Ok None, new) → (front ≡ Ok None) × (rest ≡ new.rest)
+none_in_front {A} {F} rest (Ok None) new e = let same : record { rest = rest; broken = false } ≡ new = ap (λ p. p.1) e in (refl, ap (λ fed. fed.rest) same)
+none_in_front {A} {F} rest (Ok (Some (x, size))) new e = let clash : ◌≡◌ {A = Result (Option A) F} (Ok (Some x)) (Ok None) = ap (λ p. p.0) e in absurd cc
+none_in_front {A} {F} rest (Err f) new e = let clash : ◌≡◌ {A = Result (Option A) F} (Err f) (Ok None) = ap (λ p. p.0) e in absurd cc
+
+-- a feed that gives nothing has nothing whole in front, and keeps what it has
+pub nothing_whole : {A F : Type 0} (again : F) (front : List ℕ → Result (Option (A × ℕ)) F) (rest : List ℕ) (broken : Bool) (new : Fed) → given again front (record { rest = rest; broken = broken }) ≡ (Ok None, new) → (front rest ≡ Ok None) × (rest ≡ new.rest)
+nothing_whole {A} {F} again front rest true new e = let clash : ◌≡◌ {A = Result (Option A) F} (Err again) (Ok None) = ap (λ p. p.0) e in absurd cc
+nothing_whole again front rest false new e = none_in_front rest (front rest) new e
+
+-- one more frame behind others
+pub one_more : {X : Type 0} (frame : X → List ℕ) (xs : List X) (x : X) (bytes before rest : List ℕ) → bytes ≡ flat_map frame xs ++ before → before ≡ frame x ++ rest → bytes ≡ flat_map frame (xs ++ x ∷ []) ++ rest
+one_more frame xs x bytes before rest whole next =
+    whole ∙ ap (λ b. flat_map frame xs ++ b) next ∙ sym (append_assoc (flat_map frame xs) (frame x) rest)
+    ∙ ap (λ b. flat_map frame xs ++ b ++ rest) (sym (append-nil (frame x)))
+    ∙ ap (λ b. b ++ rest) (sym (flat_map-append frame xs (x ∷ [])))
+
+too_much : (name more : Bool) (x : List ℕ) (f : TooLong) → name ≡ false → cond name (Err long.Label) (cond more (Err long.Content) (Ok x)) ≡ Err f → more ≡ true
+too_much false true x f fits e = refl
+too_much false false x f fits e = let clash : ◌≡◌ {A = Result (List ℕ) TooLong} (Ok x) (Err f) = e in absurd cc
+too_much true more x f fits e = absurd cc
+
+-- where a label fits, it is the content that is too long
+pub too_large : (out : List ℕ) (a : Asked) (f : TooLong) → length a.label ≤ 255 → written out a ≡ Err f → 1_048_576 < length a.content
+too_large out a f fits e = ltb-true _ _ (too_much (nat_lt MAX_LABEL (length a.label)) (nat_lt MAX_CONTENT (length a.content)) (out ++ ask_frame a) f (le-ltb _ _ fits) e)

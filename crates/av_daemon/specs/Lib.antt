@@ -1,0 +1,9 @@
+pub mod Looks
+pub mod Questions
+pub mod Line
+pub mod Names
+pub mod Client
+pub mod Service
+pub mod Asking
+pub mod Late
+pub mod Guarding

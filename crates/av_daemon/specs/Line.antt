@@ -1,0 +1,56 @@
+-- A connection of which no call waits, and where it stands by.
+use Rattle.std.specs.Prelude.{ℕ, ◌≡◌, ◌-◌, ◌==◌, ◌&&◌, ◌||◌, Bool, false, true, nat_lt, if◌then◌else◌, List, length, drop, ◌≤◌, Option, None, Some, is_none}
+use Rattle.std.specs.declared.time.Duration.{Duration}
+use Rattle.mio.specs.declared.event.event.Event.{Event}
+use Rattle.mio.specs.Event.{is_error, is_read_closed, is_readable, is_writable, is_write_closed}
+use Rattle.av_daemon.specs.declared.line.Came.{Came}
+use Rattle.av_daemon.specs.declared.line.Came.TheVariants.{Bytes, Nothing, End}
+use Rattle.av_daemon.specs.declared.line.Line.{Line}
+use Rattle.av_daemon.specs.declared.line.Turns.{Turns}
+
+-- it stands nowhere
+abbrev pub nowhere : Turns
+nowhere = record { is_ready = false; is_sending = false; is_watched = false }
+
+-- since when it is waited for, and that a time is set for it then, where none was
+abbrev pub watched_since : Option Duration → Turns → Option Duration × Turns
+watched_since since t = if is_none since || t.is_watched then (None, t) else (since, record t { is_watched = true })
+
+-- the bytes that are still to go out
+abbrev pub unsent : Line → List ℕ
+unsent l = drop l.sent l.waiting.items
+
+-- a change was told: there may be something to be read, or the other side takes no more
+abbrev pub noted : Event → Line → Line
+noted e l =
+    record l {
+      may_read = l.may_read || (is_readable e || is_read_closed e || is_error e);
+      is_closed = l.is_closed || is_write_closed e;
+    }
+
+-- bytes wait, and the other side may take some
+abbrev pub may_send : Event → Line → Bool
+may_send e l = is_writable e && nat_lt 0 (length (unsent l))
+
+-- a read may come to more where it came to bytes
+abbrev pub has_more : Came → Bool → Bool
+has_more (Bytes count) before = before
+has_more Nothing before = false
+has_more End before = false
+
+-- no more bytes came than there was room for
+abbrev pub IsWithin : Came → List ℕ → Type 0
+IsWithin (Bytes count) room = count ≤ length room
+IsWithin Nothing room = Unit {0}
+IsWithin End room = Unit {0}
+
+-- these bytes are the last of those
+abbrev pub IsEndOf : List ℕ → List ℕ → Type 0
+IsEndOf rest all = rest ≡ drop (length all - length rest) all
+
+-- since when the other side takes nothing of what waits: never where nothing waits, from now on where it took something or
+-- nothing waited before, and else as before
+abbrev pub since_of : Duration → List ℕ → List ℕ → Option Duration → Option Duration
+since_of now before rest since =
+    if length rest == 0 then None else
+    (if nat_lt (length rest) (length before) || is_none since then Some now else since)

@@ -1,0 +1,333 @@
+ghost use Rattle.std.specs.Prelude.{IfErr};
+ghost use Rattle.av_sockets.specs.Filter.{AreFiltered};
+ghost use Rattle.av_status.specs.Status.{EndsWell, IsFault};
+
+use crate::list::names_of;
+use crate::reading::{read_file, size_of};
+use crate::serving::meeting;
+use av_files::{
+    Failing, Input, MAX_FILE, add_file, conclude_opened, empty_volume, look_at, read_set,
+};
+use av_host::{Crew, Group, Hosting, host_group};
+use av_sigset::SignatureSet;
+use av_sockets::filter_volume;
+use av_status::faults::out_of_memory;
+use av_status::{Progress, Status, Tally};
+use av_store::Volume;
+use av_words::{Filter, Host};
+use std::alloc::Global;
+use std::collections::BTreeSet;
+use std::io::Write;
+
+// As many files are a group as have so many bytes together: with the last of them, of at most 1 MiB, no more than 8 MiB.
+const GROUP: usize = 7 * 1_048_576;
+
+// A file counts as so many bytes at least.
+const LEAST: usize = 4_096;
+
+/// Opens files by their names, as `host_files` does by their contents, and holds one group of them at a time. What can be seen of a
+/// file without reading it is told before the first one is opened.
+pub fn host_named<R: Hosting, W: Write, E: Write>(
+    rt: &HostRuntime,
+    system: &R,
+    alloc: Global,
+    asked: &Host<'_>,
+    out: &mut W,
+    err: &mut Progress<'_, HostRuntime, E>,
+) -> Status {
+    let Ok(mut text) = vec![in alloc; 0u8; MAX_FILE + 2] else {
+        return out_of_memory(err);
+    };
+    let set = read_file(rt, asked.set, &mut text);
+    match read_set(alloc, set, err) {
+        Ok(_) => host_under(rt, system, alloc, asked, set, out, err),
+        Err(status) => status,
+    }
+}
+
+// The same, under a signature file that spells a set.
+fn host_under<R: Hosting, W: Write, E: Write>(
+    rt: &HostRuntime,
+    system: &R,
+    alloc: Global,
+    asked: &Host<'_>,
+    set: Input<'_>,
+    out: &mut W,
+    err: &mut Progress<'_, HostRuntime, E>,
+) -> Status {
+    let mut text = Vec::new(alloc);
+    match names_of(
+        rt,
+        alloc,
+        &asked.named,
+        &mut text,
+        Failing::Ends,
+        &mut Tally::new(),
+        err,
+    ) {
+        Ok(names) => host_all(rt, system, alloc, asked, set, names.as_slice(), out, err),
+        Err(status) => status,
+    }
+}
+
+// The same, with all names: each file is looked at before the first one is opened.
+fn host_all<R: Hosting, W: Write, E: Write>(
+    rt: &HostRuntime,
+    system: &R,
+    alloc: Global,
+    asked: &Host<'_>,
+    set: Input<'_>,
+    names: &[&str],
+    out: &mut W,
+    err: &mut Progress<'_, HostRuntime, E>,
+) -> Status {
+    if let Err(status) = look_over(rt, alloc, names, err) {
+        return status;
+    }
+    let Ok(mut buffer) = vec![in alloc; 0u8; MAX_FILE + 2] else {
+        return out_of_memory(err);
+    };
+    let mut tally = Tally::new();
+    match host_groups(
+        rt,
+        system,
+        alloc,
+        asked,
+        set,
+        names,
+        &mut buffer,
+        &mut tally,
+        out,
+        err,
+    ) {
+        Ok(ended) => conclude_opened(tally, names.len(), ended, asked.named.wishes, err),
+        Err(failed) => failed,
+    }
+}
+
+// Says what can be seen of the files before one is read.
+fn look_over<E: Write>(
+    rt: &HostRuntime,
+    alloc: Global,
+    names: &[&str],
+    err: &mut E,
+) -> Result<(), Status> {
+    let mut seen = BTreeSet::new(alloc);
+    'files: for name in names {
+        look_at(alloc, &mut seen, *name, size_of(rt, name), err)?;
+    }
+    Ok(())
+}
+
+// Opens the files, a group after the other. Ok says how that ended; Err where a group could not be opened, or a line not be written.
+fn host_groups<R: Hosting, W: Write, E: Write>(
+    rt: &HostRuntime,
+    system: &R,
+    alloc: Global,
+    asked: &Host<'_>,
+    set: Input<'_>,
+    names: &[&str],
+    buffer: &mut [u8],
+    tally: &mut Tally,
+    out: &mut W,
+    err: &mut Progress<'_, HostRuntime, E>,
+) -> Result<Status, Status> {
+    let mut done = 0usize;
+    'groups: for _ in 0..names.len() {
+        if done >= names.len() {
+            break;
+        }
+        let (ended, count) = host_next(
+            rt, system, alloc, asked, set, names, done, buffer, tally, out, err,
+        )?;
+        if ended != Status::Done {
+            return Ok(ended);
+        }
+        done = done.saturating_add(count);
+    }
+    Ok(Status::Done)
+}
+
+// Opens the group of files that begins at this place, and says how many they are.
+fn host_next<R: Hosting, W: Write, E: Write>(
+    rt: &HostRuntime,
+    system: &R,
+    alloc: Global,
+    asked: &Host<'_>,
+    set: Input<'_>,
+    names: &[&str],
+    before: usize,
+    buffer: &mut [u8],
+    tally: &mut Tally,
+    out: &mut W,
+    err: &mut Progress<'_, HostRuntime, E>,
+) -> Result<(Status, usize), Status> {
+    let Some(left) = names.get(before..) else {
+        return Ok((Status::Done, 0));
+    };
+    let rest = Group {
+        names: left,
+        before,
+        all: names.len(),
+    };
+    match read_set(alloc, set, err) {
+        Ok(set) => host_read(rt, system, alloc, asked, set, rest, buffer, tally, out, err),
+        Err(status) => Err(status),
+    }
+}
+
+// The same of these files, under a set.
+fn host_read<R: Hosting, W: Write, E: Write>(
+    rt: &HostRuntime,
+    system: &R,
+    alloc: Global,
+    asked: &Host<'_>,
+    set: SignatureSet,
+    rest: Group<'_>,
+    buffer: &mut [u8],
+    tally: &mut Tally,
+    out: &mut W,
+    err: &mut Progress<'_, HostRuntime, E>,
+) -> Result<(Status, usize), Status> {
+    match volume_with(rt, alloc, rest, GROUP, buffer, err) {
+        Ok((volume, count)) => host_made(
+            system, alloc, asked, set, volume, rest, count, tally, out, err,
+        ),
+        Err(status) => Err(status),
+    }
+}
+
+// The same, with the volume of so many of them.
+fn host_made<R: Hosting, W: Write, E: Write>(
+    system: &R,
+    alloc: Global,
+    asked: &Host<'_>,
+    set: SignatureSet,
+    volume: Volume,
+    rest: Group<'_>,
+    count: usize,
+    tally: &mut Tally,
+    out: &mut W,
+    err: &mut Progress<'_, HostRuntime, E>,
+) -> Result<(Status, usize), Status> {
+    let group = Group {
+        names: rest.names.get(..count).unwrap_or(rest.names),
+        ..rest
+    };
+    let crew = Crew {
+        openers: asked.openers,
+        workers: asked.workers,
+    };
+    let wishes = asked.named.wishes;
+    match host_group(
+        system, alloc, set, volume, group, crew, wishes, tally, out, err,
+    ) {
+        Ok(ended) => Ok((ended, count)),
+        Err(failed) => Err(failed),
+    }
+}
+
+/// Opens files by their names, through a filter that a service may join at a socket.
+pub fn filter_named<R: Hosting, W: Write, E: Write>(
+    rt: &HostRuntime,
+    system: &R,
+    alloc: Global,
+    asked: &Filter<'_>,
+    out: &mut W,
+    err: &mut Progress<'_, HostRuntime, E>,
+) -> Status {
+    let Ok(mut buffer) = vec![in alloc; 0u8; MAX_FILE + 2] else {
+        return out_of_memory(err);
+    };
+    let mut text = Vec::new(alloc);
+    match names_of(
+        rt,
+        alloc,
+        &asked.named,
+        &mut text,
+        Failing::Ends,
+        &mut Tally::new(),
+        err,
+    ) {
+        Ok(names) => {
+            let names = names.as_slice();
+            filter_all(rt, system, alloc, asked, names, &mut buffer, out, err)
+        }
+        Err(status) => status,
+    }
+}
+
+// The same, with all names.
+fn filter_all<R: Hosting, W: Write, E: Write>(
+    rt: &HostRuntime,
+    system: &R,
+    alloc: Global,
+    asked: &Filter<'_>,
+    names: &[&str],
+    buffer: &mut [u8],
+    out: &mut W,
+    err: &mut Progress<'_, HostRuntime, E>,
+) -> Status
+    ensures { EndsWell result → AreFiltered names.now asked.now.named.wishes (W.contents out.old) (W.contents out.new) result }
+{
+    let meeting = meeting(asked.socket, asked.wait);
+    let wishes = asked.named.wishes;
+    let files = Group {
+        names,
+        before: 0,
+        all: names.len(),
+    };
+    match volume_with(rt, alloc, files, usize::MAX, buffer, err) {
+        Ok((volume, _)) => filter_volume(
+            system, alloc, meeting, asked.mode, volume, names, wishes, out, err,
+        ),
+        Err(status) => status,
+    }
+}
+
+// A volume with the first of these files, as many as reach so many bytes together, and how many they are: all where they do not.
+fn volume_with<E: Write>(
+    rt: &HostRuntime,
+    alloc: Global,
+    files: Group<'_>,
+    most: usize,
+    buffer: &mut [u8],
+    err: &mut Progress<'_, HostRuntime, E>,
+) -> Result<(Volume, usize), Status>
+    ensures { IfErr result (λ status. IsFault status) }
+{
+    let mut volume = empty_volume(alloc);
+    match add_files(rt, alloc, files, most, &mut volume, buffer, err) {
+        Ok(count) => Ok((volume, count)),
+        Err(status) => Err(status),
+    }
+}
+
+// Adds the first of these files to a volume, as many as reach so many bytes together, and says how many they are.
+fn add_files<E: Write>(
+    rt: &HostRuntime,
+    alloc: Global,
+    files: Group<'_>,
+    most: usize,
+    volume: &mut Volume,
+    buffer: &mut [u8],
+    err: &mut Progress<'_, HostRuntime, E>,
+) -> Result<usize, Status>
+    ensures { IfErr result (λ status. IsFault status) }
+{
+    let mut count = 0usize;
+    let mut bytes = 0usize;
+    'files: for name in files.names {
+        if bytes >= most {
+            break;
+        }
+        err.step("read", files.before.saturating_add(count), files.all);
+        let file = read_file(rt, name, buffer);
+        let length = file.content.map_or(0, |content| content.len());
+        add_file(alloc, volume, file, err)?;
+        bytes = bytes.saturating_add(length.max(LEAST));
+        count = count.saturating_add(1);
+    }
+    err.wipe();
+    Ok(count)
+}
