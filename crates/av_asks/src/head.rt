@@ -1,4 +1,4 @@
-ghost use Rattle.std.specs.Prelude.{◌≡◌, ◌+◌, ◌≤◌, length};
+ghost use Rattle.std.specs.Prelude.{◌≡◌, ◌+◌, length};
 ghost use Rattle.av_asks.specs.Head.{WholeAtMost, fits_kind, fits_size, head_of};
 
 use crate::fields::u32_first;

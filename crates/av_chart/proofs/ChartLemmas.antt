@@ -4,8 +4,3 @@ use Rattle.std.proofs.Common.{ℕ, ◌≡◌, List, Option, None, Some, IfSome, 
 pub some_of : (o : Option (List ℕ)) (P : List ℕ → Type 0) (t : List ℕ) → IfSome o (λ input. t ≡ input) → P t → IfSome o P
 some_of None P t so p = tt
 some_of (Some input) P t so p = subst P so p
-
--- what holds of every text holds of what was there to be read
-pub some_all : (o : Option (List ℕ)) (P : List ℕ → Type 0) → ((t : List ℕ) → P t) → IfSome o P
-some_all None P all = tt
-some_all (Some input) P all = all input

@@ -33,7 +33,7 @@ use Rattle.av_chart.specs.Life.{Life, begins, ended, ends, lives_as, with_end}
 use Rattle.av_chart.specs.Marks.{deed_of, given_in, submitted_id}
 use Rattle.av_chart.specs.OneBar.{HaveOneBar, OpensHaveOneBar, numbers_of}
 use Rattle.av_chart.specs.Row.{asked_lines}
-use Rattle.av_chart.specs.Story.{Story, accepted, answered, did_after, how_answered, in_turn, life, moment, nothing, number_id, opened, story_after}
+use Rattle.av_chart.specs.Story.{Story, answered, did_after, in_turn, life, moment, nothing, number_id, opened, story_after}
 use Rattle.av_chart.specs.Story as story
 use Rattle.av_chart.specs.Told.{Judges, Steps, Told, tells, told_at, told_from, world_after}
 use Rattle.av_chart.specs.Words.{word_at}

@@ -55,15 +55,6 @@ pub size_of : List (List ℕ) → ℕ
 size_of [] = 0
 size_of (l ∷ ls) = (length l + 1) + size_of ls
 
-pub size_onto : (b : ℕ) (ls : List (List ℕ)) → size_of (onto_first b ls) ≤ 2 + size_of ls
-unfolding size_of
-size_onto b [] = omega arith
-size_onto b (l ∷ ls) = omega arith
-
-pub size_onto_some : (b : ℕ) (l : List ℕ) (ls : List (List ℕ)) → size_of (onto_first b (l ∷ ls)) ≡ 1 + size_of (l ∷ ls)
-unfolding size_of
-size_onto_some b l ls = omega arith
-
 pub size_within : (bs : List ℕ) → size_of (lines_of bs) ≤ 1 + length bs
 unfolding size_of
 size_within [] = omega arith

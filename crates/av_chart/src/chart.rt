@@ -1,11 +1,10 @@
-ghost use Rattle.std.specs.Prelude.{◌≡◌, ◌+◌, ◌≤◌, ◌<◌, ◌^◌, count_by, length, map, position, IfErr, IfOk, IfSome, Ok, OnErr, OnOk};
+ghost use Rattle.std.specs.Prelude.{◌≡◌, ◌+◌, ◌<◌, ◌^◌, count_by, length, map, position, IfErr, IfOk, IfSome, Ok, OnErr, OnOk};
 ghost use Rattle.std.specs.Io.KnownBytes.{Appends};
 ghost use Rattle.av_base.specs.Device.{AppendsPrefix};
-ghost use Rattle.av_world.specs.Script.{script_of};
 ghost use Rattle.av_chart.specs.Chart.{Draws, HaveSlots, IsDrawn, IsEarly, IsNotDrawn, IsOfDrawing, IsPicture, IsRunDrawn, IsTrueOf, Leaves, Shows, asks, begun};
 ghost use Rattle.av_chart.specs.Picture.{picture_text};
 ghost use Rattle.av_chart.specs.Place.{StandAt, bottom_of};
-ghost use Rattle.av_chart.specs.Row.{height_of, spanned};
+ghost use Rattle.av_chart.specs.Row.{height_of};
 ghost use Rattle.av_chart.specs.Story.{story_of};
 
 use crate::fault::ChartFault;

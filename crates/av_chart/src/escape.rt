@@ -2,7 +2,7 @@
 
 ghost use Rattle.std.specs.Prelude.{◌≡◌, ◌++◌, map, IfOk, OnOk};
 ghost use Rattle.av_base.specs.Part.{part_text, spelt};
-ghost use Rattle.av_chart.specs.Escape.{EscapesAll, escaped, escaped_byte, printed, printed_byte, short};
+ghost use Rattle.av_chart.specs.Escape.{escaped, escaped_byte, printed, printed_byte, short};
 
 use av_base::Part;
 use av_base::parts::write_parts;

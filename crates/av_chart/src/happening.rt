@@ -7,7 +7,7 @@ ghost use Rattle.av_world.specs.Script.Grammar.{line_of};
 ghost use Rattle.av_world.specs.Script.Statement.{is_told, meaning};
 ghost use Rattle.av_world.specs.Text.{command_world};
 ghost use Rattle.av_world.specs.World.{after, step_of};
-ghost use Rattle.av_chart.specs.Marks.{asks_of, given_in};
+ghost use Rattle.av_chart.specs.Marks.{asks_of};
 ghost use Rattle.av_chart.specs.Row.{spanned};
 ghost use Rattle.av_chart.specs.Story.{accepted, counted, did_after, named, quiet, step_of as told_step, story_after, story_of, with_step, works_lines};
 ghost use Rattle.av_chart.specs.Told.{Judges, Mounted, Steps, did_of, tells, told_from, told_of, world_after};

@@ -1,6 +1,6 @@
 //! Lives of opens, questions, jobs and works: each is a bar of the picture.
 
-ghost use Rattle.std.specs.Prelude.{◌≡◌, ◌<◌, ◌+◌, [], false, true, is_none, length, map, slice_get, slice_set, IfNone, IfSome, OnOk, None, Some};
+ghost use Rattle.std.specs.Prelude.{◌≡◌, ◌<◌, [], true, is_none, length, map, slice_get, slice_set, IfSome, OnOk, None, Some};
 ghost use Rattle.std.specs.List.{list_any};
 ghost use Rattle.av_chart.specs.Slot.{first_free, free_places, hold, is_by, place_or_shared, slots, until};
 ghost use Rattle.av_chart.specs.Life.{begins, ends, ends_all, life_of, lives_as, lives_of, with_end};

@@ -1,12 +1,11 @@
 -- Bytes that are heard one after another.
-use Rattle.std.proofs.Common.{ℕ, suc, ◌≡◌, ◌-◌, ◌≤◌, List, [], ◌∷◌, ◌++◌, length, take, drop, map, Bool, true, false, cond, nat_lt, inl, inr, refl, sym, ◌∙◌, ap, arith, append_assoc, drop-cons}
-use Rattle.std.specs.Prelude.{Option, Some, None, slice_index}
-use Rattle.std.proofs.lemmas.List.{map-append, take-append-drop, length-take-le}
+use Rattle.std.proofs.Common.{ℕ, suc, ◌≡◌, ◌-◌, ◌≤◌, List, [], ◌∷◌, ◌++◌, length, take, drop, Bool, true, false, cond, nat_lt, inl, inr, refl, sym, ◌∙◌, ap, arith, append_assoc}
+use Rattle.std.specs.Prelude.{Option, Some, None}
+use Rattle.std.proofs.lemmas.List.{take-append-drop, length-take-le}
 use Rattle.std.proofs.lemmas.Bool.{cases_lt, le-ltb, lt-ltb}
 use Rattle.av_clamd.specs.declared.door.Reading.{Reading}
 use Rattle.av_clamd.specs.declared.door.Reading.TheVariants.{Piece, Size}
-use Rattle.av_clamd.specs.declared.door.Heard.{Heard}
-use Rattle.av_clamd.specs.Door.{Opened, Told, by_reading, heard_of, onto, pieced, step, told}
+use Rattle.av_clamd.specs.Door.{Opened, Told, by_reading, heard_of, onto, pieced, step}
 use Rattle.av_clamd.specs.Laws.{IsCutAnywhere, before}
 
 onto_before : (o : Option Told) (x : Opened × List Told) (second : List ℕ) → onto o (before x.1 (heard_of second x.0)) ≡ before (onto o x).1 (heard_of second (onto o x).0)
@@ -18,22 +17,6 @@ cut_anywhere [] second d = refl
 cut_anywhere (b ∷ first) second d =
     let turn = step b d in
     ap (onto turn.1) (cut_anywhere first second turn.0) ∙ onto_before turn.1 (heard_of first turn.0) second
-
--- the first byte is heard before those behind it
-byte_heard : (rest : List ℕ) (b : ℕ) (old new : Opened) (o : Option Told) → 1 ≤ length rest → b ≡ slice_index rest 0 → ◌≡◌ {A = Opened × Option Told} (new, o) (step b old) → heard_of rest old ≡ onto o (heard_of (drop 1 rest) new)
-byte_heard rest b old new o some is turn =
-    ap (λ bs. heard_of bs old) (drop-cons rest 0 0 (omega (arith, some)) ∙ ap (λ x. x ∷ drop 1 rest) (sym is))
-    ∙ ap (λ t. onto t.1 (heard_of (drop 1 rest) t.0)) (sym turn)
-
-pub nothing_came : (rest : List ℕ) (b : ℕ) (old new : Opened) (hs : List Told) → 1 ≤ length rest → b ≡ slice_index rest 0 → ◌≡◌ {A = Opened × Option Told} (new, None) (step b old) → before hs (heard_of (drop 1 rest) new) ≡ before hs (heard_of rest old)
-nothing_came rest b old new hs some is turn = ap (before hs) (sym (byte_heard rest b old new None some is turn))
-
-pub something_came : (rest : List ℕ) (b : ℕ) (old new : Opened) (heard : List Heard) (one : Heard) → 1 ≤ length rest → b ≡ slice_index rest 0 → ◌≡◌ {A = Opened × Option Told} (new, Some (told one)) (step b old) → before (map told (heard ++ one ∷ [])) (heard_of (drop 1 rest) new) ≡ before (map told heard) (heard_of rest old)
-something_came rest b old new heard one some is turn =
-    let next = heard_of (drop 1 rest) new in
-    ap (λ ts. (next.0, ts ++ next.1)) (map-append told heard (one ∷ []))
-    ∙ ap (λ ts. (next.0, ts)) (append_assoc (map told heard) (told one ∷ []) next.1)
-    ∙ ap (before (map told heard)) (sym (byte_heard rest b old new (Some (told one)) some is turn))
 
 -- ---- a piece at once
 

@@ -1,16 +1,16 @@
 -- How the counts of contexts follow the attachments.
-use Rattle.std.proofs.Common.{◌≡◌, ◌≢◌, ◌⊎◌, ℕ, ◌+◌, ◌-◌, ◌≤◌, ◌==◌, true, false, List, Option, Some, None, IsSomeAnd, unwrap_or, cond, refl, sym, ap, subst, ◌∙◌, inl, inr, arith}
+use Rattle.std.proofs.Common.{◌≡◌, ◌≢◌, ℕ, ◌+◌, ◌-◌, ◌≤◌, ◌==◌, true, false, List, Option, Some, None, IsSomeAnd, unwrap_or, cond, refl, sym, ap, subst, ◌∙◌, inl, inr, arith}
 use Rattle.std.specs.Option.{option_and_then, option_map}
 use Rattle.std.specs.Ordering.{nat_cmp}
 use Rattle.std.specs.List.Sorted.{IsStrictlySortedBy}
 use Rattle.std.specs.Map.{keys_of}
 use Rattle.std.specs.BTreeMap.{is_at}
-use Rattle.std.proofs.lemmas.Bool.{cases_eq, eqb-true, eq-eqb, false_from_ne_true}
-use Rattle.std.proofs.lemmas.Bool.Decides.{nat_tests, eqb_tells}
+use Rattle.std.proofs.lemmas.Bool.{cases_eq, eqb-true}
+use Rattle.std.proofs.lemmas.Bool.Decides.{nat_tests}
 use Rattle.std.proofs.lemmas.Cmp.{nat_cmp_total}
 use Rattle.std.proofs.lemmas.Map.Entries.{sum_by-remove_entry, sum_by-insert_entry}
 use Rattle.av_context.specs.declared.context.Context.{Context}
-use Rattle.av_context.specs.Context.{attached, passed, detached, loosened}
+use Rattle.av_context.specs.Context.{attached, passed, detached}
 use Rattle.av_context.specs.Contexts.{at, with, without, attachments_to, CountsAgree, AreCounted, IsAttached, PutsAt}
 
 -- what one attachment adds to the count of k
@@ -104,43 +104,3 @@ counted-pass m m' n n' key counted puts less = by_row (at m key) refl
         absurd (omega arith)
     by_row (Some c) found =
         counted-less m m' n n' key c (Some (passed c)) (passed-agrees c) counted found (subst (λ o. PutsAt m m' key (option_map passed o)) found puts) less
-
--- where every attachment ends, those that ended before make no difference
-loosened-detached : (o : Option Context) (n : ℕ) → CountsAgree o (n + 1) → option_and_then loosened (option_and_then detached o) ≡ option_and_then loosened o
-loosened-detached None n agrees = refl
-loosened-detached (Some c) n agrees =
-    (elim (c.references == 1) as (λ b. (c.references == 1) ≡ b → option_and_then loosened (cond b None (Some (record c { references = c.references - 1; attached = c.attached - 1 }))) ≡ loosened c) [
-      | true ↦ λ last.
-          let one = eqb-true c.references 1 last in
-          let all : (c.references == c.attached) ≡ true = eq-eqb c.references c.attached (omega arith) in
-          rw all refl
-      | false ↦ λ more. still_more (eqb_tells c.references c.attached)
-    ]) refl
-  where
-    still_more : (((c.references == c.attached) ≡ true) × (c.references ≡ c.attached)) ⊎ (((c.references == c.attached) ≡ false) × (c.references ≢ c.attached)) → loosened (record c { references = c.references - 1; attached = c.attached - 1 }) ≡ loosened c
-    still_more (inl same) =
-        let less : (c.references - 1 == c.attached - 1) ≡ true = eq-eqb (c.references - 1) (c.attached - 1) (omega arith) in
-        rw (less, same.0) refl
-    still_more (inr apart) =
-        let less : (c.references - 1 == c.attached - 1) ≡ false = false_from_ne_true _ (λ same. apart.1 (let e = eqb-true (c.references - 1) (c.attached - 1) same in omega arith)) in
-        let left : c.references - 1 - (c.attached - 1) ≡ c.references - c.attached = omega arith in
-        rw (less, apart.0) (λ i. Some (record { state = c.state; references = left i; attached = 0 }))
-
-pub loosened-put : (m m' : List (ℕ × Context)) (n : ℕ → ℕ) (key : ℕ) → AreCounted m n → 1 ≤ n key → PutsAt m m' key (option_and_then detached (at m key)) → (k : ℕ) → option_and_then loosened (at m' k) ≡ option_and_then loosened (at m k)
-loosened-put m m' n key counted some puts k =
-    elim (cases_eq k key) [
-      | inl same ↦
-          let more : n key ≡ n key - 1 + 1 = omega arith in
-          subst (λ j. option_and_then loosened (at m' j) ≡ option_and_then loosened (at m j)) (sym same)
-          (ap (option_and_then loosened) puts.here ∙ loosened-detached (at m key) (n key - 1) (subst (λ i. CountsAgree (at m key) i) more (counted key)))
-      | inr differs ↦ ap (option_and_then loosened) (puts.others k differs)
-    ]
-
--- and with none left all is as it is
-pub loosened-none : (o : Option Context) → CountsAgree o 0 → option_and_then loosened o ≡ o
-loosened-none None agrees = refl
-loosened-none (Some c) agrees =
-    let apart : (c.references == c.attached) ≡ false = false_from_ne_true _ (λ same. let e = eqb-true c.references c.attached same in omega arith) in
-    let all : c.references - c.attached ≡ c.references = omega arith in
-    let none : 0 ≡ c.attached = sym agrees.0 in
-    rw apart (λ i. Some (record { state = c.state; references = all i; attached = none i }))

@@ -1,4 +1,4 @@
-ghost use Rattle.std.specs.Prelude.{◌≡◌, ◌+◌, ◌-◌, ◌<◌, ◌≤◌, ◌^◌, Some};
+ghost use Rattle.std.specs.Prelude.{◌≡◌, ◌+◌, ◌-◌, ◌<◌, ◌≤◌, Some};
 ghost use Rattle.av_context.specs.Context.{fresh, referred, attached, passed, released, detached, most_references};
 
 use crate::context_fault::ContextFault;

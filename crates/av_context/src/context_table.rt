@@ -1,4 +1,4 @@
-ghost use Rattle.std.specs.Prelude.{◌≡◌, ◌∷◌, ◌↔◌, ◌<◌, ◌≤◌, ℕ, [], length, map, None, Some, Err, IsSome, IsTrue, IfSome, IfOk, OnOk, OnErr};
+ghost use Rattle.std.specs.Prelude.{◌≡◌, ◌↔◌, ◌<◌, ℕ, [], length, None, Some, Err, IsSome, IsTrue, IfSome, IfOk, OnErr};
 ghost use Rattle.std.specs.Option.{option_and_then, option_map};
 ghost use Rattle.av_base.specs.declared.refusal.Refusal.TheVariants.{NoMemory};
 ghost use Rattle.av_base.specs.Answers.{Answers, AnswersAtOnce, StepsAtOnce};

@@ -1,24 +1,12 @@
 -- Asks that are put and taken.
 use Rattle.std.proofs.Common.{ℕ, ◌≡◌, ◌≤◌, ◌<◌, length, Bool, nat_lt, true, false, cond, List, ◌++◌, ◌∷◌, [], Result, Ok, Err, refl, sym, ◌∙◌, ap, append_assoc, append-nil}
-use Rattle.std.specs.Prelude.{Option, Some, None}
 use Rattle.std.specs.List.{flat_map}
 use Rattle.std.proofs.lemmas.Grind.{flat_map-append}
-use Rattle.av_asks.specs.Feed.{Fed, by_front, given}
 use Rattle.std.proofs.lemmas.Bool.{le-ltb, ltb-true}
 use Rattle.av_asks.specs.Spelling.{Asked, ask_frame, written}
 use Rattle.av_asks.specs.declared.fault.TooLong.{TooLong}
 use Rattle.av_asks.specs.declared.fault.TooLong.TheVariants as long
 use Rattle.av_asks.specs.declared.sizes.TheConstants.{MAX_CONTENT, MAX_LABEL}
-
-none_in_front : {A F : Type 0} (rest : List ℕ) (front : Result (Option (A × ℕ)) F) (new : Fed) → by_front rest front ≡ (Ok None, new) → (front ≡ Ok None) × (rest ≡ new.rest)
-none_in_front {A} {F} rest (Ok None) new e = let same : record { rest = rest; broken = false } ≡ new = ap (λ p. p.1) e in (refl, ap (λ fed. fed.rest) same)
-none_in_front {A} {F} rest (Ok (Some (x, size))) new e = let clash : ◌≡◌ {A = Result (Option A) F} (Ok (Some x)) (Ok None) = ap (λ p. p.0) e in absurd cc
-none_in_front {A} {F} rest (Err f) new e = let clash : ◌≡◌ {A = Result (Option A) F} (Err f) (Ok None) = ap (λ p. p.0) e in absurd cc
-
--- a feed that gives nothing has nothing whole in front, and keeps what it has
-pub nothing_whole : {A F : Type 0} (again : F) (front : List ℕ → Result (Option (A × ℕ)) F) (rest : List ℕ) (broken : Bool) (new : Fed) → given again front (record { rest = rest; broken = broken }) ≡ (Ok None, new) → (front rest ≡ Ok None) × (rest ≡ new.rest)
-nothing_whole {A} {F} again front rest true new e = let clash : ◌≡◌ {A = Result (Option A) F} (Err again) (Ok None) = ap (λ p. p.0) e in absurd cc
-nothing_whole again front rest false new e = none_in_front rest (front rest) new e
 
 -- one more frame behind others
 pub one_more : {X : Type 0} (frame : X → List ℕ) (xs : List X) (x : X) (bytes before rest : List ℕ) → bytes ≡ flat_map frame xs ++ before → before ≡ frame x ++ rest → bytes ≡ flat_map frame (xs ++ x ∷ []) ++ rest

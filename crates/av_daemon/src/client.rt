@@ -1,6 +1,6 @@
-ghost use Rattle.std.specs.Prelude.{◌≡◌, ◌+◌, ◌-◌, ◌++◌, ◌∷◌, [], false, length, map, min, true, IsErr, IsSome, None, OnErr, OnOk};
+ghost use Rattle.std.specs.Prelude.{◌≡◌, ◌+◌, ◌-◌, ◌++◌, ◌∷◌, [], false, length, map, min, true, None, OnOk};
 ghost use Rattle.av_asks.specs.Spelling.{asked as asked_of};
-ghost use Rattle.av_clamd.specs.Door.{fresh, heard_of, is_nothing};
+ghost use Rattle.av_clamd.specs.Door.{fresh, heard_of};
 ghost use Rattle.av_daemon.specs.Client.{GivesAsks, Hears, Says, asks_in, came, goes_on, is_of_clamd, is_over, is_owed_much, late_text, lines_in, is_done_by, of_tag, open_answer_of, spoken_of, tag_of, told_text, unlabelled, waited_since, wanted};
 ghost use Rattle.av_daemon.specs.Line.{IsWithin, watched_since};
 ghost use Rattle.av_daemon.specs.declared.line.Came.{Came};

@@ -41,10 +41,6 @@ newest_there (t ∷ sets) v is at =
     let first : Some t ≡ None = rw test at at in
     cc
 
-pub none_built : (sets : List NumberedSet) → newest sets ≡ None → IsBuilt (map publication_of sets) None
-none_built [] is = refl
-none_built (t ∷ sets) is = absurd cc
-
 -- all that were there at first
 pub all_opened : (sets : List Publication) → opened_at (length sets) sets ≡ sets
 all_opened sets = let none : length sets - length sets ≡ 0 = omega arith in ap (λ n. drop n sets) none

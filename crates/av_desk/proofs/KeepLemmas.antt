@@ -5,11 +5,11 @@ use Rattle.std.proofs.lemmas.Bool.Decides.{nat_tests}
 use Rattle.av_base.specs.declared.limits.LimitValues.{LimitValues}
 use Rattle.av_base.specs.declared.port.Port.{Port}
 use Rattle.av_desk.proofs.CatalogueLemmas.{all_opened, latest_of, opened_more}
-use Rattle.av_desk.specs.Book.{Book, IsKept, entry, first_desk, given, new_book, opened, opened_at, sets_end, state_of, with_event, book}
+use Rattle.av_desk.specs.Book.{Book, IsKept, entry, first_desk, given, new_book, opened, opened_at, sets_end, state_of, book}
 use Rattle.av_service.proofs.LendLemmas
 use Rattle.av_service.specs.Audit.{By, Call, IsAccepted, IsCatalogue, IsResponse, IsServiceAudit, Publishes, ServiceEntry, desk_end, respond, sets_after}
 use Rattle.av_service.specs.Call.{Responds}
-use Rattle.av_service.specs.Conduct.{Connects, Disconnects, Finishes, Receives, Restarts, ServiceEvent, connect_refusal}
+use Rattle.av_service.specs.Conduct.{Connects, Disconnects, Finishes, Receives, Restarts, connect_refusal}
 use Rattle.av_service.specs.Conduct as service
 use Rattle.av_service.specs.Desk.{Desk, just_started}
 use Rattle.av_service.specs.Response.{Response}
@@ -105,13 +105,6 @@ kept_by b desk next call out events kept room ok h is =
     let same : events ≡ b.events ++ entry call (respond desk call) ∷ [] = is ∙ ap (λ (x : ServiceEntry). b.events ++ x ∷ []) (entry_is call out next (respond desk call) h) in
     subst (IsKept (record b { sets = sets_after b.sets call; events = events })) (sym h.desk)
     (subst (λ (xs : List ServiceEntry). IsKept (record b { sets = sets_after b.sets call; events = xs }) (respond desk call).desk) (sym same) (kept_with_event b desk call kept room ok))
-
-pub added_by : (b : Book) (desk next : Desk) (call : Call) (out : ServiceOut) (events : List ServiceEntry) → IsKept b desk → Responds out next (respond desk call) → events ≡ b.events ++ given call out ∷ []
-    → record b { sets = sets_after b.sets call; events = events } ≡ with_event b call
-added_by b desk next call out events kept h is =
-    let same : events ≡ b.events ++ entry call (respond desk call) ∷ [] = is ∙ ap (λ (x : ServiceEntry). b.events ++ x ∷ []) (entry_is call out next (respond desk call) h) in
-    let there : events ≡ b.events ++ entry call (respond (state_of b) call) ∷ [] = same ∙ ap (λ (d : Desk). b.events ++ entry call (respond d call) ∷ []) kept.leads in
-    ap (λ (xs : List ServiceEntry). record b { sets = sets_after b.sets call; events = xs }) there
 
 -- a book of no event, over a catalogue
 pub kept_new : (number : ℕ) (port : Port) (limits : LimitValues) (sets : List Publication) → IsCatalogue sets → IsKept (new_book number port limits sets) (just_started number port limits (latest_as sets))

@@ -3,7 +3,7 @@ mod outgoing;
 mod publishing;
 mod scanning;
 
-ghost use Rattle.std.specs.Prelude.{◌≡◌, [], IfOk, IfErr, length, map, nat_le};
+ghost use Rattle.std.specs.Prelude.{◌≡◌, IfOk, IfErr, length, map, nat_le};
 ghost use Rattle.av_desk.specs.Audit.{opened_by, started_by};
 ghost use Rattle.av_desk.specs.Book.{IsBuilt, new_book, sets_end};
 ghost use Rattle.av_service.specs.Audit.{IsCatalogue, IsServiceAudit};

@@ -1,5 +1,4 @@
 ghost use Rattle.std.specs.Prelude.{◌≡◌, ◌≤◌, [], max, IfOk};
-ghost use Rattle.atomic_table.specs.Seated.{TableId};
 
 use crate::steps::{Alike, Load, Raise, Rising};
 use atomic_table::{Seat, Table};

@@ -1,5 +1,5 @@
 // The rule of the floor's word, and the kinds of step that holders of it take.
-ghost use Rattle.std.specs.Prelude.{◌≡◌, [], max};
+ghost use Rattle.std.specs.Prelude.{max};
 
 use atomic_table::{Join, Play, Split, TableRule};
 

@@ -1,4 +1,4 @@
-ghost use Rattle.std.specs.Prelude.{◌≤◌, ◌≡◌};
+ghost use Rattle.std.specs.Prelude.{◌≤◌};
 ghost use Rattle.av_ends.specs.Seats.{IsFloorSeatOf, seen};
 
 use crate::floor::{Floor, FloorSeat};

@@ -1,6 +1,5 @@
-ghost use Rattle.std.specs.Prelude.{◌≡◌, ◌≤◌, Some, None, Ok, IfOk, IfErr, MatchOption, true};
+ghost use Rattle.std.specs.Prelude.{◌≡◌, Some, None, Ok, IfOk, IfErr, MatchOption, true};
 ghost use Rattle.std.specs.Arc.{arc_value};
-ghost use Rattle.once_cell.specs.Once.{cell_name};
 ghost use Rattle.av_ends.specs.Answers.{fits};
 ghost use Rattle.av_ends.specs.Tickets.{IsNoteOf};
 

@@ -2,7 +2,6 @@ ghost use Rattle.std.specs.Prelude.{◌≡◌, map, Some, true, IfErr, IfOk, OnO
 ghost use Rattle.std.specs.List.{list_any};
 ghost use Rattle.std.specs.Option.{option_copied};
 ghost use Rattle.std.specs.Io.KnownBytes.{Appends};
-ghost use Rattle.av_base.specs.Part.{spelt};
 ghost use Rattle.av_files.specs.Scan.{Scans, is_infected, line_of, name_found, object_of, scanned_of, shown_line, shown_lines, tally_of, verdict_text};
 ghost use Rattle.av_status.specs.Status.{EndsWell, IsFault};
 ghost use Rattle.av_status.specs.Tally.{with_scanned};

@@ -1,6 +1,6 @@
 ghost use Rattle.std.specs.Prelude.{◌≡◌, IfOk, OnOk};
 ghost use Rattle.std.specs.String.{string_bytes};
-ghost use Rattle.av_generate.specs.Course.{asked_after, asked_before, asked_by, carried_drawn, followed, in_spell, new_spell, next_words, noticed, quiet, run_place, stepped, verb_words};
+ghost use Rattle.av_generate.specs.Course.{asked_after, asked_before, asked_by, carried_drawn, followed, in_spell, new_spell, next_words, noticed, run_place, stepped, verb_words};
 ghost use Rattle.av_generate.specs.Generated.{fresh_generator};
 ghost use Rattle.av_world.specs.Script.Grammar.{line_of};
 ghost use Rattle.av_world.specs.World.{step_of};

@@ -1,4 +1,4 @@
-use Rattle.std.proofs.Common.{Bor, not, is_some, eq-eqb, ℕ, zero, suc, ◌≡◌, ◌≤◌, ◌<◌, ◌-◌, ◌+◌, ◌==◌, Bool, true, false, cond, ◌&&◌, List, [], ◌∷◌, ◌++◌, length, take, drop, get_or, Option, None, Some, Ok, Err, nat_eq, nat_le, refl, sym, ap, arith, ◌∙◌, inl, inr, ◌⊎◌}
+use Rattle.std.proofs.Common.{Bor, not, is_some, eq-eqb, ℕ, zero, suc, ◌≡◌, ◌==◌, Bool, true, false, cond, ◌&&◌, List, [], ◌∷◌, length, take, get_or, Option, None, Some, Ok, Err, nat_eq, nat_le, refl, sym, ap, arith, ◌∙◌}
 use Rattle.std.proofs.lemmas.Bool.Decides.{nat_tests}
 use Rattle.std.specs.List.{list_all}
 use Rattle.std.specs.Option.{option_copied}
@@ -9,7 +9,6 @@ use Rattle.av_sigset.specs.Set.{IsSpan, widest}
 use Rattle.av_sigset.specs.declared.signature.Span.{Span}
 use Rattle.av_import.specs.Bytes.{bytes_of}
 use Rattle.av_import.specs.Clamav.{AreWordsOf, db_of, joined, signature_in, without_returns}
-use Rattle.av_import.specs.Offset.{span_of}
 use Rattle.av_import.specs.declared.why.Why.{Why}
 use Rattle.av_import.proofs.HexLemmas.{bytes_spelt}
 

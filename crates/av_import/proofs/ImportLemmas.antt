@@ -1,4 +1,4 @@
-use Rattle.std.proofs.Common.{zero, suc, take, drop, get_or, ◌++◌, length-append, drop-cons, ℕ, ◌≡◌, ◌≤◌, ◌<◌, ◌+◌, ◌/◌, ◌*◌, ◌&&◌, ◌==◌, Bool, true, false, List, [], ◌∷◌, length, Option, None, Some, Result, Ok, Err, refl, sym, ap, subst, arith, ◌∙◌}
+use Rattle.std.proofs.Common.{zero, suc, take, drop, get_or, ◌++◌, length-append, drop-cons, ℕ, ◌≡◌, ◌≤◌, ◌<◌, ◌+◌, ◌/◌, ◌&&◌, Bool, true, false, List, [], ◌∷◌, length, None, Result, Ok, refl, sym, ap, subst, arith, ◌∙◌}
 use Rattle.std.proofs.lemmas.List.Sums.{sum_by-cons}
 use Rattle.av_base.specs.Line.{lines_of}
 use Rattle.av_import.specs.declared.kind.Form.{Form}

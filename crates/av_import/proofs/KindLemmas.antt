@@ -1,4 +1,4 @@
-use Rattle.std.proofs.Common.{ℕ, ◌≡◌, List, [], ◌∷◌, refl, ap, ◌∙◌, sym}
+use Rattle.std.proofs.Common.{ℕ, ◌≡◌, List, [], ◌∷◌, refl}
 use Rattle.av_base.specs.Line.{pieces_of}
 use Rattle.av_base.proofs.LineLemmas.{pieces_some}
 use Rattle.av_import.specs.Kind.{last_of}

@@ -1,4 +1,4 @@
-use Rattle.std.proofs.Common.{ℕ, ◌≡◌, ◌≤◌, ◌<◌, ◌==◌, true, false, List, [], ◌∷◌, length, drop, get_or, nat_eq, refl, sym, ap, arith, ◌∙◌}
+use Rattle.std.proofs.Common.{ℕ, ◌≡◌, ◌≤◌, ◌<◌, true, false, List, [], ◌∷◌, length, drop, get_or, nat_eq, refl, arith}
 use Rattle.av_import.specs.Number.{without_zeros}
 
 pub one_zero : (w : List ℕ) → 1 < length w → nat_eq (get_or w 0 0) 48 ≡ true → without_zeros (drop 1 w) ≡ without_zeros w

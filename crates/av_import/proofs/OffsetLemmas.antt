@@ -1,4 +1,4 @@
-use Rattle.std.proofs.Common.{ℕ, ◌≡◌, ◌≤◌, ◌<◌, ◌+◌, Bool, true, false, cond, ◌&&◌, ◌==◌, List, [], ◌∷◌, length, drop, get_or, nat_eq, Err, refl, sym, ap, arith, suc, zero, ◌∙◌, drop-cons}
+use Rattle.std.proofs.Common.{ℕ, ◌≡◌, ◌≤◌, ◌<◌, Bool, true, false, cond, ◌&&◌, List, [], ◌∷◌, length, drop, get_or, nat_eq, Err, refl, ap, arith, suc, drop-cons}
 use Rattle.av_base.specs.Decimal.{is_digit}
 use Rattle.av_base.specs.Line.{pieces_of}
 use Rattle.av_base.proofs.LineLemmas.{pieces_some}

@@ -1,5 +1,5 @@
 -- A name is always free: so many numbered names differ, and fewer stand before.
-use Rattle.std.proofs.Common.{ℕ, zero, suc, ◌≡◌, ◌≤◌, ◌<◌, ◌+◌, ◌-◌, ◌^◌, Bool, true, false, cond, List, [], ◌∷◌, ◌++◌, length, take, decimal, nat_eq, refl, sym, ap, subst, arith, ◌∙◌, rules, eqb-true, eq-eqb, inl, inr}
+use Rattle.std.proofs.Common.{ℕ, zero, suc, ◌≡◌, ◌≤◌, ◌<◌, ◌+◌, ◌-◌, ◌^◌, true, false, cond, List, [], ◌∷◌, ◌++◌, length, take, decimal, nat_eq, refl, sym, ap, subst, arith, ◌∙◌, rules, eqb-true, inl, inr}
 use Rattle.std.proofs.lemmas.Bool.{true≢false}
 use Rattle.std.proofs.lemmas.Bool.Decides.{nat_tests, eqb_tells}
 use Rattle.std.proofs.lemmas.Fmt.{decimal_injective, digits_decimal}

@@ -3,7 +3,6 @@ use Rattle.std.specs.Prelude.{ℕ, ◌≡◌, ◌+◌, ◌-◌, ◌^◌, ◌≤�
 use Rattle.std.specs.List.{AllByRecursion, list_all}
 use Rattle.av_base.specs.Line.{lines_of}
 use Rattle.av_base.specs.Refused.{map_ok, unless}
-use Rattle.av_sigset.specs.File.{MayStand}
 use Rattle.av_sigset.specs.Line.{SpellsPattern}
 use Rattle.av_sigset.specs.Set.{HasRightLength, IsSpan, byte_count, patterns_of}
 use Rattle.av_sigset.specs.Spelling.{is_widest}

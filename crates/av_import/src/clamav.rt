@@ -4,10 +4,8 @@ ghost use Rattle.std.specs.Option.{option_copied};
 ghost use Rattle.av_base.specs.Line.{pieces_of, rest_of};
 ghost use Rattle.av_import.specs.Bytes.{bytes_of};
 ghost use Rattle.av_import.specs.Clamav.{AreWordsOf, db_of, fault_of_target, ndb_of, signature_in, signature_of, without_returns};
-ghost use Rattle.av_import.specs.Number.{number_of};
 ghost use Rattle.av_import.specs.Offset.{span_of};
 ghost use Rattle.std.specs.Prelude.{Ok};
-ghost use Rattle.av_sigset.specs.Set.{IsSpan};
 
 use crate::hexadecimal::fault_of;
 use crate::kind::Form;

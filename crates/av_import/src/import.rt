@@ -1,15 +1,14 @@
-ghost use Rattle.std.specs.Prelude.{◌≡◌, ◌++◌, ◌∷◌, ◌≤◌, ◌<◌, ◌^◌, ◌==◌, Bool, nat_le, [], length, IfOk, IfErr, IfNone, OnOk, OnErr, Ok, Err, Option, List, ℕ};
+ghost use Rattle.std.specs.Prelude.{◌≡◌, ◌++◌, ◌≤◌, ◌<◌, ◌==◌, [], length, IfOk, IfErr, IfNone, OnOk, OnErr, Ok, Err, Option, List, ℕ};
 ghost use Rattle.hex.specs.Hex.{decode_of};
 ghost use Rattle.std.specs.Io.KnownBytes.{Appends};
 ghost use Rattle.std.specs.Result.{result_err};
 ghost use Rattle.av_base.specs.Device.{AppendsPrefix};
 ghost use Rattle.av_base.specs.Line.{lines_of};
 ghost use Rattle.av_sigset.specs.Judge.{set_of};
-ghost use Rattle.av_sigset.specs.Line.{SpellsPattern};
-ghost use Rattle.av_sigset.specs.Set.{IsSpan, byte_count, patterns_of};
+ghost use Rattle.av_sigset.specs.Set.{byte_count, patterns_of};
 ghost use Rattle.av_sigset.specs.Spelling.{is_widest, spelling};
 ghost use Rattle.av_sigset.specs.declared.signature.Signature.{Signature};
-ghost use Rattle.av_import.specs.Clamav.{signature_of, without_returns};
+ghost use Rattle.av_import.specs.Clamav.{without_returns};
 ghost use Rattle.av_import.specs.Import.{AreAdmitted, AreFit, HasRoom, TakesFile, TakesRule, admitted, after_line, after_lines, given_of, is_silent, limit_of, offered, with_all, with_named};
 ghost use Rattle.av_import.specs.Kind.{kind_of};
 

@@ -1,6 +1,6 @@
 //! Names, made of those that other products give.
 ghost use Rattle.std.specs.Prelude.{◌≡◌, ◌++◌, IfOk, OnOk, map, take};
-ghost use Rattle.av_import.specs.Name.{free_name, numbered, shortened, sign_name, sign_of};
+ghost use Rattle.av_import.specs.Name.{free_name, numbered, sign_name, sign_of};
 
 use av_sigset::{MAX_NAME, Signature, is_name_byte, stands_in};
 use itoa::Buffer;

@@ -1,4 +1,4 @@
-ghost use Rattle.std.specs.Prelude.{◌≡◌, map};
+ghost use Rattle.std.specs.Prelude.{map};
 ghost use Rattle.av_json.specs.Member.{Puts, joined, member_tokens, named_tokens, object_tokens};
 
 use json::Writer;

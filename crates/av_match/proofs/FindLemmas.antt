@@ -166,9 +166,6 @@ pub record IsBest (ps : List Pattern) (w : List ℕ) (i best longest : ℕ) : Ty
   pub long : 0 < best → length (word_at (bytes_of ps) (best - 1)) ≡ longest
   pub most : (j : ℕ) → j < i → occurs_at (word_at (bytes_of ps) j) w (length w) ≡ true → length (word_at (bytes_of ps) j) ≤ longest
 
-pub best_none : (ps : List Pattern) (w : List ℕ) → IsBest ps w 0 0 0
-best_none ps w = record { within = omega arith; none = λ e. refl; ends = λ l. absurd (omega arith); long = λ l. absurd (omega arith); most = λ j l. absurd (omega arith) }
-
 pub bytes_at : (ps : List Pattern) (i : ℕ) (p d : Pattern) → i < length ps → p ≡ slice_index_or ps i d → word_at (bytes_of ps) i ≡ p.bytes
 bytes_at ps i p d l e = get_or-map (λ (q : Pattern). q.bytes) ps i d [] l ∙ sym (ap (λ (q : Pattern). q.bytes) e)
 

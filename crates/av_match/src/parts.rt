@@ -1,5 +1,5 @@
 //! Six parts of a piece side by side, each with a window of its own.
-ghost use Rattle.std.specs.Prelude.{◌≡◌, ◌+◌, ◌*◌, ◌^◌, ◌<◌, ◌≤◌, length, IfOk};
+ghost use Rattle.std.specs.Prelude.{◌+◌, ◌*◌, ◌^◌, ◌<◌, ◌≤◌, length, IfOk};
 ghost use Rattle.av_match.specs.Places.{AreAllOver, AreAllPassed, HaveOwnRoom, HaveRoom, starts_of};
 
 use crate::credit::{Credit, ROUND, SIX_STEPS, Stop};

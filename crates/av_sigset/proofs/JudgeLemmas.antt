@@ -73,9 +73,6 @@ pub record IsJudged (format : Format) (lines rest : List ℕ) (count total : ℕ
   pub few : count ≤ 1024
   pub within : total ≤ 16384
 
-pub none_judged : (format : Format) (lines : List ℕ) → IsJudged format lines lines 0 0
-none_judged format lines = record { before = []; whole = refl; long = refl; bytes = refl; names = refl; left = refl; few = omega arith; within = omega arith }
-
 -- the names that stood before are the words that begin the lines
 names_before : (format : Format) (lines rest name : List ℕ) (count total : ℕ) (j : IsJudged format lines rest count total)
     → list_any (λ line. bytes_eq (first_word line) name) (take count (pieces_of 10 lines)) ≡ list_any (λ s. bytes_eq s.name name) j.before

@@ -1,9 +1,8 @@
-use Rattle.std.proofs.Common.{ℕ, ◌≡◌, ◌<◌, ◌+◌, true, false, cond, List, [], ◌∷◌, ◌++◌, length, Ok, Err, refl, ap, nat_eq, arith, ◌∙◌, eqb-true, codes}
-use Rattle.std.specs.Str.{bytes_eq}
+use Rattle.std.proofs.Common.{ℕ, ◌≡◌, ◌<◌, ◌+◌, true, false, cond, List, [], ◌∷◌, ◌++◌, length, Ok, Err, refl, ap, nat_eq, arith, ◌∙◌, eqb-true}
 use Rattle.av_base.specs.Line.{pieces_of, onto_first}
 use Rattle.av_sigset.specs.declared.format.Format.{Format}
 use Rattle.av_sigset.specs.Judge.{set_of_lines, set_in, format_of, set_below, signatures_from, signatures_below, signatures_with, signature_of, version_of, with_version, bad_line, then_line}
-use Rattle.av_sigset.specs.declared.fault.SetFaultKind.TheVariants.{Header, Unended}
+use Rattle.av_sigset.specs.declared.fault.SetFaultKind.TheVariants.{Unended}
 use Rattle.av_sigset.specs.declared.fault.SetFaultKind.{SetFaultKind}
 use Rattle.av_sigset.specs.Line.{JoinsAs}
 use Rattle.av_sigset.specs.declared.signature.Signature.{Signature}

@@ -1,8 +1,8 @@
 -- Worked files of format 2, computed.
-use Rattle.std.proofs.Common.{ℕ, ◌≡◌, List, [], ◌∷◌, ◌++◌, Ok, Err, codes, refl}
+use Rattle.std.proofs.Common.{ℕ, ◌≡◌, List, [], ◌∷◌, ◌++◌, Ok, codes, refl}
 use Rattle.hex.specs.Hex.{decode_pairs}
 use Rattle.av_sigset.specs.Judge.{bad_line, set_of, signatures_below}
-use Rattle.av_sigset.specs.declared.fault.SetFaultKind.TheVariants.{Header, Hex, Length, Duplicate, Range}
+use Rattle.av_sigset.specs.declared.fault.SetFaultKind.TheVariants.{Header, Hex, Length, Range}
 use Rattle.av_sigset.specs.declared.format.Format.{Format}
 use Rattle.av_sigset.specs.declared.format.Format.TheVariants.{One, Two}
 use Rattle.av_sigset.specs.Judge.{header_of}

@@ -1,5 +1,5 @@
 //! The lines of a signature file, judged without memory.
-ghost use Rattle.std.specs.Prelude.{◌≡◌, ◌≤◌, ◌<◌, ◌*◌, [], length, MatchOption, IsOk, Err, take};
+ghost use Rattle.std.specs.Prelude.{◌≡◌, ◌<◌, [], MatchOption, IsOk, Err, take};
 ghost use Rattle.std.specs.List.{list_any};
 ghost use Rattle.std.specs.Str.{bytes_eq};
 ghost use Rattle.av_base.specs.Line.{pieces_of};

@@ -1,9 +1,9 @@
 //! One line of a signature file.
-ghost use Rattle.std.specs.Prelude.{◌≡◌, ◌≤◌, ◌+◌, ◌*◌, ◌%◌, ℕ, true, List, length, IfOk, IfErr, IfSome, MatchOption, Option, Some, Ok, Err, ◌&&◌, ◌==◌};
-ghost use Rattle.std.specs.List.{list_all, AllPass};
+ghost use Rattle.std.specs.Prelude.{◌≡◌, ◌*◌, ℕ, true, List, IfOk, IfErr, IfSome, MatchOption, Option, Some, Ok, Err, ◌&&◌, ◌==◌};
+ghost use Rattle.std.specs.List.{list_all};
 ghost use Rattle.std.specs.Option.{option_copied};
 ghost use Rattle.av_base.specs.Line.{pieces_of, rest_of};
-ghost use Rattle.hex.specs.Hex.{decode_of, is_hex_digit};
+ghost use Rattle.hex.specs.Hex.{decode_of};
 ghost use Rattle.av_sigset.specs.Judge.{is_name_byte, is_name, signature_of, signature_under, span_between, span_in, version_of};
 ghost use Rattle.av_sigset.specs.Line.{AreWordsOf, SpellsPattern};
 ghost use Rattle.av_sigset.specs.Set.{IsSpan};

@@ -1,5 +1,5 @@
 //! Sets that are made of patterns without names.
-ghost use Rattle.std.specs.Prelude.{◌≡◌, ◌++◌, ◌∷◌, length, map, IfOk, codes, decimal};
+ghost use Rattle.std.specs.Prelude.{◌≡◌, length, map, IfOk};
 ghost use Rattle.av_sigset.specs.Made.{fault_in, serial_signatures, serial_signature};
 
 use crate::fault::{SetFault, SetFaultKind, bad_line};

@@ -1,9 +1,9 @@
 //! The lines of a signature file, judged from the first on.
-ghost use Rattle.std.specs.Prelude.{◌≡◌, ◌≤◌, ◌<◌, ◌*◌, ◌∷◌, ◌++◌, [], List, length, IfOk, IfErr, MatchOption, IsOk, take, Ok, Err, OnOk, IsTrue, ℕ};
+ghost use Rattle.std.specs.Prelude.{◌≡◌, ◌≤◌, ◌<◌, ◌∷◌, ◌++◌, [], List, IfOk, IfErr, Ok, Err, ℕ};
 ghost use Rattle.std.specs.List.{list_any};
 ghost use Rattle.std.specs.Str.{bytes_eq};
 ghost use Rattle.av_base.specs.Line.{pieces_of};
-ghost use Rattle.av_sigset.specs.Judge.{set_of, set_under, signatures_from, signatures_with, signature_of, first_word};
+ghost use Rattle.av_sigset.specs.Judge.{set_of, set_under, signatures_from, signatures_with, signature_of};
 ghost use Rattle.av_sigset.specs.Line.{IsFault, JoinsAs};
 ghost use Rattle.av_base.specs.Refused.{IsRefusal};
 ghost use Rattle.hex.specs.Hex.{decode_of};

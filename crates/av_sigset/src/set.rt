@@ -1,4 +1,4 @@
-ghost use Rattle.std.specs.Prelude.{◌≡◌, ◌≤◌, length, slice_get, map, OnOk, OnErr};
+ghost use Rattle.std.specs.Prelude.{◌≡◌, length, slice_get, map, OnOk, OnErr};
 ghost use Rattle.std.specs.Option.{option_copied, option_map};
 ghost use Rattle.std.specs.Io.KnownBytes.{Appends};
 ghost use Rattle.av_base.specs.Answers.{Reads};

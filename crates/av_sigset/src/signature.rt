@@ -1,4 +1,4 @@
-ghost use Rattle.std.specs.Prelude.{◌≡◌, ◌≤◌};
+ghost use Rattle.std.specs.Prelude.{◌≡◌};
 ghost use Rattle.av_sigset.specs.Set.{widest};
 ghost use Rattle.av_sigset.specs.declared.signature.Pattern.{Pattern};
 

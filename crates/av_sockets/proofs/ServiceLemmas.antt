@@ -1,5 +1,5 @@
 -- The set of a service that was just started.
-use Rattle.std.proofs.Common.{◌≡◌, ◌==◌, ◌∷◌, List, eq-eqb, refl}
+use Rattle.std.proofs.Common.{◌∷◌, List, eq-eqb, refl}
 use Rattle.std.specs.Prelude.{IsSome}
 use Rattle.av_sigset.specs.Catalogue.{latest, set_at}
 use Rattle.av_sigset.specs.Set.{NumberedSet}

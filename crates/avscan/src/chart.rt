@@ -1,5 +1,5 @@
 ghost use Rattle.std.specs.Prelude.{◌≡◌, ◌≢◌, IfSome};
-ghost use Rattle.av_chart.specs.Chart.{Draws, IsTrueOf, Leaves};
+ghost use Rattle.av_chart.specs.Chart.{Draws};
 ghost use Rattle.av_status.specs.declared.status.Status.TheVariants.{Done, Refused, Usage};
 ghost use Rattle.avscan.specs.Chart.{IsFaultOf, status_of};
 

@@ -1,14 +1,13 @@
 //! Lives of a run: which begin and end in a step.
 
-ghost use Rattle.std.specs.Prelude.{◌≡◌, ◌+◌, ◌-◌, [], None, Some, length, map, OnOk};
+ghost use Rattle.std.specs.Prelude.{◌≡◌, ◌+◌, ◌-◌, None, Some, length, map, OnOk};
 ghost use Rattle.std.specs.Option.{option_copied};
 ghost use Rattle.av_frame.specs.declared.message.Body.{Body};
 ghost use Rattle.av_world.specs.Text.Answers.{is_answered};
-ghost use Rattle.av_world.specs.World.{member};
 ghost use Rattle.av_chart.specs.Life.{lives_of};
 ghost use Rattle.av_chart.specs.Marks.{submitted_id};
 ghost use Rattle.av_chart.specs.Row.{asked_lines, is_noted, spanned};
-ghost use Rattle.av_chart.specs.Story.{answered, asked, asked_by, how_answered, how_found, how_judged, how_replied, how_worked, in_turn, jobs_over, lent, message_drops, moment, name_in, number_id, opened, questions_over, reply_ends, run_ends, worked, worked_by};
+ghost use Rattle.av_chart.specs.Story.{answered, asked, asked_by, how_answered, how_replied, how_worked, in_turn, jobs_over, lent, message_drops, moment, name_in, number_id, opened, questions_over, reply_ends, run_ends, worked, worked_by};
 
 use crate::happened::{Step, Way};
 use crate::happening::marks::{Deed, id_of, submitted_id};

@@ -1,11 +1,10 @@
 //! Messages: when each was sent, and where it arrived.
 
-ghost use Rattle.std.specs.Prelude.{◌≡◌, ◌+◌, ◌-◌, ◌++◌, ◌∷◌, [], length, IfSome, None, OnOk, slice_set};
-ghost use Rattle.std.specs.Option.{option_copied, option_map};
+ghost use Rattle.std.specs.Prelude.{◌≡◌, ◌+◌, ◌-◌, ◌++◌, ◌∷◌, [], None, OnOk};
+ghost use Rattle.std.specs.Option.{option_copied};
 ghost use Rattle.av_world.specs.World.{member};
-ghost use Rattle.av_chart.specs.Messages.{sent_on};
-ghost use Rattle.av_chart.specs.Row.{count, spanned};
-ghost use Rattle.av_chart.specs.Story.{arrival_in, arrival_of, arrived, delivered_down, delivered_up, is_again, moment, post_of, posted, posts_of, posts_on, story_of};
+ghost use Rattle.av_chart.specs.Row.{count};
+ghost use Rattle.av_chart.specs.Story.{arrival_in, arrival_of, arrived, delivered_down, delivered_up, is_again, moment, posted, posts_of, story_of};
 
 use crate::happened::{Arrival, Happened, REACH, Said, Sent, Way};
 use crate::happening::marks::{Deed, is_spent};

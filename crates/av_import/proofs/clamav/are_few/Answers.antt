@@ -1,4 +1,4 @@
-use Rattle.std.proofs.Common.{ap, sym, ◌∙◌, ◌≡◌, ◌∷◌}
+use Rattle.std.proofs.Common.{ap, ◌∙◌, ◌≡◌, ◌∷◌}
 use Rattle.std.specs.Option.{option_copied}
 use Rattle.av_base.specs.Line.{rest_of}
 use Rattle.av_import.proofs.ClamavLemmas.{few}

@@ -1,4 +1,4 @@
-use Rattle.std.proofs.Common.{arith, ◌∙◌, ◌<◌, ◌≡◌, ◌-◌, ◌+◌, [], List, ℕ, length, sym, suc, get_or, nat_eq, false}
+use Rattle.std.proofs.Common.{arith, ◌∙◌, ◌<◌, ◌≡◌, ◌-◌, length, sym, get_or, nat_eq, false}
 use Rattle.std.proofs.lemmas.Bool.Decides.{nat_tests}
 use Rattle.av_import.proofs.ClamavLemmas.{one_less, no_less, none_left}
 use Rattle.av_import.proofs.clamav.without_returns.Goals as goal

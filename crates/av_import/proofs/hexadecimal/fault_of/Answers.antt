@@ -1,4 +1,4 @@
-use Rattle.std.proofs.Common.{arith, ◌∙◌, sym, ◌%◌, ◌≡◌, ◌<◌, ◌≤◌, length}
+use Rattle.std.proofs.Common.{arith, ◌∙◌, sym, ◌<◌, length}
 use Rattle.std.proofs.lemmas.Bool.Decides.{nat_tests}
 use Rattle.av_import.proofs.HexLemmas.{too_long, spells, even_or_odd}
 use Rattle.av_import.proofs.hexadecimal.fault_of.Goals as goal

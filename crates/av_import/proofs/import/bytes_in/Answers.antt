@@ -1,4 +1,4 @@
-use Rattle.std.proofs.Common.{rules, arith, add-one, ap, subst, ◌≡◌, get_or, length}
+use Rattle.std.proofs.Common.{arith, add-one, ap, subst, length}
 use Rattle.av_sigset.proofs.SpellingLemmas.{all_take}
 use Rattle.av_sigset.specs.Set.{HasRightLength, IsSpan}
 use Rattle.av_sigset.specs.declared.signature.Signature.{Signature}

@@ -1,4 +1,4 @@
-use Rattle.std.proofs.Common.{rules, sym, ap, refl, ◌∙◌, ◌≡◌, ◌++◌, ◌∷◌, [], List, add-one, append_assoc, append-nil, drop, get_or, suc}
+use Rattle.std.proofs.Common.{rules, sym, ap, refl, ◌∙◌, ◌≡◌, ◌++◌, ◌∷◌, [], add-one, append_assoc, append-nil, drop, suc}
 use Rattle.av_sigset.specs.declared.signature.Signature.{Signature}
 use Rattle.av_import.proofs.ImportLemmas.{all_done, all_next}
 use Rattle.av_import.specs.Import.{with_all, with_named}

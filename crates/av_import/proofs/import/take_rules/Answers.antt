@@ -1,4 +1,4 @@
-use Rattle.std.proofs.Common.{rules, ◌≡◌, ◌++◌, ◌∷◌, []}
+use Rattle.std.proofs.Common.{rules, ◌++◌, ◌∷◌, []}
 use Rattle.av_import.proofs.ImportLemmas.{no_rule, rule_more}
 use Rattle.av_import.specs.Import.{TakesRule}
 use Rattle.av_import.proofs.import.take_rules.Goals as goal

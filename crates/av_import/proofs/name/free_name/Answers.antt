@@ -1,4 +1,4 @@
-use Rattle.std.proofs.Common.{ℕ, ◌≡◌, ◌+◌, ◌-◌, ◌∙◌, true, false, Result, Ok, Err, IfOk, ap, sym, arith, suc}
+use Rattle.std.proofs.Common.{◌≡◌, ◌+◌, ◌-◌, ◌∙◌, true, false, Result, Ok, Err, IfOk, ap, sym, arith, suc}
 use Rattle.av_import.proofs.NameLemmas.{free_here, free_next, free_last}
 use Rattle.av_import.specs.Name.{is_taken, numbered, sign_name}
 use Rattle.av_import.proofs.name.free_name.Goals as goal

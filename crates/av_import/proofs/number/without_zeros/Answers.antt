@@ -1,4 +1,4 @@
-use Rattle.std.proofs.Common.{arith, ◌∙◌, length, eq-eqb}
+use Rattle.std.proofs.Common.{arith, ◌∙◌, eq-eqb}
 use Rattle.std.proofs.lemmas.List.{take_rest}
 use Rattle.av_import.proofs.NumberLemmas.{one_zero}
 use Rattle.av_import.proofs.number.without_zeros.Goals as goal

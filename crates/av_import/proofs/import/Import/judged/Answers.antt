@@ -1,4 +1,4 @@
-use Rattle.std.proofs.Common.{sym, ◌∙◌, refl, subst}
+use Rattle.std.proofs.Common.{sym, refl, subst}
 use Rattle.av_import.proofs.ImportLemmas.{admit}
 use Rattle.av_import.specs.Clamav.{AreWordsOf, signature_of}
 use Rattle.av_import.specs.Import.{Taken}

@@ -1,6 +1,5 @@
-use Rattle.std.proofs.Common.{rules, Err, ◌≡◌, ◌∷◌, [], ap, min, ◌+◌, subst, refl}
+use Rattle.std.proofs.Common.{rules, Err, ◌∷◌, []}
 use Rattle.av_import.proofs.ImportLemmas.{one_rule}
-use Rattle.av_import.specs.Import.{Taken, after}
 use Rattle.av_import.proofs.import.Import.leave.Goals as goal
 
 pub returns-clause-rule : goal.returns-clause-rule

@@ -1,4 +1,4 @@
-use Rattle.std.proofs.Common.{rules, sym, ap, subst, arith, ◌∙◌, ◌≡◌, ◌+◌, ◌++◌, List, Ok, length, take}
+use Rattle.std.proofs.Common.{rules, sym, ap, subst, arith, ◌∙◌, ◌≡◌, List, Ok, length, take}
 use Rattle.av_sigset.specs.File.{MayStand}
 use Rattle.av_sigset.specs.Set.{byte_count, patterns_of}
 use Rattle.av_sigset.specs.declared.signature.Signature.{Signature}

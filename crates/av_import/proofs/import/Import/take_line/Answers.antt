@@ -1,6 +1,6 @@
-use Rattle.std.proofs.Common.{sym, ◌∙◌, subst, ◌∷◌, []}
+use Rattle.std.proofs.Common.{sym, subst}
 use Rattle.av_import.proofs.ImportLemmas.{taken_stand, offered_one}
-use Rattle.av_import.specs.Import.{AreAdmitted, Taken, admitted, given_of, offered}
+use Rattle.av_import.specs.Import.{AreAdmitted, Taken, admitted, given_of}
 use Rattle.av_import.proofs.import.Import.take_line.Goals as goal
 
 pub invariant_of-self-in-Ok : goal.invariant_of-self-in-Ok
