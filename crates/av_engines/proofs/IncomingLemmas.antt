@@ -1,12 +1,12 @@
 -- What is taken off a stream of frames, step by step.
 use Rattle.std.proofs.Common.{ℕ, ◌≡◌, List, [], ◌∷◌, ◌++◌, sym, ap, ◌∙◌, append_assoc, append-nil, arith, length, length-append, ◌<◌, ◌≤◌}
-use Rattle.std.specs.Prelude.{Option, Some}
+use Rattle.std.specs.Prelude.{Option}
 use Rattle.std.specs.List.{flat_map, AllByRecursion}
 use Rattle.std.proofs.KnownBytes.{Consumes-nil, Consumes-trans}
 use Rattle.std.proofs.lemmas.Grind.{flat_map-append}
 use Rattle.av_frame.specs.Message.{IsLetter, Letter}
 use Rattle.av_frame.specs.Spelling.{frame, field4}
-use Rattle.av_engines.specs.Incoming.{Received, Takes, Reads, GivesFront, unread, budget}
+use Rattle.av_engines.specs.Incoming.{Received, Takes, unread, budget}
 use Rattle.av_engines.specs.Spelled.{CameIn}
 
 -- nothing was taken of a stream that stays as it is
@@ -31,30 +31,6 @@ takes_then r s t a b c ms ns first second = record {
       ∙ ap (λ l. l ++ unread t) (sym (flat_map-append frame ms ns));
   in_range = all_more ms ns first.in_range second.in_range;
   few = omega (arith, first.few, second.few, length-append first.bytes second.bytes);
-}
-
--- what waited was put into the feed
-pub takes_settled : (r s : Received) (a : Option (List ℕ)) → unread s ≡ unread r → s.turns ≡ r.turns → Takes r s a a []
-takes_settled r s a same turns = record { bytes = []; came = Consumes-nil a; whole = append-nil (unread r) ∙ sym same; in_range = tt; few = omega (arith, turns) }
-
--- a message was taken off the front
-pub takes_front : (r s : Received) (a : Option (List ℕ)) (m : Letter) → GivesFront r s (Some m) → Takes r s a a (m ∷ [])
-takes_front r s a m given = record {
-  bytes = [];
-  came = Consumes-nil a;
-  whole = append-nil (unread r) ∙ given.0 ∙ ap (λ l. l ++ unread s) (sym (append-nil (frame m)));
-  in_range = (given.1, tt);
-  few = omega (arith, given.2);
-}
-
--- bytes were read
-pub takes_read : (r s : Received) (a b : Option (List ℕ)) → r.waiting ≡ [] → Reads r s a b → Takes r s a b []
-takes_read r s a b none reads = record {
-  bytes = s.waiting;
-  came = reads.came;
-  whole = ap (λ l. (r.fed.rest ++ l) ++ s.waiting) none ∙ ap (λ l. l ++ s.waiting) (append-nil r.fed.rest) ∙ ap (λ f. f.rest ++ s.waiting) (sym reads.fed);
-  in_range = tt;
-  few = reads.few;
 }
 
 -- the frames that were taken off came in as many reads as are made

@@ -109,10 +109,6 @@ puts_then w t t' v v' answers answers' waited waits more fs first second =
           ∙ ap (λ (k : Led). waited ++ flat_map frame k.sent) (sym same);
     }
 
--- nothing happened yet
-pub puts_none : (t : Table) (v : Store) (answers : List Answer) (waited : List ℕ) → Puts (unled t v answers) t v answers waited waited
-puts_none t v answers waited = record { at = record { table = refl; volume = refl; answered = refl }; sent = sym (append-nil waited) }
-
 pub amid_none : (t : Table) (v : Store) (answers : List Answer) (all : List FilterEvent) → IsAmid (unled t v answers) all t v answers
 amid_none t v answers all = record { events = []; rest = all; first = refl; at = record { table = refl; volume = refl; answered = refl } }
 

@@ -4,7 +4,7 @@ ghost use Rattle.std.specs.Vec.{vec_capacity};
 ghost use Rattle.av_engines.specs.FilterEnd.{Hears, IsAmid, IsAt, Leaves, Puts, RunsTo, WatchesTo};
 ghost use Rattle.av_engines.specs.Incoming.{unread};
 ghost use Rattle.av_engines.specs.Watching.{all_happened, due, events_of, happened, heard, joined, opens_of, standing, unled};
-ghost use Rattle.av_filter.specs.Call.{MeetsAlways, Reacts};
+ghost use Rattle.av_filter.specs.Call.{MeetsAlways};
 ghost use Rattle.av_filter.specs.Conduct.{Disconnects, Opens, Receives, filter_step};
 ghost use Rattle.av_filter.specs.Fit.{Fits};
 ghost use Rattle.av_frame.specs.Spelling.{frame};
@@ -63,7 +63,7 @@ pub fn serve_filter<R: Read, W: Write>(
         (R.remaining reader.old) (W.contents writer.old) (W.contents writer.new) turns result.end }
     ensures fits { Fits filter.new volume.new }
 {
-    let taken = u64::MAX - volume.opens_left();
+    let taken = volume.opens();
     let mut tally = Tally::new(alloc, taken);
     let would = begin(
         alloc, volume, filter, opens, &mut tally, reader, writer, turns,

@@ -156,7 +156,7 @@ rewritten_balanced t v s (Some q) = again_balanced t v q _
 removed_balanced : (t : Table) (v : Store) (s : ℕ) (o : Option Question) → Balanced t v v.opens (removed t v s o)
 unfolding removed
 removed_balanced t v s None = still t v _ refl refl refl
-removed_balanced t v s (Some q) = ended_balanced t v q None (λ p. denied StreamRemoved p.held) (via One (Abort q.id) ∷ []) Quiet (λ p. refl)
+removed_balanced t v s (Some q) = ended_balanced t v q None (λ p. denied StreamRemoved p.held) (via q.port (Abort q.id) ∷ []) Quiet (λ p. refl)
 
 changes_balanced : (t : Table) (u : Store) (c : Change) → Balanced t u u.opens (changes t u c)
 unfolding changes
@@ -202,7 +202,7 @@ receives_balanced t v port _ = still t v _ refl refl refl
 times_out_balanced : (t : Table) (v : Store) (o : Option Question) → Balanced t v v.opens (times_out t v o)
 unfolding times_out
 times_out_balanced t v None = still t v _ refl refl refl
-times_out_balanced t v (Some q) = ended_balanced t v q (Some context.Modified) _ (via One (Abort q.id) ∷ []) Quiet (λ p. open_of-refused t.mode _ _ _)
+times_out_balanced t v (Some q) = ended_balanced t v q (Some context.Modified) _ (via q.port (Abort q.id) ∷ []) Quiet (λ p. open_of-refused t.mode _ _ _)
 
 disconnects_balanced : (t : Table) (v : Store) → Balanced t v v.opens (disconnects t v)
 unfolding disconnects

@@ -147,7 +147,7 @@ module _ (boot sequence : ℕ) (contexts : Marks) (qs : List Question) (ss : Str
   next = record { boot = boot; seq = sequence + 1 }
 
   abbrev new_question : ℕ → Question
-  new_question s = record { id = next; stream = s; generation = stream_generation (stream_at s ss) }
+  new_question s = record { id = next; port = One; stream = s; generation = stream_generation (stream_at s ss) }
 
   ask : (s : ℕ) → IsThere ss s → Away s boot sequence contexts qs ss → Whole boot (sequence + 1) (set_at contexts s (Some (context.Scanning next))) (qs ++ new_question s ∷ []) ss
   ask s here a =
@@ -219,7 +219,7 @@ module _ (t : Table) (v : Store) (q : Question) (boots : t.boot ≡ v.boot) (a :
   unfolding again asks
   again_fits early at here =
       let rest : List Question = without_question q.id t.questions in
-      let new : Question = next_question t v q.stream in
+      let new : Question = next_question t v One q.stream in
       let whole : Whole t.boot (t.sequence + 1) (set_at t.contexts q.stream (Some (context.Scanning (next_id t)))) (rest ++ new ∷ []) v.streams = ask t.boot t.sequence t.contexts rest v.streams q.stream here a in
       let found : question_at (next_id t) (rest ++ new ∷ []) ≡ Some new = found_new t.boot t.sequence new rest (omega arith) a.given in
       cond_both (list_any (is_held q.id) t.pended && sequence_left t) _ _ FitsAfter
@@ -266,7 +266,7 @@ module _ (t : Table) (v : Store) (f : Fits t v) (s least : ℕ) (low : least ≤
       (λ e. cond_both (not t.connected) _ _ FitsAfter (λ e. f)
       (λ e. cond_both (not (can_ask t)) _ _ FitsAfter (λ e. f)
       (λ e.
-      let q : Question = next_question t v s in
+      let q : Question = next_question t v One s in
       let away = leave_none t.boot t.sequence t.contexts t.questions v.streams s none (whole_of t v f) in
       fit _ v f.boots (ask t.boot t.sequence t.contexts t.questions v.streams s (x, here) away)
       (each-append (IsAsked (t.questions ++ q ∷ [])) t.pended (new (next_id t) ∷ []) (asked_more t.questions (q ∷ []) t.pended f.asked) (record { question = q; runs = found_new t.boot t.sequence q t.questions (omega arith) f.given; stream = refl }, tt))

@@ -2,6 +2,7 @@
 use Rattle.std.proofs.Common.{◌≡◌, ◌++◌, IfOk, Result, Ok, Err, ℕ, ◌+◌, ◌<◌, ◌≤◌, ◌∷◌, [], true, false, max, Option, None, Some, refl, sym, ap, ◌∙◌, subst, arith}
 use Rattle.std.specs.List.{AllByRecursion as Each}
 use Rattle.std.specs.Option.{option_map}
+use Rattle.av_base.specs.declared.port.Port.TheVariants.{One}
 use Rattle.av_base.specs.declared.cause.Cause.{Cause}
 use Rattle.av_base.specs.declared.cause.Cause.TheVariants.{NoStream, NotConnected, Busy}
 use Rattle.av_base.specs.declared.verdict.Verdict.{Verdict}
@@ -91,7 +92,7 @@ unfolding open_cached
 opened_busy t v s least x there known none miss room near can = unasked t v s least x there known none ∙ ap (open_cached (raised least t) (taken v) s least x) miss ∙ rw room (rw can (rw near refl))
 
 pub opened_asked : (t : Table) (v : Store) (s least : ℕ) (x : Stream) → stream_at s v.streams ≡ Some x → current (context_of t.contexts s) (floor_at t least) ≡ None → question_of s t.questions ≡ None → look s x.generation (floor_at t least) t.cache ≡ None → has_room t ≡ true → t.connected ≡ true → can_ask t ≡ true
-    → opened t v s least ≡ pends (asks (raised least t) (taken v) s) (taken v) s least (next_id t) (scan_message t (taken v) s ∷ [])
+    → opened t v s least ≡ pends (asks (raised least t) (taken v) One s) (taken v) s least (next_id t) (scan_message t (taken v) One s ∷ [])
 unfolding open_cached
 opened_asked t v s least x there known none miss room near can = unasked t v s least x there known none ∙ ap (open_cached (raised least t) (taken v) s least x) miss ∙ rw room (rw can (rw near refl))
 
@@ -109,10 +110,6 @@ pub record Hit (o : Option Entry) (r : Verdict) : Type 0 where
 pub hit_of : (o : Option Entry) (r : Verdict) → Some r ≡ option_map verdict_of o → Hit o r
 hit_of None r e = absurd (cc (e))
 hit_of (Some x) r e = let same : x.verdict ≡ r = cc (e) in record { entry = x; found = refl; verdict = same }
-
-pub miss_of : (o : Option Entry) → None ≡ option_map verdict_of o → o ≡ None
-miss_of None e = refl
-miss_of (Some x) e = absurd (cc (e))
 
 -- what holds of an answer, where there is one
 pub if_ok : {A E : Type 0} (r : Result A E) (P Q : A → Type 0) → ((a : A) → P a → Q a) → IfOk r P → IfOk r Q
@@ -189,23 +186,23 @@ pub asked : (out : Out) (t t1 t2 : Table) (v : Store) (a : Arrival) (m : Letter)
     → t1 ≡ record t {
       sequence = t.sequence + 1;
       contexts = set_at t.contexts a.stream (Some (Scanning (next_id t)));
-      questions = t.questions ++ record { id = next_id t; stream = a.stream; generation = a.generation } ∷ [];
+      questions = t.questions ++ record { id = next_id t; port = One; stream = a.stream; generation = a.generation } ∷ [];
       pended = t.pended ++ record { question = next_id t; held = waiting_from a.open_id a.stream a.least } ∷ [];
     }
     → t2 ≡ raised a.least t1
-    → out.answers.items ≡ [] → out.messages.items ≡ m ∷ [] → m ≡ scan_message t v a.stream → out.note ≡ Submitted a.open_id
+    → out.answers.items ≡ [] → out.messages.items ≡ m ∷ [] → m ≡ scan_message t v One a.stream → out.note ≡ Submitted a.open_id
     → Reacts out t2 (taken v) (opened t v a.stream a.least)
 unfolding asks
 asked out t t1 t2 v a m i unjudged unasked miss room near can made up answers messages is note =
     let s = a.stream in
     let by = opened_asked t v s a.least i.present i.there (at_floor a t v None i unjudged) unasked (cached_at a t v None i miss) room near can in
     let generation : a.generation ≡ present_generation v s = i.generation ∙ ap stream_generation (sym i.there) in
-    let left : t2 ≡ (pends (asks (raised a.least t) (taken v) s) (taken v) s a.least (next_id t) (scan_message t (taken v) s ∷ [])).table =
+    let left : t2 ≡ (pends (asks (raised a.least t) (taken v) One s) (taken v) s a.least (next_id t) (scan_message t (taken v) One s ∷ [])).table =
     up ∙ (ap (raised a.least) made
     ∙ (λ j. record (raised a.least t) {
       sequence = t.sequence + 1;
       contexts = set_at t.contexts s (Some (Scanning (next_id t)));
-      questions = t.questions ++ record { id = next_id t; stream = s; generation = generation j } ∷ [];
+      questions = t.questions ++ record { id = next_id t; port = One; stream = s; generation = generation j } ∷ [];
       pended = t.pended ++ record { question = next_id t; held = waiting_from (i.open_id j) s a.least } ∷ [];
     })) in
     subst (Reacts out t2 (taken v)) (sym by) (record { answers = answers; messages = messages ∙ ap (λ x. x ∷ []) is; note = note ∙ ap Submitted i.open_id; table = left; volume = refl })

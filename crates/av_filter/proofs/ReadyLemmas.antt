@@ -4,7 +4,6 @@ use Rattle.std.proofs.lemmas.Bool.{eqb-true}
 use Rattle.std.proofs.lemmas.Bool.Decides.{nat_tests}
 use Rattle.std.specs.List.{AllByRecursion as Each}
 use Rattle.std.specs.Option.{option_map}
-use Rattle.std.specs.Prelude.{is_some}
 use Rattle.std.specs.Ordering.{nat_cmp, is_eq}
 use Rattle.std.specs.declared.cmp.Ordering.{Ordering}
 use Rattle.std.specs.declared.cmp.Ordering.TheVariants.{Less, Equal, Greater}
@@ -123,13 +122,6 @@ its_own t q P runs some = subst (λ o. IfSome o P) (ap (λ i. question_at i t.qu
 pub there_by : (v w : Store) (s : ℕ) (r : Rewriting) → change_of v (change_by s r) ≡ Ok w → IsThere w.streams s
 there_by v w s (rewriting.Write offset bytes) h = there_after v w (Write s offset bytes.now) s refl (λ e. absurd (cc (e))) h
 there_by v w s (rewriting.Cut n) h = there_after v w (Cut s n) s refl (λ e. absurd (cc (e))) h
-
-pub there_if : (v : Store) (s : ℕ) → is_some (stream_at s v.streams) ≡ true → IsThere v.streams s
-there_if v s h = go (stream_at s v.streams) refl h
-  where
-    go : (o : Option Stream) → stream_at s v.streams ≡ o → is_some o ≡ true → IsThere v.streams s
-    go None is e = absurd (cc (e))
-    go (Some x) is e = (x, is)
 
 pub and_left : (a b : Bool) → (a && b) ≡ true → a ≡ true
 and_left true b e = refl

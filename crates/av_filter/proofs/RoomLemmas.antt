@@ -67,12 +67,12 @@ unfolding again
 small_again t v q early few =
     let more : (m : Letter) → length (early ++ m ∷ []) ≤ 2 = λ m. let sum = length-append early (m ∷ []) in omega (arith, sum, few) in
     let fewer : length early ≤ 2 = omega (arith, few) in
-    either (length t.pended) (list_any (is_held q.id) t.pended && sequence_left t) _ _ (record { messages = more (scan_message t v q.stream); answers = told _ _ t.pended }) (record { messages = fewer; answers = told _ _ t.pended })
+    either (length t.pended) (list_any (is_held q.id) t.pended && sequence_left t) _ _ (record { messages = more (scan_message t v One q.stream); answers = told _ _ t.pended }) (record { messages = fewer; answers = told _ _ t.pended })
 
 small_rewritten : (t : Table) (v : Store) (s : ℕ) (o : Option Question) → IsSmall (length t.pended) (rewritten t v s o)
 unfolding rewritten
 small_rewritten t v s None = record { messages = omega (arith); answers = omega (arith) }
-small_rewritten t v s (Some q) = small_again t v q (via One (Abort q.id) ∷ []) (omega (arith))
+small_rewritten t v s (Some q) = small_again t v q (via q.port (Abort q.id) ∷ []) (omega (arith))
 
 small_removed : (t : Table) (v : Store) (s : ℕ) (o : Option Question) → IsSmall (length t.pended) (removed t v s o)
 unfolding removed

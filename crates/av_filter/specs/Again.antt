@@ -2,6 +2,7 @@
 use Rattle.std.specs.Prelude.{ℕ, ◌&&◌, List, [], ◌∷◌, ◌++◌, length, map, filter, Some, if◌then◌else◌}
 use Rattle.std.specs.List.{list_any}
 use Rattle.av_base.specs.declared.cause.Cause.TheVariants.{Unsettled}
+use Rattle.av_base.specs.declared.port.Port.{Port}
 use Rattle.av_base.specs.declared.port.Port.TheVariants.{One}
 use Rattle.av_context.specs.declared.context_state.ContextState.TheVariants.{Modified}
 use Rattle.av_filter.specs.declared.note.Note.TheVariants.{Quiet}
@@ -14,9 +15,9 @@ use Rattle.av_frame.specs.Message.{Letter, via}
 use Rattle.av_frame.specs.declared.message.Body.TheVariants.{Scan}
 use Rattle.av_store.specs.Store.{Store}
 
--- what asks for the scan of a stream's present content
-abbrev pub scan_message : Table → Store → ℕ → Letter
-scan_message t v s = via One (Scan (next_id t) s (present_generation v s) (length (present_bytes v s)))
+-- what asks on a port for the scan of a stream's present content
+abbrev pub scan_message : Table → Store → Port → ℕ → Letter
+scan_message t v port s = via port (Scan (next_id t) s (present_generation v s) (length (present_bytes v s)))
 
 -- a question ends, and is asked anew for those of its opens that have a rescan left, if a number is; else all its opens are
 -- answered. `early` is sent before
@@ -24,10 +25,10 @@ unfoldable pub again : Table → Store → Question → List Letter → Reaction
 again t v q early =
     if list_any (is_held q.id) t.pended && sequence_left t
     then record {
-      table = asked_again t v q;
+      table = asked_again t v One q;
       volume = v;
       answers = by_mode t v Unsettled (filter (is_lost q.id) t.pended);
-      messages = early ++ scan_message t v q.stream ∷ [];
+      messages = early ++ scan_message t v One q.stream ∷ [];
       note = Quiet;
     }
     else record {

@@ -25,7 +25,7 @@ changed_volume v c = kept_or v (change_of v c)
 -- a stream was written or cut; v: the volume after it
 unfoldable pub rewritten : Table → Store → ℕ → Option Question → Reaction
 rewritten t v s None = only (record t { contexts = set_at t.contexts s (Some Modified) }) v Quiet
-rewritten t v s (Some q) = again t v q (via One (Abort q.id) ∷ [])
+rewritten t v s (Some q) = again t v q (via q.port (Abort q.id) ∷ [])
 
 -- a stream was removed
 unfoldable pub removed : Table → Store → ℕ → Option Question → Reaction
@@ -35,7 +35,7 @@ removed t v s (Some q) =
       table = ended t q None;
       volume = v;
       answers = map (λ p. denied StreamRemoved p.held) (opens_of q.id t.pended);
-      messages = via One (Abort q.id) ∷ [];
+      messages = via q.port (Abort q.id) ∷ [];
       note = Quiet;
     }
 
@@ -50,4 +50,4 @@ changes t v (Remove s) = removed t (changed_volume v (Remove s)) s (question_of 
 unfoldable pub cleaned : Table → Store → ℕ → Option Stream → Reaction
 cleaned t v s None = only t v NoStream
 cleaned t v s (Some x) =
-    if is_modified (context_of t.contexts s) && can_ask t then sends (asks t v s) v (scan_message t v s) else only t v Quiet
+    if is_modified (context_of t.contexts s) && can_ask t then sends (asks t v One s) v (scan_message t v One s) else only t v Quiet

@@ -2,7 +2,6 @@
 use Rattle.std.specs.Prelude.{ℕ, ◌+◌, false, ◌==◌, [], ◌∷◌, Option, Some, None, if◌then◌else◌}
 use Rattle.std.specs.Option.{option_map}
 use Rattle.av_base.specs.declared.cause.Cause.TheVariants.{TimedOut, PortDisconnected, FilterRestart}
-use Rattle.av_base.specs.declared.port.Port.TheVariants.{One}
 use Rattle.av_context.specs.declared.context_state.ContextState.TheVariants.{Modified}
 use Rattle.av_filter_table.specs.Asking.{ended, lost_contexts}
 use Rattle.av_filter.specs.Changing.{changes, cleaned}
@@ -40,7 +39,7 @@ times_out t v (Some q) =
       table = ended t q (Some Modified);
       volume = v;
       answers = by_mode t v TimedOut (opens_of q.id t.pended);
-      messages = via One (Abort q.id) ∷ [];
+      messages = via q.port (Abort q.id) ∷ [];
       note = Quiet;
     }
 

@@ -1,5 +1,6 @@
 -- An open: it is answered by the stream, its context or the cache, or it waits for a question.
 use Rattle.std.specs.Prelude.{ℕ, ◌+◌, not, List, [], ◌∷◌, ◌++◌, Option, Some, None, if◌then◌else◌}
+use Rattle.av_base.specs.declared.port.Port.TheVariants.{One}
 use Rattle.av_base.specs.declared.cause.Cause.TheVariants.{NoStream, NotConnected, Busy}
 use Rattle.av_base.specs.declared.message_id.MessageId.{MessageId}
 use Rattle.av_base.specs.declared.verdict.Verdict.{Verdict}
@@ -54,7 +55,7 @@ open_cached t v s least x None =
     if not (has_room t) then answers_with t v (refused t.mode x.generation Busy (new_open v s least))
     else (if not t.connected then answers_with t v (refused t.mode x.generation NotConnected (new_open v s least))
     else (if not (can_ask t) then answers_with t v (refused t.mode x.generation Busy (new_open v s least))
-    else pends (asks t v s) v s least (next_id t) (scan_message t v s ∷ [])))
+    else pends (asks t v One s) v s least (next_id t) (scan_message t v One s ∷ [])))
 
 -- by the question of the stream
 unfoldable pub open_asked : Table → Store → ℕ → ℕ → Stream → Option Question → Reaction

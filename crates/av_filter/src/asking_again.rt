@@ -2,6 +2,7 @@ ghost use Rattle.std.specs.Prelude.{◌≡◌, ◌≤◌, ◌+◌, ◌++◌, ◌
 ghost use Rattle.std.specs.List.{list_any};
 ghost use Rattle.std.specs.Vec.{vec_capacity};
 ghost use Rattle.av_base.specs.declared.cause.Cause.TheVariants.{Unsettled};
+ghost use Rattle.av_base.specs.declared.port.Port.TheVariants.{One};
 ghost use Rattle.av_filter.specs.Again.{again};
 ghost use Rattle.av_filter.specs.Call.{MeetsAlways};
 ghost use Rattle.av_filter.specs.Fit.{Fits};
@@ -15,7 +16,7 @@ use crate::closing::{close, room_for};
 use crate::ending::Ending;
 use crate::out::Out;
 use crate::running::{scan_message, sequence_left};
-use av_base::MessageId;
+use av_base::{MessageId, Port};
 use av_filter_table::{FilterTable, Question};
 use av_pend::Answer;
 use av_store::Volume;
@@ -41,7 +42,7 @@ pub(crate) fn ask_again(
     let mut messages = Vec::with_capacity(alloc, 1)?;
     let id = ask_anew(table, volume, question, &mut answers)?;
     messages
-        .push(scan_message(volume, id, question.stream))
+        .push(scan_message(volume, Port::One, id, question.stream))
         .unwrap();
     Ok(Out::gives(answers, messages))
 }
@@ -68,9 +69,9 @@ fn ask_anew(
     ensures can { OnOk result (IsId (next_id table.old)) }
     ensures answers { OnOk result (answers.new.items
         ≡ answers.old.items ++ by_mode table.old volume.now Unsettled (filter (is_lost question.now.id) table.old.pended)) }
-    ensures table { OnOk result (table.new ≡ asked_again table.old volume.now question.now) }
+    ensures table { OnOk result (table.new ≡ asked_again table.old volume.now One question.now) }
     ensures err { OnErr result (table.new ≡ table.old) }
 {
     let _mounted = table.boot();
-    table.ask_again(volume, question.id.seq, answers)
+    table.ask_again(volume, Port::One, question.id.seq, answers)
 }

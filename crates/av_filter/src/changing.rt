@@ -74,10 +74,10 @@ fn rewrite_asked(
     requires runs { IsRunning table.old question.now }
     requires accepted { result_err (change_of volume.old (change_by question.now.stream rewriting)) ≡ None }
     ensures { MeetsAlways table.old volume.old table.new volume.new result (again table.old
-        (changed_volume volume.old (change_by question.now.stream rewriting.entry)) question.now (via One (Abort question.now.id) ∷ [])) }
+        (changed_volume volume.old (change_by question.now.stream rewriting.entry)) question.now (via question.now.port (Abort question.now.id) ∷ [])) }
 {
     let mut answers = room_for(table, alloc, question)?;
-    let abort = Message::abort(Port::One, question.id);
+    let abort = Message::abort(question.port, question.id);
     if !is_asked_again(table, question) {
         let mut messages = Vec::with_capacity(alloc, 1)?;
         accept(rewriting, volume, question.stream)?;
@@ -89,7 +89,7 @@ fn rewrite_asked(
     let id = ask_anew_after(table, volume, rewriting, question, &mut answers)?;
     messages.push(abort).unwrap();
     messages
-        .push(scan_message(volume, id, question.stream))
+        .push(scan_message(volume, Port::One, id, question.stream))
         .unwrap();
     Ok(Out::gives(answers, messages))
 }
@@ -124,11 +124,11 @@ fn ask_anew_after(
     ensures volume { OnOk result (change_of volume.old (change_by question.now.stream rewriting.entry) ≡ Ok volume.new) }
     ensures answers { OnOk result (answers.new.items
         ≡ answers.old.items ++ by_mode table.old volume.new Unsettled (filter (is_lost question.now.id) table.old.pended)) }
-    ensures table { OnOk result (table.new ≡ asked_again table.old volume.new question.now) }
+    ensures table { OnOk result (table.new ≡ asked_again table.old volume.new One question.now) }
     ensures err { OnErr result ((table.new ≡ table.old) × (volume.new ≡ volume.old)) }
 {
     let (_mounted, _ranges) = (table.boot(), volume.limits());
-    table.ask_again_after(volume, rewriting, question.id.seq, answers)
+    table.ask_again_after(volume, rewriting, Port::One, question.id.seq, answers)
 }
 
 // A stream is removed.
@@ -152,7 +152,7 @@ pub(crate) fn remove(
         return Ok(Out::says(alloc, Note::Quiet));
     };
     let mut answers = room_for(table, alloc, &question)?;
-    let abort = Message::abort(Port::One, question.id);
+    let abort = Message::abort(question.port, question.id);
     let mut messages = Vec::with_capacity(alloc, 1)?;
     take_away(volume, stream);
     close(table, volume, &question, Ending::Removed, &mut answers);
@@ -191,8 +191,10 @@ pub(crate) fn clean_up(
         return Ok(Out::says(alloc, Note::Quiet));
     }
     let mut messages = Vec::with_capacity(alloc, 1)?;
-    let id = ask_scan(table, volume, stream)?;
-    messages.push(scan_message(volume, id, stream)).unwrap();
+    let id = ask_scan(table, volume, Port::One, stream)?;
+    messages
+        .push(scan_message(volume, Port::One, id, stream))
+        .unwrap();
     Ok(Out::gives(Vec::new(alloc), messages))
 }
 

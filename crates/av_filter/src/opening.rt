@@ -12,7 +12,7 @@ ghost use Rattle.av_store.specs.Store.{greatest};
 
 use crate::out::Out;
 use crate::running::{can_ask, has_room, running_of, scan_message};
-use av_base::{Cause, Generation, OpenId, StreamId, Verdict, Version};
+use av_base::{Cause, Generation, OpenId, Port, StreamId, Verdict, Version};
 use av_context::ContextState;
 use av_filter_table::answering::judge;
 use av_filter_table::{FilterTable, Question};
@@ -192,11 +192,16 @@ fn open_unknown(
     }
     let _mounted = table.boot();
     let mut messages = Vec::with_capacity(alloc, 1)?;
-    match table.ask_for(arrival.stream, arrival.generation, arrival.waiting()) {
+    match table.ask_for(
+        Port::One,
+        arrival.stream,
+        arrival.generation,
+        arrival.waiting(),
+    ) {
         Ok(id) => {
             table.raise(arrival.least);
             messages
-                .push(scan_message(volume, id, arrival.stream))
+                .push(scan_message(volume, Port::One, id, arrival.stream))
                 .unwrap();
             Ok(Out::asks(alloc, messages, arrival.open_id))
         }
@@ -252,7 +257,7 @@ fn next_open(volume: &Volume) -> OpenId
     requires { volume.now.opens < greatest }
     ensures { result ≡ volume.now.opens + 1 }
 {
-    OpenId::new(u64::MAX - volume.opens_left() + 1)
+    OpenId::new(volume.opens() + 1)
 }
 
 // The later of two versions.

@@ -1,6 +1,5 @@
-ghost use Rattle.std.specs.Prelude.{◌≡◌, ◌≤◌, true, None, IfOk, IfSome, OnErr, OnOk, is_some, length};
+ghost use Rattle.std.specs.Prelude.{◌≡◌, true, None, IfOk, IfSome, OnErr, OnOk, is_some, length};
 ghost use Rattle.std.specs.List.{AllByRecursion};
-ghost use Rattle.av_base.specs.declared.port.Port.TheVariants.{One};
 ghost use Rattle.av_filter.specs.Fit.{AreInOrder, IsGiven, IsThere};
 ghost use Rattle.av_filter.specs.Ready.{IsRunning};
 ghost use Rattle.av_filter_table.specs.Answering.{present_bytes, present_generation};
@@ -40,15 +39,15 @@ pub(crate) fn running_of(table: &FilterTable, stream: StreamId) -> Option<Questi
     table.question_of(stream)
 }
 
-// The message that asks for the scan of a stream's present content.
-pub(crate) fn scan_message(volume: &Volume, id: MessageId, stream: StreamId) -> Message
+// The message that asks on a port for the scan of a stream's present content.
+pub(crate) fn scan_message(volume: &Volume, port: Port, id: MessageId, stream: StreamId) -> Message
     requires id { IsId id }
     requires there { IsThere volume.now.streams stream }
-    ensures { result ≡ via One (Scan id stream (present_generation volume.now stream) (length (present_bytes volume.now stream))) }
+    ensures { result ≡ via port (Scan id stream (present_generation volume.now stream) (length (present_bytes volume.now stream))) }
 {
     let _ranges = volume.limits();
     Message::scan(
-        Port::One,
+        port,
         id,
         stream,
         generation_now(volume, stream),
@@ -56,22 +55,23 @@ pub(crate) fn scan_message(volume: &Volume, id: MessageId, stream: StreamId) -> 
     )
 }
 
-// Asks for the scan of a stream that none runs of.
+// Asks on a port for the scan of a stream that none runs of.
 #[tactic(auto, unfolding(av_filter_table::specs::Asking::asks))]
 pub(crate) fn ask_scan(
     table: &mut FilterTable,
     volume: &Volume,
+    port: Port,
     stream: StreamId,
 ) -> Result<MessageId, AllocError>
     requires none { question_of stream table.old.questions ≡ None }
     requires left { sequence_left table.old ≡ true }
     ensures id { IfOk result (λ id. id ≡ next_id table.old) }
     ensures can { OnOk result (IsId (next_id table.old)) }
-    ensures table { OnOk result (table.new ≡ asks table.old volume.now stream) }
+    ensures table { OnOk result (table.new ≡ asks table.old volume.now port stream) }
     ensures err { OnErr result (table.new ≡ table.old) }
 {
     let _mounted = table.boot();
-    table.ask(stream, generation_now(volume, stream))
+    table.ask(port, stream, generation_now(volume, stream))
 }
 
 // Whether a stream is there.

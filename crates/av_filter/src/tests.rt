@@ -3,7 +3,7 @@ mod rows;
 mod say;
 mod steps;
 
-ghost use Rattle.std.specs.Prelude.{OnOk, IfOk};
+ghost use Rattle.std.specs.Prelude.{IfOk};
 ghost use Rattle.av_filter.specs.Fit.{Fits};
 
 use self::plain::Plain;

@@ -1,4 +1,3 @@
-ghost use Rattle.std.specs.Prelude.{◌≡◌};
 ghost use Rattle.av_filter.specs.Call.{MeetsAlways};
 ghost use Rattle.av_filter.specs.Conduct.{times_out};
 ghost use Rattle.av_filter.specs.Fit.{Fits};
@@ -9,7 +8,7 @@ use crate::closing::refuse;
 use crate::note::Note;
 use crate::out::Out;
 use crate::running::running_at;
-use av_base::{Cause, MessageId, Port};
+use av_base::{Cause, MessageId};
 use av_filter_table::FilterTable;
 use av_frame::Message;
 use av_store::Volume;
@@ -34,7 +33,7 @@ pub(crate) fn time_out(
     let Some(question) = running_at(table, id) else {
         return Ok(Out::says(alloc, Note::NoWaiter));
     };
-    let abort = Message::abort(Port::One, question.id);
+    let abort = Message::abort(question.port, question.id);
     let mut messages = Vec::with_capacity(alloc, 1)?;
     let answers = refuse(table, alloc, volume, &question, Cause::TimedOut)?;
     messages.push(abort).unwrap();

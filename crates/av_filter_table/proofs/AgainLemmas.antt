@@ -8,6 +8,7 @@ use Rattle.std.proofs.lemmas.Bool.{cases_eq}
 use Rattle.std.proofs.lemmas.Map.Made.{keys_of-map_values, lookup-map_values}
 use Rattle.av_base.specs.declared.cause.Cause.{Cause}
 use Rattle.av_base.specs.declared.message_id.MessageId.{MessageId}
+use Rattle.av_base.specs.declared.port.Port.{Port}
 use Rattle.av_context.specs.Contexts.{at, with, without, PutsAt}
 use Rattle.av_context.specs.declared.context_state.ContextState.TheVariants.{Modified, Scanning}
 use Rattle.av_filter_table.specs.Asking.{again_under, is_lost, is_spent as is_spent_open, moved as moved_open, moved_opens}
@@ -102,21 +103,21 @@ lost-refused t v cause boot n (x ∷ xs) = go (x.0 == n) refl (is_spent x) refl 
     go true h false g rest = rw (test-boot boot x.0 n ∙ h, h, g) rest
     go false h c g rest = rw (test-boot boot x.0 n ∙ h, h) rest
 
-pub record AsksAgain (boot sequence n : ℕ) (x : Asked) (generation : ℕ) (q q' : Questions) (p p' : Opens) (k k' : List (ℕ × Known)) : Type 0 where
+pub record AsksAgain (boot sequence n : ℕ) (x : Asked) (port : Port) (generation : ℕ) (q q' : Questions) (p p' : Opens) (k k' : List (ℕ × Known)) : Type 0 where
   pub consistent : IsConsistent boot (sequence + 1) q' p' k'
   pub contexts : states k' ≡ with (states k) x.stream (Scanning (id_of boot (sequence + 1)))
-  pub questions : questions_of boot q' ≡ without_question (id_of boot n) (questions_of boot q) ++ record { id = id_of boot (sequence + 1); stream = x.stream; generation = generation } ∷ []
+  pub questions : questions_of boot q' ≡ without_question (id_of boot n) (questions_of boot q) ++ record { id = id_of boot (sequence + 1); port = port; stream = x.stream; generation = generation } ∷ []
   pub pended : pended_of boot p' ≡ moved_opens (id_of boot n) (id_of boot (sequence + 1)) (pended_of boot p)
 
 -- it is as if the question had ended, and then the new one been asked
-pub asks_again : (boot sequence n generation : ℕ) (q q1 q2 q' : Questions) (p p' : Opens) (k k1 k' : List (ℕ × Known)) (x : Asked) (key : ℕ) → IsConsistent boot sequence q p k → IsAscending q → IsAscending k → at q n ≡ Some (x, key)
-    → PutsAt k k1 x.stream (Some (record { key = key; state = Scanning (id_of boot (sequence + 1)); held = held_out (at k x.stream) + 1 })) → PutsAt q q1 (sequence + 1) (Some (new_row x.stream generation, key))
+pub asks_again : (boot sequence n : ℕ) (port : Port) (generation : ℕ) (q q1 q2 q' : Questions) (p p' : Opens) (k k1 k' : List (ℕ × Known)) (x : Asked) (key : ℕ) → IsConsistent boot sequence q p k → IsAscending q → IsAscending k → at q n ≡ Some (x, key)
+    → PutsAt k k1 x.stream (Some (record { key = key; state = Scanning (id_of boot (sequence + 1)); held = held_out (at k x.stream) + 1 })) → PutsAt q q1 (sequence + 1) (Some (new_row port x.stream generation, key))
     → essences q2 ≡ essences q1 → AreChained q2 p' → AreNumbered p' → plains p' ≡ moved_all n (sequence + 1) (plains p)
-    → PutsAt q2 q' n None → PutsAt k1 k' x.stream (option_map let_loose (at k1 x.stream)) → AsksAgain boot sequence n x generation q q' p p' k k'
-asks_again boot sequence n generation q q1 q2 q' p p' k k1 k' x key consistent up up_k found held put same chained numbered is gone loose = record {
+    → PutsAt q2 q' n None → PutsAt k1 k' x.stream (option_map let_loose (at k1 x.stream)) → AsksAgain boot sequence n x port generation q q' p p' k k'
+asks_again boot sequence n port generation q q1 q2 q' p p' k k1 k' x key consistent up up_k found held put same chained numbered is gone loose = record {
   consistent = rows-kept boot m q_new q' p p' k' asked.consistent chained' numbered unasked same_essences;
   contexts = states-puts k k' s (record { key = key; state = Scanning (id_of boot m); held = 1 }) up_k (puts_at k k' s (Some (record { key = key; state = Scanning (id_of boot m); held = 1 })) up_k up_k' here (λ j apart. loose.others j apart ∙ held.others j apart));
-  questions = ap (map (asked_of boot)) same_essences ∙ (asked.questions ∙ ap (λ l. l ++ record { id = id_of boot m; stream = s; generation = generation } ∷ []) ended.questions);
+  questions = ap (map (asked_of boot)) same_essences ∙ (asked.questions ∙ ap (λ l. l ++ record { id = id_of boot m; port = port; stream = s; generation = generation } ∷ []) ended.questions);
   pended = ap (map (held_of boot)) is ∙ sym (moved-opens boot n m (plains p));
 }
   where
@@ -175,13 +176,13 @@ asks_again boot sequence n generation q q1 q2 q' p p' k k1 k' x key consistent u
         absurd (omega arith))
 
     q_new : Questions
-    q_new = with q0 m (new_row s generation, key)
+    q_new = with q0 m (new_row port s generation, key)
 
-    new : PutsAt q0 q_new m (Some (new_row s generation, key))
-    new = record { whole = refl; here = at-with q0 m (new_row s generation, key); others = λ j apart. at-with_other q0 m j (new_row s generation, key) apart }
+    new : PutsAt q0 q_new m (Some (new_row port s generation, key))
+    new = record { whole = refl; here = at-with q0 m (new_row port s generation, key); others = λ j apart. at-with_other q0 m j (new_row port s generation, key) apart }
 
-    asked : Asks boot sequence q0 q_new p k0 k' s generation
-    asked = asks-rows boot sequence q0 q_new p k0 k' s generation key ended.consistent up_k0 no_other holds new
+    asked : Asks boot sequence q0 q_new p k0 k' port s generation
+    asked = asks-rows boot sequence q0 q_new p k0 k' port s generation key ended.consistent up_k0 no_other holds new
 
     -- and those are the questions that there are
     up_essences : (r : Questions) → IsAscending r → IsAscending (essences r)
@@ -217,14 +218,14 @@ asks_again boot sequence n generation q q1 q2 q' p p' k k1 k' x key consistent u
     unasked j above = ap (of j) is ∙ none-moved n m j (plains p) (λ e. absurd (omega arith)) (consistent.unasked j (omega arith))
 
 -- the chains with a question that no open waits for yet
-pub chained-new : (boot sequence s generation key : ℕ) (q q1 : Questions) (p : Opens) (k : List (ℕ × Known)) → IsConsistent boot sequence q p k → PutsAt q q1 (sequence + 1) (Some (new_row s generation, key)) → AreChained q1 p
-chained-new boot sequence s generation key q q1 p k consistent put =
+pub chained-new : (boot sequence : ℕ) (port : Port) (s generation key : ℕ) (q q1 : Questions) (p : Opens) (k : List (ℕ × Known)) → IsConsistent boot sequence q p k → PutsAt q q1 (sequence + 1) (Some (new_row port s generation, key)) → AreChained q1 p
+chained-new boot sequence port s generation key q q1 p k consistent put =
     let first = first-none_of (sequence + 1) p (consistent.unasked (sequence + 1) (omega arith)) in
     let none = has_none (sequence + 1) p first in
     record {
       linked = consistent.chained.linked;
       ends = λ m. if_some (λ z. IsChain z.0 m p) (at q1 m) (λ z at_m. elim (cases_eq m (sequence + 1)) [
-        | inl same ↦ subst (λ j. IsChain z.0 j p) (sym same) (subst (λ y. IsChain y.0 (sequence + 1) p) (some_same (new_row s generation, key) z (sym put.here ∙ (ap (at q1) (sym same) ∙ at_m)))
+        | inl same ↦ subst (λ j. IsChain z.0 j p) (sym same) (subst (λ y. IsChain y.0 (sequence + 1) p) (some_same (new_row port s generation, key) z (sym put.here ∙ (ap (at q1) (sym same) ∙ at_m)))
             (record { first = sym first; last = sym none.last; opens = sym none.count }))
         | inr apart ↦ if_some_at (λ y. IsChain y.0 m p) (at q m) z (consistent.chained.ends m) (sym (put.others m apart) ∙ at_m)
       ]);

@@ -407,11 +407,11 @@ chained-pops n k q q' p x key pop chained found puts = record {
     }
 
 -- a question with another chain is of the same content
-pub essences-set : (q q' : Questions) (n : ℕ) (x x' : Asked) (key : ℕ) → IsAscending q → IsAscending q' → at q n ≡ Some (x, key) → PutsAt q q' n (Some (x', key)) → x'.stream ≡ x.stream → x'.generation ≡ x.generation → essences q' ≡ essences q
-essences-set q q' n x x' key up up' found puts stream generation =
+pub essences-set : (q q' : Questions) (n : ℕ) (x x' : Asked) (key : ℕ) → IsAscending q → IsAscending q' → at q n ≡ Some (x, key) → PutsAt q q' n (Some (x', key)) → x'.stream ≡ x.stream → x'.generation ≡ x.generation → x'.port ≡ x.port → essences q' ≡ essences q
+essences-set q q' n x x' key up up' found puts stream generation port =
     same_map (essences q') (essences q) (subst (IsStrictlySortedBy nat_cmp) (sym (keys_of-map_values essence q')) up') (subst (IsStrictlySortedBy nat_cmp) (sym (keys_of-map_values essence q)) up)
     (λ m. lookup-map_values essence (is_at (nat_cmp m)) q' ∙ (elim (cases_eq m n) [
-      | inl same ↦ ap (λ j. option_map essence (at q' j)) same ∙ (ap (option_map essence) puts.here ∙ ((λ i. Some (stream i, (generation i, key))) ∙ sym (ap (λ j. option_map essence (at q j)) same ∙ ap (option_map essence) found)))
+      | inl same ↦ ap (λ j. option_map essence (at q' j)) same ∙ (ap (option_map essence) puts.here ∙ ((λ i. Some (stream i, ((generation i, port i), key))) ∙ sym (ap (λ j. option_map essence (at q j)) same ∙ ap (option_map essence) found)))
       | inr apart ↦ ap (option_map essence) (puts.others m apart)
     ] ∙ sym (lookup-map_values essence (is_at (nat_cmp m)) q)))
 
@@ -444,7 +444,7 @@ taken n first q q' p p' x row held up up' chained is_row is_first is_held gone p
       some = pop.of_it ∙ (λ i. (n, (sym (ap (λ z. z.1) pair)) i) ∷ of n (plains ((sym gone) i)));
       of_others = ap (λ m. others n (plains m)) gone ∙ pop.of_others;
       chained = subst (AreChained q') (sym gone) (chained-pops n first q q' p x found.0 pop chained found.1 put);
-      same = essences-set q q' n x (shorter x pop.row.next) found.0 up (puts-ascends q q' n (Some (shorter x pop.row.next, found.0)) put up) found.1 put refl refl;
+      same = essences-set q q' n x (shorter x pop.row.next) found.0 up (puts-ascends q q' n (Some (shorter x pop.row.next, found.0)) put up) found.1 put refl refl refl;
     }
 
 -- what `append` does
@@ -477,7 +477,7 @@ appended n k w q q' p p1 p' x up up' chained below is_row put if_none if_last pu
           some = ap plains is ∙ appends.plains_are;
           keys = ap keys_of is ∙ keys;
           chained = subst (AreChained q') (sym is) (chained-appends n k w q q' p p2 x found.0 chained found.1 appends set);
-          same = essences-set q q' n x (longer x k) found.0 up (puts-ascends q q' n (Some (longer x k, found.0)) set up) found.1 set refl refl;
+          same = essences-set q q' n x (longer x k) found.0 up (puts-ascends q q' n (Some (longer x k, found.0)) set up) found.1 set refl refl refl;
         }
 
     last_is : x.last ≡ last_of n p

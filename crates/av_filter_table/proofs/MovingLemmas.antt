@@ -1,5 +1,5 @@
 -- How the first open of one question comes to wait for another, in its place.
-use Rattle.std.proofs.Common.{◌⊎◌, ◌≡◌, ◌≢◌, ℕ, ◌+◌, ◌<◌, ◌≤◌, ◌==◌, Bool, true, false, List, [], ◌∷◌, Option, Some, None, IsSome, IsSomeAnd, IfSome, IfNone, cond, nat_le, map, drop, refl, sym, ap, subst, ◌∙◌, inl, inr, arith}
+use Rattle.std.proofs.Common.{◌⊎◌, ◌≡◌, ◌≢◌, ℕ, ◌+◌, ◌<◌, ◌≤◌, ◌==◌, Bool, true, false, List, [], ◌∷◌, Option, Some, None, IsSome, IsSomeAnd, IfSome, IfNone, cond, nat_le, map, refl, sym, ap, subst, ◌∙◌, inl, inr, arith}
 use Rattle.std.specs.Map.{keys_of}
 use Rattle.std.specs.List.Sorted.{IsStrictlySortedBy}
 use Rattle.std.specs.Option.{option_or, option_map}
@@ -415,8 +415,8 @@ moved old new k q q1 q' p p1 p' x y row v w differ up_q up chained behind row_x 
       moved = ap plains is ∙ (moves.plains_are ∙ (ap (λ u. plains (swapped old (new_entry new k u) p)) w_is ∙ plains-swapped old new k row v p up first_p found));
       keys = ap keys_of is ∙ moves.keys;
       chained = subst (AreChained q') (sym is) (chained-moves old new k w q q1 q' p p2 x y found_x.0 found_y.0 row differ chained found_x.1 found_y.1 next pop gone moves set_old set_new);
-      same = essences-set q1 q' new y (longer y k) found_y.0 up_1 (puts-ascends q1 q' new (Some (longer y k, found_y.0)) set_new up_1) at_new set_new refl refl
-          ∙ essences-set q q1 old x (shorter x row.next) found_x.0 up_q up_1 found_x.1 set_old refl refl;
+      same = essences-set q1 q' new y (longer y k) found_y.0 up_1 (puts-ascends q1 q' new (Some (longer y k, found_y.0)) set_new up_1) at_new set_new refl refl refl
+          ∙ essences-set q q1 old x (shorter x row.next) found_x.0 up_q up_1 found_x.1 set_old refl refl refl;
     }
 
     by_last : (o : Option ℕ) → y.last ≡ o → Moved old new q q' p p'
@@ -545,7 +545,7 @@ pops-all q q' d p up_q up chained if_none if_there = by_question (at q n) refl
         let puts : PutsAt q q' n (Some (shorter x.0 d.1.0.next, x.1)) = if_some_at (λ x. PutsAt q q' n (Some (shorter x.0 d.1.0.next, x.1))) (at q n) x if_there there in
         record {
           chained = subst (AreChained q') gone (chained-pops n d.0 q q' (d ∷ p) x.0 x.1 pop chained there (subst (λ r. PutsAt q q' n (Some (shorter x.0 r.next, x.1))) (sym row) puts));
-          same = essences-set q q' n x.0 (shorter x.0 d.1.0.next) x.1 up_q (puts-ascends q q' n (Some (shorter x.0 d.1.0.next, x.1)) puts up_q) there puts refl refl;
+          same = essences-set q q' n x.0 (shorter x.0 d.1.0.next) x.1 up_q (puts-ascends q q' n (Some (shorter x.0 d.1.0.next, x.1)) puts up_q) there puts refl refl refl;
         }
 
 pub of-tail : (n : ℕ) (x : ℕ × Waiting) (xs : List (ℕ × Waiting)) → of n (x ∷ xs) ≡ [] → of n xs ≡ []
@@ -557,6 +557,3 @@ of-tail n x xs none = go (x.0 == n) refl
     go : (b : Bool) → (x.0 == n) ≡ b → of n xs ≡ []
     go true h = absurd (no_cons (of n xs) (sym (ap (λ b. cond b (x ∷ of n xs) (of n xs)) h) ∙ none))
     go false h = sym (ap (λ b. cond b (x ∷ of n xs) (of n xs)) h) ∙ none
-
-pub numbered-tail : (d : ℕ × (Waits × Waiting)) (p : Opens) → AreNumbered (d ∷ p) → AreNumbered p
-numbered-tail d p same = ap (drop 1) same

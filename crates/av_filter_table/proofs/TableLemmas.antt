@@ -10,6 +10,7 @@ use Rattle.std.specs.List.Sorted.{IsStrictlySortedBy}
 use Rattle.std.specs.Ordering.{nat_cmp}
 use Rattle.av_base.specs.declared.message_id.MessageId.{MessageId}
 use Rattle.av_base.specs.MessageId.{same_id}
+use Rattle.av_base.specs.declared.port.Port.{Port}
 use Rattle.av_context.specs.Contexts.{at, with, without, set_at, PutsAt}
 use Rattle.av_context.specs.declared.context_state.ContextState.{ContextState}
 use Rattle.av_context.specs.declared.context_state.ContextState.TheVariants.{Modified, Scanning, Judged}
@@ -128,7 +129,7 @@ some-opens_of (Some w) boot n p p' some =
 
 -- the row of a number as the question of its id
 abbrev pub question_row : MessageId → Asked → Question
-question_row id x = record { id = id; stream = x.stream; generation = x.generation }
+question_row id x = record { id = id; port = x.port; stream = x.stream; generation = x.generation }
 
 pub question-row : (boot : ℕ) (id : MessageId) (q : Questions) (o : Option Asked) → IsAscending q → id.boot ≡ boot → o ≡ option_map (λ y. y.0) (at q id.seq)
     → option_map (question_row id) o ≡ question_at id (questions_of boot q)
@@ -139,7 +140,7 @@ question-row boot id q o up same row =
   where
     by_row : (o : Option (Asked × ℕ)) → id ≡ id_of boot id.seq → option_map (question_row id) (option_map (λ y. y.0) o) ≡ option_map (λ y. asked_of boot (id.seq, essence y)) o
     by_row None is = refl
-    by_row (Some y) is = λ i. Some (record { id = is i; stream = y.0.stream; generation = y.0.generation })
+    by_row (Some y) is = λ i. Some (record { id = is i; port = y.0.port; stream = y.0.stream; generation = y.0.generation })
 
 -- with none of a question left, the others are all
 pub all-others : (id : MessageId) (ps : List Pended) → opens_of id ps ≡ [] → other_opens id ps ≡ ps
@@ -453,27 +454,27 @@ questions-end boot [] e = refl
 questions-end boot (d ∷ q) e = ap (λ xs. asked_of boot (d.0, essence d.1) ∷ xs) (questions-end boot q e)
 
 -- a question that no open waits for yet
-abbrev pub new_row : ℕ → ℕ → Asked
-new_row stream generation = record { stream = stream; generation = generation; first = None; last = None; opens = 0 }
+abbrev pub new_row : Port → ℕ → ℕ → Asked
+new_row port stream generation = record { stream = stream; generation = generation; port = port; first = None; last = None; opens = 0 }
 
-pub record Asks (boot sequence : ℕ) (q q' : Questions) (p : Opens) (k k' : List (ℕ × Known)) (stream generation : ℕ) : Type 0 where
+pub record Asks (boot sequence : ℕ) (q q' : Questions) (p : Opens) (k k' : List (ℕ × Known)) (port : Port) (stream generation : ℕ) : Type 0 where
   pub consistent : IsConsistent boot (sequence + 1) q' p k'
   pub contexts : states k' ≡ with (states k) stream (Scanning (id_of boot (sequence + 1)))
-  pub questions : questions_of boot q' ≡ questions_of boot q ++ record { id = id_of boot (sequence + 1); stream = stream; generation = generation } ∷ []
+  pub questions : questions_of boot q' ≡ questions_of boot q ++ record { id = id_of boot (sequence + 1); port = port; stream = stream; generation = generation } ∷ []
 
 pub new-question : (boot sequence : ℕ) (q : Questions) (p : Opens) (k : List (ℕ × Known)) → IsConsistent boot sequence q p k → at q (sequence + 1) ≡ None
 new-question boot sequence q p k consistent = none-past q (sequence + 1) (all-more (λ j. j ≤ sequence) (λ j. j < sequence + 1) (keys_of q) (λ j low. omega arith) consistent.asked)
 
-pub asks : (boot sequence : ℕ) (q q' : Questions) (p : Opens) (k k' : List (ℕ × Known)) (stream generation key : ℕ) → IsConsistent boot sequence q p k → IsAscending k → IsUnasked stream (essences q)
-    → PutsAt k k' stream (Some (record { key = key; state = Scanning (id_of boot (sequence + 1)); held = held_out (at k stream) + 1 })) → PutsAt q q' (sequence + 1) (Some (new_row stream generation, key)) → Asks boot sequence q q' p k k' stream generation
-asks boot sequence q q' p k k' stream generation key consistent up_k unasked puts new =
+pub asks : (boot sequence : ℕ) (q q' : Questions) (p : Opens) (k k' : List (ℕ × Known)) (port : Port) (stream generation key : ℕ) → IsConsistent boot sequence q p k → IsAscending k → IsUnasked stream (essences q)
+    → PutsAt k k' stream (Some (record { key = key; state = Scanning (id_of boot (sequence + 1)); held = held_out (at k stream) + 1 })) → PutsAt q q' (sequence + 1) (Some (new_row port stream generation, key)) → Asks boot sequence q q' p k k' port stream generation
+asks boot sequence q q' p k k' port stream generation key consistent up_k unasked puts new =
     let none = has_none (sequence + 1) p (first-none_of (sequence + 1) p (consistent.unasked (sequence + 1) (omega arith))) in
     let first = first-none_of (sequence + 1) p (consistent.unasked (sequence + 1) (omega arith)) in
     let below = all-more (λ j. j ≤ sequence) (λ j. j < sequence + 1) (keys_of q) (λ j low. omega arith) consistent.asked in
-    let is_end : q' ≡ q ++ (sequence + 1, (new_row stream generation, key)) ∷ [] = new.whole ∙ with-end q (sequence + 1) (new_row stream generation, key) below in
+    let is_end : q' ≡ q ++ (sequence + 1, (new_row port stream generation, key)) ∷ [] = new.whole ∙ with-end q (sequence + 1) (new_row port stream generation, key) below in
     let here : at k' stream ≡ Some (record { key = key; state = Scanning (id_of boot (sequence + 1)); held = 1 }) =
     puts.here ∙ ap (λ n. Some (record { key = key; state = Scanning (id_of boot (sequence + 1)); held = n + 1 })) (consistent.free stream unasked) in
-    let essence_new : at (essences q') (sequence + 1) ≡ Some (essence (new_row stream generation, key)) = lookup-map_values essence (is_at (nat_cmp (sequence + 1))) q' ∙ ap (option_map essence) new.here in
+    let essence_new : at (essences q') (sequence + 1) ≡ Some (essence (new_row port stream generation, key)) = lookup-map_values essence (is_at (nat_cmp (sequence + 1))) q' ∙ ap (option_map essence) new.here in
     let essence_old : (m : ℕ) → m ≢ sequence + 1 → at (essences q') m ≡ at (essences q) m =
     λ m apart. lookup-map_values essence (is_at (nat_cmp m)) q' ∙ (ap (option_map essence) (new.others m apart) ∙ sym (lookup-map_values essence (is_at (nat_cmp m)) q)) in
     record {
@@ -481,18 +482,18 @@ asks boot sequence q q' p k k' stream generation key consistent up_k unasked put
         chained = record {
           linked = consistent.chained.linked;
           ends = λ m. if_some (λ z. IsChain z.0 m p) (at q' m) (λ z at_m. elim (cases_eq m (sequence + 1)) [
-            | inl same ↦ subst (λ j. IsChain z.0 j p) (sym same) (subst (λ y. IsChain y.0 (sequence + 1) p) (some_same (new_row stream generation, key) z (sym new.here ∙ (ap (at q') (sym same) ∙ at_m)))
+            | inl same ↦ subst (λ j. IsChain z.0 j p) (sym same) (subst (λ y. IsChain y.0 (sequence + 1) p) (some_same (new_row port stream generation, key) z (sym new.here ∙ (ap (at q') (sym same) ∙ at_m)))
                 (record { first = sym first; last = sym none.last; opens = sym none.count }))
             | inr apart ↦ if_some_at (λ y. IsChain y.0 m p) (at q m) z (consistent.chained.ends m) (sym (new.others m apart) ∙ at_m)
           ]);
         };
         numbered = consistent.numbered;
-        asked = subst (λ m. AllByRecursion (λ j. j ≤ sequence + 1) m) (sym (ap keys_of is_end ∙ keys-end q (sequence + 1) (new_row stream generation, key)))
+        asked = subst (λ m. AllByRecursion (λ j. j ≤ sequence + 1) m) (sym (ap keys_of is_end ∙ keys-end q (sequence + 1) (new_row port stream generation, key)))
             (all-end (λ j. j ≤ sequence + 1) (keys_of q) (sequence + 1) (all-more (λ j. j ≤ sequence) (λ j. j ≤ sequence + 1) (keys_of q) (λ j low. omega arith) consistent.asked) (omega arith));
         unasked = λ n above. consistent.unasked n (omega arith);
         scanned = λ m. if_some (λ y. at k' y.0 ≡ Some (record { key = y.1.1; state = Scanning (id_of boot m); held = 1 })) (at (essences q') m) (λ y at_m. elim (cases_eq m (sequence + 1)) [
           | inl same ↦
-              let y_is : essence (new_row stream generation, key) ≡ y = some_same (essence (new_row stream generation, key)) y (sym essence_new ∙ (ap (at (essences q')) (sym same) ∙ at_m)) in
+              let y_is : essence (new_row port stream generation, key) ≡ y = some_same (essence (new_row port stream generation, key)) y (sym essence_new ∙ (ap (at (essences q')) (sym same) ∙ at_m)) in
               subst (λ j. at k' y.0 ≡ Some (record { key = y.1.1; state = Scanning (id_of boot j); held = 1 })) (sym same) (subst (λ z. at k' z.0 ≡ Some (record { key = z.1.1; state = Scanning (id_of boot (sequence + 1)); held = 1 })) y_is here)
           | inr apart ↦
               let at_old : at (essences q) m ≡ Some y = sym (essence_old m apart) ∙ at_m in
@@ -500,14 +501,14 @@ asks boot sequence q q' p k k' stream generation key consistent up_k unasked put
               ∙ if_some_at (λ z. at k z.0 ≡ Some (record { key = z.1.1; state = Scanning (id_of boot m); held = 1 })) (at (essences q) m) y (consistent.scanned m) at_old
         ]);
         free = λ s none_s.
-            let apart : s ≢ stream = λ e. if_some_at (λ y. y.0 ≢ s) (at (essences q') (sequence + 1)) (essence (new_row stream generation, key)) (none_s (sequence + 1)) essence_new (sym e) in
+            let apart : s ≢ stream = λ e. if_some_at (λ y. y.0 ≢ s) (at (essences q') (sequence + 1)) (essence (new_row port stream generation, key)) (none_s (sequence + 1)) essence_new (sym e) in
             ap held_out (puts.others s apart) ∙ consistent.free s (λ m. elim (cases_eq m (sequence + 1)) [
               | inl same ↦ subst (λ o. IfSome o (λ y. y.0 ≢ s)) (sym (ap (at (essences q)) same ∙ (lookup-map_values essence (is_at (nat_cmp (sequence + 1))) q ∙ ap (option_map essence) (new-question boot sequence q p k consistent)))) tt
               | inr differs ↦ subst (λ o. IfSome o (λ y. y.0 ≢ s)) (essence_old m differs) (none_s m)
             ]);
       };
       contexts = states-puts k k' stream (record { key = key; state = Scanning (id_of boot (sequence + 1)); held = held_out (at k stream) + 1 }) up_k puts;
-      questions = ap (questions_of boot) is_end ∙ questions-end boot q (sequence + 1, (new_row stream generation, key));
+      questions = ap (questions_of boot) is_end ∙ questions-end boot q (sequence + 1, (new_row port stream generation, key));
     }
 
 -- a hold that was undone

@@ -3,6 +3,7 @@ use Rattle.std.specs.Prelude.{ℕ, ◌+◌, Bool, not, ◌&&◌, nat_le, List, [
 use Rattle.av_base.specs.declared.cause.Cause.{Cause}
 use Rattle.av_base.specs.declared.cause.Cause.TheVariants.{Unsettled, Busy}
 use Rattle.av_base.specs.declared.message_id.MessageId.{MessageId}
+use Rattle.av_base.specs.declared.port.Port.{Port}
 use Rattle.av_base.specs.declared.verdict.Verdict.{Verdict}
 use Rattle.av_cache.specs.Cache.{put}
 use Rattle.av_context.specs.Contexts.{set_at}
@@ -14,17 +15,17 @@ use Rattle.av_filter_table.specs.Answering.{present_generation}
 use Rattle.av_filter_table.specs.Table.{Table, next_id, without_question, waits_for, other_opens}
 use Rattle.av_store.specs.Store.{Store}
 
--- the next question is of the present content of a stream
-abbrev pub next_question : Table → Store → ℕ → Question
-next_question t v s = record { id = next_id t; stream = s; generation = present_generation v s }
+-- the next question on a port is of the present content of a stream
+abbrev pub next_question : Table → Store → Port → ℕ → Question
+next_question t v port s = record { id = next_id t; port = port; stream = s; generation = present_generation v s }
 
--- a stream's scan is asked for
-unfoldable pub asks : Table → Store → ℕ → Table
-asks t v s =
+-- a stream's scan is asked for on a port
+unfoldable pub asks : Table → Store → Port → ℕ → Table
+asks t v port s =
     record t {
       sequence = t.sequence + 1;
       contexts = set_at t.contexts s (Some (Scanning (next_id t)));
-      questions = t.questions ++ next_question t v s ∷ [];
+      questions = t.questions ++ next_question t v port s ∷ [];
     }
 
 -- a question ends, its stream has this context, and its opens leave the table
@@ -78,10 +79,10 @@ moved old new p = if waits_for old p then again_under new p else p
 abbrev pub moved_opens : MessageId → MessageId → List Pended → List Pended
 moved_opens old new ps = map (moved old new) (filter (λ p. not (is_lost old p)) ps)
 
--- a question has ended, and is asked anew for those of its opens that have a rescan left
-abbrev pub asked_again : Table → Store → Question → Table
-asked_again t v q =
-    asks (record t { questions = without_question q.id t.questions; pended = moved_opens q.id (next_id t) t.pended }) v q.stream
+-- a question has ended, and is asked anew on a port for those of its opens that have a rescan left
+abbrev pub asked_again : Table → Store → Port → Question → Table
+asked_again t v port q =
+    asks (record t { questions = without_question q.id t.questions; pended = moved_opens q.id (next_id t) t.pended }) v port q.stream
 
 -- why an open is not asked for again
 abbrev pub again_cause : Pended → Cause

@@ -1,6 +1,7 @@
 -- The opens of one question are a chain: from its first to its last, each row names the next.
 use Rattle.std.specs.Prelude.{◌≡◌, ℕ, ◌+◌, ◌-◌, ◌==◌, ◌&&◌, not, nat_le, find, Bool, List, [], ◌∷◌, Option, None, Some, IfSome, if◌then◌else◌, map, filter}
 use Rattle.std.specs.Option.{option_or}
+use Rattle.av_base.specs.declared.port.Port.{Port}
 use Rattle.av_context.specs.Contexts.{at}
 use Rattle.av_filter_table.specs.declared.asked.Asked.{Asked}
 use Rattle.av_filter_table.specs.declared.waits.Waits.{Waits}
@@ -82,12 +83,16 @@ last_after (Some k) last = last
 abbrev pub shorter : Asked → Option ℕ → Asked
 shorter x next = record x { first = next; last = last_after next x.last; opens = x.opens - 1 }
 
--- what a question is of, and its context, whatever its chain
-abbrev pub essence : Asked × ℕ → ℕ × (ℕ × ℕ)
-essence x = (x.0.stream, (x.0.generation, x.1))
+-- what a question is of, the port that it is asked on, and its context
+abbrev pub Essence : Type 0
+Essence = ℕ × ((ℕ × Port) × ℕ)
+
+-- what a question is of, whatever its chain
+abbrev pub essence : Asked × ℕ → Essence
+essence x = (x.0.stream, ((x.0.generation, x.0.port), x.1))
 
 -- the same of each question
-abbrev pub essences : Questions → List (ℕ × (ℕ × (ℕ × ℕ)))
+abbrev pub essences : Questions → List (ℕ × Essence)
 essences q = map (λ e. (e.0, essence e.1)) q
 
 -- the first open of a question, and the opens with that one gone

@@ -9,7 +9,7 @@ use Rattle.av_context.specs.declared.context_state.ContextState.TheVariants.{Sca
 use Rattle.av_filter_table.specs.StreamContexts.{Known, held_of as held_out}
 use Rattle.av_filter_table.specs.declared.pended.Pended.{Pended}
 use Rattle.av_filter_table.specs.declared.question.Question.{Question}
-use Rattle.av_filter_table.specs.Chains.{Questions, Opens, AreChained, essences, plains, of}
+use Rattle.av_filter_table.specs.Chains.{Questions, Opens, Essence, AreChained, essences, plains, of}
 use Rattle.av_pend.specs.Waiting.{Waiting}
 
 -- the id of a number
@@ -17,8 +17,8 @@ abbrev pub id_of : ℕ → ℕ → MessageId
 id_of boot n = record { boot = boot; seq = n }
 
 -- a question as the table has it, and a held open
-abbrev pub asked_of : ℕ → ℕ × (ℕ × (ℕ × ℕ)) → Question
-asked_of boot e = record { id = id_of boot e.0; stream = e.1.0; generation = e.1.1.0 }
+abbrev pub asked_of : ℕ → ℕ × Essence → Question
+asked_of boot e = record { id = id_of boot e.0; port = e.1.1.0.1; stream = e.1.0; generation = e.1.1.0.0 }
 
 -- a held open as the table has it, with the id of its question
 abbrev pub held_of : ℕ → ℕ × Waiting → Pended
@@ -41,12 +41,12 @@ abbrev pub AreNumbered : Opens → Type 0
 AreNumbered p = keys_of p ≡ map number_of (plains p)
 
 -- the context of a question's stream is being scanned by it, and its reference is the only one that is out
-abbrev pub AreScanned : ℕ → List (ℕ × (ℕ × (ℕ × ℕ))) → List (ℕ × Known) → Type 0
+abbrev pub AreScanned : ℕ → List (ℕ × Essence) → List (ℕ × Known) → Type 0
 AreScanned boot es k =
     (n : ℕ) → IfSome (at es n) (λ y. at k y.0 ≡ Some (record { key = y.1.1; state = Scanning (id_of boot n); held = 1 }))
 
 -- no question is of this stream
-abbrev pub IsUnasked : ℕ → List (ℕ × (ℕ × (ℕ × ℕ))) → Type 0
+abbrev pub IsUnasked : ℕ → List (ℕ × Essence) → Type 0
 IsUnasked s es = (n : ℕ) → IfSome (at es n) (λ y. y.0 ≢ s)
 
 -- what holds of the rows between calls: chains are chains, each open stands at its number, no question is above the last one

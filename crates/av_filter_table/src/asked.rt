@@ -1,13 +1,15 @@
 ghost use Rattle.std.specs.Prelude.{◌≡◌, ◌<◌, ◌≤◌, ◌^◌};
 ghost use Rattle.av_filter_table.specs.Chains.{longer, shorter};
 
-use av_base::{Generation, StreamId};
+use av_base::{Generation, Port, StreamId};
 
-/// The row of a question: the content that it is of, and its opens, as a chain of so many from the first to the last.
+/// The row of a question: the content that it is of, the port that it is asked on, and its opens, as a chain of so many from
+/// the first to the last.
 #[derive(Clone, Copy, Debug, PartialEq, Eq)]
 pub struct Asked {
     pub stream: StreamId,
     pub generation: Generation,
+    pub port: Port,
     pub first: Option<u64>,
     pub last: Option<u64>,
     pub opens: usize,

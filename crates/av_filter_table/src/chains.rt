@@ -2,7 +2,7 @@ ghost use Rattle.std.specs.Prelude.{◌≡◌, ◌≢◌, ℕ, ◌≤◌, ◌<�
 ghost use Rattle.std.specs.List.{AllByRecursion, list_any};
 ghost use Rattle.std.specs.Map.{keys_of};
 ghost use Rattle.std.specs.Option.{option_map};
-ghost use Rattle.av_context.specs.Contexts.{at, with, without, PutsAt};
+ghost use Rattle.av_context.specs.Contexts.{at, with, PutsAt};
 ghost use Rattle.av_filter_table.specs.FilterTable.{AreNumbered};
 ghost use Rattle.av_filter_table.specs.Chains.{AreChained, plains, of, others, shorter, essences, first_waiting, without_first, moved_first, once_more, IsBehind, is_left, is_spent};
 

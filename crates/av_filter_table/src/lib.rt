@@ -2,7 +2,7 @@
 //! verdicts that were kept. To its callers a table is the plain record `Table` of specs/Table.antt.
 //!
 //! ```text
-//! let id = table.ask_for(stream, generation, held)?;                  // a question runs, and an open waits for it
+//! let id = table.ask_for(port, stream, generation, held)?;            // a question runs, and an open waits for it
 //! while let Some(held) = table.take_open(id.seq) { .. }               // each open is answered, in order
 //! table.end_question(id.seq, ContextState::Modified);                 // and the question ends
 //! ```

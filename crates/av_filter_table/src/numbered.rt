@@ -1,4 +1,4 @@
-ghost use Rattle.std.specs.Prelude.{◌≡◌, ◌<◌, ◌^◌, [], ◌∷◌, All, IsNone, IfNone, None, Some, length, vec_len, option_copied, ℕ, IsSome, IsSomeAnd, IfSome, OnOk, OnErr, IfOk, IfErr};
+ghost use Rattle.std.specs.Prelude.{◌≡◌, ◌<◌, ◌^◌, [], ◌∷◌, All, IsNone, IfNone, None, Some, length, vec_len, option_copied, ℕ, IsSome, IsSomeAnd, IfSome, OnOk, OnErr, IfErr};
 ghost use Rattle.std.specs.Option.{option_map};
 ghost use Rattle.av_context.specs.Contexts.{at, PutsAt};
 ghost use Rattle.av_filter_table.specs.Numbered.{slot_at, IsAscending, SameBut};

@@ -1,7 +1,7 @@
-ghost use Rattle.std.specs.Prelude.{◌≡◌, None};
+ghost use Rattle.std.specs.Prelude.{◌≡◌};
 ghost use Rattle.av_filter_table.specs.Rewriting.{change_by};
 ghost use Rattle.std.specs.Result.{result_err};
-ghost use Rattle.av_store.specs.Seen.{change_of, kept_or};
+ghost use Rattle.av_store.specs.Seen.{change_of};
 ghost use Rattle.av_base.specs.Answers.{Steps};
 
 use av_base::{Refusal, StreamId};

@@ -6,8 +6,8 @@ ghost use Rattle.av_filter_table.specs.Table.{question_at};
 
 use crate::{FilterTable, Question, answering};
 use av_base::{
-    Cause, Generation, LimitField, LimitValues, Limits, MessageId, Mode, OpenId, StreamId, Verdict,
-    Version,
+    Cause, Generation, LimitField, LimitValues, Limits, MessageId, Mode, OpenId, Port, StreamId,
+    Verdict, Version,
 };
 use av_context::ContextState;
 use av_pend::{Again, Answer, PendedOpen};
@@ -75,7 +75,7 @@ fn ask(rt: &impl Abort, table: &mut FilterTable, stream: u64) -> u64 {
     let stream = StreamId::new(stream);
     assert!(rt; table.question_of(stream).is_none());
     assert!(rt; table.sequence() < 100);
-    match table.ask(stream, Generation::new(1)) {
+    match table.ask(Port::One, stream, Generation::new(1)) {
         Ok(id) => id.seq,
         Err(_) => panic!(rt; "no memory"),
     }
@@ -113,7 +113,7 @@ fn ask_for(rt: &impl Abort, table: &mut FilterTable, stream: StreamId, held: Pen
 {
     assert!(rt; table.question_of(stream).is_none());
     assert!(rt; table.sequence() < 100);
-    match table.ask_for(stream, Generation::new(1), held) {
+    match table.ask_for(Port::One, stream, Generation::new(1), held) {
         Ok(_) => {}
         Err(_) => panic!(rt; "no memory"),
     }
@@ -265,7 +265,7 @@ fn ask_again(
     assert!(rt; table.sequence() < 100);
     assert!(rt; table.opens_of(question) < 100);
     assert!(rt; answers.len() + table.opens_of(question) <= answers.capacity());
-    match table.ask_again(volume, question, answers) {
+    match table.ask_again(volume, Port::One, question, answers) {
         Ok(id) => id.seq,
         Err(_) => panic!(rt; "no memory"),
     }
@@ -325,6 +325,7 @@ fn assert_runs_of(rt: &impl Abort, table: &FilterTable, stream: u64, id: Option<
     let generation = Generation::new(1);
     let wanted = id.map(|id| Question {
         id,
+        port: Port::One,
         stream,
         generation,
     });

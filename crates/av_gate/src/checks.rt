@@ -1,5 +1,5 @@
 // The tests of a gate's end. They take no memory.
-ghost use Rattle.std.specs.Prelude.{◌≡◌, ◌≤◌, ◌<◌, ◌+◌, ◌==◌, ℕ, IsTrue};
+ghost use Rattle.std.specs.Prelude.{◌≡◌, ◌<◌, ◌+◌, ◌==◌, ℕ, IsTrue};
 ghost use Rattle.std.specs.List.{All, count_by};
 ghost use Rattle.av_gate.specs.Claims.{AreCallsOf, InOrder, Matches, PlacesRise, Rises, Stands, digit, times};
 

@@ -116,7 +116,7 @@ impl Locked {
             return Err(Refusal::Fault(GateFault::Filter(FilterFault::OpensSpent)));
         }
         let stream = stream_of(&self.start, name);
-        let open_id = OpenId::new(u64::MAX - self.volume.opens_left() + 1);
+        let open_id = OpenId::new(self.volume.opens() + 1);
         let ticket = self.owe(alloc, open_id, least)?;
         match self.add(alloc, has_room, Event::Open { stream, least }) {
             Ok(settled) => Ok((ticket, settled)),
@@ -253,7 +253,7 @@ impl Locked {
             answers: out.answers.len(),
             messages: out.messages.len(),
         };
-        let before = u64::MAX - self.start.opens_left();
+        let before = self.start.opens();
         show(&mut self.owed, out.answers.as_slice());
         place(
             &mut self.places,
@@ -335,7 +335,7 @@ impl Locked {
         ensures { IsTrue result → Stands self.now.events receipt.now }
     {
         audits_answer_once();
-        let before = u64::MAX - self.start.opens_left();
+        let before = self.start.opens();
         let Some(place) = self.places.get(order_of(receipt.open_id, before)) else {
             return false;
         };

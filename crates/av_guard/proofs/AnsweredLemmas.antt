@@ -22,7 +22,7 @@ use Rattle.av_guard.proofs.PastLemmas.{among_left}
 use Rattle.av_guard.proofs.SoundLemmas.{free_name, number_free}
 use Rattle.av_guard.proofs.StoryLemmas.{Story, later}
 use Rattle.av_guard.specs.Answering.{AsksAreAnsweredOnce, Stays, asks_of, one_if, told_of}
-use Rattle.av_guard.specs.Asking.{Asked, AskedNow, GivesNothing, IsRefused, IsThere, LetGo, Nexts, Ordered, Refuses, Takes, ask_fault, asked, behind, in_line, kept, must_stand, place_fault, place_of, refusal_of, skipped, still_here}
+use Rattle.av_guard.specs.Asking.{Asked, AskedNow, GivesNothing, IsRefused, IsThere, LetGo, Nexts, Ordered, Takes, ask_fault, asked, behind, in_line, kept, must_stand, place_fault, place_of, refusal_of, skipped, still_here}
 use Rattle.av_guard.specs.Asking as refused_so
 use Rattle.av_guard.specs.Beginning.{begun}
 use Rattle.av_guard.specs.Place.{Held, Missing, Spot, Unused}

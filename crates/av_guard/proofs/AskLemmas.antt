@@ -20,7 +20,7 @@ use Rattle.av_guard.proofs.RunLemmas.{Made, append_none, made_of, undone_step, w
 use Rattle.av_guard.proofs.SoundLemmas.{IsNameOf, free_name, written_more, written_same}
 use Rattle.av_guard.proofs.StoryLemmas.{Story, opens_story}
 use Rattle.av_guard.proofs.TellLemmas.{IsAsking, asking_more, founded_more}
-use Rattle.av_guard.specs.Asking.{IsRefused, IsThere, asked, ask_fault, created, kept, place_fault, place_of, spent, stored, stream_with}
+use Rattle.av_guard.specs.Asking.{IsRefused, IsThere, asked, ask_fault, kept, place_fault, place_of, spent, stored, stream_with}
 use Rattle.av_guard.specs.Asking as refused_so
 use Rattle.av_guard.specs.Keeping.{IsStored}
 use Rattle.av_guard.specs.Place.{Held, Missing, Spot, Unused}

@@ -96,21 +96,5 @@ counted_more old new m n w counted away adds u = ⊎_elim here apart (cases_Bool
         let other : u ≢ w.stream = λ same. true≢false (sym (eq-eqb w.stream u (sym same)) ∙ e) in
         omega (arith, adds.others u other, counted u, none_of (w.stream == u) _ _ e rest)
 
--- one more and one less
-pub counted_again : (old more new : List (ℕ × ℕ)) (m : Waiters) (s : ℕ) → AreCounted old m → Adds old more s → Wakes more new s → AreCounted new m
-counted_again old more new m s counted adds wakes u = ⊎_elim here apart (cases_Bool (s == u))
-  where
-    here : (s == u) ≡ true → waits_of new u ≡ times u (map stream_of m)
-    here e =
-        let same : s ≡ u = eqb-true s u e in
-        let up : waits_of more u ≡ waits_of old u + 1 = subst (λ k. waits_of more k ≡ waits_of old k + 1) same adds.here in
-        let down : waits_of new u ≡ waits_of more u - 1 = subst (λ k. waits_of new k ≡ waits_of more k - 1) same wakes.here in
-        omega (arith, up, down, counted u)
-
-    apart : (s == u) ≡ false → waits_of new u ≡ times u (map stream_of m)
-    apart e =
-        let other : u ≢ s = λ same. true≢false (sym (eq-eqb s u (sym same)) ∙ e) in
-        omega (arith, adds.others u other, wakes.others u other, counted u)
-
 pub restored : (m entered gone : Waiters) (n : ℕ) (w : Waiter) → gone ≡ without entered n → entered ≡ with m n w → at m n ≡ None → gone ≡ m
 restored m entered gone n w left came away = left ∙ ap (λ k. without k n) came ∙ without_with m n w away

@@ -31,9 +31,7 @@ use Rattle.av_filter.specs.declared.note.Note.TheVariants.{Quiet}
 use Rattle.av_filter_table.specs.Table.{Table}
 use Rattle.av_store.specs.Content.{new_stream}
 use Rattle.av_guard.specs.Asking.{bytes_in, bytes_kept, stored}
-use Rattle.av_guard.specs.Kept.{IsIn, IsNotIn}
 use Rattle.av_guard.specs.Kept as kept_so
-use Rattle.av_guard.specs.State.{State}
 use Rattle.av_guard.proofs.SumLemmas.{count_more, sum_more}
 use Rattle.av_store.specs.Files.{Create, Write}
 use Rattle.av_store.specs.declared.fault.StoreFault.{StoreFault}
@@ -226,27 +224,9 @@ pub unkept_fits : (t t' : Table) (v u : Store) → Fits t v → IsUnkept t v t' 
 unkept_fits t t' v u fits (Same table volume) = subst (λ x. Fits x u) (sym table) (subst (λ x. Fits t x) (sym volume) fits)
 unkept_fits t t' v u fits (Spent table volume) = subst (λ x. Fits x u) (sym table) (subst (λ x. Fits t x) (sym volume) (spent_fits t v (v.last + 1) fits))
 
--- the same of the whole guard
-pub is_in : (g : State) (t : Table) (v : Store) (name c : List ℕ) (id : ℕ) → IsStored g.table g.volume name c t v → id ≡ g.volume.last + 1 → result_err (create_of g.volume name) ≡ None → IsIn g (record g { table = t; volume = v }) name c id
-is_in g t v name c id is number creates = record {
-  number = number;
-  state = ap (λ u. record g { table = u; volume = v }) is.table ∙ ap (λ w. record g { table = (stored g.table g.volume name c).table; volume = w }) is.volume;
-  streams = is.streams ∙ ap (λ n. g.volume.streams ++ (n, stream_with name c) ∷ []) (sym number);
-  opens = is.opens;
-  creates = creates;
-}
-
-pub is_not_in : (g : State) (t : Table) (v : Store) → IsUnkept g.table g.volume t v → IsNotIn g (record g { table = t; volume = v })
-is_not_in g t v (Same table volume) = kept_so.Same (ap (λ u. record g { table = u; volume = v }) table ∙ ap (λ w. record g { volume = w }) volume)
-is_not_in g t v (Spent table volume) = kept_so.Spent (ap (λ u. record g { table = u; volume = v }) table ∙ ap (λ w. record g { volume = w }) volume)
-
 -- the counts of it
 pub more_count : (t t' : Table) (v v' : Store) (name c : List ℕ) → IsStored t v name c t' v' → length v'.streams ≡ length v.streams + 1
 more_count t t' v v' name c is = ap length is.streams ∙ count_more v.streams (v.last + 1, stream_with name c)
 
 pub more_bytes : (t t' : Table) (v v' : Store) (name c : List ℕ) → IsStored t v name c t' v' → bytes_kept v' ≡ bytes_kept v + length c
 more_bytes t t' v v' name c is = ap bytes_in is.streams ∙ sum_more v.streams (v.last + 1, stream_with name c)
-
-pub same_streams : (t t' : Table) (v v' : Store) → IsUnkept t v t' v' → v'.streams ≡ v.streams
-same_streams t t' v v' (Same table volume) = ap (λ (w : Store). w.streams) volume
-same_streams t t' v v' (Spent table volume) = ap (λ (w : Store). w.streams) volume

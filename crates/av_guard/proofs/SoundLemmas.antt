@@ -1,5 +1,5 @@
 -- What every event keeps of a guard: contents are written once, and each open is waited for by one.
-use Rattle.std.proofs.Common.{◌≡◌, ℕ, zero, suc, ◌+◌, ◌-◌, ◌<◌, ◌≤◌, ◌==◌, Bool, true, false, cond, List, [], ◌∷◌, ◌++◌, Option, Some, None, if◌then◌else◌, refl, arith, ap, ◌∙◌, sym, subst}
+use Rattle.std.proofs.Common.{◌≡◌, ℕ, zero, suc, ◌+◌, ◌<◌, ◌≤◌, ◌==◌, Bool, true, false, cond, List, [], ◌∷◌, ◌++◌, Option, Some, None, if◌then◌else◌, refl, arith, ap, ◌∙◌, sym, subst}
 use Rattle.std.proofs.lemmas.Bool.Decides.{nat_tests}
 use Rattle.std.specs.List.{AllByRecursion as Each}
 use Rattle.av_context.specs.Contexts.{at, with}
@@ -25,7 +25,7 @@ use Rattle.av_guard.specs.declared.waiter.Waiter.{Waiter}
 use Rattle.av_store.specs.Files.{Remove}
 use Rattle.av_store.specs.Rows.{Streams, is_number, number_named, stream_at, without}
 use Rattle.av_store.specs.Seen.{change_of, kept_or}
-use Rattle.av_store.specs.Store.{Store, greatest, with_streams}
+use Rattle.av_store.specs.Store.{Store, with_streams}
 use Rattle.av_store.specs.declared.fault.StoreFault.TheVariants.{NoStream}
 use Rattle.std.specs.Prelude.{is_some, Ok, Err}
 
@@ -86,9 +86,6 @@ paired_after t t' v v' m m' e out fits all p none comes reacts left =
 -- nobody waits for the next open yet
 pub number_free : (t : Table) (v : Store) (m : Waiters) → Fits t v → ArePaired t.pended m → at m (v.opens + 1) ≡ None
 number_free t v m fits p = at_none m (v.opens + 1) (p.each (v.opens + 1) ∙ times_above t.pended v.opens fits.taken)
-
-pub number_is : (opens left : ℕ) → left ≡ greatest - opens → opens < greatest → greatest - left + 1 ≡ opens + 1
-number_is opens left is some = omega (arith, is, some)
 
 pub free_at : (t : Table) (v : Store) (m : Waiters) (n : ℕ) → Fits t v → ArePaired t.pended m → n ≡ v.opens + 1 → at m n ≡ None
 free_at t v m n fits p is = subst (λ k. at m k ≡ None) (sym is) (number_free t v m fits p)

@@ -10,14 +10,14 @@ use Rattle.av_filter.specs.Once.{times}
 use Rattle.av_guard.specs.declared.waiter.Waiter.{Waiter}
 use Rattle.av_filter_table.specs.Table.{Table}
 use Rattle.av_guard.proofs.SumLemmas.{count_less, sum_less}
-use Rattle.av_guard.specs.Asking.{Asked, AskedNow, IsRefused, IsThere, LetGo, LetsGo, Nexts, is_crowded, ask_fault, may_ask, skipped, asked, behind, bytes_in, bytes_kept, kept, opens, place_fault, place_of}
+use Rattle.av_guard.specs.Asking.{Asked, AskedNow, IsRefused, IsThere, LetGo, LetsGo, Nexts, is_crowded, ask_fault, may_ask, skipped, asked, behind, bytes_in, bytes_kept, opens, place_fault, place_of}
 use Rattle.av_guard.specs.Asking as refused_so
-use Rattle.av_guard.specs.Kept.{AsksNew, IsLeft, IsNotIn, Never, Stays}
+use Rattle.av_guard.specs.Kept.{AsksNew, Never, Stays}
 use Rattle.av_guard.specs.Kept as kept_so
-use Rattle.av_guard.specs.Place.{Held, Missing, Spot, Unused}
+use Rattle.av_guard.specs.Place.{Spot, Unused}
 use Rattle.std.specs.Slice.{IsItemAt}
 use Rattle.std.proofs.Common.{Bor, drop, inr}
-use Rattle.av_guard.specs.Line.{FirstOf, FrontOf, IsFirst, IsHeldUp, NextOf}
+use Rattle.av_guard.specs.Line.{FirstOf, FrontOf, IsHeldUp, NextOf}
 use Rattle.av_guard.specs.State.{Gives, State, happens}
 use Rattle.av_guard.specs.Telling.{Waiters}
 use Rattle.av_guard.specs.declared.ask.Ask.{Ask}
@@ -81,24 +81,6 @@ asked_new old new client tag name c (Err NoMemory) left is (Never creates (kept_
 asked_new old new client tag name c (Err NoMemory) left is (Never creates (kept_so.Spent spent)) = refused_so.Spent name is creates spent
 asked_new old new client tag name c (Err NoMemory) left is (Stays there stays) = refused_so.Kept name is there stays
 
--- what an ask gives, whatever the line behind it
-gives_behind : (old mid : State) (given : Given) (client tag : ℕ) (c : List ℕ) (line : List Ask) (spot : Spot) → Gives given mid (asked (behind old []) client tag c spot) → Gives given (behind mid line) (asked (behind old line) client tag c spot)
-gives_behind old mid given client tag c line (Held s) g = record { told = g.told; messages = g.messages; state = ap (λ x. behind x line) g.state }
-gives_behind old mid given client tag c line (Unused name) g = record { told = g.told; messages = g.messages; state = ap (λ x. behind x line) g.state }
-gives_behind old mid given client tag c line Missing g = record { told = g.told; messages = g.messages; state = ap (λ x. behind x line) g.state }
-
-there_behind : (old : State) (c : List ℕ) (line : List Ask) (spot : Spot) → IsThere (behind old []) c spot → IsThere (behind old line) c spot
-there_behind old c line (Held s) is = is
-there_behind old c line (Unused name) is = is
-there_behind old c line Missing is = is
-
--- the first in line was asked
-pub first_asked : (old mid : State) (line : List Ask) (given : Given) → old.line ≡ line → FrontOf (behind old []) mid line (Ok (Some given)) → FirstOf old (behind mid (drop 1 line)) (Ok (Some given))
-first_asked old mid line given is f =
-    subst (λ l. (x : Ask) → old.line ≡ x ∷ drop 1 l → AskedNow (behind old (drop 1 l)) (behind mid (drop 1 line)) x.client x.tag x.content (Ok given) → IsFirst old (behind mid (drop 1 line)) given) is
-    (λ x first asked_so. record { ask = x; first = first; asked = asked_so }) f.ask (is ∙ f.first)
-    (f.asked.0, there_behind old f.ask.content (drop 1 line) _ f.asked.1, gives_behind old mid given f.ask.client f.ask.tag f.ask.content (drop 1 line) _ f.asked.2)
-
 refused_behind : (old mid : State) (c : List ℕ) → IsRefused (behind old []) mid c → IsRefused old (behind mid old.line) c
 refused_behind old mid c (refused_so.Same e) = refused_so.Same (ap (λ x. behind x old.line) e)
 refused_behind old mid c (refused_so.Spent name is creates e) = refused_so.Spent name is creates (ap (λ x. behind x old.line) e)
@@ -112,9 +94,6 @@ first_refused old mid line NoMemory is front = record {
   first = is ∙ front.first;
   left = subst (λ l. IsRefused old (behind mid l) front.ask.content) is (refused_behind old mid front.ask.content front.asked);
 }
-
-pub first_none : (old mid : State) (line : List Ask) → old.line ≡ line → FrontOf (behind old []) mid line (Ok None) → FirstOf old (behind mid line) (Ok None)
-first_none old mid line is (empty, same) = (is ∙ empty, ap (λ x. behind x line) same ∙ ap (λ l. behind old l) (sym is))
 
 -- the first of a line
 pub front_of : (xs : List Ask) (b : Bor Ask) → IsItemAt xs 0 (Some b) → xs ≡ b.now ∷ drop 1 xs

@@ -140,7 +140,7 @@ module _ (Q : ℕ → ℕ → Type 0) (g : ℕ) where
     removed_stays : (w : Store) (s : ℕ) (o : Option Question) → Stays (removed t w s o)
     unfolding removed
     removed_stays w s None = still _ held refl
-    removed_stays w s (Some q) = ended_stays t w q None (λ p. denied StreamRemoved p.held) (via One (Abort q.id) ∷ []) Quiet held (λ p h. tt)
+    removed_stays w s (Some q) = ended_stays t w q None (λ p. denied StreamRemoved p.held) (via q.port (Abort q.id) ∷ []) Quiet held (λ p h. tt)
 
     changes_stays : (c : Change) → Stays (changes t v c)
     unfolding changes
@@ -184,7 +184,7 @@ module _ (Q : ℕ → ℕ → Type 0) (g : ℕ) where
     times_out_stays : (o : Option Question) → Stays (times_out t v o)
     unfolding times_out
     times_out_stays None = still _ held refl
-    times_out_stays (Some q) = ended_stays t v q (Some context.Modified) _ (via One (Abort q.id) ∷ []) Quiet held (λ p h. refused_of t.mode _ _ p.held h)
+    times_out_stays (Some q) = ended_stays t v q (Some context.Modified) _ (via q.port (Abort q.id) ∷ []) Quiet held (λ p h. refused_of t.mode _ _ p.held h)
 
     disconnects_stays : Stays (disconnects t v)
     unfolding disconnects

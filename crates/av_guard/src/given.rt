@@ -1,4 +1,3 @@
-ghost use Rattle.std.specs.Prelude.{◌≡◌, []};
 ghost use Rattle.av_guard.specs.Asking.{GivesNothing};
 
 use crate::answered::Answered;

@@ -1,4 +1,4 @@
-ghost use Rattle.std.specs.Prelude.{◌≡◌, ◌+◌, ◌^◌, ◌∷◌, [], length, None, Some, IfOk, IfErr, IfSome, IfNone, OnErr, OnOk, ◌<◌, IsErr, map};
+ghost use Rattle.std.specs.Prelude.{◌≡◌, ◌+◌, ◌^◌, length, None, Some, IfOk, IfErr, OnErr, OnOk, ◌<◌, IsErr, map};
 ghost use Rattle.std.specs.BTreeMap.{is_at};
 ghost use Rattle.std.specs.Set.{remove_key};
 ghost use Rattle.std.specs.Ordering.{nat_cmp};
@@ -326,7 +326,7 @@ impl Guard {
             Ok(told) => told,
             Err(refused) => return Err(refused),
         };
-        let number = u64::MAX - self.volume.opens_left() + 1;
+        let number = self.volume.opens() + 1;
         let waiter = Waiter {
             client,
             tag,

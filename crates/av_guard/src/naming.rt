@@ -1,6 +1,6 @@
-ghost use Rattle.std.specs.Prelude.{◌≡◌, ◌≤◌, ◌+◌, ◌++◌, IfOk, OnOk, OnErr, vec_len};
+ghost use Rattle.std.specs.Prelude.{◌≡◌, ◌≤◌, ◌+◌, ◌++◌, IfOk, vec_len};
 ghost use Rattle.std.specs.Vec.{vec_capacity};
-ghost use Rattle.av_guard.specs.Naming.{hash_of, letters, name_of, stem_of};
+ghost use Rattle.av_guard.specs.Naming.{hash_of, letters, stem_of};
 
 use std::alloc::{AllocError, Global};
 

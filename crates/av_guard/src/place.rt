@@ -1,7 +1,6 @@
 ghost use Rattle.std.specs.Prelude.{◌≡◌, ◌-◌, IfOk};
 ghost use Rattle.av_guard.specs.Place.{IsPlace, has_bytes, place_from};
 ghost use Rattle.av_guard.specs.Naming.{name_of, stem_of};
-ghost use Rattle.av_store.specs.Rows.{stream_at};
 
 use crate::naming::{push_letters, stem_of};
 use av_base::StreamId;

@@ -1,5 +1,4 @@
-ghost use Rattle.std.specs.Prelude.{◌≡◌, ◌+◌, ◌-◌, ◌<◌, ◌^◌, [], None, Some, IfSome, OnOk, OnErr};
-ghost use Rattle.av_context.specs.Contexts.{at};
+ghost use Rattle.std.specs.Prelude.{◌≡◌, ◌+◌, ◌-◌, ◌<◌, [], None, Some, OnOk, OnErr};
 ghost use Rattle.av_guard.specs.Shelf.{Adds, IsIdle, Wakes, waits_of};
 
 use av_base::StreamId;

@@ -6,7 +6,7 @@ use Rattle.std.proofs.lemmas.Map.Steps.{set_value_same}
 use Rattle.av_base.specs.declared.limits.LimitValues.{LimitValues}
 use Rattle.av_base.specs.declared.refusal.Refusal.{Refusal}
 use Rattle.av_base.specs.declared.refusal.Refusal.TheVariants.{Fault, NoMemory}
-use Rattle.av_base.specs.Answers.{Reads, Steps, StepsAtOnce}
+use Rattle.av_base.specs.Answers.{Steps, StepsAtOnce}
 use Rattle.av_base.specs.Overwrite.{overwritten}
 use Rattle.av_store.specs.declared.stream.Stream.{Stream}
 use Rattle.av_store.specs.declared.fault.StoreFault.{StoreFault}
@@ -104,8 +104,3 @@ pub kept_at_once : (names : List (Vec ℕ × ℕ)) (ss tt : Streams) (last id : 
     → IsIndexed names ss last → StepsAtOnce ss tt r (stepped ss id step) → IsIndexed names tt last
 kept_at_once names ss tt last id step (Ok done) keeps indexed h = kept names ss tt last id step keeps indexed h
 kept_at_once names ss tt last id step (Err f) keeps indexed h = subst (λ x. IsIndexed names x last) (sym (h.1)) indexed
-
--- what is read of the stream that is found
-pub reads_at : {A : Type 0} (ss : Streams) (id : ℕ) (s : Stream) (step : Stream → Result A StoreFault) (r : Result A (Refusal StoreFault))
-    → stream_at id ss ≡ Some s → Reads r (step s) → Reads r (on_stream (stream_at id ss) step)
-reads_at ss id s step r found h = rw found h

@@ -75,6 +75,7 @@ fn boots_and_open_numbers_count_from_one(rt: HostRuntime) -> Result<(), Fail> {
     assert_eq!(rt; volume.mount()?, 1);
     assert_eq!(rt; volume.mount()?, 2);
     assert_eq!(rt; volume.take_open_number()?, OpenId::new(1));
+    assert_eq!(rt; volume.opens(), 1);
     assert_eq!(rt; volume.opens_left(), u64::MAX - 1);
     let id = volume.create(rt.alloc(), b"one")?;
     let mut copy = volume.copy()?;

@@ -265,6 +265,13 @@ impl Volume {
         Ok(OpenId::new(self.opens))
     }
 
+    /// How many open numbers `take_open_number` has given, which is the last one. It takes no memory.
+    pub fn opens(&self) -> u64
+        ensures { result ≡ self.now.opens }
+    {
+        self.opens
+    }
+
     /// How many open numbers `take_open_number` can still give. It takes no memory.
     pub fn opens_left(&self) -> u64
         ensures left { result ≡ greatest - self.now.opens }

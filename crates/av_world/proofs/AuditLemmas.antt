@@ -11,7 +11,7 @@ use Rattle.av_filter.specs.Conduct as filter_events
 use Rattle.av_filter.specs.Reaction.{Reaction}
 use Rattle.av_filter_table.specs.Table.{mounted}
 use Rattle.av_service.specs.Audit.{By, Call, IsAccepted, IsServiceAudit, Publishes, desk_end, lent_by, respond, sent_up}
-use Rattle.av_service.specs.Conduct.{ServiceEvent, Connects, Disconnects, Receives, Finishes, Restarts}
+use Rattle.av_service.specs.Conduct.{Connects, Disconnects, Receives, Finishes, Restarts}
 use Rattle.av_service.specs.Conduct as service_events
 use Rattle.av_service.specs.Desk.{just_started}
 use Rattle.av_service.specs.Response.{Response}

@@ -56,7 +56,7 @@ use Rattle.av_world.proofs.ContentLemmas.{kept_change, present_content, stream_w
 use Rattle.av_filter.proofs.EachLemmas.{each_weaker, each-append, each-filter, each-filter_passed, each-map, each-take, find_each, find_passes, each_mapped}
 use Rattle.av_filter.proofs.VolumeLemmas.{changed_same}
 use Rattle.av_world.proofs.FitLemmas
-use Rattle.av_world.proofs.FitLemmas.{Fits as FilterFits, FitsAway, Core, core, core_with, DownFits, UpBody, UpFits, OutcomeFits, ReplyFits, ScanFits, ChunkFits, ContextFits, QuestionFits, IsScanned, about, leave, leave_none, close, ask, tell, change_away, create, right_grows, core_without, lost_fit, lost_rises}
+use Rattle.av_world.proofs.FitLemmas.{Fits as FilterFits, FitsAway, Core, core, core_with, DownFits, UpBody, UpFits, OutcomeFits, ContextFits, QuestionFits, IsScanned, about, leave, leave_none, close, ask, tell, change_away, create, core_without, lost_fit, lost_rises}
 use Rattle.av_world.specs.Headline.{IsJustified}
 use Rattle.av_world.specs.Held.{Asked, asked}
 use Rattle.av_world.specs.Past.{Past, changes, IsVerdictOf, IsRightEntry}
@@ -91,8 +91,8 @@ none_sent : (p : Past) (d : List Letter) → Each (DownFits p d) []
 none_sent p d = tt
 
 -- messages that tell nothing about contents
-abort_sent : (p : Past) (i : MessageId) (d : List Letter) → Each (DownFits p d) (via One (Abort i) ∷ [])
-abort_sent p i d = (tt, tt)
+abort_sent : (p : Past) (port : Port) (i : MessageId) (d : List Letter) → Each (DownFits p d) (via port (Abort i) ∷ [])
+abort_sent p port i d = (tt, tt)
 
 -- what a question asked about, told of its stream
 pub record QuestionAsked (down : List Letter) (q : Question) : Type 0 where
@@ -123,9 +123,9 @@ module _ (p : Past) (t : Table) (v : Store) (down : List Letter) (boots : t.boot
   again_good q early f away here a plain each =
       cond_both (list_any (is_held q.id) t.pended && sequence_left t) _ _ (Good p t.mode down)
       (λ e.
-      let all : List Letter = down ++ (early ++ scan_message t v q.stream ∷ []) in
+      let all : List Letter = down ++ (early ++ scan_message t v One q.stream ∷ []) in
       let fits = ask q.stream p v.streams (core_without q.id (core t)) down early f away here plain each in
-      let new : QuestionFits v.streams all (next_question t v q.stream) = each_last (QuestionFits v.streams all) _ (next_question t v q.stream) fits.questions in
+      let new : QuestionFits v.streams all (next_question t v One q.stream) = each_last (QuestionFits v.streams all) _ (next_question t v One q.stream) fits.questions in
       record {
         fits = fits;
         keeps = keeps;
@@ -263,9 +263,9 @@ module _ (p : Past) (t : Table) (v : Store) (down : List Letter) (fits : FilterF
       (λ e. cond_both (not t.connected) _ _ (Good p t.mode down) (λ e. by_refusal NotConnected)
       (λ e. cond_both (not (can_ask t)) _ _ (Good p t.mode down) (λ e. by_refusal Busy)
       (λ e.
-      let all : List Letter = down ++ scan_message t v s ∷ [] in
+      let all : List Letter = down ++ scan_message t v One s ∷ [] in
       let fits = ask s p v.streams (core t) down [] f (leave_none s p v.streams (core t) down none fits) here plain_nil (none_sent p) in
-      let new : QuestionFits v.streams all (next_question t v s) = each_last (QuestionFits v.streams all) t.questions (next_question t v s) fits.questions in
+      let new : QuestionFits v.streams all (next_question t v One s) = each_last (QuestionFits v.streams all) t.questions (next_question t v One s) fits.questions in
       record {
         fits = fits;
         keeps = keeps;
@@ -394,7 +394,7 @@ module _ (p : Past) (t : Table) (v : Store) (down : List Letter) (fits : FilterF
   unfolding times_out
   times_out_good id None at = quiet_good t _ fits opens boots refl
   times_out_good id (Some q) at =
-      ended_good p t v down boots opens keeps q (Some context.Modified) _ (via One (Abort q.id) ∷ []) Quiet (leave (λ q. same_id q.id id) q p v.streams (core t) down at fits) tt (by_mode_good p t v down boots opens keeps TimedOut _) (plain_abort q.id) (abort_sent p q.id)
+      ended_good p t v down boots opens keeps q (Some context.Modified) _ (via q.port (Abort q.id) ∷ []) Quiet (leave (λ q. same_id q.id id) q p v.streams (core t) down at fits) tt (by_mode_good p t v down boots opens keeps TimedOut _) (plain_abort q.port q.id) (abort_sent p q.port q.id)
 
   disconnects_good : Good p t.mode down (disconnects t v)
   unfolding disconnects
@@ -456,7 +456,7 @@ module _ (p : Past) (t : Table) (v w : Store) (down : List Letter) (fits : Filte
       let f = stream_written v w p.streams c keeps ok q.stream r.file of' (λ e. keep (e ∙ ap Remove same)) r.here in
       let away : FitsAway q.stream (changes p c) w.streams (core_without q.id (core t)) down =
       change_away c p v w (core_without q.id (core t)) down keeps ok q.stream of' (leave (λ q. q.stream == s) q p v.streams (core t) down at fits) in
-      again_good (changes p c) t w down boots opens (kept_change v w p.streams c keeps ok) q (via One (Abort q.id) ∷ []) f.0 away f.1 (asked_of p v.streams down q r) (plain_abort q.id) (abort_sent (changes p c) q.id)
+      again_good (changes p c) t w down boots opens (kept_change v w p.streams c keeps ok) q (via q.port (Abort q.id) ∷ []) f.0 away f.1 (asked_of p v.streams down q r) (plain_abort q.port q.id) (abort_sent (changes p c) q.port q.id)
 
   removed_good : (s : ℕ) → change_of v (Remove s) ≡ Ok w → (o : Option Question) → question_of s t.questions ≡ o → Good (changes p (Remove s)) t.mode down (removed t w s o)
   unfolding removed
@@ -469,8 +469,8 @@ module _ (p : Past) (t : Table) (v w : Store) (down : List Letter) (fits : Filte
       let same : q.stream ≡ s = eqb-true q.stream s (find_passes (λ (q : Question). q.stream == s) t.questions q at) in
       let away : FitsAway q.stream (changes p c) w.streams (core_without q.id (core t)) down =
       change_away c p v w (core_without q.id (core t)) down keeps ok q.stream (sym same) (leave (λ q. q.stream == s) q p v.streams (core t) down at fits) in
-      ended_good (changes p c) t w down boots opens (kept_change v w p.streams c keeps ok) q None _ (via One (Abort q.id) ∷ []) Quiet away tt
-      (each_mapped (IsJustified t.mode (changes p c)) (λ (o : Pended). denied StreamRemoved o.held) (λ o. tt) _) (plain_abort q.id) (abort_sent (changes p c) q.id)
+      ended_good (changes p c) t w down boots opens (kept_change v w p.streams c keeps ok) q None _ (via q.port (Abort q.id) ∷ []) Quiet away tt
+      (each_mapped (IsJustified t.mode (changes p c)) (λ (o : Pended). denied StreamRemoved o.held) (λ o. tt) _) (plain_abort q.port q.id) (abort_sent (changes p c) q.port q.id)
 
 changes_good : (c : Change) (p : Past) (t : Table) (v : Store) (down : List Letter) → FilterFits p v.streams (core t) down → t.boot ≡ v.boot → Each (OpenFits down) t.pended → Keeps v (map now p.streams) → change_of v c ≡ Ok (changed_volume v c)
     → Good (changes p c) t.mode down (conduct_of t v c)

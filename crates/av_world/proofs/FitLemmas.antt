@@ -258,7 +258,7 @@ abbrev pub given_id : Core → MessageId
 given_id k = record { boot = k.boot; seq = k.sequence + 1 }
 
 abbrev pub new_question : Core → Streams → ℕ → Question
-new_question k ss s = record { id = given_id k; stream = s; generation = stream_generation (stream_at s ss) }
+new_question k ss s = record { id = given_id k; port = One; stream = s; generation = stream_generation (stream_at s ss) }
 
 abbrev pub core_asked : Core → Streams → ℕ → Core
 core_asked k ss s =

@@ -64,12 +64,12 @@ module _ (t : Table) where
 module _ (t : Table) (v : Store) where
   again_leaves : (q : Question) (early : List Letter) → Leaves t (again t v q early)
   unfolding again asks ended
-  again_leaves q early = cond_both (list_any (is_held q.id) t.pended && sequence_left t) _ _ (Leaves t) (λ e. anew_leaves t q.id (next_question t v q.stream)) (λ e. without_leaves t q.id)
+  again_leaves q early = cond_both (list_any (is_held q.id) t.pended && sequence_left t) _ _ (Leaves t) (λ e. anew_leaves t q.id (next_question t v One q.stream)) (λ e. without_leaves t q.id)
 
   cached_leaves : (s least : ℕ) (x : Stream) (o : Option Entry) → Leaves t (open_cached t v s least x o)
   unfolding open_cached asks
   cached_leaves s least x (Some e) = same_leaves t
-  cached_leaves s least x None = cond_both (not (has_room t)) _ _ (Leaves t) (λ e. same_leaves t) (λ e. cond_both (not t.connected) _ _ (Leaves t) (λ e. same_leaves t) (λ e. cond_both (not (can_ask t)) _ _ (Leaves t) (λ e. same_leaves t) (λ e. with_leaves t (next_question t v s))))
+  cached_leaves s least x None = cond_both (not (has_room t)) _ _ (Leaves t) (λ e. same_leaves t) (λ e. cond_both (not t.connected) _ _ (Leaves t) (λ e. same_leaves t) (λ e. cond_both (not (can_ask t)) _ _ (Leaves t) (λ e. same_leaves t) (λ e. with_leaves t (next_question t v One s))))
 
   asked_leaves : (s least : ℕ) (x : Stream) (o : Option Question) → Leaves t (open_asked t v s least x o)
   unfolding open_asked
@@ -99,7 +99,7 @@ module _ (t : Table) (v : Store) where
   cleaned_leaves : (s : ℕ) (o : Option Stream) → Leaves t (cleaned t v s o)
   unfolding cleaned asks
   cleaned_leaves s None = same_leaves t
-  cleaned_leaves s (Some x) = cond_both (is_modified (context_of t.contexts s) && can_ask t) _ _ (Leaves t) (λ e. with_leaves t (next_question t v s)) (λ e. same_leaves t)
+  cleaned_leaves s (Some x) = cond_both (is_modified (context_of t.contexts s) && can_ask t) _ _ (Leaves t) (λ e. with_leaves t (next_question t v One s)) (λ e. same_leaves t)
 
   greeted_leaves : (number version : ℕ) → Leaves t (greeted t v number version)
   unfolding greeted

@@ -1,5 +1,5 @@
 -- What an event asks for is what comes of it.
-use Rattle.std.proofs.Common.{◌≡◌, ◌==◌, ◌<◌, ◌≤◌, ℕ, suc, true, false, cond, List, [], ◌∷◌, slice_get, ap, None, Some, Option, Result, Ok, Err, refl, sym, subst, ◌∙◌, arith, eqb-true}
+use Rattle.std.proofs.Common.{◌≡◌, ◌==◌, ◌<◌, ◌≤◌, ℕ, true, false, cond, List, [], ◌∷◌, ap, None, Some, Option, Result, Ok, Err, refl, sym, subst, ◌∙◌, arith, eqb-true}
 use Rattle.std.proofs.lemmas.Bool.{eqb-false, true≢false}
 use Rattle.std.specs.List.{AllByRecursion}
 use Rattle.std.specs.Option.{option_map}
@@ -50,9 +50,6 @@ connects_as w (Some f) = refl
 
 pub connects : (w : WorldState) → connected w Connect (connect_refusal (desk_of w One)) ≡ served w Connect One Connects
 connects w = connects_as w (connect_refusal (desk_of w One))
-
-pub member_at : {A : Type 0} (xs : List A) (k index : ℕ) → k ≡ suc index → member xs k ≡ slice_get xs index
-member_at xs k index is = ap (member xs) is
 
 -- ---- refusals
 

@@ -11,7 +11,7 @@ use Rattle.av_context.specs.declared.context_state.ContextState.{ContextState}
 use Rattle.av_context.specs.declared.context_state.ContextState.TheVariants as context
 use Rattle.av_context.proofs.RowsLemmas.{cmp-above, cmp-same}
 use Rattle.av_filter.specs.Fit.{Rises}
-use Rattle.av_filter.specs.Conduct.{FilterEvent, Opens, Changes, CleansUp, TimesOut, filter_refusal, filter_step}
+use Rattle.av_filter.specs.Conduct.{FilterEvent, Opens, Changes, CleansUp, TimesOut, filter_step}
 use Rattle.av_filter.specs.Conduct as filter_events
 use Rattle.av_filter.specs.Reaction.{Reaction}
 use Rattle.av_filter_table.specs.Table.{Table, context_of}

@@ -4,7 +4,6 @@ use Rattle.std.proofs.lemmas.List.{length-map}
 use Rattle.std.specs.Prelude.{◌-◌, ◌&&◌, IfOk, IfSome}
 use Rattle.std.specs.Result.{result_ok}
 use Rattle.av_base.specs.Port.{same_port}
-use Rattle.av_base.specs.declared.port.Port.TheVariants.{One}
 use Rattle.av_base.specs.declared.refusal.Refusal.{Refusal}
 use Rattle.av_base.specs.declared.refusal.Refusal.TheVariants.{Fault, NoMemory}
 use Rattle.av_base.specs.declared.verdict.Verdict.{Verdict}

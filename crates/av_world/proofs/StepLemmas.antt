@@ -3,7 +3,7 @@ use Rattle.std.proofs.Common.{◌≡◌, ℕ, List, [], ◌∷◌, map, Option, 
 use Rattle.std.specs.Option.{option_map}
 use Rattle.av_base.specs.declared.port.Port.{Port}
 use Rattle.av_base.specs.declared.port.Port.TheVariants.{One}
-use Rattle.av_filter.specs.Conduct.{FilterEvent, Opens, Changes, CleansUp, TimesOut, filter_refusal, filter_step}
+use Rattle.av_filter.specs.Conduct.{FilterEvent, Changes, CleansUp, filter_refusal, filter_step}
 use Rattle.av_filter.specs.Conduct as filter_events
 use Rattle.av_filter.specs.declared.fault.FilterFault.{FilterFault}
 use Rattle.av_frame.specs.Message.{Letter}

@@ -429,7 +429,7 @@ MoreScripts =
 abbrev pub PathBegins : Type 0
 PathBegins =
     IsReady (run (prepared ++ Open a 0 ∷ []) (start 1 FailClosed greatest_values))
-    (record { id = id 1 1; stream = 1; generation = 2 }) 1
+    (record { id = id 1 1; port = One; stream = 1; generation = 2 }) 1
 
 -- and a history of both sides can be legal
 abbrev pub file_of_abc : File

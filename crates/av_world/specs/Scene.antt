@@ -3,14 +3,14 @@ use Rattle.std.specs.Prelude.{◌≡◌, ℕ, List, [], ◌++◌, map, None}
 use Rattle.av_base.specs.declared.limits.LimitValues.{LimitValues}
 use Rattle.av_base.specs.declared.mode.Mode.{Mode}
 use Rattle.av_base.specs.declared.port.Port.{Port}
-use Rattle.av_filter.specs.Conduct.{FilterEvent, Opens, Changes, CleansUp, TimesOut, filter_refusal, filter_step}
+use Rattle.av_filter.specs.Conduct.{FilterEvent, Changes, filter_refusal, filter_step}
 use Rattle.av_filter.specs.Conduct as filter
 use Rattle.av_filter.specs.Reaction.{Reaction}
 use Rattle.av_filter_table.specs.Table.{Table, mounted}
 use Rattle.av_frame.specs.Message.{Letter}
 use Rattle.av_pend.specs.declared.answer.Answer.{Answer}
 use Rattle.av_service.specs.Audit.{By, Call, IsNew, Publishes, respond, sets_after}
-use Rattle.av_service.specs.Conduct.{ServiceEvent, Connects, Disconnects, Receives, Finishes, Restarts, connect_refusal}
+use Rattle.av_service.specs.Conduct.{Connects, Disconnects, Receives, Finishes, Restarts, connect_refusal}
 use Rattle.av_service.specs.Conduct as service
 use Rattle.av_service.specs.Desk.{Desk, just_started}
 use Rattle.av_service.specs.Response.{Response}

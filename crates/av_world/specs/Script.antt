@@ -2,11 +2,10 @@
 pub mod Grammar
 pub mod Statement
 pub mod Words
-use Rattle.std.specs.Prelude.{ℕ, ◌≡◌, ◌+◌, ◌++◌, List, [], ◌∷◌, Option, None, Some, Result, Ok, Err, IsOk}
+use Rattle.std.specs.Prelude.{ℕ, ◌≡◌, ◌+◌, ◌++◌, List, [], ◌∷◌, Option, None, Some, Result, Ok, Err}
 use Rattle.std.specs.declared.collections.VecDeque.{VecDeque}
 use Rattle.std.specs.declared.alloc.Global.{Global}
 use Rattle.av_base.specs.declared.refusal.Refusal.{Refusal}
-use Rattle.av_base.specs.declared.refusal.Refusal.TheVariants.{Fault, NoMemory}
 use Rattle.av_base.specs.Line.{lines_of}
 use Rattle.av_base.specs.Limits.{checked, greatest_values, with_field}
 use Rattle.av_base.specs.declared.limits.LimitValues.{LimitValues}

@@ -1,5 +1,4 @@
 // Both engines over a volume of two streams, `ABC` and `AXX`, and a set of version 1 with the pattern `XX`.
-ghost use Rattle.std.specs.Prelude.{IfOk, OnOk};
 
 use crate::end::End;
 use crate::serving::serve_service;

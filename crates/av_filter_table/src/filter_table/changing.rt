@@ -15,7 +15,7 @@ use crate::asked::Asked;
 use crate::moving::move_opens;
 use crate::present::generation_now;
 use crate::rewriting::Rewriting;
-use av_base::{Generation, MessageId, StreamId};
+use av_base::{Generation, MessageId, Port, StreamId};
 use av_context::ContextState;
 use av_pend::Answer;
 use av_store::Volume;
@@ -57,6 +57,7 @@ impl FilterTable {
         &mut self,
         volume: &mut Volume,
         rewriting: Rewriting<'_>,
+        port: Port,
         question: u64,
         answers: &mut Vec<Answer>,
     ) -> Result<MessageId, AllocError>
@@ -74,7 +75,7 @@ impl FilterTable {
         ensures answers { OnOk result (answers.new.items ≡ answers.old.items
             ++ by_mode self.old volume.new Unsettled (filter (is_lost (id_of self.old.boot question)) self.old.pended)) }
         ensures ok { OnOk result (IfSome (question_at (id_of self.old.boot question) self.old.questions)
-            (λ q. self.new ≡ asked_again self.old volume.new q)) }
+            (λ q. self.new ≡ asked_again self.old volume.new port q)) }
         ensures err { OnErr result ((self.new ≡ self.old) × (answers.new ≡ answers.old) × (volume.new ≡ volume.old)) }
     {
         let _numbers_ascend = self.questions.len();
@@ -96,6 +97,7 @@ impl FilterTable {
         let row = Asked {
             stream,
             generation,
+            port,
             first: None,
             last: None,
             opens: 0,

@@ -12,7 +12,7 @@ use crate::asked::Asked;
 use crate::chains;
 use crate::moving::move_opens;
 use crate::present::generation_now;
-use av_base::MessageId;
+use av_base::{MessageId, Port};
 use av_context::ContextState;
 use av_pend::{Answer, PendedOpen};
 use av_store::Volume;
@@ -98,12 +98,13 @@ impl FilterTable {
         chains::has_rescan_left(&self.questions, &self.pended, question)
     }
 
-    /// Asks anew for a question that runs: it ends, and its opens wait for a new question, of the present content of its stream,
-    /// each with one rescan more. Those with no rescan left are answered. The cost grows with the count of its opens, and a
+    /// Asks anew on a port for a question that runs: it ends, and its opens wait for a new question, of the present content of its
+    /// stream, each with one rescan more. Those with no rescan left are answered. The cost grows with the count of its opens, and a
     /// logarithm for each. Where memory is refused nothing changes.
     pub fn ask_again(
         &mut self,
         volume: &Volume,
+        port: Port,
         question: u64,
         answers: &mut Vec<Answer>,
     ) -> Result<MessageId, AllocError>
@@ -115,7 +116,7 @@ impl FilterTable {
         ensures answers { OnOk result (answers.new.items ≡ answers.old.items
             ++ by_mode self.old volume.now Unsettled (filter (is_lost (id_of self.old.boot question)) self.old.pended)) }
         ensures ok { OnOk result (IfSome (question_at (id_of self.old.boot question) self.old.questions)
-            (λ q. self.new ≡ asked_again self.old volume.now q)) }
+            (λ q. self.new ≡ asked_again self.old volume.now port q)) }
         ensures err { OnErr result ((self.new ≡ self.old) × (answers.new ≡ answers.old)) }
     {
         let _numbers_ascend = self.questions.len();
@@ -133,6 +134,7 @@ impl FilterTable {
         let row = Asked {
             stream,
             generation,
+            port,
             first: None,
             last: None,
             opens: 0,

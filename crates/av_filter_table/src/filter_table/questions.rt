@@ -11,7 +11,7 @@ use super::FilterTable;
 use crate::asked::Asked;
 use crate::chains;
 use crate::question::Question;
-use av_base::{Generation, MessageId, StreamId};
+use av_base::{Generation, MessageId, Port, StreamId};
 use av_context::ContextState;
 use av_pend::PendedOpen;
 use std::alloc::{AllocError, AllocFailed};
@@ -28,6 +28,7 @@ impl FilterTable {
         let asked = self.questions.row(id.seq)?;
         Some(Question {
             id,
+            port: asked.port,
             stream: asked.stream,
             generation: asked.generation,
         })
@@ -52,9 +53,14 @@ impl FilterTable {
         Some(question)
     }
 
-    /// Asks for a scan of a stream that none runs of: a new question, which no open waits for yet. The cost grows with the
-    /// logarithms of the counts of streams and of questions. Where memory is refused nothing changes.
-    pub fn ask(&mut self, stream: StreamId, generation: Generation) -> Result<MessageId, AllocError>
+    /// Asks on a port for a scan of a stream that none runs of: a new question, which no open waits for yet. The cost grows with
+    /// the logarithms of the counts of streams and of questions. Where memory is refused nothing changes.
+    pub fn ask(
+        &mut self,
+        port: Port,
+        stream: StreamId,
+        generation: Generation,
+    ) -> Result<MessageId, AllocError>
         requires none { question_of stream self.old.questions ≡ None }
         requires left { self.old.sequence + 1 < 2 ^ 64 }
         ensures id { IfOk result (λ id. id ≡ next_id self.old) }
@@ -64,7 +70,7 @@ impl FilterTable {
                   + 1;
               contexts = set_at self.old.contexts stream (Some (Scanning (next_id self.old)));
               questions = self.old.questions
-                  ++ record { id = next_id self.old; stream = stream; generation = generation } ∷ [];
+                  ++ record { id = next_id self.old; port = port; stream = stream; generation = generation } ∷ [];
             }) }
         ensures err { OnErr result (self.new ≡ self.old) }
     {
@@ -78,6 +84,7 @@ impl FilterTable {
         let row = Asked {
             stream,
             generation,
+            port,
             first: None,
             last: None,
             opens: 0,
@@ -91,10 +98,11 @@ impl FilterTable {
         Ok(id)
     }
 
-    /// Asks for a scan of a stream that none runs of, for an open that waits for it. The cost grows with the logarithms of the
-    /// counts of streams, of questions and of opens. Where memory is refused nothing changes, and the open comes back.
+    /// Asks on a port for a scan of a stream that none runs of, for an open that waits for it. The cost grows with the logarithms
+    /// of the counts of streams, of questions and of opens. Where memory is refused nothing changes, and the open comes back.
     pub fn ask_for(
         &mut self,
+        port: Port,
         stream: StreamId,
         generation: Generation,
         held: PendedOpen,
@@ -109,7 +117,7 @@ impl FilterTable {
                   + 1;
               contexts = set_at self.old.contexts stream (Some (Scanning (next_id self.old)));
               questions = self.old.questions
-                  ++ record { id = next_id self.old; stream = stream; generation = generation } ∷ [];
+                  ++ record { id = next_id self.old; port = port; stream = stream; generation = generation } ∷ [];
               pended = self.old.pended
                   ++ record { question = next_id self.old; held = held } ∷ [];
             }) }
@@ -130,6 +138,7 @@ impl FilterTable {
         let row = Asked {
             stream,
             generation,
+            port,
             first: None,
             last: None,
             opens: 0,
@@ -207,6 +216,7 @@ impl FilterTable {
                 boot: self.boot,
                 seq,
             },
+            port: asked.port,
             stream,
             generation: asked.generation,
         })

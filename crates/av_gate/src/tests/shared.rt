@@ -1,5 +1,5 @@
 // Gates that threads share.
-ghost use Rattle.std.specs.Prelude.{◌≡◌, IfOk};
+ghost use Rattle.std.specs.Prelude.{IfOk};
 ghost use Rattle.av_gate.specs.Seats.{IsSeatOf};
 
 use super::said::{Step, Told, message_of, what_is_told};

@@ -1,4 +1,4 @@
-ghost use Rattle.std.specs.Prelude.{◌≡◌, ◌≤◌, List, reverse};
+ghost use Rattle.std.specs.Prelude.{◌≤◌, List, reverse};
 ghost use Rattle.av_base.specs.declared.port.Port.TheVariants.{One};
 ghost use Rattle.av_filter.specs.Fit.{Fits};
 ghost use Rattle.av_sigset.specs.Catalogue.{latest};

@@ -1,4 +1,4 @@
-ghost use Rattle.std.specs.Prelude.{◌≡◌, IfOk, List};
+ghost use Rattle.std.specs.Prelude.{IfOk, List};
 ghost use Rattle.av_base.specs.declared.port.Port.TheVariants.{One};
 ghost use Rattle.av_world.specs.Request.{Asks, MayAsk, Names};
 ghost use Rattle.av_world.specs.World.{desk_of};

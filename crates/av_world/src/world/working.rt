@@ -1,4 +1,4 @@
-ghost use Rattle.std.specs.Prelude.{◌≡◌, ◌+◌, List, Some, None, IfErr, IfOk, IfSome, MatchOption, length, slice_get, slice_set, vec_len};
+ghost use Rattle.std.specs.Prelude.{◌≡◌, List, Some, None, IfErr, IfOk, IfSome, MatchOption, length, slice_get, slice_set, vec_len};
 ghost use Rattle.std.specs.Vec.{vec_capacity};
 ghost use Rattle.av_match.specs.Scanning.{if_found};
 ghost use Rattle.av_service.specs.Call.{Responds};

@@ -56,13 +56,13 @@ returns-in-Ok-clause-ok c =
     let near : t.connected ≡ true = search rules in
     let can : can_ask t ≡ true = search rules in
     let sent : c.asks.result.messages.items ≡ c.scan_message.result ∷ [] = search rules in
-    let is : c.scan_message.result ≡ scan_message t v a.stream = c.scan_message.ensures ∙ ap (λ id. via One (Scan id a.stream (present_generation v a.stream) (length (present_bytes v a.stream)))) c.in-Ok.ensures.id in
+    let is : c.scan_message.result ≡ scan_message t v One a.stream = c.scan_message.ensures ∙ ap (λ id. via One (Scan id a.stream (present_generation v a.stream) (length (present_bytes v a.stream)))) c.in-Ok.ensures.id in
     asked c.asks.result t c.ask_for.new.self c.raise.new.self v a c.scan_message.result c.requires.arrival c.requires.unjudged c.requires.unasked c.requires.miss room near can
     (c.in-Ok.ensures.ok
     ∙ ap {B = Table} (λ w. record t {
       sequence = t.sequence + 1;
       contexts = set_at t.contexts a.stream (Some (Scanning (next_id t)));
-      questions = t.questions ++ record { id = next_id t; stream = a.stream; generation = a.generation } ∷ [];
+      questions = t.questions ++ record { id = next_id t; port = One; stream = a.stream; generation = a.generation } ∷ [];
       pended = t.pended ++ record { question = next_id t; held = w } ∷ [];
     }) c.waiting.ensures) c.raise.ensures
     c.asks.ensures.answers sent is c.asks.ensures.note

@@ -55,7 +55,7 @@ returns-in-Err-clause-err c =
 
 pub invariant_of-self-2 : goal.invariant_of-self-2
 invariant_of-self-2 c = record {
-  rows = ((asks c.self.inside.boot c.self.inside.sequence c.self.inside.questions c.insert.new.self c.self.inside.pended c.self.inside.contexts c.hold.new.self c.args.stream c.args.generation c.in_ok-context.context
+  rows = ((asks c.self.inside.boot c.self.inside.sequence c.self.inside.questions c.insert.new.self c.self.inside.pended c.self.inside.contexts c.hold.new.self c.args.port c.args.stream c.args.generation c.in_ok-context.context
       c.self.invariant.rows c.in_ok-context.ensures.ascend (unasked-of c.self.inside.boot c.args.stream c.self.inside.questions (subst (λ t. question_of c.args.stream t.questions ≡ None) (sym c.self.view_is) c.requires.none)) c.in_ok-context.ensures.ok c.in_default.ensures.ok).consistent);
   mounted = c.self.invariant.mounted;
   sized = c.self.invariant.sized;
@@ -64,7 +64,7 @@ invariant_of-self-2 c = record {
 pub returns-clause-ok : goal.returns-clause-ok
 returns-clause-ok c =
     let t = c.self.inside in
-    let a = asks c.self.inside.boot c.self.inside.sequence c.self.inside.questions c.insert.new.self c.self.inside.pended c.self.inside.contexts c.hold.new.self c.args.stream c.args.generation c.in_ok-context.context
+    let a = asks c.self.inside.boot c.self.inside.sequence c.self.inside.questions c.insert.new.self c.self.inside.pended c.self.inside.contexts c.hold.new.self c.args.port c.args.stream c.args.generation c.in_ok-context.context
     c.self.invariant.rows c.in_ok-context.ensures.ascend (unasked-of c.self.inside.boot c.args.stream c.self.inside.questions (subst (λ t. question_of c.args.stream t.questions ≡ None) (sym c.self.view_is) c.requires.none)) c.in_ok-context.ensures.ok c.in_default.ensures.ok in
     rw (← c.self.view_is)
     (λ i. record {

@@ -82,7 +82,7 @@ move_opens-requires-clause-apart c = λ e.
 pub move_opens-requires-clause-chained : goal.move_opens-requires-clause-chained
 move_opens-requires-clause-chained c =
     let t = c.self.inside in
-    chained-new t.boot t.sequence c.in-Some.asked.stream c.new-generation.result c.in_ok-context.context t.questions c.insert.new.self t.pended t.contexts c.self.invariant.rows c.in_default-insert.ensures.ok
+    chained-new t.boot t.sequence c.args.port c.in-Some.asked.stream c.new-generation.result c.in_ok-context.context t.questions c.insert.new.self t.pended t.contexts c.self.invariant.rows c.in_default-insert.ensures.ok
 
 pub move_opens-requires-clause-room : goal.move_opens-requires-clause-room
 move_opens-requires-clause-room c =
@@ -125,10 +125,10 @@ invariant_of-self-2 c = record {
       let before = known-at t.boot t.sequence n t.questions t.pended t.contexts c.in-Some.asked found.0 c.self.invariant.rows found.1 in
       let key_is = held-again t.boot t.sequence n t.contexts s found.0 c.in_ok-context.context before c.in_ok-context.ensures.same in
       let v = c.apply.new.volume in
-      let a = asks_again t.boot t.sequence n (present_generation v s) t.questions c.insert.new.self c.move_opens.new.questions c.remove-2.new.self t.pended c.move_opens.new.pended t.contexts c.hold.new.self c.release.new.self c.in-Some.asked found.0
+      let a = asks_again t.boot t.sequence n c.args.port (present_generation v s) t.questions c.insert.new.self c.move_opens.new.questions c.remove-2.new.self t.pended c.move_opens.new.pended t.contexts c.hold.new.self c.release.new.self c.in-Some.asked found.0
       c.self.invariant.rows c.len-numbers_ascend.ensures.ascend c.in_ok-context.ensures.ascend found.1
       (subst (λ j. PutsAt t.contexts c.hold.new.self s (Some (record { key = j; state = Scanning (id_of t.boot m); held = held_out (at t.contexts s) + 1 }))) (sym key_is) c.in_ok-context.ensures.ok)
-      (subst (λ g. PutsAt t.questions c.insert.new.self m (Some (new_row s g, found.0))) (c.new-generation.ensures ∙ ap (λ g. g + 1) (c.get.ensures ∙ c.generation_now.ensures) ∙ sym (raised_by c.args.volume.now v s c.args.rewriting c.in-Ok.ensures)) (subst (λ j. PutsAt t.questions c.insert.new.self m (Some (new_row s c.new-generation.result, j))) (sym key_is) c.in_default-insert.ensures.ok))
+      (subst (λ g. PutsAt t.questions c.insert.new.self m (Some (new_row c.args.port s g, found.0))) (c.new-generation.ensures ∙ ap (λ g. g + 1) (c.get.ensures ∙ c.generation_now.ensures) ∙ sym (raised_by c.args.volume.now v s c.args.rewriting c.in-Ok.ensures)) (subst (λ j. PutsAt t.questions c.insert.new.self m (Some (new_row c.args.port s c.new-generation.result, j))) (sym key_is) c.in_default-insert.ensures.ok))
       c.move_opens.ensures.same c.move_opens.ensures.chained (c.move_opens.ensures.numbered c.self.invariant.rows.numbered) c.move_opens.ensures.moved c.remove-2.ensures.puts c.release.ensures in
       a.consistent);
   mounted = c.self.invariant.mounted;
@@ -166,10 +166,10 @@ returns-clause-ok c =
     let before = known-at t.boot t.sequence n t.questions t.pended t.contexts c.in-Some.asked found.0 c.self.invariant.rows found.1 in
     let key_is = held-again t.boot t.sequence n t.contexts s found.0 c.in_ok-context.context before c.in_ok-context.ensures.same in
     let v = c.apply.new.volume in
-    let a = asks_again t.boot t.sequence n (present_generation v s) t.questions c.insert.new.self c.move_opens.new.questions c.remove-2.new.self t.pended c.move_opens.new.pended t.contexts c.hold.new.self c.release.new.self c.in-Some.asked found.0
+    let a = asks_again t.boot t.sequence n c.args.port (present_generation v s) t.questions c.insert.new.self c.move_opens.new.questions c.remove-2.new.self t.pended c.move_opens.new.pended t.contexts c.hold.new.self c.release.new.self c.in-Some.asked found.0
     c.self.invariant.rows c.len-numbers_ascend.ensures.ascend c.in_ok-context.ensures.ascend found.1
     (subst (λ j. PutsAt t.contexts c.hold.new.self s (Some (record { key = j; state = Scanning (id_of t.boot m); held = held_out (at t.contexts s) + 1 }))) (sym key_is) c.in_ok-context.ensures.ok)
-    (subst (λ g. PutsAt t.questions c.insert.new.self m (Some (new_row s g, found.0))) (c.new-generation.ensures ∙ ap (λ g. g + 1) (c.get.ensures ∙ c.generation_now.ensures) ∙ sym (raised_by c.args.volume.now v s c.args.rewriting c.in-Ok.ensures)) (subst (λ j. PutsAt t.questions c.insert.new.self m (Some (new_row s c.new-generation.result, j))) (sym key_is) c.in_default-insert.ensures.ok))
+    (subst (λ g. PutsAt t.questions c.insert.new.self m (Some (new_row c.args.port s g, found.0))) (c.new-generation.ensures ∙ ap (λ g. g + 1) (c.get.ensures ∙ c.generation_now.ensures) ∙ sym (raised_by c.args.volume.now v s c.args.rewriting c.in-Ok.ensures)) (subst (λ j. PutsAt t.questions c.insert.new.self m (Some (new_row c.args.port s c.new-generation.result, j))) (sym key_is) c.in_default-insert.ensures.ok))
     c.move_opens.ensures.same c.move_opens.ensures.chained (c.move_opens.ensures.numbered c.self.invariant.rows.numbered) c.move_opens.ensures.moved c.remove-2.ensures.puts c.release.ensures in
     rw (← c.self.view_is, question-found t.boot n t.questions c.len-numbers_ascend.ensures.ascend ∙ ap (option_map (λ y. asked_of t.boot (n, essence y))) found.1)
     (λ i. record {
@@ -206,7 +206,7 @@ rows_same c =
     let m = t.sequence + 1 in
     let put = c.in_default-insert.ensures.ok in
     let up = c.len-numbers_ascend.ensures.ascend in
-    put_back t.questions c.insert.new.self c.remove.new.self m (Some (new_row c.in-Some.asked.stream c.new-generation.result, c.in_ok-context.context)) up
+    put_back t.questions c.insert.new.self c.remove.new.self m (Some (new_row c.args.port c.in-Some.asked.stream c.new-generation.result, c.in_ok-context.context)) up
     (puts-ascends c.insert.new.self c.remove.new.self m None c.remove.ensures.puts (puts-ascends t.questions c.insert.new.self m _ put up)) put
     (subst (λ o. PutsAt c.insert.new.self c.remove.new.self m o) (sym (new-question t.boot t.sequence t.questions t.pended t.contexts c.self.invariant.rows)) c.remove.ensures.puts)
 

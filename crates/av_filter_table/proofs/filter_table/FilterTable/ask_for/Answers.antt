@@ -60,7 +60,7 @@ returns-in-Err-clause-err c =
 
 pub append-requires-clause-chained : goal.append-requires-clause-chained
 append-requires-clause-chained c =
-    chained-new c.self.inside.boot c.self.inside.sequence c.args.stream c.args.generation c.in-Ok.context c.self.inside.questions c.insert.new.self c.self.inside.pended c.self.inside.contexts c.self.invariant.rows c.in_default-insert.ensures.ok
+    chained-new c.self.inside.boot c.self.inside.sequence c.args.port c.args.stream c.args.generation c.in-Ok.context c.self.inside.questions c.insert.new.self c.self.inside.pended c.self.inside.contexts c.self.invariant.rows c.in_default-insert.ensures.ok
 
 pub append-requires-clause-last : goal.append-requires-clause-last
 append-requires-clause-last c =
@@ -72,11 +72,11 @@ append-requires-clause-last c =
 pub undo_hold-requires-in-Err-append : goal.undo_hold-requires-in-Err-append
 undo_hold-requires-in-Err-append c =
     subst (λ o. IsSomeAnd o (λ m. (m.key ≡ c.in-Some.context) × (m.held ≡ 1))) (sym c.in-Ok.ensures.ok.here)
-    (sym (held-key (c.self.inside.sequence + 1) c.insert.new.self c.append.new.questions (new_row c.args.stream c.args.generation) c.in-Some._asked c.in-Ok.context c.in-Some.context c.in-Err-append.ensures.err.1 c.in_default-insert.ensures.ok.here c.in-Some.ensures.value), ap (λ n. n + 1) (c.self.invariant.rows.free c.args.stream (unasked-of c.self.inside.boot c.args.stream c.self.inside.questions (subst (λ t. question_of c.args.stream t.questions ≡ None) (sym c.self.view_is) c.requires.none))))
+    (sym (held-key (c.self.inside.sequence + 1) c.insert.new.self c.append.new.questions (new_row c.args.port c.args.stream c.args.generation) c.in-Some._asked c.in-Ok.context c.in-Some.context c.in-Err-append.ensures.err.1 c.in_default-insert.ensures.ok.here c.in-Some.ensures.value), ap (λ n. n + 1) (c.self.invariant.rows.free c.args.stream (unasked-of c.self.inside.boot c.args.stream c.self.inside.questions (subst (λ t. question_of c.args.stream t.questions ≡ None) (sym c.self.view_is) c.requires.none))))
 
 pub invariant_of-self-in-Err-append : goal.invariant_of-self-in-Err-append
 invariant_of-self-in-Err-append c = record {
-  rows = (subst (λ q. IsConsistent c.self.inside.boot c.self.inside.sequence q c.append.new.pended c.undo_hold-in-Err-append.new.self) (sym (put_back c.self.inside.questions c.insert.new.self c.remove.new.self (c.self.inside.sequence + 1) (Some (new_row c.args.stream c.args.generation, c.in-Ok.context)) c.len-numbers_ascend.ensures.ascend
+  rows = (subst (λ q. IsConsistent c.self.inside.boot c.self.inside.sequence q c.append.new.pended c.undo_hold-in-Err-append.new.self) (sym (put_back c.self.inside.questions c.insert.new.self c.remove.new.self (c.self.inside.sequence + 1) (Some (new_row c.args.port c.args.stream c.args.generation, c.in-Ok.context)) c.len-numbers_ascend.ensures.ascend
       (puts-ascends c.append.new.questions c.remove.new.self (c.self.inside.sequence + 1) None c.remove.ensures.puts (subst IsAscending (sym c.in-Err-append.ensures.err.1) (puts-ascends c.self.inside.questions c.insert.new.self (c.self.inside.sequence + 1) _ c.in_default-insert.ensures.ok c.len-numbers_ascend.ensures.ascend)))
       c.in_default-insert.ensures.ok
       (subst (λ o. PutsAt c.insert.new.self c.remove.new.self (c.self.inside.sequence + 1) o) (sym (new-question c.self.inside.boot c.self.inside.sequence c.self.inside.questions c.self.inside.pended c.self.inside.contexts c.self.invariant.rows))
@@ -87,7 +87,7 @@ invariant_of-self-in-Err-append c = record {
       c.in-Ok.ensures.ascend
       (puts-ascends c.self.inside.contexts c.hold.new.self c.args.stream _ c.in-Ok.ensures.ok c.in-Ok.ensures.ascend)
       (c.self.invariant.rows.free c.args.stream (unasked-of c.self.inside.boot c.args.stream c.self.inside.questions (subst (λ t. question_of c.args.stream t.questions ≡ None) (sym c.self.view_is) c.requires.none))) c.in-Ok.ensures.same c.state_of-old.ensures c.in-Ok.ensures.ok
-      (subst (λ v. PutsAt c.hold.new.self c.undo_hold-in-Err-append.new.self c.args.stream (option_map (known_again v) c.state_of-old.result)) (held-key (c.self.inside.sequence + 1) c.insert.new.self c.append.new.questions (new_row c.args.stream c.args.generation) c.in-Some._asked c.in-Ok.context c.in-Some.context c.in-Err-append.ensures.err.1 c.in_default-insert.ensures.ok.here c.in-Some.ensures.value) c.undo_hold-in-Err-append.ensures))) c.self.invariant.rows)));
+      (subst (λ v. PutsAt c.hold.new.self c.undo_hold-in-Err-append.new.self c.args.stream (option_map (known_again v) c.state_of-old.result)) (held-key (c.self.inside.sequence + 1) c.insert.new.self c.append.new.questions (new_row c.args.port c.args.stream c.args.generation) c.in-Some._asked c.in-Ok.context c.in-Some.context c.in-Err-append.ensures.err.1 c.in_default-insert.ensures.ok.here c.in-Some.ensures.value) c.undo_hold-in-Err-append.ensures))) c.self.invariant.rows)));
   mounted = c.self.invariant.mounted;
   sized = c.self.invariant.sized;
 }
@@ -100,8 +100,8 @@ returns-in-Err-append-clause-err c =
     c.in-Ok.ensures.ascend
     (puts-ascends c.self.inside.contexts c.hold.new.self c.args.stream _ c.in-Ok.ensures.ok c.in-Ok.ensures.ascend)
     (c.self.invariant.rows.free c.args.stream (unasked-of c.self.inside.boot c.args.stream c.self.inside.questions (subst (λ t. question_of c.args.stream t.questions ≡ None) (sym c.self.view_is) c.requires.none))) c.in-Ok.ensures.same c.state_of-old.ensures c.in-Ok.ensures.ok
-    (subst (λ v. PutsAt c.hold.new.self c.undo_hold-in-Err-append.new.self c.args.stream (option_map (known_again v) c.state_of-old.result)) (held-key (c.self.inside.sequence + 1) c.insert.new.self c.append.new.questions (new_row c.args.stream c.args.generation) c.in-Some._asked c.in-Ok.context c.in-Some.context c.in-Err-append.ensures.err.1 c.in_default-insert.ensures.ok.here c.in-Some.ensures.value) c.undo_hold-in-Err-append.ensures)) in
-    let q = (put_back c.self.inside.questions c.insert.new.self c.remove.new.self (c.self.inside.sequence + 1) (Some (new_row c.args.stream c.args.generation, c.in-Ok.context)) c.len-numbers_ascend.ensures.ascend
+    (subst (λ v. PutsAt c.hold.new.self c.undo_hold-in-Err-append.new.self c.args.stream (option_map (known_again v) c.state_of-old.result)) (held-key (c.self.inside.sequence + 1) c.insert.new.self c.append.new.questions (new_row c.args.port c.args.stream c.args.generation) c.in-Some._asked c.in-Ok.context c.in-Some.context c.in-Err-append.ensures.err.1 c.in_default-insert.ensures.ok.here c.in-Some.ensures.value) c.undo_hold-in-Err-append.ensures)) in
+    let q = (put_back c.self.inside.questions c.insert.new.self c.remove.new.self (c.self.inside.sequence + 1) (Some (new_row c.args.port c.args.stream c.args.generation, c.in-Ok.context)) c.len-numbers_ascend.ensures.ascend
     (puts-ascends c.append.new.questions c.remove.new.self (c.self.inside.sequence + 1) None c.remove.ensures.puts (subst IsAscending (sym c.in-Err-append.ensures.err.1) (puts-ascends c.self.inside.questions c.insert.new.self (c.self.inside.sequence + 1) _ c.in_default-insert.ensures.ok c.len-numbers_ascend.ensures.ascend)))
     c.in_default-insert.ensures.ok
     (subst (λ o. PutsAt c.insert.new.self c.remove.new.self (c.self.inside.sequence + 1) o) (sym (new-question c.self.inside.boot c.self.inside.sequence c.self.inside.questions c.self.inside.pended c.self.inside.contexts c.self.invariant.rows))
@@ -123,13 +123,13 @@ returns-in-Err-append-clause-err c =
 pub invariant_of-self-2 : goal.invariant_of-self-2
 invariant_of-self-2 c = record {
   rows = (let m = c.self.inside.sequence + 1 in
-      let a = (asks c.self.inside.boot c.self.inside.sequence c.self.inside.questions c.insert.new.self c.self.inside.pended c.self.inside.contexts c.hold.new.self c.args.stream c.args.generation c.in-Ok.context
+      let a = (asks c.self.inside.boot c.self.inside.sequence c.self.inside.questions c.insert.new.self c.self.inside.pended c.self.inside.contexts c.hold.new.self c.args.port c.args.stream c.args.generation c.in-Ok.context
       c.self.invariant.rows c.in-Ok.ensures.ascend (unasked-of c.self.inside.boot c.args.stream c.self.inside.questions (subst (λ t. question_of c.args.stream t.questions ≡ None) (sym c.self.view_is) c.requires.none)) c.in-Ok.ensures.ok c.in_default-insert.ensures.ok) in
       rows-kept c.self.inside.boot m c.insert.new.self c.append.new.questions c.self.inside.pended c.append.new.pended c.hold.new.self a.consistent c.append.ensures.chained
       (numbered-result c.append.result m c.get-number.result c.args.held c.insert.new.self c.append.new.questions c.self.inside.pended c.append.new.pended c.self.invariant.rows.numbered
       (c.get-number.ensures ∙ c.open_id.ensures) c.append.ensures.ok c.append.ensures.keys c.append.ensures.err)
       (unasked-result c.append.result c.self.inside.boot m m c.args.held c.insert.new.self c.append.new.questions c.self.inside.pended c.append.new.pended c.hold.new.self a.consistent
-      (is_there (at c.insert.new.self m) (new_row c.args.stream c.args.generation, c.in-Ok.context) c.in_default-insert.ensures.ok.here) c.append.ensures.ok c.append.ensures.err)
+      (is_there (at c.insert.new.self m) (new_row c.args.port c.args.stream c.args.generation, c.in-Ok.context) c.in_default-insert.ensures.ok.here) c.append.ensures.ok c.append.ensures.err)
       c.append.ensures.same);
   mounted = c.self.invariant.mounted;
   sized = c.self.invariant.sized;
@@ -139,7 +139,7 @@ pub returns-clause-ok : goal.returns-clause-ok
 returns-clause-ok c =
     let t = c.self.inside in
     let m = t.sequence + 1 in
-    let a = (asks c.self.inside.boot c.self.inside.sequence c.self.inside.questions c.insert.new.self c.self.inside.pended c.self.inside.contexts c.hold.new.self c.args.stream c.args.generation c.in-Ok.context
+    let a = (asks c.self.inside.boot c.self.inside.sequence c.self.inside.questions c.insert.new.self c.self.inside.pended c.self.inside.contexts c.hold.new.self c.args.port c.args.stream c.args.generation c.in-Ok.context
     c.self.invariant.rows c.in-Ok.ensures.ascend (unasked-of c.self.inside.boot c.args.stream c.self.inside.questions (subst (λ t. question_of c.args.stream t.questions ≡ None) (sym c.self.view_is) c.requires.none)) c.in-Ok.ensures.ok c.in_default-insert.ensures.ok) in
     let questions = ap (map (asked_of t.boot)) c.append.ensures.same ∙ a.questions in
     let pended = ap (map (held_of t.boot)) c.in_default-append.ensures.ok ∙ pended-end t.boot (plains t.pended) (m, c.args.held) in

@@ -1,19 +1,18 @@
-use Rattle.std.proofs.Common.{◌<◌, sym, subst, ap, ◌∙◌, length}
+use Rattle.std.proofs.Common.{◌+◌, sym, ap, ◌∙◌, length}
 use Rattle.av_filter.proofs.BoundLemmas.{leads_to}
 use Rattle.av_filter.specs.Conduct.{Opens}
 use Rattle.av_guard.proofs.CountLemmas.{restored}
 use Rattle.av_guard.proofs.StateLemmas.{back}
-use Rattle.av_guard.proofs.SoundLemmas.{free_at, number_is, paired_back, paired_opened, written_same}
+use Rattle.av_guard.proofs.SoundLemmas.{free_at, paired_back, paired_opened, written_same}
 use Rattle.av_guard.specs.Asking.{bytes_in}
 use Rattle.av_guard.specs.Telling.{left_by}
 use Rattle.av_guard.specs.Shelf.{Kept}
-use Rattle.av_guard.specs.State.{State}
-use Rattle.av_store.specs.Store.{Store, greatest}
+use Rattle.av_store.specs.Store.{Store}
 use Rattle.av_guard.proofs.guard.Guard.submit.Goals as goal
 
 pub enter-requires-clause-free : goal.enter-requires-clause-free
 enter-requires-clause-free c =
-    free_at _ c.self.inside.volume _ _ c.self.invariant.fits c.self.invariant.paired (number_is _ _ c.opens_left.ensures.left (subst (λ (g : State). g.volume.opens < greatest) (sym c.self.view_is) c.requires.left))
+    free_at _ c.self.inside.volume _ _ c.self.invariant.fits c.self.invariant.paired (ap (λ n. n + 1) c.opens-number.ensures)
 
 pub invariant_of-self-in-Ok-open : goal.invariant_of-self-in-Ok-open
 invariant_of-self-in-Ok-open c =
@@ -22,7 +21,7 @@ invariant_of-self-in-Ok-open c =
     record {
       fits = c.open.ensures.fits;
       written = written_same _ _ streams c.self.invariant.written;
-      paired = paired_opened c.self.inside.filter _ c.self.inside.volume _ c.self.inside.waiting.entries _ (record { client = c.args.client; tag = c.args.tag; stream = c.args.stream }) _ 0 c.in-Ok-open.out (number_is _ _ c.opens_left.ensures.left (subst (λ (g : State). g.volume.opens < greatest) (sym c.self.view_is) c.requires.left)) c.self.invariant.fits c.self.invariant.written c.self.invariant.paired event (c.settle.ensures.waiting ∙ ap (λ m. left_by m c.in-Ok-open.out.answers.items) c.in-Ok-enter.ensures.ok);
+      paired = paired_opened c.self.inside.filter _ c.self.inside.volume _ c.self.inside.waiting.entries _ (record { client = c.args.client; tag = c.args.tag; stream = c.args.stream }) _ 0 c.in-Ok-open.out (ap (λ n. n + 1) c.opens-number.ensures) c.self.invariant.fits c.self.invariant.written c.self.invariant.paired event (c.settle.ensures.waiting ∙ ap (λ m. left_by m c.in-Ok-open.out.answers.items) c.in-Ok-enter.ensures.ok);
       counted = c.settle.ensures.counted;
       count = c.settle.ensures.shelf.0 ∙ ap (λ (k : Kept). k.count) c.touch.ensures ∙ c.enter.ensures.shelf.0 ∙ c.self.invariant.count ∙ sym (ap length streams);
       bytes = c.settle.ensures.shelf.1 ∙ ap (λ (k : Kept). k.bytes) c.touch.ensures ∙ c.enter.ensures.shelf.1 ∙ c.self.invariant.bytes ∙ sym (ap bytes_in streams);
@@ -32,7 +31,7 @@ pub invariant_of-self-in-Err-open : goal.invariant_of-self-in-Err-open
 invariant_of-self-in-Err-open c =
     let err = c.in-Err-open.ensures.event in
     let streams = ap (λ (w : Store). w.streams) err.1 in
-    let number = number_is _ _ c.opens_left.ensures.left (subst (λ (g : State). g.volume.opens < greatest) (sym c.self.view_is) c.requires.left) in
+    let number = ap (λ n. n + 1) c.opens-number.ensures in
     let waiting = restored _ _ _ _ _ c.leave.ensures.waiting c.in-Ok-enter.ensures.ok (free_at _ c.self.inside.volume _ _ c.self.invariant.fits c.self.invariant.paired number) in
     record {
       fits = c.open.ensures.fits;
@@ -45,7 +44,7 @@ invariant_of-self-in-Err-open c =
 
 pub returns-in-Err-open : goal.returns-in-Err-open
 returns-in-Err-open c =
-    let number = number_is _ _ c.opens_left.ensures.left (subst (λ (g : State). g.volume.opens < greatest) (sym c.self.view_is) c.requires.left) in
+    let number = ap (λ n. n + 1) c.opens-number.ensures in
     let away = free_at _ c.self.inside.volume _ _ c.self.invariant.fits c.self.invariant.paired number in
     rw (← c.self.view_is)
     (back _ _ _ _ c.in-Err-open.ensures.event.0 c.in-Err-open.ensures.event.1

@@ -1,4 +1,4 @@
-use Rattle.std.proofs.Common.{ap, ◌∷◌, List, Ok, Option, ◌≡◌, ◌++◌, ◌∙◌, suc, rules, map, slice_get, slice_set, None, Some, subst}
+use Rattle.std.proofs.Common.{ap, ◌∷◌, Ok, ◌≡◌, ◌++◌, ◌∙◌, suc, rules, map, slice_get, slice_set, None, Some, subst}
 use Rattle.std.specs.Option.{option_to_list}
 use Rattle.av_sigset.specs.Catalogue.{set_at}
 use Rattle.av_match.specs.Scanning.{fitting, if_found, run}
