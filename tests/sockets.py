@@ -4,7 +4,8 @@
 Filter and service started in either order, over 1 to 4,000 files; each stopped and continued a hundred times in its run; each
 killed after each of its first 200 bytes; bytes that are no frames; peers that are silent, never read, or send a byte a second, with
 the time measured from below and above; a socket that is left over, in use, no socket, too long a path, in no folder, of a mode,
-not to be entered; the users, groups and modes of docs/OPERATING.md; a service that never comes, that says nothing, a second one. `host` with 1 to 16 openers and workers tells of
+not to be entered; the users, groups and modes of docs/OPERATING.md; a service that never comes, that says nothing, a second one. A filter
+over several groups of files: its memory, a service that is killed behind each, a file that goes between look and reading. `host` with 1 to 16 openers and workers tells of
 each file what `scan` tells. Nothing is left behind.
 The last line says how many passed and how many failed."""
 import os, random, re, signal, socket, struct, subprocess, sys, tempfile, threading, time
@@ -46,6 +47,16 @@ def ended(process, seconds=SECONDS):
     """What a process wrote and its status."""
     out, err = process.communicate(timeout=seconds)
     return process.returncode, out, err
+
+
+def both_ended(filter, service, seconds=SECONDS):
+    """The same of two, while neither waits for what it wrote to be read."""
+    told = {}
+    thread = threading.Thread(target=lambda: told.update(service=ended(service, seconds)))
+    thread.start()
+    told["filter"] = ended(filter, seconds)
+    thread.join()
+    return told["filter"], told.get("service")
 
 
 def await_socket(path, process=None):
@@ -590,11 +601,12 @@ def inputs(cases, programs):
     for step in steps:
         os.symlink(".", os.path.join(programs.folder, step))
     ways = [f"{one}/{other}/a.bin" for one in steps for other in steps]
-    cases.same("one file more than a volume has streams", ended(programs.filter(*ways, "b.bin"), PATIENT), (1, b"", b"avscan: b.bin: Full\n"))
-    status, out, err = ended(programs.start("host", "set.txt", *ways, "b.bin"), PATIENT)
-    lines = out.splitlines()
-    cases.same("a host of more files than a volume has streams", (status, len(lines), lines[0], lines[-1], err),
-               (0, 65_537, b"aa/aa/a.bin granted generation 2 version 1", ANSWERED.splitlines()[-1], b""))
+    filter, service = both_ended(programs.filter(*ways, "b.bin"), programs.service(), PATIENT)
+    cases.same("the service of more files than a volume has streams", service, (0, b"closed\n", b""))
+    for who, (status, out, err) in (("filter", filter), ("host", ended(programs.start("host", "set.txt", *ways, "b.bin"), PATIENT))):
+        lines = out.splitlines()
+        cases.same(f"a {who} of more files than a volume has streams", (status, len(lines), lines[:1], lines[-1:], err),
+                   (0, 65_537, [b"aa/aa/a.bin granted generation 2 version 1"], ANSWERED.splitlines()[-1:], b""))
     with open("/dev/full", "wb") as full:
         cases.same("host on a full device", ended(programs.start("host", "set.txt", "a.bin", out=full)), FULL)
         filter = programs.filter()
@@ -662,11 +674,96 @@ def groups(cases, programs):
     cases.same("small files of several groups", ended(programs.start("host", "set.txt", "--files-from", "list")), (0, told_by_scan(programs, small), b""))
 
 
+def peak(process):
+    """The most memory that a process held so far, in MiB; 0 where it has ended."""
+    try:
+        with open(f"/proc/{process.pid}/status") as file:
+            return next((int(line.split()[1]) // 1024 for line in file if line.startswith("VmHWM:")), 0)
+    except (FileNotFoundError, ProcessLookupError):
+        return 0
+
+
+def peak_of(process, told):
+    """What a process wrote, its status, and the most memory that it held, as it was seen every few milliseconds."""
+    most = 0
+    thread = threading.Thread(target=lambda: told.append(ended(process)))
+    thread.start()
+    while thread.is_alive():
+        most = max(most, peak(process))
+        time.sleep(0.003)
+    thread.join()
+    return most
+
+
+def half_mebibytes(programs, count):
+    names = [f"half{i}" for i in range(count)]
+    for i, name in enumerate(names):
+        programs.write(name, bytes([65 + i % 20]) * ((1 << 19) - 2) + (b"XX" if i % 7 == 3 else b"AA"))
+    return names, told_by_scan(programs, names).splitlines(keepends=True)
+
+
+def filter_groups(cases, programs):
+    """A filter of more files than one group holds: fourteen of half a mebibyte are one."""
+    names, wanted = half_mebibytes(programs, 200)
+    peaks = []
+    for count in (30, 200):
+        told, service = [], programs.service()
+        peaks.append(peak_of(programs.filter(*names[:count], mode=("--summary",)), told))
+        infected = sum(b"denied" in line for line in wanted[:count])
+        summary = b"avscan: %d files scanned, %d infected, 0 not scanned\n" % (count, infected)
+        cases.same(f"{count} files of half a mebibyte: filter", told, [(0, b"".join(wanted[:count]), summary)])
+        cases.same(f"{count} files of half a mebibyte: service", ended(service), (0, b"closed\n", b""))
+    cases.check("a filter's memory is that of one group", 0 < peaks[1] < min(peaks[0] + 8, 32), f"{peaks} MiB")
+    lost_in_the_midst(cases, programs, names, wanted)
+    alone = b"".join(b"%s denied cause 3\n" % name.encode() for name in names[:40])
+    cases.same("no service for several groups", ended(programs.filter(*names[:40], wait="1")), (4, alone, b"avscan: %s: no service came\n" % programs.socket.encode()))
+    programs.write("goes", b"A")
+    filter = programs.filter(*names[:40], "goes")
+    await_socket(programs.socket, filter)
+    os.unlink(os.path.join(programs.folder, "goes"))
+    cases.same("a file that goes between look and reading", both_ended(filter, programs.service()),
+               ((4, b"".join(wanted[:28]), b"avscan: goes: cannot read\n"), (0, b"closed\n", b"")))
+    piped_and_small(cases, programs, names, wanted)
+
+
+def lost_in_the_midst(cases, programs, names, wanted):
+    """The service is killed once the lines of a group have come: each file of each group has its line."""
+    lost = b"avscan: %s: the service was lost\n" % programs.socket.encode()
+    for turn in range(5):
+        filter, service = programs.filter(*names), programs.service()
+        first = [filter.stdout.readline() for _ in range(14 * turn + 1)]
+        service.kill()
+        service.wait()
+        lines = first + filter.stdout.readlines()
+        err, status = filter.stderr.read(), filter.wait(SECONDS)
+        named = [line.split(b" ")[0].decode() for line in lines] == names
+        fair = all(line == right or line.endswith((b" denied cause 3\n", b" denied cause 6\n")) for line, right in zip(lines, wanted))
+        ends = (status, err) == ((0, b"") if lines == wanted else (4, lost))
+        cases.check(f"a service that is killed behind {turn} groups", named and fair and ends and lines[:14 * turn + 1] == wanted[:14 * turn + 1], f"{status}, {err!r}, {lines[-1:]}")
+
+
+def piped_and_small(cases, programs, names, wanted):
+    service = programs.service()
+    piped = subprocess.Popen([programs.program, "filter", programs.socket, *names[:40], "/dev/stdin", *names[40:]], cwd=programs.folder, stdin=subprocess.PIPE,
+                             stdout=subprocess.PIPE, stderr=subprocess.PIPE)
+    out, err = piped.communicate(b"A" * (1 << 20) + b"A", timeout=SECONDS)
+    cases.same("a file that turns out too large in a later group of a filter", (piped.returncode, out, err),
+               (1, b"".join(wanted[:28]), b"avscan: /dev/stdin: TooLarge\n"))
+    cases.same("its service", ended(service), (0, b"closed\n", b""))
+    os.mkdir(os.path.join(programs.folder, "small"))
+    small = [f"small/{i}" for i in range(4_097)]
+    for name in small:
+        programs.write(name, b"AXX" if name.endswith("77") else b"")
+    programs.write("list", "\n".join(small).encode())
+    filter = programs.start("filter", programs.socket, "--files-from", "list")
+    cases.same("small files of several groups of a filter", both_ended(filter, programs.service()), ((0, told_by_scan(programs, small), b""), (0, b"closed\n", b"")))
+
+
 def main():
     if len(sys.argv) != 2:
         sys.exit("usage: tests/sockets.py PROGRAM")
     cases = Cases()
-    for part in (meetings, many_files, stopped_and_continued, waits, modes, recipe, hostile_services, hostile_filters, places, inputs, kills, hosts, groups):
+    for part in (meetings, many_files, stopped_and_continued, waits, modes, recipe, hostile_services, hostile_filters, places, inputs, kills, hosts, groups, filter_groups):
         begun = time.time()
         try:
             with tempfile.TemporaryDirectory() as folder:

@@ -1,2 +1,4 @@
+pub mod AddLemmas
+pub mod GroupLemmas
 pub mod PlaceLemmas
 pub mod ServiceLemmas

@@ -1,23 +1,25 @@
-ghost use Rattle.std.specs.Prelude.{◌≡◌, IfErr, IfOk, map};
+ghost use Rattle.std.specs.Prelude.{◌≡◌, [], IfErr, IfOk, OnOk, map};
 ghost use Rattle.std.specs.List.{zip};
 ghost use Rattle.std.specs.List.Sorted.{IsNonDecreasingBy, IsPermutation};
 ghost use Rattle.av_filter.specs.Fit.{Fits};
 ghost use Rattle.av_pend.specs.Pend.{open_of};
-ghost use Rattle.av_sockets.specs.Filter.{AreFiltered, PrintsInOrder, opened_as};
+ghost use Rattle.av_sockets.specs.Filter.{AreFiltered, AreOpened, AreTold, GoesOn, PrintsInOrder, opened_as};
 ghost use Rattle.av_status.specs.Status.{EndsWell, IsFault};
 
 use crate::duplex::{Duplex, Hearing, Saying};
-use crate::fault::{SocketFault, socket_failed};
-use crate::sockets::{Meeting, meet_service};
+use crate::group::{Contents, Group};
+use crate::line::Line;
+use crate::sockets::Meeting;
 use av_base::limits::MAX_JOBS;
 use av_base::{Limits, Mode, StreamId, Version};
 use av_engines::{End, Watched, serve_filter};
 use av_files::opened::{Opened, conclude_opened, count_opened, print_opened};
-use av_files::streams::TURNS;
+use av_files::scanner::MAX_FILE;
+use av_files::streams::{TURNS, empty_volume};
 use av_filter::Filter;
 use av_pend::Answer;
-use av_status::end_told;
 use av_status::faults::out_of_memory;
+use av_status::progress::Progress;
 use av_status::status::Status;
 use av_status::tally::{Tally, Wishes};
 use av_store::Volume;
@@ -28,120 +30,222 @@ use std::net::Net;
 use std::time::Clock;
 
 // How many files are opened at one time: as many as a service runs scans.
-const GROUP: usize = MAX_JOBS as usize;
+const OPENS: usize = MAX_JOBS as usize;
 
-/// Opens the streams of a volume by their names, through a filter that one service may join at a socket with these rights,
-/// and writes a line for each, in the order given, as far as it is to be shown. An open that no service has answered is denied.
-pub fn filter_volume<R: Files + Net + Clock, W: Write, E: Write>(
+/// Opens files by their names, through a filter that one service may join at a socket with these rights, and writes a line for
+/// each, in the order given, as far as it is to be shown. An open that no service has answered is denied. The files are read and
+/// held a group at a time, the first one before the socket is made; one that can't be read ends it behind the lines of the groups
+/// before.
+pub fn filter_files<R: Files + Net + Clock, F: Contents, C: Clock, W: Write, E: Write>(
     rt: &R,
     alloc: Global,
     meeting: Meeting<'_>,
     mode: u32,
-    mut volume: Volume,
+    files: &F,
     names: &[&str],
     wishes: Wishes,
     out: &mut W,
-    err: &mut E,
+    err: &mut Progress<'_, C, E>,
 ) -> Status
     ensures { EndsWell result → AreFiltered names.now wishes (W.contents out.old) (W.contents out.new) result }
 {
-    let Ok(streams) = streams_of(alloc, &volume, names) else {
-        return out_of_memory(err);
-    };
+    let mut volume = empty_volume(alloc);
     let Ok(mut filter) = Filter::mount(alloc, &mut volume, Mode::FailClosed, Limits::greatest())
     else {
         return out_of_memory(err);
     };
-    let met = meet_service(rt, alloc, meeting, mode);
-    let mut watched = open_streams(alloc, &mut volume, &mut filter, streams.as_slice(), &met);
-    let rest = open_rest(
+    let mut line = Line::new(rt, alloc, meeting, mode);
+    let status = filter_over(
         alloc,
         &mut volume,
         &mut filter,
-        streams.as_slice(),
-        &mut watched.answers,
+        &mut line,
+        files,
+        names,
+        wishes,
+        out,
+        err,
     );
     filter.abandon();
-    if watched.end == End::Memory || rest.is_err() {
-        return out_of_memory(err);
-    }
-    tell(alloc, names, meeting.path, met, watched, wishes, out, err)
+    status
 }
 
-// Writes the lines, and says how it ended.
-fn tell<C: Clock, W: Write, E: Write>(
+// The same, through this filter of the volume over this line.
+fn filter_over<R: Files + Net + Clock, F: Contents, C: Clock, W: Write, E: Write>(
     alloc: Global,
+    volume: &mut Volume,
+    filter: &mut Filter,
+    line: &mut Line<'_, R>,
+    files: &F,
     names: &[&str],
-    socket: &str,
-    met: Result<Duplex<'_, C>, SocketFault>,
-    watched: Watched,
     wishes: Wishes,
     out: &mut W,
-    err: &mut E,
+    err: &mut Progress<'_, C, E>,
 ) -> Status
+    requires fits { Fits filter.old volume.old }
     ensures { EndsWell result → AreFiltered names.now wishes (W.contents out.old) (W.contents out.new) result }
 {
-    match print_answers(alloc, names, watched.answers, wishes, out, err) {
-        Ok(opened) => {
-            let mut tally = Tally::new();
-            count_opened(&mut tally, opened.as_slice());
-            let ended = told(err, socket, met, watched.end);
+    let mut tally = Tally::new();
+    match open_all(
+        alloc, volume, filter, line, files, names, wishes, &mut tally, out, err,
+    ) {
+        Ok(()) => {
+            let ended = line.told(err);
             conclude_opened(tally, names.len(), ended, wishes, err)
         }
         Err(failed) => failed,
     }
 }
 
-// How the filter's side ended, where that is a fault.
-fn told<C: Clock, E: Write>(
-    err: &mut E,
-    socket: &str,
-    met: Result<Duplex<'_, C>, SocketFault>,
-    end: End,
-) -> Status {
-    if let Err(fault) = met {
-        return socket_failed(err, socket, fault);
-    }
-    match end {
-        End::Closed | End::ReadFault | End::WriteFault => {
-            socket_failed(err, socket, SocketFault::ServiceLost)
-        }
-        _ => end_told(err, end),
-    }
-}
-
-// The streams of these names.
-fn streams_of(alloc: Global, volume: &Volume, names: &[&str]) -> Result<Vec<StreamId>, AllocError> {
-    let mut streams = Vec::with_capacity(alloc, names.len())?;
-    for name in names {
-        if let Some(stream) = volume.find(name.as_bytes()) {
-            streams.push(stream)?;
-        }
-    }
-    Ok(streams)
-}
-
-// What each open was told, and how the filter's side came to its end: Closed where no service came. As many streams are opened
-// at one time as a service runs scans, and the next ones once they have their answers.
-fn open_streams<C: Clock>(
+// Reads and opens the files, a group after the other.
+fn open_all<R: Files + Net + Clock, F: Contents, C: Clock, W: Write, E: Write>(
     alloc: Global,
     volume: &mut Volume,
     filter: &mut Filter,
-    streams: &[StreamId],
-    met: &Result<Duplex<'_, C>, SocketFault>,
-) -> Watched
+    line: &mut Line<'_, R>,
+    files: &F,
+    names: &[&str],
+    wishes: Wishes,
+    tally: &mut Tally,
+    out: &mut W,
+    err: &mut Progress<'_, C, E>,
+) -> Result<(), Status>
     requires fits { Fits filter.old volume.old }
-    ensures fits { Fits filter.new volume.new }
+    ensures told { OnOk result (AreTold wishes tally.old (W.contents out.old) names.now tally.new (W.contents out.new)) }
+    ensures failed { IfErr result (λ status. IsFault status) }
 {
-    let mut answers = Vec::new(alloc);
-    let end = match met {
-        Ok(duplex) => open_groups(alloc, volume, filter, streams, duplex, &mut answers),
-        Err(_) => End::Closed,
+    let Ok(mut buffer) = vec![in alloc; 0u8; MAX_FILE + 2] else {
+        return Err(out_of_memory(err));
     };
-    Watched { end, answers }
+    let mut group = Group::new(alloc);
+    let mut count = 0usize;
+    'files: for name in names {
+        err.step("read", count, names.len());
+        count = count.saturating_add(1);
+        let content = content_of(files, name, &mut buffer);
+        go_on(
+            alloc, volume, filter, line, &mut group, *name, content, wishes, tally, out, err,
+        )?;
+    }
+    open_group(
+        alloc, volume, filter, line, &mut group, wishes, tally, out, err,
+    )
 }
 
-fn open_groups<C: Clock>(
+// The content of a file, where it can be read.
+fn content_of<'a, F: Contents>(files: &F, name: &str, buffer: &'a mut [u8]) -> Option<&'a [u8]> {
+    let count = files.read(name, buffer)?;
+    buffer.get(..count)
+}
+
+// Takes a file that was read into its group, and opens the group where it is full.
+fn go_on<'a, R: Files + Net + Clock, C: Clock, W: Write, E: Write>(
+    alloc: Global,
+    volume: &mut Volume,
+    filter: &mut Filter,
+    line: &mut Line<'_, R>,
+    group: &mut Group<'a>,
+    name: &'a str,
+    content: Option<&[u8]>,
+    wishes: Wishes,
+    tally: &mut Tally,
+    out: &mut W,
+    err: &mut Progress<'_, C, E>,
+) -> Result<(), Status>
+    requires fits { Fits filter.old volume.old }
+    ensures goes_on { OnOk result (GoesOn wishes name.entry group.old.names.items group.new.names.items tally.old tally.new (W.contents out.old) (W.contents out.new)) }
+    ensures fits { OnOk result (Fits filter.new volume.new) }
+    ensures failed { IfErr result (λ status. IsFault status) }
+{
+    group.add(alloc, volume, filter, name, content, err)?;
+    if !group.is_full() {
+        return Ok(());
+    }
+    open_group(alloc, volume, filter, line, group, wishes, tally, out, err)
+}
+
+// Opens the files of a group, once it was waited for a service, writes their lines, and takes their streams away.
+fn open_group<R: Files + Net + Clock, C: Clock, W: Write, E: Write>(
+    alloc: Global,
+    volume: &mut Volume,
+    filter: &mut Filter,
+    line: &mut Line<'_, R>,
+    group: &mut Group<'_>,
+    wishes: Wishes,
+    tally: &mut Tally,
+    out: &mut W,
+    err: &mut Progress<'_, C, E>,
+) -> Result<(), Status>
+    requires fits { Fits filter.old volume.old }
+    ensures opened { OnOk result (AreOpened wishes group.old.names.items tally.old tally.new (W.contents out.old) (W.contents out.new)) }
+    ensures empty { OnOk result (group.new.names.items ≡ []) }
+    ensures fits { OnOk result (Fits filter.new volume.new) }
+    ensures failed { IfErr result (λ status. IsFault status) }
+{
+    err.wipe();
+    line.meet();
+    let streams = group.streams.as_slice();
+    let Ok(answers) = answers_of(alloc, volume, filter, line, streams) else {
+        return Err(out_of_memory(err));
+    };
+    let names = group.names.as_slice();
+    tell(alloc, names, answers, wishes, tally, out, err)?;
+    if remove_all(alloc, volume, filter, streams).is_err() {
+        return Err(out_of_memory(err));
+    }
+    group.clear();
+    Ok(())
+}
+
+// Writes the lines of files that were opened, and counts them.
+fn tell<W: Write, E: Write>(
+    alloc: Global,
+    names: &[&str],
+    answers: Vec<Answer>,
+    wishes: Wishes,
+    tally: &mut Tally,
+    out: &mut W,
+    err: &mut E,
+) -> Result<(), Status>
+    ensures opened { OnOk result (AreOpened wishes names.now tally.old tally.new (W.contents out.old) (W.contents out.new)) }
+    ensures failed { IfErr result (λ status. IsFault status) }
+{
+    match print_answers(alloc, names, answers, wishes, out, err) {
+        Ok(opened) => {
+            count_opened(tally, opened.as_slice());
+            Ok(())
+        }
+        Err(failed) => Err(failed),
+    }
+}
+
+// What the open of each of these streams was told, also where no service is there any more.
+fn answers_of<R: Files + Net + Clock>(
+    alloc: Global,
+    volume: &mut Volume,
+    filter: &mut Filter,
+    line: &mut Line<'_, R>,
+    streams: &[StreamId],
+) -> Result<Vec<Answer>, AllocError>
+    requires fits { Fits filter.old volume.old }
+    ensures fits { OnOk result (Fits filter.new volume.new) }
+{
+    let mut answers = Vec::new(alloc);
+    let before = line.end;
+    let end = match line.duplex() {
+        Some(duplex) => open_streams(alloc, volume, filter, streams, duplex, &mut answers),
+        None => before,
+    };
+    line.end = end;
+    if end == End::Memory {
+        return Err(AllocError);
+    }
+    open_rest(alloc, volume, filter, streams, &mut answers)?;
+    Ok(answers)
+}
+
+// Opens streams over the connection, as many at one time as a service runs scans, and the next ones once they have their answers.
+fn open_streams<C: Clock>(
     alloc: Global,
     volume: &mut Volume,
     filter: &mut Filter,
@@ -152,8 +256,8 @@ fn open_groups<C: Clock>(
     requires fits { Fits filter.old volume.old }
     ensures fits { Fits filter.new volume.new }
 {
-    'groups: for group in streams.chunks(GROUP) {
-        let mut watched = open_group(alloc, volume, filter, group, duplex);
+    'parts: for part in streams.chunks(OPENS) {
+        let mut watched = open_part(alloc, volume, filter, part, duplex);
         if answers.append(&mut watched.answers).is_err() {
             return End::Memory;
         }
@@ -167,18 +271,18 @@ fn open_groups<C: Clock>(
     }
 }
 
-// Opens a group of streams, once the filter is connected.
-fn open_group<C: Clock>(
+// Opens these streams, once the filter is connected.
+fn open_part<C: Clock>(
     alloc: Global,
     volume: &mut Volume,
     filter: &mut Filter,
-    group: &[StreamId],
+    streams: &[StreamId],
     duplex: &Duplex<'_, C>,
 ) -> Watched
     requires fits { Fits filter.old volume.old }
     ensures fits { Fits filter.new volume.new }
 {
-    if volume.opens_left() < group.len() as u64 {
+    if volume.opens_left() < streams.len() as u64 {
         return Watched {
             end: End::Closed,
             answers: Vec::new(alloc),
@@ -190,7 +294,7 @@ fn open_group<C: Clock>(
         alloc,
         volume,
         filter,
-        group,
+        streams,
         &mut reader,
         &mut writer,
         TURNS,
@@ -206,12 +310,31 @@ fn open_rest(
     answers: &mut Vec<Answer>,
 ) -> Result<(), AllocError>
     requires fits { Fits filter.old volume.old }
+    ensures fits { OnOk result (Fits filter.new volume.new) }
 {
     'streams: for stream in streams.iter().skip(answers.len()) {
         let Ok(opened) = filter.open(alloc, volume, *stream, Version::new(0)) else {
             return Err(AllocError);
         };
         answers.extend_from_slice(opened.answers.as_slice())?;
+    }
+    Ok(())
+}
+
+// Takes streams away, with what is known of them.
+fn remove_all(
+    alloc: Global,
+    volume: &mut Volume,
+    filter: &mut Filter,
+    streams: &[StreamId],
+) -> Result<(), AllocError>
+    requires fits { Fits filter.old volume.old }
+    ensures fits { OnOk result (Fits filter.new volume.new) }
+{
+    'streams: for stream in streams {
+        let Ok(_) = filter.remove(alloc, volume, *stream) else {
+            return Err(AllocError);
+        };
     }
     Ok(())
 }

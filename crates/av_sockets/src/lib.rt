@@ -2,14 +2,16 @@
 //!
 //! ```text
 //! let meeting = Meeting { path: "avscan.socket", wait: Duration::from_secs(30) };
-//! filter_volume(&rt, alloc, meeting, 0o600, volume, &names, &mut out, &mut err);    // in the one
-//! serve_at(&rt, alloc, meeting, set, None, &mut out, &mut err);                     // in the other
+//! filter_files(&rt, alloc, meeting, 0o600, &files, &names, wishes, &mut out, &mut err);    // in the one
+//! serve_at(&rt, alloc, meeting, set, None, &mut out, &mut err);                          // in the other
 //! ```
 #![tactic(auto)]
 
 mod duplex;
 pub mod fault;
 pub mod filter;
+pub mod group;
+mod line;
 pub mod looks;
 mod place;
 pub mod service;
@@ -20,7 +22,8 @@ pub mod watch;
 
 pub use duplex::{Duplex, Hearing, Saying};
 pub use fault::SocketFault;
-pub use filter::filter_volume;
+pub use filter::filter_files;
+pub use group::{Contents, GROUP_BYTES, LEAST_BYTES};
 pub use looks::{Look, looked_at};
 pub use place::Arriving;
 pub use service::serve_at;

@@ -10,7 +10,7 @@ use av_files::{
 };
 use av_host::{Crew, Group, Hosting, host_group};
 use av_sigset::SignatureSet;
-use av_sockets::filter_volume;
+use av_sockets::{Contents, GROUP_BYTES, LEAST_BYTES, filter_files};
 use av_status::faults::out_of_memory;
 use av_status::{Progress, Status, Tally};
 use av_store::Volume;
@@ -18,12 +18,6 @@ use av_words::{Filter, Host};
 use std::alloc::Global;
 use std::collections::BTreeSet;
 use std::io::Write;
-
-// As many files are a group as have so many bytes together: with the last of them, of at most 1 MiB, no more than 8 MiB.
-const GROUP: usize = 7 * 1_048_576;
-
-// A file counts as so many bytes at least.
-const LEAST: usize = 4_096;
 
 /// Opens files by their names, as `host_files` does by their contents, and holds one group of them at a time. What can be seen of a
 /// file without reading it is told before the first one is opened.
@@ -111,7 +105,9 @@ fn look_over<E: Write>(
     alloc: Global,
     names: &[&str],
     err: &mut E,
-) -> Result<(), Status> {
+) -> Result<(), Status>
+    ensures { IfErr result (λ status. IsFault status) }
+{
     let mut seen = BTreeSet::new(alloc);
     'files: for name in names {
         look_at(alloc, &mut seen, *name, size_of(rt, name), err)?;
@@ -189,7 +185,7 @@ fn host_read<R: Hosting, W: Write, E: Write>(
     out: &mut W,
     err: &mut Progress<'_, HostRuntime, E>,
 ) -> Result<(Status, usize), Status> {
-    match volume_with(rt, alloc, rest, GROUP, buffer, err) {
+    match volume_with(rt, alloc, rest, buffer, err) {
         Ok((volume, count)) => host_made(
             system, alloc, asked, set, volume, rest, count, tally, out, err,
         ),
@@ -227,7 +223,8 @@ fn host_made<R: Hosting, W: Write, E: Write>(
     }
 }
 
-/// Opens files by their names, through a filter that a service may join at a socket.
+/// Opens files by their names, through a filter that a service may join at a socket, and holds one group of them at a time. What
+/// can be seen of a file without reading it is told before the socket is made.
 pub fn filter_named<R: Hosting, W: Write, E: Write>(
     rt: &HostRuntime,
     system: &R,
@@ -236,9 +233,6 @@ pub fn filter_named<R: Hosting, W: Write, E: Write>(
     out: &mut W,
     err: &mut Progress<'_, HostRuntime, E>,
 ) -> Status {
-    let Ok(mut buffer) = vec![in alloc; 0u8; MAX_FILE + 2] else {
-        return out_of_memory(err);
-    };
     let mut text = Vec::new(alloc);
     match names_of(
         rt,
@@ -249,66 +243,76 @@ pub fn filter_named<R: Hosting, W: Write, E: Write>(
         &mut Tally::new(),
         err,
     ) {
-        Ok(names) => {
-            let names = names.as_slice();
-            filter_all(rt, system, alloc, asked, names, &mut buffer, out, err)
-        }
+        Ok(names) => filter_all(rt, system, alloc, asked, names.as_slice(), out, err),
         Err(status) => status,
     }
 }
 
-// The same, with all names.
+// The same, with all names: each file is looked at before the first one is read.
 fn filter_all<R: Hosting, W: Write, E: Write>(
     rt: &HostRuntime,
     system: &R,
     alloc: Global,
     asked: &Filter<'_>,
     names: &[&str],
-    buffer: &mut [u8],
     out: &mut W,
     err: &mut Progress<'_, HostRuntime, E>,
 ) -> Status
     ensures { EndsWell result → AreFiltered names.now asked.now.named.wishes (W.contents out.old) (W.contents out.new) result }
 {
-    let meeting = meeting(asked.socket, asked.wait);
-    let wishes = asked.named.wishes;
-    let files = Group {
-        names,
-        before: 0,
-        all: names.len(),
-    };
-    match volume_with(rt, alloc, files, usize::MAX, buffer, err) {
-        Ok((volume, _)) => filter_volume(
-            system, alloc, meeting, asked.mode, volume, names, wishes, out, err,
+    match look_over(rt, alloc, names, err) {
+        Ok(()) => filter_files(
+            system,
+            alloc,
+            meeting(asked.socket, asked.wait),
+            asked.mode,
+            &Disk { rt },
+            names,
+            asked.named.wishes,
+            out,
+            err,
         ),
         Err(status) => status,
     }
 }
 
-// A volume with the first of these files, as many as reach so many bytes together, and how many they are: all where they do not.
+// Files as the system has them.
+#[derive(Drop)]
+struct Disk<'a> {
+    rt: &'a HostRuntime,
+}
+
+impl<'a> Contents for Disk<'a> {
+    fn read(&self, name: &str, buffer: &mut [u8]) -> Option<usize> {
+        match read_file(self.rt, name, buffer).content {
+            Some(content) => Some(content.len()),
+            None => None,
+        }
+    }
+}
+
+// A volume with the first of these files, as many as are a group, and how many they are.
 fn volume_with<E: Write>(
     rt: &HostRuntime,
     alloc: Global,
     files: Group<'_>,
-    most: usize,
     buffer: &mut [u8],
     err: &mut Progress<'_, HostRuntime, E>,
 ) -> Result<(Volume, usize), Status>
     ensures { IfErr result (λ status. IsFault status) }
 {
     let mut volume = empty_volume(alloc);
-    match add_files(rt, alloc, files, most, &mut volume, buffer, err) {
+    match add_files(rt, alloc, files, &mut volume, buffer, err) {
         Ok(count) => Ok((volume, count)),
         Err(status) => Err(status),
     }
 }
 
-// Adds the first of these files to a volume, as many as reach so many bytes together, and says how many they are.
+// Adds the first of these files to a volume, as many as are a group, and says how many they are.
 fn add_files<E: Write>(
     rt: &HostRuntime,
     alloc: Global,
     files: Group<'_>,
-    most: usize,
     volume: &mut Volume,
     buffer: &mut [u8],
     err: &mut Progress<'_, HostRuntime, E>,
@@ -318,14 +322,14 @@ fn add_files<E: Write>(
     let mut count = 0usize;
     let mut bytes = 0usize;
     'files: for name in files.names {
-        if bytes >= most {
+        if bytes >= GROUP_BYTES {
             break;
         }
         err.step("read", files.before.saturating_add(count), files.all);
         let file = read_file(rt, name, buffer);
         let length = file.content.map_or(0, |content| content.len());
         add_file(alloc, volume, file, err)?;
-        bytes = bytes.saturating_add(length.max(LEAST));
+        bytes = bytes.saturating_add(length.max(LEAST_BYTES));
         count = count.saturating_add(1);
     }
     err.wipe();

@@ -1,0 +1,6 @@
+use Rattle.av_filter.specs.Fit.{Fits}
+use Rattle.av_sockets.proofs.filter.remove_all.Given as goal
+
+-- the filter fits the volume
+abbrev pub invariant-streams : goal.invariant-streams
+invariant-streams l = Fits l.filter l.volume
