@@ -140,6 +140,7 @@ impl Client {
         ensures takes { OnOk result (self.old.line.since ≡ None) }
         ensures told { OnOk result (self.new.line.waiting.items ≡ self.old.line.waiting.items ++ late_text self.old.speech) }
         ensures done { OnOk result (self.new.is_done ≡ true) }
+        ensures same { self.new ≡ record self.old { is_done = self.new.is_done; line = self.new.line } }
     {
         if self.line.since().is_some() {
             return Err(Lost);
@@ -160,6 +161,7 @@ impl Client {
     ) -> Result<(), Lost>
         ensures hears { OnOk result ((came : Came) × IsWithin came buffer.new × Hears came buffer.new self.old.speech self.new.speech self.old.line.waiting.items self.new.line.waiting.items asked.old.items asked.new.items) }
         ensures owed { OnOk result (self.new.owed ≡ min (self.old.owed + (length asked.new.items - length asked.old.items)) usize.MAX) }
+        ensures held { self.new.is_held ≡ self.old.is_held }
     {
         let _owed = self.owed;
         match self.line.read(buffer) {
@@ -183,6 +185,7 @@ impl Client {
         ensures says { OnOk result (Says piece.now self.old.speech self.new.speech self.old.line.waiting.items self.new.line.waiting.items asked.old.items asked.new.items) }
         ensures owed { OnOk result (self.new.owed ≡ min (self.old.owed + (length asked.new.items - length asked.old.items)) usize.MAX) }
         ensures done { OnOk result (self.new.is_done ≡ is_done_by self.new.speech self.old.is_done) }
+        ensures held { self.new.is_held ≡ self.old.is_held }
     {
         let before = asked.len();
         match &mut self.speech {
@@ -200,6 +203,7 @@ impl Client {
     pub fn tell(&mut self, told: Told, name: Option<&[u8]>) -> Result<(), Lost>
         ensures told { OnOk result (self.new.line.waiting.items ≡ self.old.line.waiting.items ++ told_text self.old.speech told.tag told.answer name.entry) }
         ensures owed { self.new.owed ≡ self.old.owed - 1 }
+        ensures same { self.new ≡ record self.old { line = self.new.line; owed = self.new.owed } }
     {
         self.owed = self.owed.saturating_sub(1);
         let out = &mut self.line.waiting;

@@ -1,4 +1,6 @@
-ghost use Rattle.std.specs.Prelude.{◌≡◌, ◌<◌, length};
+ghost use Rattle.std.specs.Prelude.{◌≡◌, ◌<◌, Some, IfErr, IfOk, IfSome, IsSomeAnd, length};
+ghost use Rattle.av_files.specs.Scan.{HasVerdict};
+ghost use Rattle.av_status.specs.Status.{IsFault};
 
 use crate::list::{failing, names_of};
 use crate::reading::{is_folder, open_file, read_file};
@@ -12,7 +14,7 @@ use av_words::{Finding, Named, Scan};
 use std::alloc::Global;
 use std::fs;
 use std::fs::File;
-use std::io::{IsTerminal, Write};
+use std::io::{IsTerminal, Read, Write};
 
 /// Scans files by their names, as `scan_files` does by their contents. One buffer holds the pieces of each content in turn.
 pub fn scan_named<W: Write, E: Write>(
@@ -262,15 +264,18 @@ fn scan_one<W: Write, E: Write>(
 }
 
 // The verdict of a file, where it could be opened. Where there is none, one line to `err` says why.
-fn judged<E: Write>(
+fn judged<F: Read + Drop, E: Write>(
     means: Means<'_, '_>,
     name: &str,
-    file: Option<File>,
+    file: Option<F>,
     buffer: &mut [u8],
     err: &mut E,
 ) -> Result<Verdict, Status>
     requires { 0 < length buffer.old }
-    ensures { length buffer.new ≡ length buffer.old }
+    ensures verdict { IfOk result (λ v. IsSomeAnd file
+        (λ f. IfSome (F.remaining f) (λ content. HasVerdict means.entry.scanner.now (Some content) v))) }
+    ensures status { IfErr result (λ status. IsFault status) }
+    ensures buffer { length buffer.new ≡ length buffer.old }
 {
     match file {
         Some(mut file) => {
