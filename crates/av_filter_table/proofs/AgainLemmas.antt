@@ -12,7 +12,7 @@ use Rattle.av_base.specs.declared.port.Port.{Port}
 use Rattle.av_context.specs.Contexts.{at, with, without, PutsAt}
 use Rattle.av_context.specs.declared.context_state.ContextState.TheVariants.{Modified, Scanning}
 use Rattle.av_filter_table.specs.Asking.{again_under, is_lost, is_spent as is_spent_open, moved as moved_open, moved_opens}
-use Rattle.av_filter_table.specs.Chains.{Questions, Opens, IsChain, AreChained, plains, of, is_spent, once_more, essence, essences}
+use Rattle.av_filter_table.specs.Chains.{Questions, Opens, IsChain, AreChained, plains, of, is_spent, once_more, asked_about, essence, essences}
 use Rattle.av_filter_table.specs.Moving.{is_over, overs, moved, moved_all, refusal, refusals}
 use Rattle.av_filter_table.specs.Numbered.{IsAscending}
 use Rattle.av_filter_table.specs.Answering.{by_mode}
@@ -22,8 +22,8 @@ use Rattle.av_filter_table.specs.Table.{Table, waits_for, without_question}
 use Rattle.av_filter_table.specs.declared.asked.Asked.{Asked}
 use Rattle.av_filter_table.specs.declared.pended.Pended.{Pended}
 use Rattle.av_filter_table.proofs.ChainLemmas.{apart-test, has_none}
-use Rattle.av_filter_table.proofs.MapLemmas.{puts_at, same_map, puts-ascends, with-ascends, at-with, at-with_other, at-without, at-without_other, put_back, none_some, some_same, if_some, if_some_at, is_there}
-use Rattle.av_filter_table.proofs.TableLemmas.{first-none_of, test-boot, keys-essences, rows-kept, known-at, Ends, ends, new_row, Asks, asks as asks-rows, states-puts, all-at}
+use Rattle.av_filter_table.proofs.MapLemmas.{puts_at, same_map, puts-ascends, with-ascends, at-with, at-with_other, at-without, at-without_other, none_some, some_same, if_some, if_some_at, is_there}
+use Rattle.av_filter_table.proofs.TableLemmas.{first-none_of, test-boot, keys-essences, rows-kept, known-at, Ends, ends, Asks, asks as asks-rows, states-puts, all-at}
 use Rattle.av_pend.specs.Waiting.{Waiting}
 use Rattle.av_store.specs.Store.{Store}
 
@@ -111,7 +111,7 @@ pub record AsksAgain (boot sequence n : ℕ) (x : Asked) (port : Port) (generati
 
 -- it is as if the question had ended, and then the new one been asked
 pub asks_again : (boot sequence n : ℕ) (port : Port) (generation : ℕ) (q q1 q2 q' : Questions) (p p' : Opens) (k k1 k' : List (ℕ × Known)) (x : Asked) (key : ℕ) → IsConsistent boot sequence q p k → IsAscending q → IsAscending k → at q n ≡ Some (x, key)
-    → PutsAt k k1 x.stream (Some (record { key = key; state = Scanning (id_of boot (sequence + 1)); held = held_out (at k x.stream) + 1 })) → PutsAt q q1 (sequence + 1) (Some (new_row port x.stream generation, key))
+    → PutsAt k k1 x.stream (Some (record { key = key; state = Scanning (id_of boot (sequence + 1)); held = held_out (at k x.stream) + 1 })) → PutsAt q q1 (sequence + 1) (Some (asked_about x.stream generation port, key))
     → essences q2 ≡ essences q1 → AreChained q2 p' → AreNumbered p' → plains p' ≡ moved_all n (sequence + 1) (plains p)
     → PutsAt q2 q' n None → PutsAt k1 k' x.stream (option_map let_loose (at k1 x.stream)) → AsksAgain boot sequence n x port generation q q' p p' k k'
 asks_again boot sequence n port generation q q1 q2 q' p p' k k1 k' x key consistent up up_k found held put same chained numbered is gone loose = record {
@@ -176,10 +176,10 @@ asks_again boot sequence n port generation q q1 q2 q' p p' k k1 k' x key consist
         absurd (omega arith))
 
     q_new : Questions
-    q_new = with q0 m (new_row port s generation, key)
+    q_new = with q0 m (asked_about s generation port, key)
 
-    new : PutsAt q0 q_new m (Some (new_row port s generation, key))
-    new = record { whole = refl; here = at-with q0 m (new_row port s generation, key); others = λ j apart. at-with_other q0 m j (new_row port s generation, key) apart }
+    new : PutsAt q0 q_new m (Some (asked_about s generation port, key))
+    new = record { whole = refl; here = at-with q0 m (asked_about s generation port, key); others = λ j apart. at-with_other q0 m j (asked_about s generation port, key) apart }
 
     asked : Asks boot sequence q0 q_new p k0 k' port s generation
     asked = asks-rows boot sequence q0 q_new p k0 k' port s generation key ended.consistent up_k0 no_other holds new
@@ -218,14 +218,14 @@ asks_again boot sequence n port generation q q1 q2 q' p p' k k1 k' x key consist
     unasked j above = ap (of j) is ∙ none-moved n m j (plains p) (λ e. absurd (omega arith)) (consistent.unasked j (omega arith))
 
 -- the chains with a question that no open waits for yet
-pub chained-new : (boot sequence : ℕ) (port : Port) (s generation key : ℕ) (q q1 : Questions) (p : Opens) (k : List (ℕ × Known)) → IsConsistent boot sequence q p k → PutsAt q q1 (sequence + 1) (Some (new_row port s generation, key)) → AreChained q1 p
+pub chained-new : (boot sequence : ℕ) (port : Port) (s generation key : ℕ) (q q1 : Questions) (p : Opens) (k : List (ℕ × Known)) → IsConsistent boot sequence q p k → PutsAt q q1 (sequence + 1) (Some (asked_about s generation port, key)) → AreChained q1 p
 chained-new boot sequence port s generation key q q1 p k consistent put =
     let first = first-none_of (sequence + 1) p (consistent.unasked (sequence + 1) (omega arith)) in
     let none = has_none (sequence + 1) p first in
     record {
       linked = consistent.chained.linked;
       ends = λ m. if_some (λ z. IsChain z.0 m p) (at q1 m) (λ z at_m. elim (cases_eq m (sequence + 1)) [
-        | inl same ↦ subst (λ j. IsChain z.0 j p) (sym same) (subst (λ y. IsChain y.0 (sequence + 1) p) (some_same (new_row port s generation, key) z (sym put.here ∙ (ap (at q1) (sym same) ∙ at_m)))
+        | inl same ↦ subst (λ j. IsChain z.0 j p) (sym same) (subst (λ y. IsChain y.0 (sequence + 1) p) (some_same (asked_about s generation port, key) z (sym put.here ∙ (ap (at q1) (sym same) ∙ at_m)))
             (record { first = sym first; last = sym none.last; opens = sym none.count }))
         | inr apart ↦ if_some_at (λ y. IsChain y.0 m p) (at q m) z (consistent.chained.ends m) (sym (put.others m apart) ∙ at_m)
       ]);
@@ -236,14 +236,6 @@ pub same-key : (n : ℕ) (q q' : Questions) (x y : Asked) (key key' : ℕ) → e
 same-key n q q' x y key key' same found found' =
     ap (λ e. e.1.1) (some_same (essence (y, key')) (essence (x, key))
     (ap (option_map essence) found' ∙ (sym (lookup-map_values essence (is_at (nat_cmp n)) q') ∙ (ap (λ es. at es n) same ∙ (lookup-map_values essence (is_at (nat_cmp n)) q ∙ ap (option_map essence) found)))))
-
--- a second reference that was taken back
-pub undone-again : (boot n : ℕ) (k k1 k2 : List (ℕ × Known)) (s key : ℕ) (m : Known) → IsAscending k → at k s ≡ Some (record { key = key; state = Scanning (id_of boot n); held = 1 }) → m.key ≡ key → m.held ≡ held_out (at k s) + 1
-    → PutsAt k k1 s (Some m) → PutsAt k1 k2 s (option_map (given_back (Scanning (id_of boot n))) (at k1 s)) → k2 ≡ k
-undone-again boot n k k1 k2 s key m up before key_is held_is there back =
-    put_back k k1 k2 s (Some m) up (puts-ascends k1 k2 s (option_map (given_back (Scanning (id_of boot n))) (at k1 s)) back (puts-ascends k k1 s (Some m) there up)) there
-    (subst (PutsAt k1 k2 s) (ap (option_map (given_back (Scanning (id_of boot n)))) there.here
-    ∙ ((λ i. Some (record { key = key_is i; state = Scanning (id_of boot n); held = (held_is ∙ ap (λ o. held_out o + 1) before) i - 1 })) ∙ sym before)) back)
 
 pub held-again : (boot sequence n : ℕ) (k : List (ℕ × Known)) (s key context : ℕ) → at k s ≡ Some (record { key = key; state = Scanning (id_of boot n); held = 1 }) → IfSome (at k s) (λ m. m.key ≡ context) → key ≡ context
 held-again boot sequence n k s key context before same = if_some_at (λ m. m.key ≡ context) (at k s) (record { key = key; state = Scanning (id_of boot n); held = 1 }) same before

@@ -1,5 +1,5 @@
 -- How what is known of streams follows the counted contexts.
-use Rattle.std.proofs.Common.{◌≡◌, ◌≢◌, ℕ, ◌+◌, ◌-◌, ◌<◌, ◌≤◌, ◌==◌, Bool, true, false, List, Option, Some, None, IfSome, IsSomeAnd, unwrap_or, cond, Result, Ok, Err, IfOk, refl, sym, ap, subst, ◌∙◌, inl, inr, arith}
+use Rattle.std.proofs.Common.{◌≡◌, ◌≢◌, ℕ, ◌+◌, ◌-◌, ◌<◌, ◌≤◌, ◌==◌, Bool, true, false, List, Option, Some, None, IfSome, IsSome, IsSomeAnd, unwrap_or, cond, Result, Ok, Err, IfOk, refl, sym, ap, subst, ◌∙◌, inl, inr, arith}
 use Rattle.std.specs.Option.{option_and_then, option_map}
 use Rattle.std.specs.Ordering.{nat_cmp}
 use Rattle.std.specs.BTreeMap.{is_at}
@@ -20,7 +20,7 @@ use Rattle.av_context.specs.Calls.{delete, delete_at, set_keep, keep_at, state_a
 use Rattle.av_filter_table.specs.Numbered.{IsAscending}
 use Rattle.av_filter_table.specs.StreamContexts.{Known, known, known_at, known_of, AreAttached, given_back, let_loose, held_of}
 use Rattle.av_filter_table.proofs.ChainLemmas.{apart-test}
-use Rattle.av_filter_table.proofs.MapLemmas.{if_some, if_some_at, none_some, some_same, at-with, at-with_other, with-ascends, at-without, at-without_other, without-ascends, at-joined, joined-ascends, joined-puts, same_map}
+use Rattle.av_filter_table.proofs.MapLemmas.{not_there, if_some, if_some_at, none_some, some_same, at-with, at-with_other, with-ascends, at-without, at-without_other, without-ascends, at-joined, joined-ascends, joined-puts, same_map}
 
 -- a map with what is at a number changed, there and elsewhere
 pub at-change : {X : Type 0} (f : X → Option X) (m : List (ℕ × X)) (k : ℕ) → IsAscending m → at (change f m k) k ≡ option_and_then f (at m k)
@@ -401,6 +401,11 @@ same-kept {A} {F} a b t u o first second =
 
 pub none-known : (t : Contexts) (s : ℕ) → AreAttached t → at t.attachments s ≡ None → at (known_of t) s ≡ None
 none-known t s w none = at-known t w s ∙ ap (option_and_then (known_at t.contexts)) none
+
+-- a stream that has a context gets a reference to it
+pub is-given : (t : Contexts) (s : ℕ) (fault : ContextFault) → AreAttached t → IsSome (at (known_of t) s) → held_of (at (known_of t) s) < 9223372036854775808 → get t s ≡ Err fault → ⊥
+is-given t s NotFound w there few is = not_there (at (known_of t) s) (none-known t s w (not-found t s is)) there
+is-given t s RefsSpent w there few is = never-spent t s w few is
 
 pub if_ok_any : {A E : Type 0} (P : A → Type 0) (r : Result A E) → ((x : A) → P x) → IfOk r P
 if_ok_any P (Ok x) all = all x

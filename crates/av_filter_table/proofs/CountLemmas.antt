@@ -15,7 +15,7 @@ use Rattle.av_filter_table.specs.Numbered.{IsAscending}
 use Rattle.av_filter_table.specs.StreamContexts.{known, known_at, known_of, AreAttached}
 use Rattle.av_filter_table.proofs.ContextLemmas.{context-of}
 use Rattle.av_filter_table.proofs.MapLemmas.{if_some_at, is_there, at-same, at-without, at-without_other, without-ascends}
-use Rattle.av_filter_table.proofs.NumberedLemmas.{length-joined}
+use Rattle.av_filter_table.proofs.BoundedLemmas.{length-joined}
 
 abbrev one : {X : Type 0} → X → ℕ
 one x = 1
@@ -91,4 +91,4 @@ counted-once t w k = by_case (at t.contexts k) refl
 pub length-known : (t : Contexts) → AreAttached t → length t.contexts ≡ length (known_of t)
 length-known t w =
     as-many t.contexts t.attachments w.sound.contexts_ascend (counted-once t w)
-    ∙ sym (length-joined t.attachments (known_at t.contexts) w.sound.attachments_ascend (λ n k found. let c = context-of t w n k found in is_there (known_at t.contexts k) (known k c.0) (ap (option_map (known k)) c.1)))
+    ∙ sym (length-joined (known_at t.contexts) t.attachments w.sound.attachments_ascend (λ n k found. let c = context-of t w n k found in is_there (known_at t.contexts k) (known k c.0) (ap (option_map (known k)) c.1)))

@@ -1,5 +1,5 @@
 -- How the table follows where contexts go and where all questions end.
-use Rattle.std.proofs.Common.{◌≡◌, ◌≢◌, ℕ, ◌&&◌, ◌||◌, not, suc, length, List, [], ◌∷◌, Some, None, map, refl, sym, ap, subst, ◌∙◌, inl, inr}
+use Rattle.std.proofs.Common.{◌≡◌, ◌≢◌, ℕ, ◌&&◌, ◌||◌, not, suc, length, List, [], ◌∷◌, ◌++◌, Some, None, map, refl, sym, ap, subst, ◌∙◌, inl, inr}
 use Rattle.std.specs.List.{list_any}
 use Rattle.std.specs.List.Sorted.{IsStrictlySortedBy}
 use Rattle.std.specs.Ordering.{nat_cmp}
@@ -15,7 +15,7 @@ use Rattle.av_filter_table.specs.Numbered.{IsAscending}
 use Rattle.av_filter_table.specs.StreamContexts.{Known, states, held_of as held_out}
 use Rattle.av_filter_table.specs.Table.{Table}
 use Rattle.av_filter_table.specs.declared.question.Question.{Question}
-use Rattle.av_filter_table.proofs.MapLemmas.{if_some, if_some_at, same_map, at-with, at-with_other, with-ascends}
+use Rattle.av_filter_table.proofs.MapLemmas.{if_some, if_some_at}
 use Rattle.av_filter_table.proofs.TableLemmas.{test-boot, states-without}
 use Rattle.av_pend.specs.Waiting.{Waiting}
 
@@ -52,36 +52,11 @@ forgot boot sequence q p k k' stream consistent unasked gone = record {
 pub states-ascend : (k : List (ℕ × Known)) → IsAscending k → IsAscending (states k)
 states-ascend k up = subst (IsStrictlySortedBy nat_cmp) (sym (keys_of-map_values (λ x. x.state) k)) up
 
--- two streams are Modified in either order
-with-twice : {X : Type 0} (m : List (ℕ × X)) (a b : ℕ) (x : X) → IsAscending m → with (with m a x) b x ≡ with (with m b x) a x
-with-twice {X} m a b x up =
-    same_map (with (with m a x) b x) (with (with m b x) a x) (with-ascends (with m a x) b x (with-ascends m a x up)) (with-ascends (with m b x) a x (with-ascends m b x up))
-    (λ j. elim (cases_eq j a) [
-      | inl is_a ↦ elim (cases_eq j b) [
-        | inl is_b ↦ here (with m a x) j b is_b ∙ sym (here (with m b x) j a is_a)
-        | inr not_b ↦ at-with_other (with m a x) b j x not_b ∙ (here m j a is_a ∙ sym (here (with m b x) j a is_a))
-      ]
-      | inr not_a ↦ elim (cases_eq j b) [
-        | inl is_b ↦ here (with m a x) j b is_b ∙ sym (at-with_other (with m b x) a j x not_a ∙ here m j b is_b)
-        | inr not_b ↦ at-with_other (with m a x) b j x not_b ∙ (at-with_other m a j x not_a ∙ sym (at-with_other (with m b x) a j x not_a ∙ at-with_other m b j x not_b))
-      ]
-    ])
-  where
-    here : (n : List (ℕ × X)) (j k : ℕ) → j ≡ k → at (with n k x) j ≡ Some x
-    here n j k same = ap (at (with n k x)) same ∙ at-with n k x
-
-lost-ascends : (qs : List Question) (contexts : List (ℕ × ContextState)) → IsAscending contexts → IsAscending (lost_contexts qs contexts)
+-- the last of all questions may end first
+lost-last : (qs : List Question) (q : Question) (contexts : List (ℕ × ContextState)) → lost_contexts qs (set_at contexts q.stream (Some Modified)) ≡ lost_contexts (qs ++ q ∷ []) contexts
 unfolding lost_contexts
-lost-ascends [] contexts up = up
-lost-ascends (q ∷ qs) contexts up = with-ascends (lost_contexts qs contexts) q.stream Modified (lost-ascends qs contexts up)
-
--- the first of all questions may end first
-pub lost-first : (q : Question) (qs : List Question) (contexts : List (ℕ × ContextState)) → IsAscending contexts → lost_contexts qs (set_at contexts q.stream (Some Modified)) ≡ lost_contexts (q ∷ qs) contexts
-unfolding lost_contexts
-lost-first q [] contexts up = refl
-lost-first q (r ∷ qs) contexts up =
-    ap (λ c. with c r.stream Modified) (lost-first q qs contexts up)
-    ∙ with-twice (lost_contexts qs contexts) q.stream r.stream Modified (lost-ascends qs contexts up)
+lost-last [] q contexts = refl
+lost-last (r ∷ qs) q contexts = ap (λ c. with c r.stream Modified) (lost-last qs q contexts)
 
 pub length-states : (k : List (ℕ × Known)) → length (states k) ≡ length k
 length-states [] = refl
@@ -91,10 +66,10 @@ length-states (d ∷ k) = ap suc (length-states k)
 abbrev pub all_lost : Table → Table
 all_lost t = record t { contexts = lost_contexts t.questions t.contexts; questions = [] }
 
-pub lose-first : (t t' : Table) (q : Question) → IsAscending t.contexts → t.questions ≡ q ∷ t'.questions → t' ≡ record t { contexts = set_at t.contexts q.stream (Some Modified); questions = t'.questions } → all_lost t' ≡ all_lost t
-lose-first t t' q up first is =
+pub lose-last : (t t' : Table) (q : Question) → t.questions ≡ t'.questions ++ q ∷ [] → t' ≡ record t { contexts = set_at t.contexts q.stream (Some Modified); questions = t'.questions } → all_lost t' ≡ all_lost t
+lose-last t t' q last is =
     let contexts : lost_contexts t'.questions t'.contexts ≡ lost_contexts t.questions t.contexts =
-    ap (λ u. lost_contexts t'.questions u.contexts) is ∙ (lost-first q t'.questions t.contexts up ∙ ap (λ qs. lost_contexts qs t.contexts) (sym first)) in
+    ap (λ u. lost_contexts t'.questions u.contexts) is ∙ (lost-last t'.questions q t.contexts ∙ ap (λ qs. lost_contexts qs t.contexts) (sym last)) in
     ap {B = Table} (λ u. record u { contexts = lost_contexts t'.questions t'.contexts; questions = [] }) is
     ∙ ap {B = Table} (λ c. record t { contexts = c; questions = [] }) contexts
 

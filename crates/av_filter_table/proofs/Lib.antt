@@ -1,4 +1,5 @@
 pub mod AgainLemmas
+pub mod BoundedLemmas
 pub mod ChainLemmas
 pub mod ClearLemmas
 pub mod ContextLemmas
@@ -9,6 +10,8 @@ pub mod MapLemmas
 pub mod MovingLemmas
 pub mod NumberedLemmas
 pub mod PlainLemmas
+pub mod PortLemmas
+pub mod RoomLemmas
 pub mod SettlingLemmas
 pub mod TableLemmas
 pub mod RewritingLemmas

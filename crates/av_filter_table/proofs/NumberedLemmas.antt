@@ -1,25 +1,13 @@
 -- How a table by number changes with its index, its rows and their values.
-use Rattle.std.proofs.Common.{◌≡◌, ◌≢◌, ℕ, true, false, slice_get, All, IsNone, suc, length, List, [], ◌∷◌, is_some, IsSome, IsSomeAnd, IfSome, Option, Some, None, refl, sym, ap, subst, ◌∙◌, inl, inr}
+use Rattle.std.proofs.Common.{◌≡◌, ◌≢◌, ℕ, true, false, slice_get, All, IsNone, length, List, [], ◌∷◌, is_some, IsSome, IsSomeAnd, IfSome, IfNone, Option, Some, None, refl, sym, ap, subst, ◌∙◌, inl, inr}
 use Rattle.std.specs.Option.{option_and_then, option_map}
 use Rattle.std.proofs.lemmas.Bool.{cases_eq}
 use Rattle.std.proofs.lemmas.List.{get_or_default}
+use Rattle.std.specs.Map.{keys_of}
 use Rattle.av_context.specs.Contexts.{at, with, without, PutsAt}
 use Rattle.av_filter_table.specs.Numbered.{IsAscending, SameBut, slot_at, both, held, placed, joined, IsWhole}
-use Rattle.av_filter_table.proofs.MapLemmas.{puts_at, not_there, if_some, is_there, none_some, some_same, at-same, at-apart, at-none, head-above, tail-ascends, at-with, at-with_other, with-ascends, at-without, at-without_other, without-here, without-ascends, at-joined, joined-ascends, joined-puts}
-
--- the length of a joined map
-length-placed : {X : Type 0} (n : ℕ) (m : List (ℕ × X)) (o : Option X) → IsSome o → length (placed n o m) ≡ suc (length m)
-length-placed n m None some = absurd (cc)
-length-placed n m (Some x) some = refl
-
-pub length-joined : {X : Type 0} (index : List (ℕ × ℕ)) (find_at : ℕ → Option X) → IsAscending index → ((n k : ℕ) → at index n ≡ Some k → IsSome (find_at k)) → length (joined index find_at) ≡ length index
-length-joined [] find_at up there = refl
-length-joined (p ∷ index) find_at up there =
-    length-placed p.0 (joined index find_at) (find_at p.1) (there p.0 p.1 (at-same index p.0 p.1))
-    ∙ ap suc (length-joined index find_at (tail-ascends p index up) (λ n k found. elim (cases_eq n p.0) [
-      | inl same ↦ none_some (sym (at-none index p.0 (head-above p index up)) ∙ (ap (at index) (sym same) ∙ found))
-      | inr apart ↦ there n k (at-apart index p.0 n p.1 apart ∙ found)
-    ]))
+use Rattle.av_filter_table.proofs.BoundedLemmas.{AreFound, pair, at-place, length-joined, keys-joined, place-joined}
+use Rattle.av_filter_table.proofs.MapLemmas.{none-ascends, puts_at, not_there, if_some, is_there, none_some, some_same, at-same, at-with, at-with_other, with-ascends, at-without, at-without_other, without-here, without-ascends, at-joined, joined-ascends, joined-puts}
 
 module _ {R V : Type 0} where
   -- a row and its value are there together, or neither is
@@ -52,6 +40,16 @@ module _ {R V : Type 0} where
   both-there (Some r) None same some = absurd (cc)
   both-there (Some r) (Some v) same some = refl
 
+  -- where nothing is, all is as it should be
+  pub nothing-whole : IsWhole {R = R} {V = V} [] [] []
+  nothing-whole = record {
+    ascends = none-ascends ℕ;
+    there = λ n. tt;
+    apart = λ m n k found. none_some found;
+    matched = λ k. refl;
+    named = λ k some. absurd (cc);
+  }
+
   module _ (index : List (ℕ × ℕ)) (rows : List (Option R)) (values : List (Option V)) (w : IsWhole index rows values) where
     pub row_there : (n k : ℕ) → at index n ≡ Some k → IsSome (slot_at rows k)
     row_there n k found = subst (λ o. IfSome o (λ key. IsSome (slot_at rows key))) found (w.there n)
@@ -71,8 +69,58 @@ module _ {R V : Type 0} where
     pub view-ascends : IsAscending (joined index (held rows values))
     view-ascends = joined-ascends index (held rows values) w.ascends
 
+    rows_found : AreFound index (held rows values)
+    rows_found n k found = both-there (slot_at rows k) (slot_at values k) (w.matched k) (row_there n k found)
+
     pub length-view : length (joined index (held rows values)) ≡ length index
-    length-view = length-joined index (held rows values) w.ascends (λ n k found. both-there (slot_at rows k) (slot_at values k) (w.matched k) (row_there n k found))
+    length-view = length-joined (held rows values) index w.ascends rows_found
+
+    pub keys-view : keys_of (joined index (held rows values)) ≡ keys_of index
+    keys-view = keys-joined (held rows values) index w.ascends rows_found
+
+    pub place-view : (i : ℕ) → slice_get (joined index (held rows values)) i ≡ option_and_then (λ p. option_map (λ x. (p.0, x)) (held rows values p.1)) (slice_get index i)
+    place-view i = place-joined (held rows values) index i w.ascends rows_found
+
+    -- what stands at a place, in the index and in the table
+    pub placed-is : (i n k : ℕ) (x : R × V) → slice_get index i ≡ Some (n, k) → held rows values k ≡ Some x → slice_get (joined index (held rows values)) i ≡ Some (n, x)
+    placed-is i n k x found some = place-view i ∙ (ap (option_and_then (λ p. option_map (λ y. pair p.0 y) (held rows values p.1))) found ∙ ap (option_map (λ y. pair n y)) some)
+
+    placed-at : (i n k : ℕ) → slice_get index i ≡ Some (n, k) → (x : R × V) × (held rows values k ≡ Some x) × (slice_get (joined index (held rows values)) i ≡ Some (n, x))
+    placed-at i n k found = by_case (held rows values k) refl
+      where
+        by_case : (o : Option (R × V)) → held rows values k ≡ o → (x : R × V) × (held rows values k ≡ Some x) × (slice_get (joined index (held rows values)) i ≡ Some (n, x))
+        by_case None none = not_there (held rows values k) none (rows_found n k (at-place index i n k w.ascends found))
+        by_case (Some x) some = (x, some, placed-is i n k x found some)
+
+    pub number-placed : (o : Option ℕ) (n : ℕ) → IfSome o (λ i. IsSomeAnd (slice_get index i) (λ p. p.0 ≡ n)) → IfSome o (λ i. IsSomeAnd (slice_get (joined index (held rows values)) i) (λ p. p.0 ≡ n))
+    number-placed None n holds = tt
+    number-placed (Some i) n holds = by_case (slice_get index i) refl holds
+      where
+        by_case : (o : Option (ℕ × ℕ)) → slice_get index i ≡ o → IsSomeAnd o (λ p. p.0 ≡ n) → IsSomeAnd (slice_get (joined index (held rows values)) i) (λ p. p.0 ≡ n)
+        by_case None none holds = absurd holds
+        by_case (Some p) found holds = subst (λ o. IsSomeAnd o (λ q. q.0 ≡ n)) (sym (placed-at i p.0 p.1 found).2) holds
+
+    pub none-placed : (o : Option ℕ) (n : ℕ) → IfNone o (at index n ≡ None) → IfNone o (at (joined index (held rows values)) n ≡ None)
+    none-placed None n none = at-missed n none
+    none-placed (Some i) n none = tt
+
+    pub row-place : (i : ℕ) → option_map (λ p. pair p.0 p.1.0) (slice_get (joined index (held rows values)) i) ≡ option_and_then (λ p. option_map (λ r. pair p.0 r) (slot_at rows p.1)) (slice_get index i)
+    row-place i = ap (option_map (λ p. pair p.0 p.1.0)) (place-view i) ∙ by_case (slice_get index i)
+      where
+        by_row : (n : ℕ) (row : Option R) (value : Option V) → AreMatched row value → option_map (λ p. pair p.0 p.1.0) (option_map (λ x. pair n x) (both row value)) ≡ option_map (λ r. pair n r) row
+        by_row n None value same = refl
+        by_row n (Some r) None same = absurd (cc)
+        by_row n (Some r) (Some v) same = refl
+
+        by_case : (o : Option (ℕ × ℕ)) → option_map (λ p. pair p.0 p.1.0) (option_and_then (λ p. option_map (λ x. pair p.0 x) (held rows values p.1)) o) ≡ option_and_then (λ p. option_map (λ r. pair p.0 r) (slot_at rows p.1)) o
+        by_case None = refl
+        by_case (Some p) = by_row p.0 (slot_at rows p.1) (slot_at values p.1) (w.matched p.1)
+
+    -- the key of a number that stands at a place
+    pub key-at : (i n : ℕ) (p : ℕ × ℕ) → slice_get index i ≡ Some p → IsSomeAnd (slice_get (joined index (held rows values)) i) (λ q. q.0 ≡ n) → at index n ≡ Some p.1
+    key-at i n p found stands =
+        let here : p.0 ≡ n = subst (λ o. IsSomeAnd o (λ q. q.0 ≡ n)) (placed-at i p.0 p.1 found).2 stands in
+        ap (at index) (sym here) ∙ at-place index i p.0 p.1 w.ascends found
 
     -- a number that is there has a key
     pub found-at : (n : ℕ) → IsSome (at (joined index (held rows values)) n) → IsSome (at index n)

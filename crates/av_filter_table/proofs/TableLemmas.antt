@@ -8,6 +8,7 @@ use Rattle.std.proofs.lemmas.Map.Made.{keys_of-map_values, lookup-map_values}
 use Rattle.std.specs.BTreeMap.{is_at}
 use Rattle.std.specs.List.Sorted.{IsStrictlySortedBy}
 use Rattle.std.specs.Ordering.{nat_cmp}
+use Rattle.std.specs.declared.cmp.Ordering.TheVariants.{Less}
 use Rattle.av_base.specs.declared.message_id.MessageId.{MessageId}
 use Rattle.av_base.specs.MessageId.{same_id}
 use Rattle.av_base.specs.declared.port.Port.{Port}
@@ -20,8 +21,8 @@ use Rattle.av_filter_table.specs.declared.question.Question.{Question}
 use Rattle.av_filter_table.specs.declared.pended.Pended.{Pended}
 use Rattle.av_filter_table.specs.Numbered.{IsAscending}
 use Rattle.av_filter_table.specs.Asking.{ended}
-use Rattle.av_filter_table.specs.Chains.{Questions, Opens, IsChain, AreChained, first_of, count_of, plain, plains, of, others, essence, essences}
-use Rattle.av_filter_table.specs.FilterTable.{id_of, asked_of, held_of, questions_of, pended_of, number_of, open_numbers, AreNumbered, AreScanned, IsUnasked, IsConsistent}
+use Rattle.av_filter_table.specs.Chains.{Questions, Opens, IsChain, AreChained, first_of, count_of, plain, plains, of, others, asked_about, essence, essences}
+use Rattle.av_filter_table.specs.FilterTable.{id_of, question_in, asked_of, held_of, questions_of, pended_of, number_of, open_numbers, IsRising, AreNumbered, AreScanned, IsUnasked, IsConsistent}
 use Rattle.av_filter_table.specs.Table.{Table, question_of, question_at, without_question, waits_for, opens_of, other_opens}
 use Rattle.av_filter_table.proofs.ChainLemmas.{has_none, apart-test}
 use Rattle.av_filter_table.proofs.MapLemmas.{puts_at, put_back, none-past, with-end, keys-end, row_found, if_some, if_some_at, some_same, same_map, puts-ascends, with-ascends, at-with, at-with_other, without-here, without-apart, AreAbove, at-none, below-cmp, none_some, at-same, at-apart, head-above, tail-ascends}
@@ -128,19 +129,16 @@ some-opens_of (Some w) boot n p p' some =
     opens-of boot n (plains p) ∙ (ap (map (held_of boot)) some ∙ ap (λ xs. held_of boot (n, w) ∷ xs) (sym (opens-of boot n (plains p'))))
 
 -- the row of a number as the question of its id
-abbrev pub question_row : MessageId → Asked → Question
-question_row id x = record { id = id; port = x.port; stream = x.stream; generation = x.generation }
-
 pub question-row : (boot : ℕ) (id : MessageId) (q : Questions) (o : Option Asked) → IsAscending q → id.boot ≡ boot → o ≡ option_map (λ y. y.0) (at q id.seq)
-    → option_map (question_row id) o ≡ question_at id (questions_of boot q)
+    → option_map (question_in boot id.seq) o ≡ question_at id (questions_of boot q)
 question-row boot id q o up same row =
     let is : id ≡ id_of boot id.seq = λ i. record { boot = same i; seq = id.seq } in
-    ap (option_map (question_row id)) row
-    ∙ (by_row (at q id.seq) is ∙ sym (ap (λ j. question_at j (questions_of boot q)) is ∙ question-found boot id.seq q up))
+    ap (option_map (question_in boot id.seq)) row
+    ∙ (by_row (at q id.seq) ∙ sym (ap (λ j. question_at j (questions_of boot q)) is ∙ question-found boot id.seq q up))
   where
-    by_row : (o : Option (Asked × ℕ)) → id ≡ id_of boot id.seq → option_map (question_row id) (option_map (λ y. y.0) o) ≡ option_map (λ y. asked_of boot (id.seq, essence y)) o
-    by_row None is = refl
-    by_row (Some y) is = λ i. Some (record { id = is i; port = y.0.port; stream = y.0.stream; generation = y.0.generation })
+    by_row : (o : Option (Asked × ℕ)) → option_map (question_in boot id.seq) (option_map (λ y. y.0) o) ≡ option_map (λ y. asked_of boot (id.seq, essence y)) o
+    by_row None = refl
+    by_row (Some y) = refl
 
 -- with none of a question left, the others are all
 pub all-others : (id : MessageId) (ps : List Pended) → opens_of id ps ≡ [] → other_opens id ps ≡ ps
@@ -394,6 +392,11 @@ all-more : (P Q : ℕ → Type 0) (ns : List ℕ) → ((n : ℕ) → P n → Q n
 all-more P Q [] more all = tt
 all-more P Q (n ∷ ns) more all = (more n all.0, all-more P Q ns more all.1)
 
+pub rising : (ns : List ℕ) → IsStrictlySortedBy nat_cmp ns → IsRising ns
+unfolding IsStrictlySortedBy
+rising [] up = tt
+rising (n ∷ ns) up = (all-more (λ k. nat_cmp n k ≡ Less) (λ k. n < k) ns (λ k less. below-cmp n k less) up.0, rising ns up.1)
+
 -- the opens of one question among those of the others, and behind which one of another comes
 of-others : (n m : ℕ) (xs : List (ℕ × Waiting)) → n ≢ m → of n (others m xs) ≡ of n xs
 of-others n m [] apart = refl
@@ -449,32 +452,31 @@ unasked-of boot s (d ∷ q) none = go (d.1.0.stream == s) refl (unasked-of boot 
       | inr apart ↦ subst (λ o. IfSome o (λ y. y.0 ≢ s)) (sym (at-apart (essences q) d.0 n (essence d.1) apart)) (rest (sym (ap (λ b. cond b (Some (asked_of boot (d.0, essence d.1))) (question_of s (questions_of boot q))) h) ∙ none) n)
     ]
 
-questions-end : (boot : ℕ) (q : Questions) (e : ℕ × (Asked × ℕ)) → questions_of boot (q ++ e ∷ []) ≡ questions_of boot q ++ asked_of boot (e.0, essence e.1) ∷ []
+pub questions-end : (boot : ℕ) (q : Questions) (e : ℕ × (Asked × ℕ)) → questions_of boot (q ++ e ∷ []) ≡ questions_of boot q ++ asked_of boot (e.0, essence e.1) ∷ []
 questions-end boot [] e = refl
 questions-end boot (d ∷ q) e = ap (λ xs. asked_of boot (d.0, essence d.1) ∷ xs) (questions-end boot q e)
-
--- a question that no open waits for yet
-abbrev pub new_row : Port → ℕ → ℕ → Asked
-new_row port stream generation = record { stream = stream; generation = generation; port = port; first = None; last = None; opens = 0 }
 
 pub record Asks (boot sequence : ℕ) (q q' : Questions) (p : Opens) (k k' : List (ℕ × Known)) (port : Port) (stream generation : ℕ) : Type 0 where
   pub consistent : IsConsistent boot (sequence + 1) q' p k'
   pub contexts : states k' ≡ with (states k) stream (Scanning (id_of boot (sequence + 1)))
   pub questions : questions_of boot q' ≡ questions_of boot q ++ record { id = id_of boot (sequence + 1); port = port; stream = stream; generation = generation } ∷ []
 
+pub numbers-below : (boot sequence : ℕ) (q : Questions) (p : Opens) (k : List (ℕ × Known)) → IsConsistent boot sequence q p k → AllByRecursion (λ j. j < sequence + 1) (keys_of q)
+numbers-below boot sequence q p k consistent = all-more (λ j. j ≤ sequence) (λ j. j < sequence + 1) (keys_of q) (λ j low. omega arith) consistent.asked
+
 pub new-question : (boot sequence : ℕ) (q : Questions) (p : Opens) (k : List (ℕ × Known)) → IsConsistent boot sequence q p k → at q (sequence + 1) ≡ None
-new-question boot sequence q p k consistent = none-past q (sequence + 1) (all-more (λ j. j ≤ sequence) (λ j. j < sequence + 1) (keys_of q) (λ j low. omega arith) consistent.asked)
+new-question boot sequence q p k consistent = none-past q (sequence + 1) (numbers-below boot sequence q p k consistent)
 
 pub asks : (boot sequence : ℕ) (q q' : Questions) (p : Opens) (k k' : List (ℕ × Known)) (port : Port) (stream generation key : ℕ) → IsConsistent boot sequence q p k → IsAscending k → IsUnasked stream (essences q)
-    → PutsAt k k' stream (Some (record { key = key; state = Scanning (id_of boot (sequence + 1)); held = held_out (at k stream) + 1 })) → PutsAt q q' (sequence + 1) (Some (new_row port stream generation, key)) → Asks boot sequence q q' p k k' port stream generation
+    → PutsAt k k' stream (Some (record { key = key; state = Scanning (id_of boot (sequence + 1)); held = held_out (at k stream) + 1 })) → PutsAt q q' (sequence + 1) (Some (asked_about stream generation port, key)) → Asks boot sequence q q' p k k' port stream generation
 asks boot sequence q q' p k k' port stream generation key consistent up_k unasked puts new =
     let none = has_none (sequence + 1) p (first-none_of (sequence + 1) p (consistent.unasked (sequence + 1) (omega arith))) in
     let first = first-none_of (sequence + 1) p (consistent.unasked (sequence + 1) (omega arith)) in
-    let below = all-more (λ j. j ≤ sequence) (λ j. j < sequence + 1) (keys_of q) (λ j low. omega arith) consistent.asked in
-    let is_end : q' ≡ q ++ (sequence + 1, (new_row port stream generation, key)) ∷ [] = new.whole ∙ with-end q (sequence + 1) (new_row port stream generation, key) below in
+    let below = numbers-below boot sequence q p k consistent in
+    let is_end : q' ≡ q ++ (sequence + 1, (asked_about stream generation port, key)) ∷ [] = new.whole ∙ with-end q (sequence + 1) (asked_about stream generation port, key) below in
     let here : at k' stream ≡ Some (record { key = key; state = Scanning (id_of boot (sequence + 1)); held = 1 }) =
     puts.here ∙ ap (λ n. Some (record { key = key; state = Scanning (id_of boot (sequence + 1)); held = n + 1 })) (consistent.free stream unasked) in
-    let essence_new : at (essences q') (sequence + 1) ≡ Some (essence (new_row port stream generation, key)) = lookup-map_values essence (is_at (nat_cmp (sequence + 1))) q' ∙ ap (option_map essence) new.here in
+    let essence_new : at (essences q') (sequence + 1) ≡ Some (essence (asked_about stream generation port, key)) = lookup-map_values essence (is_at (nat_cmp (sequence + 1))) q' ∙ ap (option_map essence) new.here in
     let essence_old : (m : ℕ) → m ≢ sequence + 1 → at (essences q') m ≡ at (essences q) m =
     λ m apart. lookup-map_values essence (is_at (nat_cmp m)) q' ∙ (ap (option_map essence) (new.others m apart) ∙ sym (lookup-map_values essence (is_at (nat_cmp m)) q)) in
     record {
@@ -482,18 +484,18 @@ asks boot sequence q q' p k k' port stream generation key consistent up_k unaske
         chained = record {
           linked = consistent.chained.linked;
           ends = λ m. if_some (λ z. IsChain z.0 m p) (at q' m) (λ z at_m. elim (cases_eq m (sequence + 1)) [
-            | inl same ↦ subst (λ j. IsChain z.0 j p) (sym same) (subst (λ y. IsChain y.0 (sequence + 1) p) (some_same (new_row port stream generation, key) z (sym new.here ∙ (ap (at q') (sym same) ∙ at_m)))
+            | inl same ↦ subst (λ j. IsChain z.0 j p) (sym same) (subst (λ y. IsChain y.0 (sequence + 1) p) (some_same (asked_about stream generation port, key) z (sym new.here ∙ (ap (at q') (sym same) ∙ at_m)))
                 (record { first = sym first; last = sym none.last; opens = sym none.count }))
             | inr apart ↦ if_some_at (λ y. IsChain y.0 m p) (at q m) z (consistent.chained.ends m) (sym (new.others m apart) ∙ at_m)
           ]);
         };
         numbered = consistent.numbered;
-        asked = subst (λ m. AllByRecursion (λ j. j ≤ sequence + 1) m) (sym (ap keys_of is_end ∙ keys-end q (sequence + 1) (new_row port stream generation, key)))
+        asked = subst (λ m. AllByRecursion (λ j. j ≤ sequence + 1) m) (sym (ap keys_of is_end ∙ keys-end q (sequence + 1) (asked_about stream generation port, key)))
             (all-end (λ j. j ≤ sequence + 1) (keys_of q) (sequence + 1) (all-more (λ j. j ≤ sequence) (λ j. j ≤ sequence + 1) (keys_of q) (λ j low. omega arith) consistent.asked) (omega arith));
         unasked = λ n above. consistent.unasked n (omega arith);
         scanned = λ m. if_some (λ y. at k' y.0 ≡ Some (record { key = y.1.1; state = Scanning (id_of boot m); held = 1 })) (at (essences q') m) (λ y at_m. elim (cases_eq m (sequence + 1)) [
           | inl same ↦
-              let y_is : essence (new_row port stream generation, key) ≡ y = some_same (essence (new_row port stream generation, key)) y (sym essence_new ∙ (ap (at (essences q')) (sym same) ∙ at_m)) in
+              let y_is : essence (asked_about stream generation port, key) ≡ y = some_same (essence (asked_about stream generation port, key)) y (sym essence_new ∙ (ap (at (essences q')) (sym same) ∙ at_m)) in
               subst (λ j. at k' y.0 ≡ Some (record { key = y.1.1; state = Scanning (id_of boot j); held = 1 })) (sym same) (subst (λ z. at k' z.0 ≡ Some (record { key = z.1.1; state = Scanning (id_of boot (sequence + 1)); held = 1 })) y_is here)
           | inr apart ↦
               let at_old : at (essences q) m ≡ Some y = sym (essence_old m apart) ∙ at_m in
@@ -501,14 +503,14 @@ asks boot sequence q q' p k k' port stream generation key consistent up_k unaske
               ∙ if_some_at (λ z. at k z.0 ≡ Some (record { key = z.1.1; state = Scanning (id_of boot m); held = 1 })) (at (essences q) m) y (consistent.scanned m) at_old
         ]);
         free = λ s none_s.
-            let apart : s ≢ stream = λ e. if_some_at (λ y. y.0 ≢ s) (at (essences q') (sequence + 1)) (essence (new_row port stream generation, key)) (none_s (sequence + 1)) essence_new (sym e) in
+            let apart : s ≢ stream = λ e. if_some_at (λ y. y.0 ≢ s) (at (essences q') (sequence + 1)) (essence (asked_about stream generation port, key)) (none_s (sequence + 1)) essence_new (sym e) in
             ap held_out (puts.others s apart) ∙ consistent.free s (λ m. elim (cases_eq m (sequence + 1)) [
               | inl same ↦ subst (λ o. IfSome o (λ y. y.0 ≢ s)) (sym (ap (at (essences q)) same ∙ (lookup-map_values essence (is_at (nat_cmp (sequence + 1))) q ∙ ap (option_map essence) (new-question boot sequence q p k consistent)))) tt
               | inr differs ↦ subst (λ o. IfSome o (λ y. y.0 ≢ s)) (essence_old m differs) (none_s m)
             ]);
       };
       contexts = states-puts k k' stream (record { key = key; state = Scanning (id_of boot (sequence + 1)); held = held_out (at k stream) + 1 }) up_k puts;
-      questions = ap (questions_of boot) is_end ∙ questions-end boot q (sequence + 1, (new_row port stream generation, key));
+      questions = ap (questions_of boot) is_end ∙ questions-end boot q (sequence + 1, (asked_about stream generation port, key));
     }
 
 -- a hold that was undone

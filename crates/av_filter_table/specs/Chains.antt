@@ -70,6 +70,11 @@ of n xs = filter (is_of n) xs
 abbrev pub others : ℕ → List (ℕ × Waiting) → List (ℕ × Waiting)
 others n xs = filter (λ x. not (is_of n x)) xs
 
+-- a question of this content, asked on a port, that no open waits for yet
+abbrev pub asked_about : ℕ → ℕ → Port → Asked
+asked_about stream generation port =
+    record { stream = stream; generation = generation; port = port; first = None; last = None; opens = 0 }
+
 -- a question with an open behind the others, and with its first one gone, which named this one as the next
 abbrev pub longer : Asked → ℕ → Asked
 longer x number = record x { first = option_or x.first (Some number); last = Some number; opens = x.opens + 1 }

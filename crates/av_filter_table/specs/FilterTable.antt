@@ -1,5 +1,5 @@
 -- How the rows stand for the filter's table.
-use Rattle.std.specs.Prelude.{◌≡◌, ◌≢◌, ℕ, ◌≤◌, ◌<◌, List, [], Some, IfSome, map}
+use Rattle.std.specs.Prelude.{◌≡◌, ◌≢◌, ℕ, ◌≤◌, ◌<◌, List, [], ◌∷◌, length, Some, IfSome, map}
 use Rattle.std.specs.List.{AllByRecursion}
 use Rattle.std.specs.Map.{keys_of}
 use Rattle.av_base.specs.declared.limits.LimitValues.{LimitValues}
@@ -7,6 +7,7 @@ use Rattle.av_base.specs.declared.message_id.MessageId.{MessageId}
 use Rattle.av_context.specs.Contexts.{at}
 use Rattle.av_context.specs.declared.context_state.ContextState.TheVariants.{Scanning}
 use Rattle.av_filter_table.specs.StreamContexts.{Known, held_of as held_out}
+use Rattle.av_filter_table.specs.declared.asked.Asked.{Asked}
 use Rattle.av_filter_table.specs.declared.pended.Pended.{Pended}
 use Rattle.av_filter_table.specs.declared.question.Question.{Question}
 use Rattle.av_filter_table.specs.Chains.{Questions, Opens, Essence, AreChained, essences, plains, of}
@@ -15,6 +16,10 @@ use Rattle.av_pend.specs.Waiting.{Waiting}
 -- the id of a number
 abbrev pub id_of : ℕ → ℕ → MessageId
 id_of boot n = record { boot = boot; seq = n }
+
+-- the question of a row, by its number in a boot
+abbrev pub question_in : ℕ → ℕ → Asked → Question
+question_in boot n x = record { id = id_of boot n; port = x.port; stream = x.stream; generation = x.generation }
 
 -- a question as the table has it, and a held open
 abbrev pub asked_of : ℕ → ℕ × Essence → Question
@@ -59,12 +64,19 @@ pub record IsConsistent (boot sequence : ℕ) (q : Questions) (p : Opens) (k : L
   pub scanned : AreScanned boot (essences q) k
   pub free : (s : ℕ) → IsUnasked s (essences q) → held_out (at k s) ≡ 0
 
--- what holds of a table between calls: its rows are consistent, it was mounted, and its cache has the size of the limits
+-- what holds of a table between calls: its rows are consistent, it was mounted, its questions are no more than its limits allow,
+-- and its cache has their size
 pub record IsSound (boot sequence capacity : ℕ) (limits : LimitValues) (q : Questions) (p : Opens)
     (k : List (ℕ × Known)) : Type 0 where
   pub rows : IsConsistent boot sequence q p k
   pub mounted : 1 ≤ boot
+  pub few : length q ≤ limits.questions
   pub sized : capacity ≡ limits.cache
+
+-- each number is below those behind it
+abbrev pub IsRising : List ℕ → Type 0
+IsRising [] = Unit {0}
+IsRising (n ∷ ns) = AllByRecursion (λ k. n < k) ns × IsRising ns
 
 -- the numbers of the held opens
 abbrev pub open_numbers : List Pended → List ℕ

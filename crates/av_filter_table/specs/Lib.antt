@@ -1,9 +1,11 @@
 pub mod Answering
 pub mod Asking
+pub mod Bounded
 pub mod Chains
 pub mod FilterTable
 pub mod Moving
 pub mod Numbered
+pub mod Ports
 pub mod StreamContexts
 pub mod Table
 pub mod Rewriting

@@ -3,13 +3,17 @@ use Rattle.std.specs.Prelude.{ℕ, ◌+◌, Bool, true, false, not, ◌&&◌, ma
 use Rattle.av_base.specs.declared.limits.LimitValues.{LimitValues}
 use Rattle.av_base.specs.declared.message_id.MessageId.{MessageId}
 use Rattle.av_base.specs.declared.mode.Mode.{Mode}
+use Rattle.av_base.specs.declared.port.Port.{Port}
 use Rattle.av_base.specs.declared.verdict.Verdict.{Verdict}
 use Rattle.av_base.specs.MessageId.{same_id}
+use Rattle.av_base.specs.Port.{same_port}
 use Rattle.av_cache.specs.declared.entry.Entry.{Entry}
 use Rattle.av_context.specs.Contexts.{at}
 use Rattle.av_context.specs.declared.context_state.ContextState.{ContextState}
 use Rattle.av_context.specs.declared.context_state.ContextState.TheVariants.{Modified, Scanning, Judged}
+use Rattle.av_filter_table.specs.Ports.{least_port, none_open}
 use Rattle.av_filter_table.specs.declared.pended.Pended.{Pended}
+use Rattle.av_filter_table.specs.declared.ports.Ports.{Ports}
 use Rattle.av_filter_table.specs.declared.question.Question.{Question}
 use Rattle.av_store.specs.Store.{greatest}
 
@@ -19,7 +23,7 @@ pub record Table : Type 0 where
   pub limits : LimitValues
   pub boot : ℕ
   pub sequence : ℕ  -- of the last question
-  pub connected : Bool
+  pub connected : Ports
   pub floor : ℕ  -- no version below it grants
   pub contexts : List (ℕ × ContextState)  -- by stream, the least first
   pub questions : List Question  -- in the order in which they were asked
@@ -34,7 +38,7 @@ mounted mode limits boot =
       limits = limits;
       boot = boot;
       sequence = 0;
-      connected = false;
+      connected = none_open;
       floor = 0;
       contexts = [];
       questions = [];
@@ -100,9 +104,17 @@ next_id t = record { boot = t.boot; seq = t.sequence + 1 }
 abbrev pub sequence_left : Table → Bool
 sequence_left t = nat_lt t.sequence greatest
 
--- a question can be asked
-abbrev pub can_ask : Table → Bool
-can_ask t = t.connected && nat_lt (length t.questions) t.limits.questions && sequence_left t
+-- where one question more would be asked, if it can be
+abbrev pub asking : Table → Option Port
+asking t = if nat_lt (length t.questions) t.limits.questions && sequence_left t then least_port t.connected else None
+
+-- the question of this id, where it runs on this port
+abbrev pub question_on : Port → MessageId → List Question → Option Question
+question_on port id qs = find (λ q. same_id q.id id && same_port q.port port) qs
+
+-- the questions of a port, in the order of their ids
+abbrev pub on_port : Port → List Question → List Question
+on_port port qs = filter (λ q. same_port q.port port) qs
 
 -- one open more can be held
 abbrev pub has_room : Table → Bool

@@ -27,6 +27,7 @@ pub fn refuse_opens(
     ensures answers { answers.new.items
         ≡ answers.old.items ++ by_mode table.old volume.now cause (opens_of (id_of table.old.boot question) table.old.pended) }
     ensures table { table.new ≡ record table.old { pended = other_opens (id_of table.old.boot question) table.old.pended } }
+    ensures capacity { vec_capacity answers.new ≡ vec_capacity answers.old }
 {
     let mode = table.mode();
     'opens: while let Some(held) = table.take_open(question) {
@@ -64,6 +65,7 @@ pub fn refuse_all(table: &mut FilterTable, volume: &Volume, answers: &mut Vec<An
     requires { vec_len answers.old + length table.old.pended ≤ vec_capacity answers.old }
     ensures answers { answers.new.items ≡ answers.old.items ++ by_mode table.old volume.now cause table.old.pended }
     ensures table { table.new ≡ record table.old { pended = [] } }
+    ensures capacity { vec_capacity answers.new ≡ vec_capacity answers.old }
 {
     let mode = table.mode();
     'opens: while let Some(held) = table.pop_open() {
@@ -89,6 +91,7 @@ pub fn judge_opens(
     ensures answers { answers.new.items ≡ answers.old.items
         ++ all_judged verdict generation version (opens_of (id_of table.old.boot question) table.old.pended) }
     ensures table { table.new ≡ record table.old { pended = other_opens (id_of table.old.boot question) table.old.pended } }
+    ensures capacity { vec_capacity answers.new ≡ vec_capacity answers.old }
 {
     'judged: while let Some(held) = table.take_open(question) {
         answers.push_reserved(judge(held, generation, version, verdict));

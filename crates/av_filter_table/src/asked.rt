@@ -1,7 +1,9 @@
 ghost use Rattle.std.specs.Prelude.{◌≡◌, ◌<◌, ◌≤◌, ◌^◌};
-ghost use Rattle.av_filter_table.specs.Chains.{longer, shorter};
+ghost use Rattle.av_filter_table.specs.Chains.{asked_about, longer, shorter};
+ghost use Rattle.av_filter_table.specs.FilterTable.{question_in};
 
-use av_base::{Generation, Port, StreamId};
+use crate::question::Question;
+use av_base::{Generation, MessageId, Port, StreamId};
 
 /// The row of a question: the content that it is of, the port that it is asked on, and its opens, as a chain of so many from
 /// the first to the last.
@@ -16,6 +18,32 @@ pub struct Asked {
 }
 
 impl Asked {
+    // Of a content, asked on a port, for no open yet.
+    pub(crate) fn new(stream: StreamId, generation: Generation, port: Port) -> Asked
+        ensures { result ≡ asked_about stream generation port }
+    {
+        Asked {
+            stream,
+            generation,
+            port,
+            first: None,
+            last: None,
+            opens: 0,
+        }
+    }
+
+    // The question of this row, by its number in a boot.
+    pub(crate) fn question(self, boot: u64, seq: u64) -> Question
+        ensures { result ≡ question_in boot seq self }
+    {
+        Question {
+            id: MessageId { boot, seq },
+            port: self.port,
+            stream: self.stream,
+            generation: self.generation,
+        }
+    }
+
     // With an open behind the others.
     pub(crate) fn longer(self, number: u64) -> Asked
         requires { self.opens < 2 ^ 63 }

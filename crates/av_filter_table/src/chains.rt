@@ -7,6 +7,7 @@ ghost use Rattle.av_filter_table.specs.FilterTable.{AreNumbered};
 ghost use Rattle.av_filter_table.specs.Chains.{AreChained, plains, of, others, shorter, essences, first_waiting, without_first, moved_first, once_more, IsBehind, is_left, is_spent};
 
 use crate::asked::Asked;
+use crate::bounded::Bounded;
 use crate::numbered::Numbered;
 use crate::waits::Waits;
 use av_context::ContextRef;
@@ -16,7 +17,7 @@ use std::alloc::AllocFailed;
 
 /// Puts an open behind all others, and behind those of its question. Where memory is refused the open comes back.
 pub fn append(
-    questions: &mut Numbered<Asked, ContextRef>,
+    questions: &mut Bounded<Asked, ContextRef>,
     pended: &mut Numbered<Waits, PendedOpen>,
     question: u64,
     number: u64,
@@ -74,7 +75,7 @@ fn link(pended: &mut Numbered<Waits, PendedOpen>, last: Option<u64>, number: u64
 
 /// Whether the first open of a question saw as many rescans as it may, if one waits.
 pub fn first_is_spent(
-    questions: &Numbered<Asked, ContextRef>,
+    questions: &Bounded<Asked, ContextRef>,
     pended: &Numbered<Waits, PendedOpen>,
     question: u64,
 ) -> Option<bool>
@@ -95,7 +96,7 @@ pub fn first_is_spent(
 
 /// Whether an open that waits for a question has a rescan left: it goes along the chain until it finds one.
 pub fn has_rescan_left(
-    questions: &Numbered<Asked, ContextRef>,
+    questions: &Bounded<Asked, ContextRef>,
     pended: &Numbered<Waits, PendedOpen>,
     question: u64,
 ) -> bool
@@ -137,7 +138,7 @@ fn again(held: PendedOpen) -> PendedOpen
 
 /// Lets the first open of a question wait for another one, in its place, with one rescan more. It takes no memory.
 pub fn move_first(
-    questions: &mut Numbered<Asked, ContextRef>,
+    questions: &mut Bounded<Asked, ContextRef>,
     pended: &mut Numbered<Waits, PendedOpen>,
     old: u64,
     new: u64,
@@ -185,7 +186,7 @@ pub fn move_first(
 
 /// Takes the first open of a question out.
 pub fn take_first(
-    questions: &mut Numbered<Asked, ContextRef>,
+    questions: &mut Bounded<Asked, ContextRef>,
     pended: &mut Numbered<Waits, PendedOpen>,
     question: u64,
 ) -> Option<PendedOpen>
@@ -215,7 +216,7 @@ pub fn take_first(
 
 /// Takes the first of all opens out.
 pub fn pop_first(
-    questions: &mut Numbered<Asked, ContextRef>,
+    questions: &mut Bounded<Asked, ContextRef>,
     pended: &mut Numbered<Waits, PendedOpen>,
 ) -> Option<PendedOpen>
     requires { AreChained questions.old pended.old }
@@ -234,7 +235,7 @@ pub fn pop_first(
 }
 
 // Lets a question, where it runs, have one open less, the first of which named this one as the next.
-fn unlink(questions: &mut Numbered<Asked, ContextRef>, question: u64, next: Option<u64>)
+fn unlink(questions: &mut Bounded<Asked, ContextRef>, question: u64, next: Option<u64>)
     requires { IfSome (at questions.old question) (λ x. 1 ≤ x.0.opens) }
     ensures none { IfNone (at questions.old question) (questions.new ≡ questions.old) }
     ensures some { IfSome (at questions.old question)

@@ -8,7 +8,9 @@ ghost use Rattle.std.specs.Prelude.{IfOk, ◌≡◌, [], ◌≤◌};
 ghost use Rattle.av_filter_table.specs.Table.{mounted};
 
 use crate::asked::Asked;
+use crate::bounded::Bounded;
 use crate::numbered::Numbered;
+use crate::ports::Ports;
 use crate::stream_contexts::StreamContexts;
 use crate::waits::Waits;
 use av_base::{Limits, Mode, Version};
@@ -25,10 +27,10 @@ pub struct FilterTable {
     limits: Limits,
     boot: u64,
     sequence: u64,
-    connected: bool,
+    connected: Ports,
     floor: Version,
     contexts: StreamContexts,
-    questions: Numbered<Asked, ContextRef>,
+    questions: Bounded<Asked, ContextRef>,
     pended: Numbered<Waits, PendedOpen>,
     cache: VerdictCache,
 }
@@ -74,10 +76,10 @@ impl FilterTable {
             limits,
             boot,
             sequence: 0,
-            connected: false,
+            connected: Ports::none(),
             floor: Version::new(0),
             contexts: StreamContexts::new(alloc),
-            questions: Numbered::new(alloc),
+            questions: Bounded::new(alloc)?,
             pended: Numbered::new(alloc),
             cache,
         })

@@ -10,11 +10,13 @@
 
 pub mod answering;
 mod asked;
+mod bounded;
 mod chains;
 pub mod filter_table;
 mod moving;
 mod numbered;
 pub mod pended;
+pub mod ports;
 pub mod present;
 pub mod question;
 pub mod rewriting;
@@ -25,5 +27,6 @@ mod waits;
 
 pub use filter_table::FilterTable;
 pub use pended::Pended;
+pub use ports::Ports;
 pub use question::Question;
 pub use rewriting::Rewriting;

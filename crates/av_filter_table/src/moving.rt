@@ -6,6 +6,7 @@ ghost use Rattle.av_filter_table.specs.Moving.{overs, moved_all, refusals};
 ghost use Rattle.av_filter_table.specs.FilterTable.{AreNumbered};
 
 use crate::asked::Asked;
+use crate::bounded::Bounded;
 use crate::chains;
 use crate::numbered::Numbered;
 use crate::present::generation_now;
@@ -18,7 +19,7 @@ use av_store::Volume;
 /// Lets the opens of a question wait for another one, which has none yet, with one rescan more; those with no rescan left
 /// are answered. It takes no memory.
 pub fn move_opens(
-    questions: &mut Numbered<Asked, ContextRef>,
+    questions: &mut Bounded<Asked, ContextRef>,
     pended: &mut Numbered<Waits, PendedOpen>,
     old: u64,
     new: u64,
@@ -38,6 +39,7 @@ pub fn move_opens(
     ensures numbered { AreNumbered pended.old → AreNumbered pended.new }
     ensures chained { AreChained questions.new pended.new }
     ensures same { essences questions.new ≡ essences questions.old }
+    ensures capacity { vec_capacity answers.new ≡ vec_capacity answers.old }
 {
     'opens: while let Some(is_spent) = chains::first_is_spent(questions, pended, old) {
         if is_spent {

@@ -1,5 +1,6 @@
-ghost use Rattle.std.specs.Prelude.{◌≡◌, ◌<◌, ◌^◌, [], ◌∷◌, All, IsNone, IfNone, None, Some, length, vec_len, option_copied, ℕ, IsSome, IsSomeAnd, IfSome, OnOk, OnErr, IfErr};
+ghost use Rattle.std.specs.Prelude.{◌≡◌, ◌<◌, ◌^◌, [], ◌∷◌, All, IsNone, IfNone, None, Some, length, vec_len, vec_capacity, option_copied, ℕ, IsSome, IsSomeAnd, IfSome, OnOk, OnErr, IfErr};
 ghost use Rattle.std.specs.Option.{option_map};
+ghost use Rattle.slab.specs.Slab.{slab_len};
 ghost use Rattle.av_context.specs.Contexts.{at, PutsAt};
 ghost use Rattle.av_filter_table.specs.Numbered.{slot_at, IsAscending, SameBut};
 
@@ -179,20 +180,23 @@ fn make_room<V>(values: &mut Vec<Option<V>>, key: usize) -> Result<(), AllocErro
 }
 
 // Sets the row at a key that has one.
-fn write<R: Drop>(rows: &mut Slab<R>, key: usize, row: R)
+pub(crate) fn write<R: Drop>(rows: &mut Slab<R>, key: usize, row: R)
     requires { IsSome (slot_at rows.old.slots key) }
     ensures here { slot_at rows.new.slots key ≡ Some row }
     ensures others { SameBut key rows.old.slots rows.new.slots }
+    ensures len { slab_len rows.new ≡ slab_len rows.old }
+    ensures capacity { rows.new.capacity ≡ rows.old.capacity }
 {
     rows[key] = row;
 }
 
 // Puts a value into a slot that is empty.
-fn put<V>(values: &mut Vec<Option<V>>, key: usize, value: V)
+pub(crate) fn put<V>(values: &mut Vec<Option<V>>, key: usize, value: V)
     requires room { key < vec_len values.old }
     requires empty { slot_at values.old.items key ≡ None }
     ensures here { slot_at values.new.items key ≡ Some value }
     ensures others { SameBut key values.old.items values.new.items }
+    ensures capacity { vec_capacity values.new ≡ vec_capacity values.old }
 {
     let hole = mem::replace(&mut values[key], Some(value));
     let None = hole else { unreachable!() };
@@ -206,7 +210,7 @@ fn look<V>(values: &Vec<Option<V>>, key: usize) -> Option<&V>
 }
 
 // Lets slots go of which each is empty.
-fn release<V>(mut values: Vec<Option<V>>)
+pub(crate) fn release<V>(mut values: Vec<Option<V>>)
     requires { All (λ slot. IsNone slot) values.items }
 {
     'slots: while let Some(slot) = values.pop() {
@@ -237,11 +241,12 @@ fn change_at<V, F: FnOnce(V) -> V>(values: &mut Vec<Option<V>>, key: usize, chan
 }
 
 // Takes the value out of a slot that has one.
-fn take<V>(values: &mut Vec<Option<V>>, key: usize) -> V
+pub(crate) fn take<V>(values: &mut Vec<Option<V>>, key: usize) -> V
     requires { IsSome (slot_at values.old.items key) }
     ensures value { slot_at values.old.items key ≡ Some result }
     ensures here { slot_at values.new.items key ≡ None }
     ensures others { SameBut key values.old.items values.new.items }
+    ensures capacity { vec_capacity values.new ≡ vec_capacity values.old }
 {
     let Some(slot) = values.get_mut(key) else {
         unreachable!()

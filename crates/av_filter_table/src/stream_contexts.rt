@@ -1,4 +1,4 @@
-ghost use Rattle.std.specs.Prelude.{◌≡◌, ℕ, length, ◌+◌, ◌-◌, ◌<◌, ◌≤◌, ◌^◌, [], Some, None, IsSomeAnd, IfSome, IfOk, OnErr};
+ghost use Rattle.std.specs.Prelude.{◌≡◌, ℕ, length, ◌+◌, ◌-◌, ◌<◌, ◌≤◌, ◌^◌, [], Some, None, IsSome, IsSomeAnd, IfSome, IfOk, OnErr};
 ghost use Rattle.std.specs.Option.{option_map};
 ghost use Rattle.av_context.specs.Contexts.{at, PutsAt};
 ghost use Rattle.av_filter_table.specs.Numbered.{IsAscending};
@@ -64,6 +64,23 @@ impl StreamContexts {
             Err(ContextFault::NotFound) => attach(&mut self.table, stream, state),
             Err(ContextFault::RefsSpent) => unreachable!(),
         }
+    }
+
+    /// Gives one more reference to the context of a stream that has one, which has this state from now on. It takes no memory.
+    pub fn share(&mut self, stream: StreamId, state: ContextState) -> ContextRef
+        requires there { IsSome (at self.old stream) }
+        requires few { held_of (at self.old stream) < 2 ^ 63 }
+        ensures puts { PutsAt self.old self.new stream
+            (Some (record { key = result; state = state; held = held_of (at self.old stream) + 1 })) }
+        ensures ascend { IsAscending self.old }
+        ensures same { IfSome (at self.old stream) (λ m. m.key ≡ result) }
+    {
+        let Ok(shared) = self.table.get(stream) else {
+            unreachable!()
+        };
+        self.table.set_state(&shared, state);
+        let _is_sound = self.table.len();
+        shared
     }
 
     /// Takes a reference to a stream's context back, which has this state from now on.

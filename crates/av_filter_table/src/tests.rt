@@ -1,10 +1,12 @@
-ghost use Rattle.std.specs.Prelude.{◌≡◌, ◌<◌, ◌++◌, ◌∷◌, [], IsSome};
+mod ports;
+
+ghost use Rattle.std.specs.Prelude.{◌≡◌, ◌<◌, ◌++◌, ◌∷◌, [], IsSome, length};
 ghost use Rattle.std.specs.List.{AllByRecursion};
 ghost use Rattle.av_filter_table.specs.Answering.{MayJudge};
 ghost use Rattle.av_filter_table.specs.FilterTable.{id_of, open_numbers};
 ghost use Rattle.av_filter_table.specs.Table.{question_at};
 
-use crate::{FilterTable, Question, answering};
+use crate::{FilterTable, Ports, Question, answering};
 use av_base::{
     Cause, Generation, LimitField, LimitValues, Limits, MessageId, Mode, OpenId, Port, StreamId,
     Verdict, Version,
@@ -71,11 +73,24 @@ fn assert_none_runs(rt: &impl Abort, table: &FilterTable)
     assert!(rt; table.question_count() == 0);
 }
 
+// One question more may run.
+fn assert_has_room(rt: &impl Abort, table: &FilterTable)
+    ensures { length table.now.questions < table.now.limits.questions }
+{
+    let limits = table.limits().values();
+    assert!(rt; (table.question_count() as u64) < limits.questions);
+}
+
 fn ask(rt: &impl Abort, table: &mut FilterTable, stream: u64) -> u64 {
+    ask_on(rt, table, Port::One, stream)
+}
+
+fn ask_on(rt: &impl Abort, table: &mut FilterTable, port: Port, stream: u64) -> u64 {
     let stream = StreamId::new(stream);
     assert!(rt; table.question_of(stream).is_none());
-    assert!(rt; table.sequence() < 100);
-    match table.ask(Port::One, stream, Generation::new(1)) {
+    assert!(rt; table.sequence() < 10_000);
+    assert_has_room(rt, table);
+    match table.ask(port, stream, Generation::new(1)) {
         Ok(id) => id.seq,
         Err(_) => panic!(rt; "no memory"),
     }
@@ -113,6 +128,7 @@ fn ask_for(rt: &impl Abort, table: &mut FilterTable, stream: StreamId, held: Pen
 {
     assert!(rt; table.question_of(stream).is_none());
     assert!(rt; table.sequence() < 100);
+    assert_has_room(rt, table);
     match table.ask_for(Port::One, stream, Generation::new(1), held) {
         Ok(_) => {}
         Err(_) => panic!(rt; "no memory"),
@@ -261,14 +277,22 @@ fn ask_again(
     question: u64,
     answers: &mut Vec<Answer>,
 ) -> u64 {
+    ask_again_on(rt, table, volume, Port::One, question, answers)
+}
+
+fn ask_again_on(
+    rt: &impl Abort,
+    table: &mut FilterTable,
+    volume: &Volume,
+    port: Port,
+    question: u64,
+    answers: &mut Vec<Answer>,
+) -> u64 {
     assert_runs(rt, table, question);
-    assert!(rt; table.sequence() < 100);
+    assert!(rt; table.sequence() < 10_000);
     assert!(rt; table.opens_of(question) < 100);
     assert!(rt; answers.len() + table.opens_of(question) <= answers.capacity());
-    match table.ask_again(volume, Port::One, question, answers) {
-        Ok(id) => id.seq,
-        Err(_) => panic!(rt; "no memory"),
-    }
+    table.ask_again(volume, port, question, answers).seq
 }
 
 fn assert_rescan_left(rt: &impl Abort, table: &FilterTable, question: u64, is_left: bool) {
@@ -593,11 +617,15 @@ fn a_table_that_is_mounted_again_has_nothing_of_the_one_before(
 }
 
 fn raise(rt: &impl Abort, table: &mut FilterTable) {
-    table.set_connected(true);
+    let both = Ports {
+        one: true,
+        two: true,
+    };
+    table.set_connected(both);
     table.raise(Version::new(3));
     table.raise(Version::new(2));
     assert!(rt; table.floor() == Version::new(3));
-    assert!(rt; table.connected());
+    assert!(rt; table.connected() == both);
 }
 
 // Ends a table, and gives the one of the next boot.
@@ -615,7 +643,7 @@ fn assert_as_mounted(rt: &impl Abort, table: &FilterTable) {
     assert!(rt; table.boot() == 2);
     assert!(rt; table.sequence() == 0);
     assert!(rt; table.floor() == Version::new(0));
-    assert!(rt; !table.connected());
+    assert!(rt; table.connected() == Ports::none());
     assert!(rt; table.cache().len() == 0);
     assert_counts(rt, table, (0, 0, 0));
 }

@@ -100,24 +100,24 @@ impl FilterTable {
 
     /// Asks anew on a port for a question that runs: it ends, and its opens wait for a new question, of the present content of its
     /// stream, each with one rescan more. Those with no rescan left are answered. The cost grows with the count of its opens, and a
-    /// logarithm for each. Where memory is refused nothing changes.
+    /// logarithm for each. It takes no memory.
     pub fn ask_again(
         &mut self,
         volume: &Volume,
         port: Port,
         question: u64,
         answers: &mut Vec<Answer>,
-    ) -> Result<MessageId, AllocError>
+    ) -> MessageId
         requires there { IsSome (question_at (id_of self.old.boot question) self.old.questions) }
         requires left { self.old.sequence + 1 < 2 ^ 64 }
         requires room { vec_len answers.old + length (opens_of (id_of self.old.boot question) self.old.pended)
             ≤ vec_capacity answers.old }
-        ensures id { IfOk result (λ id. id ≡ next_id self.old) }
-        ensures answers { OnOk result (answers.new.items ≡ answers.old.items
-            ++ by_mode self.old volume.now Unsettled (filter (is_lost (id_of self.old.boot question)) self.old.pended)) }
-        ensures ok { OnOk result (IfSome (question_at (id_of self.old.boot question) self.old.questions)
-            (λ q. self.new ≡ asked_again self.old volume.now port q)) }
-        ensures err { OnErr result ((self.new ≡ self.old) × (answers.new ≡ answers.old)) }
+        ensures id { result ≡ next_id self.old }
+        ensures answers { answers.new.items ≡ answers.old.items
+            ++ by_mode self.old volume.now Unsettled (filter (is_lost (id_of self.old.boot question)) self.old.pended) }
+        ensures table { IfSome (question_at (id_of self.old.boot question) self.old.questions)
+            (λ q. self.new ≡ asked_again self.old volume.now port q) }
+        ensures capacity { vec_capacity answers.new ≡ vec_capacity answers.old }
     {
         let _numbers_ascend = self.questions.len();
         let Some(asked) = self.questions.row(question) else {
@@ -130,25 +130,10 @@ impl FilterTable {
             boot: self.boot,
             seq,
         };
-        let context = self.contexts.hold(stream, ContextState::Scanning(id))?;
-        let row = Asked {
-            stream,
-            generation,
-            port,
-            first: None,
-            last: None,
-            opens: 0,
-        };
-        if let Err(failed) = self.questions.insert(seq, row, context) {
-            let AllocFailed { value } = failed;
-            let old = MessageId {
-                boot: self.boot,
-                seq: question,
-            };
-            self.contexts
-                .give_back(stream, value, ContextState::Scanning(old));
-            return Err(AllocError);
-        }
+        let context = self.contexts.share(stream, ContextState::Scanning(id));
+        let _in_range = self.limits.values();
+        let row = Asked::new(stream, generation, port);
+        self.questions.insert(seq, row, context);
         move_opens(
             &mut self.questions,
             &mut self.pended,
@@ -163,6 +148,6 @@ impl FilterTable {
         };
         self.contexts.release(stream, context);
         self.sequence = seq;
-        Ok(id)
+        id
     }
 }

@@ -1,10 +1,10 @@
 ghost use Rattle.av_context.specs.Contexts.{set_at};
 ghost use Rattle.av_context.specs.declared.context_state.ContextState.TheVariants.{Scanning};
-ghost use Rattle.std.specs.Prelude.{◌+◌, ◌^◌, IfOk, ◌≡◌, ◌++◌, ◌∷◌, ◌<◌, [], None, Some, IsSome, IfSome, IfNone, OnOk, OnErr, IfErr};
+ghost use Rattle.std.specs.Prelude.{◌+◌, ◌^◌, IfOk, ◌≡◌, ◌++◌, ◌∷◌, ◌<◌, [], None, Some, IsSome, length, IfSome, IfNone, OnOk, OnErr, IfErr};
 ghost use Rattle.std.specs.List.{AllByRecursion};
 ghost use Rattle.av_filter_table.specs.Asking.{ended};
 ghost use Rattle.av_filter_table.specs.Numbered.{IsAscending};
-ghost use Rattle.av_filter_table.specs.Table.{next_id, question_of, question_at, opens_of};
+ghost use Rattle.av_filter_table.specs.Table.{next_id, on_port, question_of, question_at, opens_of};
 ghost use Rattle.av_filter_table.specs.FilterTable.{id_of, open_numbers};
 
 use super::FilterTable;
@@ -14,7 +14,7 @@ use crate::question::Question;
 use av_base::{Generation, MessageId, Port, StreamId};
 use av_context::ContextState;
 use av_pend::PendedOpen;
-use std::alloc::{AllocError, AllocFailed};
+use std::alloc::{AllocError, AllocFailed, Global};
 
 impl FilterTable {
     /// The question of an id, if it runs. The cost grows with the logarithm of the count of questions.
@@ -26,12 +26,7 @@ impl FilterTable {
             return None;
         }
         let asked = self.questions.row(id.seq)?;
-        Some(Question {
-            id,
-            port: asked.port,
-            stream: asked.stream,
-            generation: asked.generation,
-        })
+        Some(asked.question(self.boot, id.seq))
     }
 
     /// The question that runs of a stream, if there is one: the stream's context names it. The cost grows with the logarithms
@@ -63,6 +58,7 @@ impl FilterTable {
     ) -> Result<MessageId, AllocError>
         requires none { question_of stream self.old.questions ≡ None }
         requires left { self.old.sequence + 1 < 2 ^ 64 }
+        requires room { length self.old.questions < self.old.limits.questions }
         ensures id { IfOk result (λ id. id ≡ next_id self.old) }
         ensures ok { OnOk result (self.new
             ≡ record self.old {
@@ -79,21 +75,10 @@ impl FilterTable {
             boot: self.boot,
             seq,
         };
-        let old = self.contexts.state_of(stream);
         let context = self.contexts.hold(stream, ContextState::Scanning(id))?;
-        let row = Asked {
-            stream,
-            generation,
-            port,
-            first: None,
-            last: None,
-            opens: 0,
-        };
-        if let Err(failed) = self.questions.insert(seq, row, context) {
-            let AllocFailed { value } = failed;
-            self.contexts.undo_hold(stream, value, old);
-            return Err(AllocError);
-        }
+        let _in_range = self.limits.values();
+        let row = Asked::new(stream, generation, port);
+        self.questions.insert(seq, row, context);
         self.sequence = seq;
         Ok(id)
     }
@@ -109,6 +94,7 @@ impl FilterTable {
     ) -> Result<MessageId, AllocFailed<PendedOpen>>
         requires none { question_of stream self.old.questions ≡ None }
         requires left { self.old.sequence + 1 < 2 ^ 64 }
+        requires room { length self.old.questions < self.old.limits.questions }
         requires last { AllByRecursion (λ n. n < held.open_id) (open_numbers self.old.pended) }
         ensures id { IfOk result (λ id. id ≡ next_id self.old) }
         ensures ok { OnOk result (self.new
@@ -135,19 +121,9 @@ impl FilterTable {
         let Ok(context) = self.contexts.hold(stream, ContextState::Scanning(id)) else {
             return Err(AllocFailed { value: held });
         };
-        let row = Asked {
-            stream,
-            generation,
-            port,
-            first: None,
-            last: None,
-            opens: 0,
-        };
-        if let Err(failed) = self.questions.insert(seq, row, context) {
-            let AllocFailed { value } = failed;
-            self.contexts.undo_hold(stream, value, old);
-            return Err(AllocFailed { value: held });
-        }
+        let _in_range = self.limits.values();
+        let row = Asked::new(stream, generation, port);
+        self.questions.insert(seq, row, context);
         if let Err(failed) = chains::append(
             &mut self.questions,
             &mut self.pended,
@@ -163,6 +139,22 @@ impl FilterTable {
         }
         self.sequence = seq;
         Ok(id)
+    }
+
+    /// The questions of a port, in the order of their ids. The cost grows with the count of all questions.
+    pub fn questions_on(&self, alloc: Global, port: Port) -> Result<Vec<Question>, AllocError>
+        ensures { IfOk result (λ qs. qs.items ≡ on_port port self.now.questions) }
+    {
+        let mut found = Vec::new(alloc);
+        'questions: for place in 0..self.questions.len() {
+            let Some((seq, asked)) = self.questions.nth(place) else {
+                unreachable!()
+            };
+            if asked.port == port {
+                found.push(asked.question(self.boot, seq))?;
+            }
+        }
+        Ok(found)
     }
 
     /// Ends a question that no open waits for. The context of its stream has this state from now on. The cost grows with the
@@ -194,12 +186,12 @@ impl FilterTable {
         self.contexts.forget(asked.stream, context);
     }
 
-    /// Ends the first of all questions, where no open waits any more. The context of its stream has this state from now on. The
-    /// cost grows with the logarithms of the counts of streams and of questions.
+    /// Ends the last of all questions, where no open waits any more. The context of its stream has this state from now on. The
+    /// cost grows with the logarithm of the count of streams.
     pub fn pop_question(&mut self, state: ContextState) -> Option<Question>
         requires { self.old.pended ≡ [] }
         ensures none { IfNone result ((self.old.questions ≡ []) × (self.new ≡ self.old)) }
-        ensures some { IfSome result (λ q. (self.old.questions ≡ q ∷ self.new.questions)
+        ensures some { IfSome result (λ q. (self.old.questions ≡ self.new.questions ++ q ∷ [])
             × (self.new ≡ record self.old {
               contexts = set_at self.old.contexts q.stream
                   (Some state);
@@ -208,17 +200,8 @@ impl FilterTable {
         ensures ascend { IfSome result (λ _. IsAscending self.old.contexts) }
     {
         let _numbers_ascend = self.questions.len();
-        let (seq, asked, context) = self.questions.pop_first()?;
-        let stream = asked.stream;
-        self.contexts.give_back(stream, context, state);
-        Some(Question {
-            id: MessageId {
-                boot: self.boot,
-                seq,
-            },
-            port: asked.port,
-            stream,
-            generation: asked.generation,
-        })
+        let (seq, last, context) = self.questions.pop_last()?;
+        self.contexts.give_back(last.stream, context, state);
+        Some(last.question(self.boot, seq))
     }
 }

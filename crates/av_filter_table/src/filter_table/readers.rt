@@ -1,9 +1,11 @@
 ghost use Rattle.std.specs.Prelude.{◌≡◌, length, ◌≤◌};
 ghost use Rattle.av_base.specs.Limits.{AreInRange};
+ghost use Rattle.av_filter_table.specs.FilterTable.{IsRising, open_numbers};
 ghost use Rattle.av_filter_table.specs.Numbered.{IsAscending};
 ghost use Rattle.av_filter_table.specs.Table.{mounted, raised};
 
 use super::FilterTable;
+use crate::ports::Ports;
 use av_base::{Limits, Mode, Version};
 use av_cache::VerdictCache;
 
@@ -39,15 +41,15 @@ impl FilterTable {
         self.sequence
     }
 
-    /// Whether the service is connected.
-    pub fn connected(&self) -> bool
+    /// Which ports are connected.
+    pub fn connected(&self) -> Ports
         ensures { result ≡ self.now.connected }
     {
         self.connected
     }
 
-    /// Notes that the service is connected, or is not.
-    pub fn set_connected(&mut self, connected: bool)
+    /// Notes which ports are connected from now on.
+    pub fn set_connected(&mut self, connected: Ports)
         ensures { self.new ≡ record self.old { connected = connected } }
     {
         self.connected = connected;
@@ -93,7 +95,8 @@ impl FilterTable {
 
     /// How many opens are held.
     pub fn pended_count(&self) -> usize
-        ensures { result ≡ length self.now.pended }
+        ensures len { result ≡ length self.now.pended }
+        ensures ascend { IsRising (open_numbers self.now.pended) }
     {
         self.pended.len()
     }

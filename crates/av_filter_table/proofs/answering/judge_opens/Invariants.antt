@@ -14,6 +14,7 @@ invariant-judged l = record {
   rest : l.table ≡ record l.initial.table { pended = l.table.pended };
   leasts : MayJudge l.version (opens_of (id_of l.table.boot l.question) l.table.pended);
   room : vec_len l.answers + length (opens_of (id_of l.table.boot l.question) l.table.pended) ≤ vec_capacity l.answers;
+  capacity : vec_capacity l.answers ≡ vec_capacity l.initial.answers;
 }
 
 abbrev pub decreases-judged : goal.decreases-judged

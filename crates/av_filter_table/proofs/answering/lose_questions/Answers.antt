@@ -1,5 +1,5 @@
-use Rattle.std.proofs.Common.{◌≡◌, ◌+◌, length, arith, refl, ap, ◌∙◌}
-use Rattle.av_filter_table.proofs.EndingLemmas.{lose-first, lost-none}
+use Rattle.std.proofs.Common.{◌≡◌, ◌+◌, [], ◌∷◌, length, length-append, arith, refl, ap, ◌∙◌}
+use Rattle.av_filter_table.proofs.EndingLemmas.{lose-last, lost-none}
 use Rattle.av_filter_table.proofs.answering.lose_questions.Goals as goal
 
 pub questions-init : goal.questions-init
@@ -11,12 +11,12 @@ pop_question-requires c = c.questions.invariant.none
 pub questions-preserved : goal.questions-preserved
 questions-preserved c = record {
   none = ap (λ t. t.pended) c.in-Some.ensures.some.1 ∙ c.questions.invariant.none;
-  same = lose-first c.questions.table c.pop_question.new.self c.in-Some._ended c.in-Some.ensures.ascend c.in-Some.ensures.some.0 c.in-Some.ensures.some.1 ∙ c.questions.invariant.same;
+  same = lose-last c.questions.table c.pop_question.new.self c.in-Some._ended c.in-Some.ensures.some.0 c.in-Some.ensures.some.1 ∙ c.questions.invariant.same;
 }
 
 pub questions-smaller : goal.questions-smaller
 questions-smaller c =
-    let fewer : length c.questions.table.questions ≡ length c.pop_question.new.self.questions + 1 = ap length c.in-Some.ensures.some.0 ∙ omega arith in
+    let fewer : length c.questions.table.questions ≡ length c.pop_question.new.self.questions + 1 = ap length c.in-Some.ensures.some.0 ∙ length-append c.pop_question.new.self.questions (c.in-Some._ended ∷ []) in
     omega arith
 
 pub returns : goal.returns

@@ -36,4 +36,5 @@ opens-preserved c =
           let len = c.push_reserved.ensures.len in
           let capacity = c.push_reserved.ensures.capacity in
           omega arith;
+      capacity = c.push_reserved.ensures.capacity ∙ c.opens.invariant.capacity;
     }

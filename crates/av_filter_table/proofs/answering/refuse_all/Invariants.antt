@@ -8,6 +8,7 @@ invariant-opens l = record {
   answers : l.answers.items ++ by_mode l.initial.table l.volume l.cause l.table.pended ≡ l.initial.answers.items ++ by_mode l.initial.table l.volume l.cause l.initial.table.pended;
   rest : l.table ≡ record l.initial.table { pended = l.table.pended };
   room : vec_len l.answers + length l.table.pended ≤ vec_capacity l.answers;
+  capacity : vec_capacity l.answers ≡ vec_capacity l.initial.answers;
 }
 
 abbrev pub decreases-opens : goal.decreases-opens

@@ -18,6 +18,7 @@ opens-init c = record {
   numbered = λ n. n;
   same = refl;
   room = c.requires.room;
+  capacity = refl;
 }
 
 pub first_is_spent-requires-clause-there : goal.first_is_spent-requires-clause-there
@@ -59,6 +60,7 @@ opens-preserved-then-is_spent c =
           let len = c.push_reserved.ensures.len in
           let capacity = c.push_reserved.ensures.capacity in
           omega arith;
+      capacity = c.push_reserved.ensures.capacity ∙ c.opens.invariant.capacity;
     }
 
 pub move_first-requires-clause-from : goal.move_first-requires-clause-from
@@ -91,6 +93,7 @@ opens-preserved c =
           let fewer = i.fewer in
           let room = c.opens.invariant.room in
           omega arith;
+      capacity = c.opens.invariant.capacity;
     }
 
 pub returns-clause-answers : goal.returns-clause-answers

@@ -15,6 +15,7 @@ invariant-opens l = record {
   numbered : AreNumbered l.initial.pended → AreNumbered l.pended;
   same : essences l.questions ≡ essences l.initial.questions;
   room : vec_len l.answers + length (of l.old (plains l.pended)) ≤ vec_capacity l.answers;
+  capacity : vec_capacity l.answers ≡ vec_capacity l.initial.answers;
 }
 
 abbrev pub decreases-opens : goal.decreases-opens

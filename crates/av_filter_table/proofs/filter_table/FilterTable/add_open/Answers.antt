@@ -3,6 +3,7 @@ use Rattle.std.specs.List.{AllByRecursion}
 use Rattle.std.specs.Map.{keys_of}
 use Rattle.av_filter_table.specs.FilterTable.{id_of, open_numbers}
 use Rattle.av_filter_table.specs.Table.{question_at}
+use Rattle.av_filter_table.proofs.RoomLemmas.{still-few}
 use Rattle.av_filter_table.proofs.TableLemmas.{question-there, keys-below, numbered-result, unasked-result, rows-kept}
 use Rattle.av_filter_table.proofs.filter_table.FilterTable.add_open.Goals as goal
 
@@ -28,5 +29,6 @@ invariant_of-self c = record {
       (subst (λ t. IsSome (question_at (id_of t.boot c.args.question) t.questions)) (sym c.self.view_is) c.requires.there)) c.append.ensures.ok c.append.ensures.err)
       c.append.ensures.same);
   mounted = c.self.invariant.mounted;
+  few = still-few c.self.inside.questions c.append.new.questions c.self.inside.limits.questions c.append.ensures.same c.self.invariant.few;
   sized = c.self.invariant.sized;
 }

@@ -1,18 +1,19 @@
-use Rattle.std.proofs.Common.{◌≡◌, ◌≤◌, ◌+◌, ◌++◌, IsSome, IsSomeAnd, Option, None, Some, length, vec_len, vec_capacity, filter, arith, refl, sym, ap, subst, ◌∙◌}
+use Rattle.std.proofs.Common.{◌≡◌, ◌≤◌, ◌+◌, ◌++◌, IsSome, IsSomeAnd, Option, None, Some, length, vec_len, vec_capacity, filter, arith, sym, ap, subst, ◌∙◌}
 use Rattle.std.specs.Option.{option_map}
 use Rattle.av_base.specs.declared.cause.Cause.TheVariants.{Unsettled}
 use Rattle.av_context.specs.Contexts.{at, PutsAt}
 use Rattle.av_context.specs.declared.context_state.ContextState.TheVariants.{Scanning}
 use Rattle.av_filter_table.specs.Asking.{asks, is_lost}
-use Rattle.av_filter_table.specs.Chains.{of, plains, essence}
+use Rattle.av_filter_table.specs.Chains.{of, plains, asked_about, essence}
 use Rattle.av_filter_table.specs.Answering.{by_mode, present_generation}
-use Rattle.av_filter_table.specs.FilterTable.{id_of, asked_of, questions_of, pended_of, IsConsistent}
+use Rattle.av_filter_table.specs.FilterTable.{id_of, asked_of, questions_of, pended_of}
 use Rattle.av_filter_table.specs.StreamContexts.{states, held_of as held_out}
 use Rattle.av_filter_table.specs.Table.{Table, question_at, opens_of}
-use Rattle.av_filter_table.proofs.AgainLemmas.{asks_again, chained-new, same-key, undone-again, held-again, lost-refused}
+use Rattle.av_filter_table.proofs.AgainLemmas.{asks_again, chained-new, same-key, held-again, lost-refused}
 use Rattle.av_filter_table.proofs.MapLemmas.{not_there, is_there, row_found}
 use Rattle.av_filter_table.proofs.PlainLemmas.{there-kept}
-use Rattle.av_filter_table.proofs.TableLemmas.{question-there, question-found, new-question, new_row, known-at, opens-of, length-held, all-at}
+use Rattle.av_filter_table.proofs.RoomLemmas.{room-beside, as-many}
+use Rattle.av_filter_table.proofs.TableLemmas.{question-there, question-found, numbers-below, known-at, opens-of, length-held, all-at}
 use Rattle.av_filter_table.proofs.filter_table.FilterTable.ask_again.Goals as goal
 
 pub unreachable-requires : goal.unreachable-requires
@@ -25,49 +26,17 @@ unreachable-requires c =
     no_row None none some = absurd (cc)
     no_row (Some y) none some = absurd (cc)
 
-pub insert-requires : goal.insert-requires
-insert-requires c = new-question c.self.inside.boot c.self.inside.sequence c.self.inside.questions c.self.inside.pended c.self.inside.contexts c.self.invariant.rows
-
-pub invariant_of-self-in-Err : goal.invariant_of-self-in-Err
-invariant_of-self-in-Err c = record {
-  rows = (let t = c.self.inside in
-      let n = c.args.question in
-      let m = t.sequence + 1 in
-      let s = c.in-Some.asked.stream in
-      let found = row_found (at t.questions n) c.in-Some.asked c.in-Some.ensures in
-      let before = known-at t.boot t.sequence n t.questions t.pended t.contexts c.in-Some.asked found.0 c.self.invariant.rows found.1 in
-      let key_is = held-again t.boot t.sequence n t.contexts s found.0 c.in_ok-context.context before c.in_ok-context.ensures.same in
-      let same = undone-again t.boot n t.contexts c.hold.new.self c.give_back.new.self s found.0 _ c.in_ok-context.ensures.ascend before (sym key_is) refl c.in_ok-context.ensures.ok c.give_back.ensures.puts in
-      subst (λ q. IsConsistent t.boot t.sequence q t.pended c.give_back.new.self) (sym c.in-Err.ensures.err) (subst (IsConsistent t.boot t.sequence t.questions t.pended) (sym same) c.self.invariant.rows));
-  mounted = c.self.invariant.mounted;
-  sized = c.self.invariant.sized;
-}
-
-pub returns-in-Err-clause-err : goal.returns-in-Err-clause-err
-returns-in-Err-clause-err c =
+pub share-context-requires-clause-there : goal.share-context-requires-clause-there
+share-context-requires-clause-there c =
     let t = c.self.inside in
-    let n = c.args.question in
-    let m = t.sequence + 1 in
-    let s = c.in-Some.asked.stream in
-    let found = row_found (at t.questions n) c.in-Some.asked c.in-Some.ensures in
-    let before = known-at t.boot t.sequence n t.questions t.pended t.contexts c.in-Some.asked found.0 c.self.invariant.rows found.1 in
-    let key_is = held-again t.boot t.sequence n t.contexts s found.0 c.in_ok-context.context before c.in_ok-context.ensures.same in
-    let same = undone-again t.boot n t.contexts c.hold.new.self c.give_back.new.self s found.0 _ c.in_ok-context.ensures.ascend before (sym key_is) refl c.in_ok-context.ensures.ok c.give_back.ensures.puts in (
-      rw (← c.self.view_is)
-          (λ i. record {
-            mode = t.mode;
-            limits = t.limits;
-            boot = t.boot;
-            sequence = t.sequence;
-            connected = t.connected;
-            floor = t.floor;
-            contexts = states (same i);
-            questions = questions_of t.boot (c.in-Err.ensures.err i);
-            pended = pended_of t.boot t.pended;
-            cache = t.cache.entries;
-          }),
-      refl,
-    )
+    let found = row_found (at t.questions c.args.question) c.in-Some.asked c.in-Some.ensures in
+    is_there (at t.contexts c.in-Some.asked.stream) _ (known-at t.boot t.sequence c.args.question t.questions t.pended t.contexts c.in-Some.asked found.0 c.self.invariant.rows found.1)
+
+pub insert-requires : goal.insert-requires
+insert-requires c = record {
+  few = room-beside c.self.inside.limits c.self.inside.questions c.values-in_range.ensures.in_range c.self.invariant.few;
+  last = numbers-below c.self.inside.boot c.self.inside.sequence c.self.inside.questions c.self.inside.pended c.self.inside.contexts c.self.invariant.rows;
+}
 
 pub move_opens-requires-clause-apart : goal.move_opens-requires-clause-apart
 move_opens-requires-clause-apart c = λ e.
@@ -79,7 +48,7 @@ move_opens-requires-clause-apart c = λ e.
 pub move_opens-requires-clause-chained : goal.move_opens-requires-clause-chained
 move_opens-requires-clause-chained c =
     let t = c.self.inside in
-    chained-new t.boot t.sequence c.args.port c.in-Some.asked.stream c.generation_now-generation.result c.in_ok-context.context t.questions c.insert.new.self t.pended t.contexts c.self.invariant.rows c.in_default-insert.ensures.ok
+    chained-new t.boot t.sequence c.args.port c.in-Some.asked.stream c.generation_now-generation.result c.share-context.result t.questions c.insert.new.self t.pended t.contexts c.self.invariant.rows (subst (λ r. PutsAt t.questions c.insert.new.self (t.sequence + 1) (Some (r, c.share-context.result))) c.new-row.ensures c.insert.ensures.puts)
 
 pub move_opens-requires-clause-room : goal.move_opens-requires-clause-room
 move_opens-requires-clause-room c =
@@ -95,7 +64,7 @@ unreachable-requires-in_default-remove c =
     let n = c.args.question in
     let found = row_found (at t.questions n) c.in-Some.asked c.in-Some.ensures in
     let low : n ≤ t.sequence = all-at (λ j. j ≤ t.sequence) t.questions n c.self.invariant.rows.asked (is_there (at t.questions n) (c.in-Some.asked, found.0) found.1) in
-    let old : at c.insert.new.self n ≡ Some (c.in-Some.asked, found.0) = c.in_default-insert.ensures.ok.others n (λ e. absurd (omega arith)) ∙ found.1 in
+    let old : at c.insert.new.self n ≡ Some (c.in-Some.asked, found.0) = (subst (λ r. PutsAt t.questions c.insert.new.self (t.sequence + 1) (Some (r, c.share-context.result))) c.new-row.ensures c.insert.ensures.puts).others n (λ e. absurd (omega arith)) ∙ found.1 in
     not_there (at c.move_opens.new.questions n) (sym c.in_default-remove.ensures.value) (there-kept c.insert.new.self c.move_opens.new.questions n c.move_opens.ensures.same (is_there (at c.insert.new.self n) (c.in-Some.asked, found.0) old))
 
 pub release-requires : goal.release-requires
@@ -106,29 +75,33 @@ release-requires c =
     let s = c.in-Some.asked.stream in
     let found = row_found (at t.questions n) c.in-Some.asked c.in-Some.ensures in
     let before = known-at t.boot t.sequence n t.questions t.pended t.contexts c.in-Some.asked found.0 c.self.invariant.rows found.1 in
-    let key_is = held-again t.boot t.sequence n t.contexts s found.0 c.in_ok-context.context before c.in_ok-context.ensures.same in
+    let key_is = held-again t.boot t.sequence n t.contexts s found.0 c.share-context.result before c.share-context.ensures.same in
     let low : n ≤ t.sequence = all-at (λ j. j ≤ t.sequence) t.questions n c.self.invariant.rows.asked (is_there (at t.questions n) (c.in-Some.asked, found.0) found.1) in
-    let old : at c.insert.new.self n ≡ Some (c.in-Some.asked, found.0) = c.in_default-insert.ensures.ok.others n (λ e. absurd (omega arith)) ∙ found.1 in
+    let old : at c.insert.new.self n ≡ Some (c.in-Some.asked, found.0) = (subst (λ r. PutsAt t.questions c.insert.new.self (t.sequence + 1) (Some (r, c.share-context.result))) c.new-row.ensures c.insert.ensures.puts).others n (λ e. absurd (omega arith)) ∙ found.1 in
     let same : c.in-Some-remove.context ≡ found.0 = same-key n c.insert.new.self c.move_opens.new.questions c.in-Some.asked c.in-Some-remove._ended found.0 c.in-Some-remove.context c.move_opens.ensures.same old c.in-Some-remove.ensures.value in
-    subst (λ o. IsSomeAnd o (λ m. (m.key ≡ c.in-Some-remove.context) × (1 ≤ m.held))) (sym c.in_ok-context.ensures.ok.here) (sym key_is ∙ sym same, omega arith)
+    subst (λ o. IsSomeAnd o (λ m. (m.key ≡ c.in-Some-remove.context) × (1 ≤ m.held))) (sym c.share-context.ensures.puts.here) (sym key_is ∙ sym same, omega arith)
 
-pub invariant_of-self-2 : goal.invariant_of-self-2
-invariant_of-self-2 c = record {
+pub invariant_of-self : goal.invariant_of-self
+invariant_of-self c = record {
   rows = (let t = c.self.inside in
       let n = c.args.question in
       let m = t.sequence + 1 in
       let s = c.in-Some.asked.stream in
       let found = row_found (at t.questions n) c.in-Some.asked c.in-Some.ensures in
       let before = known-at t.boot t.sequence n t.questions t.pended t.contexts c.in-Some.asked found.0 c.self.invariant.rows found.1 in
-      let key_is = held-again t.boot t.sequence n t.contexts s found.0 c.in_ok-context.context before c.in_ok-context.ensures.same in
+      let key_is = held-again t.boot t.sequence n t.contexts s found.0 c.share-context.result before c.share-context.ensures.same in
       let v = c.args.volume.now in
-      let a = asks_again t.boot t.sequence n c.args.port (present_generation v s) t.questions c.insert.new.self c.move_opens.new.questions c.remove.new.self t.pended c.move_opens.new.pended t.contexts c.hold.new.self c.release.new.self c.in-Some.asked found.0
-      c.self.invariant.rows c.len-numbers_ascend.ensures.ascend c.in_ok-context.ensures.ascend found.1
-      (subst (λ j. PutsAt t.contexts c.hold.new.self s (Some (record { key = j; state = Scanning (id_of t.boot m); held = held_out (at t.contexts s) + 1 }))) (sym key_is) c.in_ok-context.ensures.ok)
-      (subst (λ g. PutsAt t.questions c.insert.new.self m (Some (new_row c.args.port s g, found.0))) c.generation_now-generation.ensures (subst (λ j. PutsAt t.questions c.insert.new.self m (Some (new_row c.args.port s c.generation_now-generation.result, j))) (sym key_is) c.in_default-insert.ensures.ok))
+      let a = asks_again t.boot t.sequence n c.args.port (present_generation v s) t.questions c.insert.new.self c.move_opens.new.questions c.remove.new.self t.pended c.move_opens.new.pended t.contexts c.share-context.new.self c.release.new.self c.in-Some.asked found.0
+      c.self.invariant.rows c.len-numbers_ascend.ensures.ascend c.share-context.ensures.ascend found.1
+      (subst (λ j. PutsAt t.contexts c.share-context.new.self s (Some (record { key = j; state = Scanning (id_of t.boot m); held = held_out (at t.contexts s) + 1 }))) (sym key_is) c.share-context.ensures.puts)
+      (subst (λ g. PutsAt t.questions c.insert.new.self m (Some (asked_about s g c.args.port, found.0))) c.generation_now-generation.ensures (subst (λ j. PutsAt t.questions c.insert.new.self m (Some (asked_about s c.generation_now-generation.result c.args.port, j))) (sym key_is) (subst (λ r. PutsAt t.questions c.insert.new.self (t.sequence + 1) (Some (r, c.share-context.result))) c.new-row.ensures c.insert.ensures.puts)))
       c.move_opens.ensures.same c.move_opens.ensures.chained (c.move_opens.ensures.numbered c.self.invariant.rows.numbered) c.move_opens.ensures.moved c.remove.ensures.puts c.release.ensures in
       a.consistent);
   mounted = c.self.invariant.mounted;
+  few =
+      let t = c.self.inside in
+      as-many t.questions c.insert.new.self c.move_opens.new.questions c.remove.new.self (t.sequence + 1, (c.new-row.result, c.share-context.result)) c.args.question t.limits.questions (c.in-Some-remove._ended, c.in-Some-remove.context)
+      c.insert.ensures.whole c.move_opens.ensures.same (sym c.in-Some-remove.ensures.value) c.remove.ensures.puts c.self.invariant.few;
   sized = c.self.invariant.sized;
 }
 
@@ -152,21 +125,21 @@ returns-clause-answers c =
     subst (λ u. c.move_opens.new.answers.items ≡ c.args.answers.now.items ++ by_mode u v Unsettled (filter (is_lost (id_of u.boot n)) u.pended)) c.self.view_is
     (c.move_opens.ensures.answers ∙ ap (λ l. c.args.answers.now.items ++ l) (lost-refused view v Unsettled t.boot n (plains t.pended)))
 
-pub returns-clause-ok : goal.returns-clause-ok
+pub returns-clause-table : goal.returns-clause-table
 unfolding asks
-returns-clause-ok c =
+returns-clause-table c =
     let t = c.self.inside in
     let n = c.args.question in
     let m = t.sequence + 1 in
     let s = c.in-Some.asked.stream in
     let found = row_found (at t.questions n) c.in-Some.asked c.in-Some.ensures in
     let before = known-at t.boot t.sequence n t.questions t.pended t.contexts c.in-Some.asked found.0 c.self.invariant.rows found.1 in
-    let key_is = held-again t.boot t.sequence n t.contexts s found.0 c.in_ok-context.context before c.in_ok-context.ensures.same in
+    let key_is = held-again t.boot t.sequence n t.contexts s found.0 c.share-context.result before c.share-context.ensures.same in
     let v = c.args.volume.now in
-    let a = asks_again t.boot t.sequence n c.args.port (present_generation v s) t.questions c.insert.new.self c.move_opens.new.questions c.remove.new.self t.pended c.move_opens.new.pended t.contexts c.hold.new.self c.release.new.self c.in-Some.asked found.0
-    c.self.invariant.rows c.len-numbers_ascend.ensures.ascend c.in_ok-context.ensures.ascend found.1
-    (subst (λ j. PutsAt t.contexts c.hold.new.self s (Some (record { key = j; state = Scanning (id_of t.boot m); held = held_out (at t.contexts s) + 1 }))) (sym key_is) c.in_ok-context.ensures.ok)
-    (subst (λ g. PutsAt t.questions c.insert.new.self m (Some (new_row c.args.port s g, found.0))) c.generation_now-generation.ensures (subst (λ j. PutsAt t.questions c.insert.new.self m (Some (new_row c.args.port s c.generation_now-generation.result, j))) (sym key_is) c.in_default-insert.ensures.ok))
+    let a = asks_again t.boot t.sequence n c.args.port (present_generation v s) t.questions c.insert.new.self c.move_opens.new.questions c.remove.new.self t.pended c.move_opens.new.pended t.contexts c.share-context.new.self c.release.new.self c.in-Some.asked found.0
+    c.self.invariant.rows c.len-numbers_ascend.ensures.ascend c.share-context.ensures.ascend found.1
+    (subst (λ j. PutsAt t.contexts c.share-context.new.self s (Some (record { key = j; state = Scanning (id_of t.boot m); held = held_out (at t.contexts s) + 1 }))) (sym key_is) c.share-context.ensures.puts)
+    (subst (λ g. PutsAt t.questions c.insert.new.self m (Some (asked_about s g c.args.port, found.0))) c.generation_now-generation.ensures (subst (λ j. PutsAt t.questions c.insert.new.self m (Some (asked_about s c.generation_now-generation.result c.args.port, j))) (sym key_is) (subst (λ r. PutsAt t.questions c.insert.new.self (t.sequence + 1) (Some (r, c.share-context.result))) c.new-row.ensures c.insert.ensures.puts)))
     c.move_opens.ensures.same c.move_opens.ensures.chained (c.move_opens.ensures.numbered c.self.invariant.rows.numbered) c.move_opens.ensures.moved c.remove.ensures.puts c.release.ensures in
     rw (← c.self.view_is, question-found t.boot n t.questions c.len-numbers_ascend.ensures.ascend ∙ ap (option_map (λ y. asked_of t.boot (n, essence y))) found.1)
     (λ i. record {
@@ -181,3 +154,6 @@ returns-clause-ok c =
       pended = a.pended i;
       cache = t.cache.entries;
     })
+
+pub returns-clause-capacity : goal.returns-clause-capacity
+returns-clause-capacity c = c.move_opens.ensures.capacity

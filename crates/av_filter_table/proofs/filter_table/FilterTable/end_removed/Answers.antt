@@ -3,6 +3,7 @@ use Rattle.std.specs.Option.{option_map}
 use Rattle.av_filter_table.specs.Chains.{essence}
 use Rattle.av_filter_table.specs.FilterTable.{id_of, asked_of}
 use Rattle.av_filter_table.specs.Table.{question_at, opens_of}
+use Rattle.av_filter_table.proofs.RoomLemmas.{fewer-left}
 use Rattle.av_filter_table.proofs.TableLemmas.{known-at, ends_gone, all-others, question-found, question-there}
 use Rattle.av_context.specs.Contexts.{at}
 use Rattle.av_filter_table.specs.Asking.{ended}
@@ -27,6 +28,7 @@ invariant_of-self c = record {
   rows = ((ends_gone c.self.inside.boot c.self.inside.sequence c.args.question c.self.inside.questions c.remove.new.self c.self.inside.pended c.self.inside.contexts c.forget.new.self c.in-Some.asked c.in-Some.context
       c.self.invariant.rows c.len-numbers_ascend.ensures.ascend (sym c.in-Some.ensures.value) c.remove.ensures.puts c.forget.ensures).consistent);
   mounted = c.self.invariant.mounted;
+  few = fewer-left c.self.inside.questions c.remove.new.self c.args.question c.self.inside.limits.questions (c.in-Some.asked, c.in-Some.context) (sym c.in-Some.ensures.value) c.remove.ensures.puts c.self.invariant.few;
   sized = c.self.invariant.sized;
 }
 

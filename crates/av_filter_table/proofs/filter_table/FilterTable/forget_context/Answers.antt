@@ -14,6 +14,7 @@ invariant_of-self c = record {
   rows = (forgot c.self.inside.boot c.self.inside.sequence c.self.inside.questions c.self.inside.pended c.self.inside.contexts c.detach.new.self c.args.stream c.self.invariant.rows
       (unasked-of c.self.inside.boot c.args.stream c.self.inside.questions (subst (λ t. question_of c.args.stream t.questions ≡ None) (sym c.self.view_is) c.requires)) c.detach.ensures).consistent;
   mounted = c.self.invariant.mounted;
+  few = c.self.invariant.few;
   sized = c.self.invariant.sized;
 }
 

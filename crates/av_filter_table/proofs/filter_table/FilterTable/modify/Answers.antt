@@ -18,6 +18,7 @@ pub invariant_of-self-in-Ok : goal.invariant_of-self-in-Ok
 invariant_of-self-in-Ok c = record {
   rows = ((sets c.self.inside.boot c.self.inside.sequence c.self.inside.questions c.self.inside.pended c.self.inside.contexts c.hold.new.self c.release.new.self c.args.stream c.in_ok-context.context Modified c.self.invariant.rows c.in_ok-context.ensures.ascend (unasked-of c.self.inside.boot c.args.stream c.self.inside.questions (subst (λ t. question_of c.args.stream t.questions ≡ None) (sym c.self.view_is) c.requires.none)) c.in_ok-context.ensures.ok c.release.ensures).consistent);
   mounted = c.self.invariant.mounted;
+  few = c.self.invariant.few;
   sized = c.self.invariant.sized;
 }
 
@@ -53,6 +54,7 @@ pub invariant_of-self-in-Err : goal.invariant_of-self-in-Err
 invariant_of-self-in-Err c = record {
   rows = (subst (λ k. IsConsistent c.self.inside.boot c.self.inside.sequence c.self.inside.questions c.self.inside.pended k) (sym (same c)) c.self.invariant.rows);
   mounted = c.self.invariant.mounted;
+  few = c.self.invariant.few;
   sized = c.self.invariant.sized;
 }
 

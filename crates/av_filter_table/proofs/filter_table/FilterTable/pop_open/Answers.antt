@@ -1,3 +1,4 @@
+use Rattle.av_filter_table.proofs.RoomLemmas.{still-few}
 use Rattle.av_filter_table.proofs.TableLemmas.{rows-kept, first-open}
 use Rattle.av_filter_table.proofs.filter_table.FilterTable.pop_open.Goals as goal
 
@@ -8,6 +9,7 @@ invariant_of-self c = record {
       (λ n above. c.pop_first.ensures.fewer n (c.self.invariant.rows.unasked n above))
       c.pop_first.ensures.same);
   mounted = c.self.invariant.mounted;
+  few = still-few c.self.inside.questions c.pop_first.new.questions c.self.inside.limits.questions c.pop_first.ensures.same c.self.invariant.few;
   sized = c.self.invariant.sized;
 }
 

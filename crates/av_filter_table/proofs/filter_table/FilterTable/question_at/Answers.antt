@@ -1,4 +1,4 @@
-use Rattle.std.proofs.Common.{◌≡◌, Some, None, sym, ◌∙◌}
+use Rattle.std.proofs.Common.{◌≡◌, Some, None, sym, ap, ◌∙◌}
 use Rattle.av_filter_table.proofs.TableLemmas.{question-other, question-row}
 use Rattle.av_filter_table.proofs.filter_table.FilterTable.question_at.Goals as goal
 
@@ -14,4 +14,5 @@ returns-in_err-asked c =
 pub returns : goal.returns
 returns c =
     let same : c.args.id.boot ≡ c.self.inside.boot = c.if-id-self.false in
-    rw (← c.self.view_is) (question-row c.self.inside.boot c.args.id c.self.inside.questions (Some c.in_ok-asked.asked) c.len-numbers_ascend.ensures.ascend same c.in_ok-asked.ensures)
+    ap Some c.question.ensures
+    ∙ rw (← c.self.view_is) (question-row c.self.inside.boot c.args.id c.self.inside.questions (Some c.in_ok-asked.asked) c.len-numbers_ascend.ensures.ascend same c.in_ok-asked.ensures)

@@ -8,6 +8,7 @@ pub invariant_of-self-2 : goal.invariant_of-self-2
 invariant_of-self-2 c = record {
   rows = ((sets c.self.inside.boot c.self.inside.sequence c.self.inside.questions c.self.inside.pended c.self.inside.contexts c.hold.new.self c.release.new.self c.args.stream c.in_ok-context.context c.args.state c.self.invariant.rows c.in_ok-context.ensures.ascend (unasked-of c.self.inside.boot c.args.stream c.self.inside.questions (subst (λ t. question_of c.args.stream t.questions ≡ None) (sym c.self.view_is) c.requires)) c.in_ok-context.ensures.ok c.release.ensures).consistent);
   mounted = c.self.invariant.mounted;
+  few = c.self.invariant.few;
   sized = c.self.invariant.sized;
 }
 

@@ -2,6 +2,7 @@ use Rattle.std.proofs.Common.{IsSome, map, sym, ap, subst, ◌∙◌}
 use Rattle.av_filter_table.specs.Chains.{plains}
 use Rattle.av_filter_table.specs.FilterTable.{id_of, held_of}
 use Rattle.av_filter_table.specs.Table.{question_at}
+use Rattle.av_filter_table.proofs.RoomLemmas.{still-few}
 use Rattle.av_filter_table.proofs.TableLemmas.{question-there, unasked-taken, rows-kept, none-opens, some-opens_of, other-opens}
 use Rattle.av_filter_table.proofs.filter_table.FilterTable.take_open.Goals as goal
 
@@ -19,6 +20,7 @@ invariant_of-self c = record {
       (subst (λ t. IsSome (question_at (id_of t.boot c.args.question) t.questions)) (sym c.self.view_is) c.requires)) c.take_first.ensures.others)
       c.take_first.ensures.same);
   mounted = c.self.invariant.mounted;
+  few = still-few c.self.inside.questions c.take_first.new.questions c.self.inside.limits.questions c.take_first.ensures.same c.self.invariant.few;
   sized = c.self.invariant.sized;
 }
 
