@@ -1,5 +1,5 @@
 -- Each open is pended or answered, once: what each event of the filter does to the counts.
-use Rattle.std.proofs.Common.{◌≡◌, ℕ, ◌+◌, true, false, not, ◌&&◌, List, [], ◌∷◌, length, map, filter, Option, Some, None, if◌then◌else◌, ◌==◌, nat_le, nat_lt, refl, ap, ◌∙◌, arith}
+use Rattle.std.proofs.Common.{◌≡◌, ℕ, ◌+◌, Bool, true, false, not, ◌&&◌, List, [], ◌∷◌, length, map, filter, Option, Some, None, if◌then◌else◌, ◌==◌, nat_le, nat_lt, refl, ap, ◌∙◌, arith}
 use Rattle.std.proofs.lemmas.Bool.{cond_both}
 use Rattle.std.proofs.lemmas.Bool.Decides.{nat_tests}
 use Rattle.std.specs.List.{list_any}
@@ -13,22 +13,23 @@ use Rattle.av_base.specs.declared.verdict.Verdict.TheVariants.{Clean, Infected}
 use Rattle.av_cache.specs.declared.entry.Entry.{Entry}
 use Rattle.av_context.specs.declared.context_state.ContextState.{ContextState}
 use Rattle.av_context.specs.declared.context_state.ContextState.TheVariants as context
-use Rattle.av_filter.specs.Again.{again}
+use Rattle.std.specs.Option.{is_some}
+use Rattle.av_filter.specs.Again.{again, again_at, ends}
 use Rattle.av_filter_table.specs.Asking.{again_cause, again_under, asks, ended, is_held, is_lost, moved}
-use Rattle.av_filter.specs.Changing.{changed_volume, changes, cleaned, removed, rewritten}
-use Rattle.av_filter.specs.Conduct.{FilterEvent, Opens, Changes, CleansUp, Receives, TimesOut, Disconnects, Restarts, disconnects, filter_step, restarts, times_out}
-use Rattle.av_filter.specs.Opening.{answers_with, new_open, open_asked, open_cached, open_found, open_judged, opened, pends, taken}
+use Rattle.av_filter.specs.Changing.{changed_volume, changes, cleaned, cleaned_at, removed, rewritten}
+use Rattle.av_filter.specs.Conduct.{FilterEvent, Opens, Changes, CleansUp, Receives, TimesOut, Disconnects, Restarts, again_each, disconnects, disconnects_to, filter_step, in_order, loses_all, moves, placed, restarts, times_out}
+use Rattle.av_filter.specs.Opening.{answers_with, new_open, open_asked, open_cached, open_found, open_judged, open_new, opened, pends, taken}
 use Rattle.av_filter.specs.Reaction.{Reaction}
 use Rattle.av_filter_table.specs.Answering.{judged, present_bytes, refused_now}
 use Rattle.av_filter.specs.Receiving.{greeted, reads, receives_at, replies}
-use Rattle.av_filter_table.specs.Table.{Table, can_ask, context_of, has_room, is_modified, next_id, sequence_left, waits_for}
+use Rattle.av_filter_table.specs.Table.{Table, asking, has_room, next_id, on_port, sequence_left, waits_for}
 use Rattle.av_filter.specs.declared.note.Note.{Note}
 use Rattle.av_filter.specs.declared.note.Note.TheVariants.{Quiet}
 use Rattle.av_filter_table.specs.declared.pended.Pended.{Pended}
-use Rattle.av_filter_table.specs.declared.question.Question.{Question}
-use Rattle.av_base.specs.declared.port.Port.{Port}
-use Rattle.av_base.specs.declared.port.Port.TheVariants.{One}
 use Rattle.av_frame.specs.Message.{Letter, via}
+use Rattle.av_base.specs.declared.port.Port.{Port}
+use Rattle.av_filter_table.specs.declared.question.Question.{Question}
+use Rattle.av_filter_table.specs.Ports.{is_open, least_port, without_port}
 use Rattle.av_frame.specs.declared.message.Body.{Body}
 use Rattle.av_frame.specs.declared.message.Body.TheVariants.{Abort, Hello, Read, Reply, Updated}
 use Rattle.av_frame.specs.declared.outcome.Outcome.{Outcome}
@@ -79,9 +80,14 @@ ended_balanced t v q c f ms note h = record {
   opens = refl;
 }
 
-pub again_balanced : (t : Table) (v : Store) (q : Question) (early : List Letter) → Balanced t v v.opens (again t v q early)
-unfolding again asks ended
-again_balanced t v q early =
+ends_balanced : (t : Table) (v : Store) (q : Question) (early : List Letter) → Balanced t v v.opens (ends t v q early)
+unfolding ends
+ends_balanced t v q early = ended_balanced t v q (Some context.Modified) (λ p. refused_now t v (again_cause p) p) early Quiet (λ p. open_of-refused t.mode _ _ _)
+
+pub again_balanced : (t : Table) (v : Store) (q : Question) (early : List Letter) (o : Option Port) → Balanced t v v.opens (again_at o t v q early)
+unfolding again_at asks
+again_balanced t v q early None = ends_balanced t v q early
+again_balanced t v q early (Some port) =
     cond_both (list_any (is_held q.id) t.pended && sequence_left t) _ _ (Balanced t v v.opens)
     (λ e. record {
       kept = λ n.
@@ -93,7 +99,7 @@ again_balanced t v q early =
           );
       opens = refl;
     })
-    (λ e. ended_balanced t v q (Some context.Modified) (λ p. refused_now t v (again_cause p) p) early Quiet (λ p. open_of-refused t.mode _ _ _))
+    (λ e. ends_balanced t v q early)
 
 -- nothing answered, and the same opens pended
 pub still : (t : Table) (v : Store) (r : Reaction) → r.table.pended ≡ t.pended → r.answers ≡ [] → r.volume.opens ≡ v.opens → Balanced t v v.opens r
@@ -115,14 +121,18 @@ pended_balanced t t' v s least id ms same = record {
   opens = refl;
 }
 
+new_balanced : (t t' : Table) (u : Store) (s least : ℕ) (f : Stream) → t'.pended ≡ t.pended → (b : Bool) (o : Option Port) → Balanced t u (u.opens + 1) (open_new t' (taken u) s least f b o)
+unfolding open_new asks
+new_balanced t t' u s least f same false o = answered_balanced t t' u _ same (open_of-refused t'.mode _ _ _)
+new_balanced t t' u s least f same true None = answered_balanced t t' u _ same (open_of-refused t'.mode _ _ _)
+new_balanced t t' u s least f same true (Some port) = pended_balanced t _ u s least _ _ same
+
 cached_balanced : (t t' : Table) (u : Store) (s least : ℕ) (f : Stream) → t'.pended ≡ t.pended → (o : Option Entry) → Balanced t u (u.opens + 1) (open_cached t' (taken u) s least f o)
 unfolding open_cached asks
 cached_balanced t t' u s least f same (Some e) = answered_balanced t _ u _ same (open_of-judged e.verdict _ _ _)
 cached_balanced t t' u s least f same None =
     cond_both (not (has_room t')) _ _ (Balanced t u (u.opens + 1)) (λ e. answered_balanced t t' u _ same (open_of-refused t'.mode _ _ _))
-    (λ e. cond_both (not t'.connected) _ _ (Balanced t u (u.opens + 1)) (λ e. answered_balanced t t' u _ same (open_of-refused t'.mode _ _ _))
-    (λ e. cond_both (not (can_ask t')) _ _ (Balanced t u (u.opens + 1)) (λ e. answered_balanced t t' u _ same (open_of-refused t'.mode _ _ _))
-    (λ e. pended_balanced t _ u s least _ _ same)))
+    (λ e. new_balanced t t' u s least f same (is_some (least_port t'.connected)) (asking t'))
 
 asked_balanced : (t t' : Table) (u : Store) (s least : ℕ) (f : Stream) → t'.pended ≡ t.pended → (o : Option Question) → Balanced t u (u.opens + 1) (open_asked t' (taken u) s least f o)
 unfolding open_asked
@@ -151,7 +161,7 @@ later t u v r e b = record { kept = λ n. omega (arith, b.kept n, ap (λ k. once
 rewritten_balanced : (t : Table) (v : Store) (s : ℕ) (o : Option Question) → Balanced t v v.opens (rewritten t v s o)
 unfolding rewritten
 rewritten_balanced t v s None = still t v _ refl refl refl
-rewritten_balanced t v s (Some q) = again_balanced t v q _
+rewritten_balanced t v s (Some q) = again_balanced t v q _ (least_port t.connected)
 
 removed_balanced : (t : Table) (v : Store) (s : ℕ) (o : Option Question) → Balanced t v v.opens (removed t v s o)
 unfolding removed
@@ -165,22 +175,29 @@ changes_balanced t u (change.Write s o b) = let c = change.Write s o b in later 
 changes_balanced t u (change.Cut s n) = let c = change.Cut s n in later t u (changed_volume u c) _ (changed_same u c).opens (rewritten_balanced t (changed_volume u c) s _)
 changes_balanced t u (change.Remove s) = let c = change.Remove s in later t u (changed_volume u c) _ (changed_same u c).opens (removed_balanced t (changed_volume u c) s _)
 
-cleaned_balanced : (t : Table) (v : Store) (s : ℕ) (o : Option Stream) → Balanced t v v.opens (cleaned t v s o)
-unfolding cleaned asks
-cleaned_balanced t v s None = still t v _ refl refl refl
-cleaned_balanced t v s (Some f) = cond_both (is_modified (context_of t.contexts s) && can_ask t) _ _ (Balanced t v v.opens) (λ e. still t v _ refl refl refl) (λ e. still t v _ refl refl refl)
+cleaned_at_balanced : (t : Table) (v : Store) (s : ℕ) (b : Bool) (o : Option Port) → Balanced t v v.opens (cleaned_at t v s b o)
+unfolding cleaned_at asks
+cleaned_at_balanced t v s true (Some port) = still t v _ refl refl refl
+cleaned_at_balanced t v s true None = still t v _ refl refl refl
+cleaned_at_balanced t v s false (Some port) = still t v _ refl refl refl
+cleaned_at_balanced t v s false None = still t v _ refl refl refl
 
-greeted_balanced : (t : Table) (v : Store) (number version : ℕ) → Balanced t v v.opens (greeted t v number version)
+cleaned_balanced : (t : Table) (v : Store) (s : ℕ) (o : Option Stream) → Balanced t v v.opens (cleaned t v s o)
+unfolding cleaned
+cleaned_balanced t v s None = still t v _ refl refl refl
+cleaned_balanced t v s (Some f) = cleaned_at_balanced t v s _ _
+
+greeted_balanced : (t : Table) (v : Store) (port : Port) (number version : ℕ) → Balanced t v v.opens (greeted t v port number version)
 unfolding greeted
-greeted_balanced t v number version =
+greeted_balanced t v port number version =
     cond_both (not (number == v.number)) _ _ (Balanced t v v.opens) (λ e. still t v _ refl refl refl)
-    (λ e. cond_both t.connected _ _ (Balanced t v v.opens) (λ e. still t v _ refl refl refl)
+    (λ e. cond_both (is_open port t.connected) _ _ (Balanced t v v.opens) (λ e. still t v _ refl refl refl)
     (λ e. cond_both (nat_lt version t.floor) _ _ (Balanced t v v.opens) (λ e. still t v _ refl refl refl) (λ e. still t v _ refl refl refl)))
 
-reads_balanced : (t : Table) (v : Store) (id : MessageId) (offset count : ℕ) (o : Option Question) → Balanced t v v.opens (reads t v id offset count o)
+reads_balanced : (t : Table) (v : Store) (port : Port) (id : MessageId) (offset count : ℕ) (o : Option Question) → Balanced t v v.opens (reads t v port id offset count o)
 unfolding reads
-reads_balanced t v id offset count None = still t v _ refl refl refl
-reads_balanced t v id offset count (Some q) =
+reads_balanced t v port id offset count None = still t v _ refl refl refl
+reads_balanced t v port id offset count (Some q) =
     cond_both (nat_le (length (present_bytes v q.stream)) offset) _ _ (Balanced t v v.opens) (λ e. still t v _ refl refl refl) (λ e. still t v _ refl refl refl)
 
 replies_balanced : (t : Table) (v : Store) (outcome : Outcome) (o : Option Question) → Balanced t v v.opens (replies t v outcome o)
@@ -188,15 +205,15 @@ unfolding replies
 replies_balanced t v outcome None = still t v _ refl refl refl
 replies_balanced t v (Failed why) (Some q) = ended_balanced t v q (Some context.Modified) _ [] Quiet (λ p. open_of-refused t.mode _ _ _)
 replies_balanced t v (Judged version r) (Some q) =
-    cond_both (nat_lt version t.floor) _ _ (Balanced t v v.opens) (λ e. again_balanced t v q [])
+    cond_both (nat_lt version t.floor) _ _ (Balanced t v v.opens) (λ e. again_balanced t v q [] (least_port t.connected))
     (λ e. let b = ended_balanced t v q (Some (context.Judged version r)) (λ p. judged r q.generation version p.held) [] Quiet (λ p. open_of-judged r _ _ _) in record { kept = b.kept; opens = b.opens })
 
 receives_balanced : (t : Table) (v : Store) (port : Port) (m : Body) → Balanced t v v.opens (receives_at t v port m)
 unfolding receives_at
-receives_balanced t v One (Hello number version) = greeted_balanced t v number version
-receives_balanced t v One (Updated version) = still t v _ refl refl refl
-receives_balanced t v One (Read id offset count) = reads_balanced t v id offset count _
-receives_balanced t v One (Reply id outcome) = replies_balanced t v outcome _
+receives_balanced t v port (Hello number version) = greeted_balanced t v port number version
+receives_balanced t v port (Updated version) = still t v _ refl refl refl
+receives_balanced t v port (Read id offset count) = reads_balanced t v port id offset count _
+receives_balanced t v port (Reply id outcome) = replies_balanced t v outcome _
 receives_balanced t v port _ = still t v _ refl refl refl
 
 times_out_balanced : (t : Table) (v : Store) (o : Option Question) → Balanced t v v.opens (times_out t v o)
@@ -204,12 +221,47 @@ unfolding times_out
 times_out_balanced t v None = still t v _ refl refl refl
 times_out_balanced t v (Some q) = ended_balanced t v q (Some context.Modified) _ (via q.port (Abort q.id) ∷ []) Quiet (λ p. open_of-refused t.mode _ _ _)
 
-disconnects_balanced : (t : Table) (v : Store) → Balanced t v v.opens (disconnects t v)
-unfolding disconnects
-disconnects_balanced t v = record {
+loses_balanced : (t : Table) (v : Store) → Balanced t v v.opens (loses_all t v)
+unfolding loses_all
+loses_balanced t v = record {
   kept = λ n. omega (arith, ap (times n) (answers_for (refused_now t v PortDisconnected) (λ p. open_of-refused t.mode _ _ _) t.pended));
   opens = refl;
 }
+
+-- one reaction behind another
+pub each_balanced : (v : Store) (qs : List Question) (t : Table) → Balanced t v v.opens (again_each t v qs)
+unfolding again_each
+each_balanced v [] t = still t v _ refl refl refl
+each_balanced v (q ∷ qs) t =
+    let r : Reaction = again t v q [] in
+    let first : Balanced t v v.opens r = again_balanced t v q [] (least_port t.connected) in
+    let rest : Balanced r.table v v.opens (again_each r.table v qs) = each_balanced v qs r.table in
+    record {
+      kept = λ n. omega (arith, first.kept n, rest.kept n, times_map-append open_of n r.answers (again_each r.table v qs).answers, ap (λ k. once_up_to k n) first.opens);
+      opens = refl;
+    }
+
+placed_times : (n : ℕ) (a : Answer) (xs : List Answer) → times n (map open_of (placed a xs)) ≡ times n (map open_of (a ∷ xs))
+placed_times n a [] = refl
+placed_times n a (b ∷ xs) = cond_both (nat_le (open_of a) (open_of b)) _ _ (λ (ys : List Answer). times n (map open_of ys) ≡ times n (map open_of (a ∷ b ∷ xs))) (λ e. refl) (λ e. omega (arith, placed_times n a xs))
+
+pub order_times : (n : ℕ) (xs : List Answer) → times n (map open_of (in_order xs)) ≡ times n (map open_of xs)
+order_times n [] = refl
+order_times n (a ∷ xs) = omega (arith, placed_times n a (in_order xs), order_times n xs)
+
+moves_balanced : (t : Table) (v : Store) (qs : List Question) → Balanced t v v.opens (moves t v qs)
+unfolding moves
+moves_balanced t v qs = let b = each_balanced v qs t in record { kept = λ n. omega (arith, b.kept n, order_times n (again_each t v qs).answers); opens = refl }
+
+lost_balanced : (t : Table) (v : Store) (port : Port) (o : Option Port) → Balanced t v v.opens (disconnects_to o t v port)
+unfolding disconnects_to
+lost_balanced t v port None = loses_balanced t v
+lost_balanced t v port (Some least) = moves_balanced t v (on_port port t.questions)
+
+disconnects_balanced : (t : Table) (v : Store) (port : Port) → Balanced t v v.opens (disconnects t v port)
+unfolding disconnects
+disconnects_balanced t v port =
+    let b = lost_balanced (record t { connected = without_port port t.connected }) v port (least_port (without_port port t.connected)) in record { kept = b.kept; opens = b.opens }
 
 restarts_balanced : (t : Table) (v : Store) → Balanced t v v.opens (restarts t v)
 unfolding restarts
@@ -230,5 +282,5 @@ filter_balanced t v (Changes c) = changes_balanced t v c
 filter_balanced t v (CleansUp s) = cleaned_balanced t v s _
 filter_balanced t v (Receives m) = receives_balanced t v m.port m.body
 filter_balanced t v (TimesOut seq) = times_out_balanced t v _
-filter_balanced t v Disconnects = disconnects_balanced t v
+filter_balanced t v (Disconnects port) = disconnects_balanced t v port
 filter_balanced t v Restarts = restarts_balanced t v

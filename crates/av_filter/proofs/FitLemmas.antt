@@ -1,8 +1,8 @@
 -- Each event of the filter keeps the fit of its table and the volume.
-use Rattle.std.proofs.Common.{◌≡◌, ◌≢◌, ℕ, ◌+◌, ◌≤◌, Bool, true, false, not, ◌&&◌, if◌then◌else◌, ◌==◌, nat_lt, nat_le, max, List, [], ◌∷◌, ◌++◌, length, find, Option, Some, None, Result, Ok, Err, refl, sym, ap, ◌∙◌, subst, arith, eqb-true}
-use Rattle.std.proofs.lemmas.Bool.{and_parts, cond_both, ltb-false, not-true, true≢false}
+use Rattle.std.proofs.Common.{◌≡◌, ◌≢◌, ℕ, ◌+◌, ◌<◌, ◌≤◌, Bool, true, false, not, ◌&&◌, if◌then◌else◌, ◌==◌, nat_lt, nat_le, max, List, [], ◌∷◌, ◌++◌, length, find, Option, Some, None, Result, Ok, Err, refl, sym, ap, ◌∙◌, subst, arith, eqb-true}
+use Rattle.std.proofs.lemmas.Bool.{and_right, cond_both, ltb-false, ne_eqb, not-true, true≢false}
 use Rattle.std.specs.List.{AllByRecursion as Each, list_any}
-use Rattle.std.specs.Option.{option_map}
+use Rattle.std.specs.Option.{is_some, option_map}
 use Rattle.av_base.specs.MessageId.{same_id}
 use Rattle.av_base.specs.declared.limits.LimitValues.{LimitValues}
 use Rattle.av_base.specs.declared.message_id.MessageId.{MessageId}
@@ -14,24 +14,26 @@ use Rattle.av_context.specs.declared.context_state.ContextState.{ContextState}
 use Rattle.av_context.specs.declared.context_state.ContextState.TheVariants as context
 use Rattle.av_filter.proofs.EachLemmas.{each_weaker, each-append, each-filter, each-filter_passed, each-map, find_each, find_passes}
 use Rattle.av_filter.proofs.MapLemmas.{at-set, at-set_other, each-set, rises-set}
-use Rattle.av_filter.proofs.QuestionLemmas.{apart-filter, apart-push, away_none, away_without, found_more, found_new, found_own, found_without, order-filter, order-push, same_id-true}
+use Rattle.av_filter.proofs.QuestionLemmas.{apart-filter, apart-push, away_none, away_without, found_more, found_new, found_own, found_without, order-filter, order-push, same_id-refl, same_id-true}
 use Rattle.av_filter.proofs.VolumeLemmas.{Leaves, SameBut, changed_same, left_by, stays_there, there_after}
-use Rattle.av_filter.specs.Again.{again}
+use Rattle.av_filter.specs.Again.{again, again_at, ends}
 use Rattle.av_filter_table.specs.Asking.{again_under, asks, ended, is_held, is_lost, lost_contexts, moved, next_question}
-use Rattle.av_filter.specs.Changing.{changed_volume, changes, cleaned, removed, rewritten}
-use Rattle.av_filter.specs.Conduct.{FilterEvent, Opens, Changes, CleansUp, Receives, TimesOut, Disconnects, Restarts, booted, disconnects, filter_refusal, filter_step, restarts, times_out}
+use Rattle.av_filter.specs.Changing.{changed_volume, changes, cleaned, cleaned_at, removed, rewritten}
+use Rattle.av_filter.specs.Conduct.{FilterEvent, Opens, Changes, CleansUp, Receives, TimesOut, Disconnects, Restarts, again_each, booted, disconnects, disconnects_to, filter_refusal, filter_step, loses_all, moves, restarts, times_out}
 use Rattle.av_filter.specs.Fit.{AreApart, AreInOrder, Fits, IsAsked, IsGiven, IsPresent, IsScanned, IsThere, KeepsFit, Rises}
-use Rattle.av_filter.specs.Opening.{new_open, open_asked, open_cached, open_found, open_judged, opened, taken}
+use Rattle.av_filter.specs.Opening.{new_open, open_asked, open_cached, open_found, open_judged, open_new, opened, taken}
 use Rattle.av_filter.specs.Reaction.{Reaction}
 use Rattle.av_filter_table.specs.Answering.{present_bytes, stream_generation}
 use Rattle.av_filter.specs.Receiving.{greeted, reads, receives_at, replies}
-use Rattle.av_filter_table.specs.Table.{Table, can_ask, context_of, has_room, is_modified, mounted, next_id, other_opens, question_at, question_of, raised, sequence_left, waits_for, without_question}
+use Rattle.av_filter_table.specs.Table.{Table, asking, context_of, has_room, is_modified, mounted, next_id, on_port, other_opens, question_at, question_of, question_on, raised, sequence_left, waits_for, without_question}
 use Rattle.av_filter.specs.declared.fault.FilterFault.TheVariants as filter_fault
 use Rattle.av_filter_table.specs.declared.pended.Pended.{Pended}
-use Rattle.av_filter_table.specs.declared.question.Question.{Question}
-use Rattle.av_base.specs.declared.port.Port.{Port}
-use Rattle.av_base.specs.declared.port.Port.TheVariants.{One}
 use Rattle.av_frame.specs.Message.{Letter}
+use Rattle.av_base.specs.declared.port.Port.{Port}
+use Rattle.av_filter_table.specs.declared.ports.Ports.{Ports}
+use Rattle.av_filter_table.specs.declared.question.Question.{Question}
+use Rattle.av_filter_table.specs.Ports.{is_open, least_port, with_port, without_port}
+use Rattle.av_base.specs.Port.{same_port}
 use Rattle.av_frame.specs.declared.message.Body.{Body}
 use Rattle.av_frame.specs.declared.message.Body.TheVariants.{Hello, Read, Reply, Updated}
 use Rattle.av_frame.specs.declared.outcome.Outcome.{Outcome}
@@ -146,22 +148,22 @@ module _ (boot sequence : ℕ) (contexts : Marks) (qs : List Question) (ss : Str
   abbrev next : MessageId
   next = record { boot = boot; seq = sequence + 1 }
 
-  abbrev new_question : ℕ → Question
-  new_question s = record { id = next; port = One; stream = s; generation = stream_generation (stream_at s ss) }
+  abbrev new_question : Port → ℕ → Question
+  new_question port s = record { id = next; port = port; stream = s; generation = stream_generation (stream_at s ss) }
 
-  ask : (s : ℕ) → IsThere ss s → Away s boot sequence contexts qs ss → Whole boot (sequence + 1) (set_at contexts s (Some (context.Scanning next))) (qs ++ new_question s ∷ []) ss
-  ask s here a =
+  ask : (port : Port) (s : ℕ) → IsThere ss s → Away s boot sequence contexts qs ss → Whole boot (sequence + 1) (set_at contexts s (Some (context.Scanning next))) (qs ++ new_question port s ∷ []) ss
+  ask port s here a =
       let c : Option ContextState = Some (context.Scanning next) in
       record {
         rises = rises-set contexts s c a.rises;
         given =
-            each-append (IsGiven boot (sequence + 1)) qs (new_question s ∷ []) (each_weaker (IsGiven boot sequence) (IsGiven boot (sequence + 1)) (λ q g. record { boot_is = g.boot_is; low = g.low; high = omega (arith, g.high) }) qs a.given)
+            each-append (IsGiven boot (sequence + 1)) qs (new_question port s ∷ []) (each_weaker (IsGiven boot sequence) (IsGiven boot (sequence + 1)) (λ q g. record { boot_is = g.boot_is; low = g.low; high = omega (arith, g.high) }) qs a.given)
             (record { boot_is = refl; low = omega arith; high = omega arith }, tt);
-        order = order-push boot sequence qs (new_question s) (omega arith) a.given a.order;
-        apart = apart-push qs (new_question s) a.apart a.away;
-        scanned = each-append (IsScanned (set_at contexts s c)) qs (new_question s ∷ []) (still_scanned s c qs a.away a.scanned) (at-set contexts s c a.rises, tt);
+        order = order-push boot sequence qs (new_question port s) (omega arith) a.given a.order;
+        apart = apart-push qs (new_question port s) a.apart a.away;
+        scanned = each-append (IsScanned (set_at contexts s c)) qs (new_question port s ∷ []) (still_scanned s c qs a.away a.scanned) (at-set contexts s c a.rises, tt);
         there = each-set (λ n. IsThere ss n) contexts s c a.rises (λ some. here) a.there;
-        present = each-append (IsPresent ss) qs (new_question s ∷ []) a.present ((here.0, here.1, ap stream_generation here.1), tt);
+        present = each-append (IsPresent ss) qs (new_question port s ∷ []) a.present ((here.0, here.1, ap stream_generation here.1), tt);
       }
 
 -- opens that wait for other questions go on to do so
@@ -198,6 +200,9 @@ fit t v boots w asked leasts taken = record {
 abbrev pub FitsAfter : Reaction → Type 0
 FitsAfter r = Fits r.table r.volume
 
+abbrev pub FitsAt : Store → Reaction → Type 0
+FitsAt v r = Fits r.table v
+
 -- a question whose stream is left out ends, or is asked anew, at a volume that has as many opens
 module _ (t : Table) (v : Store) (q : Question) (boots : t.boot ≡ v.boot) (a : Away q.stream t.boot t.sequence t.contexts (without_question q.id t.questions) v.streams) (asked : Each (IsAsked t.questions) t.pended) (leasts : Each (Least t.floor) t.pended) (taken : Each (Taken v.opens) t.pended) where
   others_fit : (w : Table) → w.boot ≡ t.boot → w.questions ≡ without_question q.id t.questions → w.pended ≡ other_opens q.id t.pended → w.floor ≡ t.floor → Whole w.boot w.sequence w.contexts w.questions v.streams → Fits w v
@@ -215,14 +220,19 @@ module _ (t : Table) (v : Store) (q : Question) (boots : t.boot ≡ v.boot) (a :
   unfolding ended
   cleared_fits = others_fit _ refl refl refl refl (clear t.boot t.sequence t.contexts (without_question q.id t.questions) v.streams q.stream a)
 
-  again_fits : (early : List Letter) → question_at q.id t.questions ≡ Some q → IsThere v.streams q.stream → FitsAfter (again t v q early)
-  unfolding again asks
-  again_fits early at here =
+  ends_fits : (early : List Letter) → IsThere v.streams q.stream → FitsAt v (ends t v q early)
+  unfolding ends
+  ends_fits early here = ended_fits context.Modified here
+
+  again_at_fits : (o : Option Port) (early : List Letter) → question_at q.id t.questions ≡ Some q → IsThere v.streams q.stream → FitsAt v (again_at o t v q early)
+  unfolding again_at asks
+  again_at_fits None early at here = ends_fits early here
+  again_at_fits (Some port) early at here =
       let rest : List Question = without_question q.id t.questions in
-      let new : Question = next_question t v One q.stream in
-      let whole : Whole t.boot (t.sequence + 1) (set_at t.contexts q.stream (Some (context.Scanning (next_id t)))) (rest ++ new ∷ []) v.streams = ask t.boot t.sequence t.contexts rest v.streams q.stream here a in
+      let new : Question = next_question t v port q.stream in
+      let whole : Whole t.boot (t.sequence + 1) (set_at t.contexts q.stream (Some (context.Scanning (next_id t)))) (rest ++ new ∷ []) v.streams = ask t.boot t.sequence t.contexts rest v.streams port q.stream here a in
       let found : question_at (next_id t) (rest ++ new ∷ []) ≡ Some new = found_new t.boot t.sequence new rest (omega arith) a.given in
-      cond_both (list_any (is_held q.id) t.pended && sequence_left t) _ _ FitsAfter
+      cond_both (list_any (is_held q.id) t.pended && sequence_left t) _ _ (FitsAt v)
       (λ e.
       fit _ v boots whole
       (each-map (IsAsked (rest ++ new ∷ [])) (IsAsked t.questions) (moved q.id (next_id t))
@@ -237,7 +247,15 @@ module _ (t : Table) (v : Store) (q : Question) (boots : t.boot ≡ v.boot) (a :
       (each-filter (IsAsked t.questions) (λ p. not (is_lost q.id p)) t.pended asked))
       (each-map (Least t.floor) (Least t.floor) (moved q.id (next_id t)) (λ p le. cond_both (waits_for q.id p) (again_under (next_id t) p) p (Least t.floor) (λ w. le) (λ w. le)) _ (each-filter (Least t.floor) (λ p. not (is_lost q.id p)) t.pended leasts))
       (each-map (Taken v.opens) (Taken v.opens) (moved q.id (next_id t)) (λ p le. cond_both (waits_for q.id p) (again_under (next_id t) p) p (Taken v.opens) (λ w. le) (λ w. le)) _ (each-filter (Taken v.opens) (λ p. not (is_lost q.id p)) t.pended taken)))
-      (λ e. ended_fits context.Modified here)
+      (λ e. ends_fits early here)
+
+  after_fits : (o : Option Port) (early : List Letter) → FitsAt v (again_at o t v q early) → FitsAfter (again_at o t v q early)
+  unfolding again_at ends
+  after_fits None early f = f
+  after_fits (Some port) early f = cond_both (list_any (is_held q.id) t.pended && sequence_left t) _ _ (λ (r : Reaction). FitsAt v r → FitsAfter r) (λ e g. g) (λ e g. g) f
+
+  again_fits : (early : List Letter) → question_at q.id t.questions ≡ Some q → IsThere v.streams q.stream → FitsAfter (again t v q early)
+  again_fits early at here = after_fits (least_port t.connected) early (again_at_fits (least_port t.connected) early at here)
 
 -- the stream of a question that runs is there
 runs_there : (t : Table) (v : Store) (f : Fits t v) (test : Question → Bool) (q : Question) → find test t.questions ≡ Some q → IsThere v.streams q.stream
@@ -257,20 +275,24 @@ module _ (t : Table) (v : Store) (f : Fits t v) (s least : ℕ) (low : least ≤
   taken_more : (id : MessageId) → Each (Taken v.opens) (t.pended ++ new id ∷ [])
   taken_more id = each-append (Taken v.opens) t.pended (new id ∷ []) f.taken (omega arith, tt)
 
+  new_fits : question_of s t.questions ≡ None → (b : Bool) (o : Option Port) → FitsAfter (open_new t v s least x b o)
+  unfolding open_new asks
+  new_fits none false o = f
+  new_fits none true None = f
+  new_fits none true (Some port) =
+      let q : Question = next_question t v port s in
+      let away = leave_none t.boot t.sequence t.contexts t.questions v.streams s none (whole_of t v f) in
+      fit _ v f.boots (ask t.boot t.sequence t.contexts t.questions v.streams port s (x, here) away)
+      (each-append (IsAsked (t.questions ++ q ∷ [])) t.pended (new (next_id t) ∷ []) (asked_more t.questions (q ∷ []) t.pended f.asked) (record { question = q; runs = found_new t.boot t.sequence q t.questions (omega arith) f.given; stream = refl }, tt))
+      (leasts_more (next_id t)) (taken_more (next_id t))
+
   cached_fits : question_of s t.questions ≡ None → (o : Option Entry) → FitsAfter (open_cached t v s least x o)
   unfolding open_cached asks
   cached_fits none (Some e) =
       fit _ v f.boots (close t.boot t.sequence t.contexts t.questions v.streams s (context.Judged t.floor e.verdict) (x, here) (leave_none t.boot t.sequence t.contexts t.questions v.streams s none (whole_of t v f))) f.asked f.leasts f.taken
   cached_fits none None =
       cond_both (not (has_room t)) _ _ FitsAfter (λ e. f)
-      (λ e. cond_both (not t.connected) _ _ FitsAfter (λ e. f)
-      (λ e. cond_both (not (can_ask t)) _ _ FitsAfter (λ e. f)
-      (λ e.
-      let q : Question = next_question t v One s in
-      let away = leave_none t.boot t.sequence t.contexts t.questions v.streams s none (whole_of t v f) in
-      fit _ v f.boots (ask t.boot t.sequence t.contexts t.questions v.streams s (x, here) away)
-      (each-append (IsAsked (t.questions ++ q ∷ [])) t.pended (new (next_id t) ∷ []) (asked_more t.questions (q ∷ []) t.pended f.asked) (record { question = q; runs = found_new t.boot t.sequence q t.questions (omega arith) f.given; stream = refl }, tt))
-      (leasts_more (next_id t)) (taken_more (next_id t)))))
+      (λ e. new_fits none (is_some (least_port t.connected)) (asking t))
 
   asked_fits : (o : Option Question) → question_of s t.questions ≡ o → FitsAfter (open_asked t v s least x o)
   unfolding open_asked
@@ -364,7 +386,7 @@ lost_there ss (q ∷ qs) contexts r present there =
 
 -- the other events
 module _ (t : Table) (v : Store) (f : Fits t v) where
-  with_floor : (connected : Bool) (version : ℕ) → t.floor ≤ version → Fits (record t { connected = connected; floor = version }) v
+  with_floor : (connected : Ports) (version : ℕ) → t.floor ≤ version → Fits (record t { connected = connected; floor = version }) v
   with_floor connected version up = fit _ v f.boots (whole_of t v f) f.asked (each_weaker (Least t.floor) (Least version) (λ p le. omega arith) t.pended f.leasts) f.taken
 
   -- a written stream has no question
@@ -377,36 +399,39 @@ module _ (t : Table) (v : Store) (f : Fits t v) where
       let marked : context_of t.contexts s ≡ Some (context.Scanning q.id) = subst (λ u. context_of t.contexts u ≡ Some (context.Scanning q.id)) same scanned in
       absurd (true≢false (sym modified ∙ ap is_modified marked))
 
+  cleaned_at_fits : (s : ℕ) (x : Stream) → stream_at s v.streams ≡ Some x → (b : Bool) → is_modified (context_of t.contexts s) ≡ b → (o : Option Port) → FitsAfter (cleaned_at t v s b o)
+  unfolding cleaned_at asks
+  cleaned_at_fits s x at true e (Some port) =
+      let none : question_of s t.questions ≡ None = no_question s e (question_of s t.questions) refl in
+      fit _ v f.boots (ask t.boot t.sequence t.contexts t.questions v.streams port s (x, at) (leave_none t.boot t.sequence t.contexts t.questions v.streams s none (whole_of t v f))) (asked_more t.questions _ t.pended f.asked) f.leasts f.taken
+  cleaned_at_fits s x at true e None = f
+  cleaned_at_fits s x at false e (Some port) = f
+  cleaned_at_fits s x at false e None = f
+
   cleaned_fits : (s : ℕ) (o : Option Stream) → stream_at s v.streams ≡ o → FitsAfter (cleaned t v s o)
-  unfolding cleaned asks
+  unfolding cleaned
   cleaned_fits s None at = f
-  cleaned_fits s (Some x) at =
-      cond_both (is_modified (context_of t.contexts s) && can_ask t) _ _ FitsAfter
-      (λ e.
-      let modified = (and_parts (is_modified (context_of t.contexts s)) (can_ask t) e).0 in
-      let none : question_of s t.questions ≡ None = no_question s modified (question_of s t.questions) refl in
-      fit _ v f.boots (ask t.boot t.sequence t.contexts t.questions v.streams s (x, at) (leave_none t.boot t.sequence t.contexts t.questions v.streams s none (whole_of t v f))) (asked_more t.questions _ t.pended f.asked) f.leasts f.taken)
-      (λ e. f)
+  cleaned_fits s (Some x) at = cleaned_at_fits s x at (is_modified (context_of t.contexts s)) refl (asking t)
 
-  greeted_fits : (number version : ℕ) → FitsAfter (greeted t v number version)
+  greeted_fits : (port : Port) (number version : ℕ) → FitsAfter (greeted t v port number version)
   unfolding greeted
-  greeted_fits number version =
+  greeted_fits port number version =
       cond_both (not (number == v.number)) _ _ FitsAfter (λ e. f)
-      (λ e. cond_both t.connected _ _ FitsAfter (λ e. f) (λ e. cond_both (nat_lt version t.floor) _ _ FitsAfter (λ e. f) (λ e. with_floor true version (ltb-false version t.floor e))))
+      (λ e. cond_both (is_open port t.connected) _ _ FitsAfter (λ e. f) (λ e. cond_both (nat_lt version t.floor) _ _ FitsAfter (λ e. f) (λ e. with_floor (with_port port t.connected) version (ltb-false version t.floor e))))
 
-  reads_fits : (id : MessageId) (offset count : ℕ) (o : Option Question) → FitsAfter (reads t v id offset count o)
+  reads_fits : (port : Port) (id : MessageId) (offset count : ℕ) (o : Option Question) → FitsAfter (reads t v port id offset count o)
   unfolding reads
-  reads_fits id offset count None = f
-  reads_fits id offset count (Some q) = cond_both (nat_le (length (present_bytes v q.stream)) offset) _ _ FitsAfter (λ e. f) (λ e. f)
+  reads_fits port id offset count None = f
+  reads_fits port id offset count (Some q) = cond_both (nat_le (length (present_bytes v q.stream)) offset) _ _ FitsAfter (λ e. f) (λ e. f)
 
-  replies_fits : (id : MessageId) (outcome : Outcome) (o : Option Question) → question_at id t.questions ≡ o → FitsAfter (replies t v outcome o)
+  replies_fits : (port : Port) (id : MessageId) (outcome : Outcome) (o : Option Question) → question_on port id t.questions ≡ o → FitsAfter (replies t v outcome o)
   unfolding replies ended
-  replies_fits id outcome None at = f
-  replies_fits id (Failed why) (Some q) at =
-      let test : Question → Bool = λ (q : Question). same_id q.id id in
+  replies_fits port id outcome None at = f
+  replies_fits port id (Failed why) (Some q) at =
+      let test : Question → Bool = λ (q : Question). same_id q.id id && same_port q.port port in
       ended_fits t v q f.boots (away_of t v f test q at) f.asked f.leasts f.taken context.Modified (runs_there t v f test q at)
-  replies_fits id (Judged version r) (Some q) at =
-      let test : Question → Bool = λ (q : Question). same_id q.id id in
+  replies_fits port id (Judged version r) (Some q) at =
+      let test : Question → Bool = λ (q : Question). same_id q.id id && same_port q.port port in
       let away = away_of t v f test q at in
       let here : IsThere v.streams q.stream = runs_there t v f test q at in
       cond_both (nat_lt version t.floor) _ _ FitsAfter (λ e. again_fits t v q f.boots away f.asked f.leasts f.taken _ (found_own test q t.questions f.order at) here)
@@ -417,10 +442,10 @@ module _ (t : Table) (v : Store) (f : Fits t v) where
 
   receives_fits : (port : Port) (m : Body) → FitsAfter (receives_at t v port m)
   unfolding receives_at
-  receives_fits One (Hello number version) = greeted_fits number version
-  receives_fits One (Updated version) = with_floor t.connected (max t.floor version) (omega arith)
-  receives_fits One (Read id offset count) = reads_fits id offset count _
-  receives_fits One (Reply id outcome) = replies_fits id outcome _ refl
+  receives_fits port (Hello number version) = greeted_fits port number version
+  receives_fits port (Updated version) = with_floor t.connected (max t.floor version) (omega arith)
+  receives_fits port (Read id offset count) = reads_fits port id offset count _
+  receives_fits port (Reply id outcome) = replies_fits port id outcome _ refl
   receives_fits port _ = f
 
   times_out_fits : (id : MessageId) (o : Option Question) → question_at id t.questions ≡ o → FitsAfter (times_out t v o)
@@ -430,10 +455,58 @@ module _ (t : Table) (v : Store) (f : Fits t v) where
       let test : Question → Bool = λ (q : Question). same_id q.id id in
       ended_fits t v q f.boots (away_of t v f test q at) f.asked f.leasts f.taken context.Modified (runs_there t v f test q at)
 
-  disconnects_fits : FitsAfter (disconnects t v)
-  unfolding disconnects
-  disconnects_fits =
+  loses_fits : FitsAfter (loses_all t v)
+  unfolding loses_all
+  loses_fits =
       fit _ v f.boots (record { rises = lost_rises t.questions t.contexts f.rises; given = tt; order = tt; apart = tt; scanned = tt; there = lost_there v.streams t.questions t.contexts f.rises f.present f.there; present = tt }) tt tt tt
+
+-- a question of this list runs
+abbrev pub Runs : Table → Question → Type 0
+Runs t q = question_at q.id t.questions ≡ Some q
+
+-- each of a list in order is found by its id
+pub all_found : (qs : List Question) → AreInOrder qs → Each (λ q. question_at q.id qs ≡ Some q) qs
+all_found [] a = tt
+all_found (q ∷ qs) a = (rw (same_id-refl q.id) refl, behind qs a.0 (all_found qs a.1))
+  where
+    behind : (ks : List Question) → Each (λ k. q.id.seq < k.id.seq) ks → Each (λ k. question_at k.id qs ≡ Some k) ks → Each (λ k. question_at k.id (q ∷ qs) ≡ Some k) ks
+    behind [] h g = tt
+    behind (k ∷ ks) h g =
+        let less : q.id.seq < k.id.seq = h.0 in
+        let other : same_id q.id k.id ≡ false = and_right (q.id.boot == k.id.boot) (q.id.seq == k.id.seq) (ne_eqb q.id.seq k.id.seq (λ e. omega arith)) in
+        (rw other g.0, behind ks h.1 g.1)
+
+-- a later question still runs when this one was asked again
+still_runs : (t : Table) (v : Store) (o : Option Port) (q k : Question) → q.id.seq < k.id.seq → Runs t k → Runs (again_at o t v q []).table k
+unfolding again_at ends ended asks
+still_runs t v None q k less h = found_without k.id q.id k t.questions (and_right (k.id.boot == q.id.boot) (k.id.seq == q.id.seq) (ne_eqb k.id.seq q.id.seq (λ e. omega arith))) h
+still_runs t v (Some port) q k less h =
+    let other : same_id k.id q.id ≡ false = and_right (k.id.boot == q.id.boot) (k.id.seq == q.id.seq) (ne_eqb k.id.seq q.id.seq (λ e. omega arith)) in
+    let kept : question_at k.id (without_question q.id t.questions) ≡ Some k = found_without k.id q.id k t.questions other h in
+    cond_both (list_any (is_held q.id) t.pended && sequence_left t) _ _ (λ (r : Reaction). Runs r.table k) (λ e. found_more k.id k (without_question q.id t.questions) (next_question t v port q.stream ∷ []) kept) (λ e. kept)
+
+pub all_run : (t : Table) (v : Store) (o : Option Port) (q : Question) (ks : List Question) → Each (λ k. q.id.seq < k.id.seq) ks → Each (Runs t) ks → Each (Runs (again_at o t v q []).table) ks
+all_run t v o q [] less h = tt
+all_run t v o q (k ∷ ks) less h = (still_runs t v o q k less.0 h.0, all_run t v o q ks less.1 h.1)
+
+pub each_fits : (v : Store) (qs : List Question) (t : Table) → Fits t v → AreInOrder qs → Each (Runs t) qs → Fits (again_each t v qs).table v
+unfolding again_each
+each_fits v [] t f order runs = f
+each_fits v (q ∷ qs) t f order runs =
+    let test : Question → Bool = λ (k : Question). same_id k.id q.id in
+    let next : Fits (again t v q []).table v = again_at_fits t v q f.boots (away_of t v f test q runs.0) f.asked f.leasts f.taken (least_port t.connected) [] runs.0 (runs_there t v f test q runs.0) in
+    each_fits v qs (again t v q []).table next order.1 (all_run t v (least_port t.connected) q qs order.0 runs.1)
+
+lost_fits : (v : Store) (port : Port) (o : Option Port) (t : Table) → Fits t v → FitsAfter (disconnects_to o t v port)
+unfolding disconnects_to moves
+lost_fits v port None t f = loses_fits t v f
+lost_fits v port (Some least) t f =
+    each_fits v (on_port port t.questions) t f (order-filter (λ q. same_port q.port port) t.questions f.order)
+    (each-filter (Runs t) (λ q. same_port q.port port) t.questions (all_found t.questions f.order))
+
+disconnects_fits : (t : Table) (v : Store) → Fits t v → (port : Port) → FitsAfter (disconnects t v port)
+unfolding disconnects
+disconnects_fits t v f port = lost_fits v port (least_port (without_port port t.connected)) (record t { connected = without_port port t.connected }) (fit _ v f.boots (whole_of t v f) f.asked f.leasts f.taken)
 
 pub mounted_fits : (mode : Mode) (limits : LimitValues) (v : Store) → Fits (mounted mode limits v.boot) v
 unfolding Rises
@@ -454,7 +527,7 @@ event_fits t v (Changes c) f ok = changes_fits t v f c (accepted v c ok)
 event_fits t v (CleansUp s) f ok = cleaned_fits t v f s _ refl
 event_fits t v (Receives m) f ok = receives_fits t v f m.port m.body
 event_fits t v (TimesOut seq) f ok = times_out_fits t v f _ _ refl
-event_fits t v Disconnects f ok = disconnects_fits t v f
+event_fits t v (Disconnects port) f ok = disconnects_fits t v f port
 event_fits t v Restarts f ok = mounted_fits t.mode t.limits (booted v)
 
 pub keeps_fit : KeepsFit

@@ -7,8 +7,12 @@ pub mod BoundLemmas
 pub mod RoomLemmas
 pub mod ReadyLemmas
 pub mod ClosingLemmas
+pub mod AgainLemmas
+pub mod LosingLemmas
 pub mod OpeningLemmas
+pub mod PortLemmas
 pub mod FilterLemmas
 pub mod TimesLemmas
 pub mod CountLemmas
 pub mod OnceLemmas
+pub mod OrderLemmas

@@ -1,8 +1,8 @@
 -- What becomes of an open, case by case.
-use Rattle.std.proofs.Common.{◌≡◌, ◌++◌, IfOk, Result, Ok, Err, ℕ, ◌+◌, ◌<◌, ◌≤◌, ◌∷◌, [], true, false, max, Option, None, Some, refl, sym, ap, ◌∙◌, subst, arith}
+use Rattle.std.proofs.Common.{◌≡◌, ◌++◌, IfOk, Result, Ok, Err, ℕ, ◌+◌, ◌<◌, ◌≤◌, ◌∷◌, [], true, false, max, is_some, Option, None, Some, refl, sym, ap, ◌∙◌, subst, arith}
 use Rattle.std.specs.List.{AllByRecursion as Each}
 use Rattle.std.specs.Option.{option_map}
-use Rattle.av_base.specs.declared.port.Port.TheVariants.{One}
+use Rattle.av_base.specs.declared.port.Port.{Port}
 use Rattle.av_base.specs.declared.cause.Cause.{Cause}
 use Rattle.av_base.specs.declared.cause.Cause.TheVariants.{NoStream, NotConnected, Busy}
 use Rattle.av_base.specs.declared.verdict.Verdict.{Verdict}
@@ -16,7 +16,7 @@ use Rattle.av_filter.specs.Again.{scan_message}
 use Rattle.av_filter.specs.Arriving.{IsAnswered, IsArrival}
 use Rattle.av_filter.specs.Call.{Reacts}
 use Rattle.av_filter.specs.Fit.{Fits}
-use Rattle.av_filter.specs.Opening.{answers_with, new_open, open_asked, open_cached, open_found, open_judged, opened, pends, taken}
+use Rattle.av_filter.specs.Opening.{answers_with, new_open, open_asked, open_cached, open_found, open_judged, open_new, opened, pends, taken}
 use Rattle.av_filter.specs.Ready.{IsRunning}
 use Rattle.av_filter.specs.declared.note.Note.TheVariants.{Submitted}
 use Rattle.av_filter.specs.declared.opening.Arrival.{Arrival}
@@ -24,7 +24,8 @@ use Rattle.av_filter.specs.declared.out.Out.{Out}
 use Rattle.av_filter_table.specs.Answering.{judged, present_generation, stream_generation}
 use Rattle.av_filter_table.specs.Asking.{asks}
 use Rattle.av_filter_table.specs.FilterTable.{id_of, open_numbers}
-use Rattle.av_filter_table.specs.Table.{Table, can_ask, context_of, current, has_room, next_id, question_of, raised}
+use Rattle.av_filter_table.specs.Ports.{least_port}
+use Rattle.av_filter_table.specs.Table.{Table, asking, context_of, current, has_room, next_id, question_of, raised}
 use Rattle.av_filter_table.specs.declared.pended.Pended.{Pended}
 use Rattle.av_filter_table.specs.declared.question.Question.{Question}
 use Rattle.av_pend.specs.Pend.{denied, refused, waiting_from}
@@ -81,20 +82,26 @@ pub opened_full : (t : Table) (v : Store) (s least : ℕ) (x : Stream) → strea
 unfolding open_cached
 opened_full t v s least x there known none miss room = unasked t v s least x there known none ∙ ap (open_cached (raised least t) (taken v) s least x) miss ∙ rw room refl
 
-pub opened_apart : (t : Table) (v : Store) (s least : ℕ) (x : Stream) → stream_at s v.streams ≡ Some x → current (context_of t.contexts s) (floor_at t least) ≡ None → question_of s t.questions ≡ None → look s x.generation (floor_at t least) t.cache ≡ None → has_room t ≡ true → t.connected ≡ false
+-- one that would be asked about: whether a port is connected, and where a question can be asked
+unknown : (t : Table) (v : Store) (s least : ℕ) (x : Stream) → stream_at s v.streams ≡ Some x → current (context_of t.contexts s) (floor_at t least) ≡ None → question_of s t.questions ≡ None → look s x.generation (floor_at t least) t.cache ≡ None → has_room t ≡ true
+    → opened t v s least ≡ open_new (raised least t) (taken v) s least x (is_some (least_port t.connected)) (asking t)
+unfolding open_cached
+unknown t v s least x there known none miss room = unasked t v s least x there known none ∙ ap (open_cached (raised least t) (taken v) s least x) miss ∙ rw room refl
+
+pub opened_apart : (t : Table) (v : Store) (s least : ℕ) (x : Stream) → stream_at s v.streams ≡ Some x → current (context_of t.contexts s) (floor_at t least) ≡ None → question_of s t.questions ≡ None → look s x.generation (floor_at t least) t.cache ≡ None → has_room t ≡ true → is_some (least_port t.connected) ≡ false
     → opened t v s least ≡ answers_with (raised least t) (taken v) (refused t.mode x.generation NotConnected (new_open (taken v) s least))
-unfolding open_cached
-opened_apart t v s least x there known none miss room away = unasked t v s least x there known none ∙ ap (open_cached (raised least t) (taken v) s least x) miss ∙ rw room (rw away refl)
+unfolding open_new
+opened_apart t v s least x there known none miss room away = unknown t v s least x there known none miss room ∙ ap (λ b. open_new (raised least t) (taken v) s least x b (asking t)) away
 
-pub opened_busy : (t : Table) (v : Store) (s least : ℕ) (x : Stream) → stream_at s v.streams ≡ Some x → current (context_of t.contexts s) (floor_at t least) ≡ None → question_of s t.questions ≡ None → look s x.generation (floor_at t least) t.cache ≡ None → has_room t ≡ true → t.connected ≡ true → can_ask t ≡ false
+pub opened_busy : (t : Table) (v : Store) (s least : ℕ) (x : Stream) → stream_at s v.streams ≡ Some x → current (context_of t.contexts s) (floor_at t least) ≡ None → question_of s t.questions ≡ None → look s x.generation (floor_at t least) t.cache ≡ None → has_room t ≡ true → is_some (least_port t.connected) ≡ true → asking t ≡ None
     → opened t v s least ≡ answers_with (raised least t) (taken v) (refused t.mode x.generation Busy (new_open (taken v) s least))
-unfolding open_cached
-opened_busy t v s least x there known none miss room near can = unasked t v s least x there known none ∙ ap (open_cached (raised least t) (taken v) s least x) miss ∙ rw room (rw can (rw near refl))
+unfolding open_new
+opened_busy t v s least x there known none miss room near can = unknown t v s least x there known none miss room ∙ (λ i. open_new (raised least t) (taken v) s least x (near i) (can i))
 
-pub opened_asked : (t : Table) (v : Store) (s least : ℕ) (x : Stream) → stream_at s v.streams ≡ Some x → current (context_of t.contexts s) (floor_at t least) ≡ None → question_of s t.questions ≡ None → look s x.generation (floor_at t least) t.cache ≡ None → has_room t ≡ true → t.connected ≡ true → can_ask t ≡ true
-    → opened t v s least ≡ pends (asks (raised least t) (taken v) One s) (taken v) s least (next_id t) (scan_message t (taken v) One s ∷ [])
-unfolding open_cached
-opened_asked t v s least x there known none miss room near can = unasked t v s least x there known none ∙ ap (open_cached (raised least t) (taken v) s least x) miss ∙ rw room (rw can (rw near refl))
+pub opened_asked : (t : Table) (v : Store) (port : Port) (s least : ℕ) (x : Stream) → stream_at s v.streams ≡ Some x → current (context_of t.contexts s) (floor_at t least) ≡ None → question_of s t.questions ≡ None → look s x.generation (floor_at t least) t.cache ≡ None → has_room t ≡ true → is_some (least_port t.connected) ≡ true → asking t ≡ Some port
+    → opened t v s least ≡ pends (asks (raised least t) (taken v) port s) (taken v) s least (next_id t) (scan_message t (taken v) port s ∷ [])
+unfolding open_new
+opened_asked t v port s least x there known none miss room near can = unknown t v s least x there known none miss room ∙ (λ i. open_new (raised least t) (taken v) s least x (near i) (can i))
 
 -- the next open number is above those that were given
 pub numbers_below : (t : Table) (v : Store) (n : ℕ) → Fits t v → n ≡ v.opens + 1 → Each (λ k. k < n) (open_numbers t.pended)
@@ -181,28 +188,28 @@ joined out t t1 t2 v a q i unjudged asked runs room added up answers messages no
     subst (Reacts out t2 (taken v)) (sym by) (record { answers = answers; messages = messages; note = note ∙ ap Submitted i.open_id; table = left; volume = refl })
 
 -- an open for which a question is asked
-pub asked : (out : Out) (t t1 t2 : Table) (v : Store) (a : Arrival) (m : Letter) (i : IsArrival a t v) → current (context_of t.contexts a.stream) a.floor ≡ None → question_of a.stream t.questions ≡ None
-    → look a.stream a.generation a.floor t.cache ≡ None → has_room t ≡ true → t.connected ≡ true → can_ask t ≡ true
+pub asked : (out : Out) (t t1 t2 : Table) (v : Store) (port : Port) (a : Arrival) (m : Letter) (i : IsArrival a t v) → current (context_of t.contexts a.stream) a.floor ≡ None → question_of a.stream t.questions ≡ None
+    → look a.stream a.generation a.floor t.cache ≡ None → has_room t ≡ true → is_some (least_port t.connected) ≡ true → asking t ≡ Some port
     → t1 ≡ record t {
       sequence = t.sequence + 1;
       contexts = set_at t.contexts a.stream (Some (Scanning (next_id t)));
-      questions = t.questions ++ record { id = next_id t; port = One; stream = a.stream; generation = a.generation } ∷ [];
+      questions = t.questions ++ record { id = next_id t; port = port; stream = a.stream; generation = a.generation } ∷ [];
       pended = t.pended ++ record { question = next_id t; held = waiting_from a.open_id a.stream a.least } ∷ [];
     }
     → t2 ≡ raised a.least t1
-    → out.answers.items ≡ [] → out.messages.items ≡ m ∷ [] → m ≡ scan_message t v One a.stream → out.note ≡ Submitted a.open_id
+    → out.answers.items ≡ [] → out.messages.items ≡ m ∷ [] → m ≡ scan_message t v port a.stream → out.note ≡ Submitted a.open_id
     → Reacts out t2 (taken v) (opened t v a.stream a.least)
 unfolding asks
-asked out t t1 t2 v a m i unjudged unasked miss room near can made up answers messages is note =
+asked out t t1 t2 v port a m i unjudged unasked miss room near can made up answers messages is note =
     let s = a.stream in
-    let by = opened_asked t v s a.least i.present i.there (at_floor a t v None i unjudged) unasked (cached_at a t v None i miss) room near can in
+    let by = opened_asked t v port s a.least i.present i.there (at_floor a t v None i unjudged) unasked (cached_at a t v None i miss) room near can in
     let generation : a.generation ≡ present_generation v s = i.generation ∙ ap stream_generation (sym i.there) in
-    let left : t2 ≡ (pends (asks (raised a.least t) (taken v) One s) (taken v) s a.least (next_id t) (scan_message t (taken v) One s ∷ [])).table =
+    let left : t2 ≡ (pends (asks (raised a.least t) (taken v) port s) (taken v) s a.least (next_id t) (scan_message t (taken v) port s ∷ [])).table =
     up ∙ (ap (raised a.least) made
     ∙ (λ j. record (raised a.least t) {
       sequence = t.sequence + 1;
       contexts = set_at t.contexts s (Some (Scanning (next_id t)));
-      questions = t.questions ++ record { id = next_id t; port = One; stream = s; generation = generation j } ∷ [];
+      questions = t.questions ++ record { id = next_id t; port = port; stream = s; generation = generation j } ∷ [];
       pended = t.pended ++ record { question = next_id t; held = waiting_from (i.open_id j) s a.least } ∷ [];
     })) in
     subst (Reacts out t2 (taken v)) (sym by) (record { answers = answers; messages = messages ∙ ap (λ x. x ∷ []) is; note = note ∙ ap Submitted i.open_id; table = left; volume = refl })

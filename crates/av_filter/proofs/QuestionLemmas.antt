@@ -1,12 +1,14 @@
 -- Questions: their ids, and what stays of them when one goes or comes.
-use Rattle.std.proofs.Common.{◌≡◌, ◌≢◌, ℕ, ◌<◌, ◌≤◌, Bool, true, false, cond, not, ◌==◌, List, [], ◌∷◌, ◌++◌, filter, find, Some, None, refl, sym, ap, ◌∙◌, subst, arith, eq-eqb, eqb-true}
+use Rattle.std.proofs.Common.{◌≡◌, ◌≢◌, ℕ, ◌<◌, ◌≤◌, Bool, true, false, cond, not, ◌&&◌, ◌==◌, if◌then◌else◌, List, [], ◌∷◌, ◌++◌, filter, find, Option, Some, None, refl, sym, ap, ◌∙◌, subst, arith, eq-eqb, eqb-true}
 use Rattle.std.proofs.lemmas.Bool.{and_parts, and_from, and_right, eqb-false, ne_eqb}
 use Rattle.std.specs.List.{AllByRecursion as Each}
 use Rattle.av_base.specs.MessageId.{same_id}
+use Rattle.av_base.specs.Port.{same_port}
+use Rattle.av_base.specs.declared.port.Port.{Port}
 use Rattle.av_base.specs.declared.message_id.MessageId.{MessageId}
-use Rattle.av_filter.proofs.EachLemmas.{each-append, each-filter, find_each}
+use Rattle.av_filter.proofs.EachLemmas.{each_weaker, each-append, each-filter, find_each}
 use Rattle.av_filter.specs.Fit.{AreApart, AreInOrder, IsGiven}
-use Rattle.av_filter_table.specs.Table.{question_at, question_of, without_question}
+use Rattle.av_filter_table.specs.Table.{question_at, question_of, question_on, without_question}
 use Rattle.av_filter_table.specs.declared.question.Question.{Question}
 
 pub same_id-refl : (i : MessageId) → same_id i i ≡ true
@@ -30,6 +32,29 @@ apart-filter t (q ∷ qs) a =
 pub apart-push : (qs : List Question) (q : Question) → AreApart qs → Each (λ k. k.stream ≢ q.stream) qs → AreApart (qs ++ q ∷ [])
 apart-push [] q a away = (tt, tt)
 apart-push (x ∷ qs) q a away = (each-append (λ (k : Question). k.stream ≢ x.stream) qs (q ∷ []) a.0 ((λ e. away.0 (sym e)), tt), apart-push qs q a.1 away.1)
+
+-- the question of an id, where it runs on this port
+abbrev pub where_on : Port → Option Question → Option Question
+where_on port None = None
+where_on port (Some q) = if same_port q.port port then Some q else None
+
+none_on : (port : Port) (id : MessageId) (qs : List Question) → Each (λ q. same_id q.id id ≡ false) qs → question_on port id qs ≡ None
+none_on port id [] away = refl
+none_on port id (q ∷ qs) away = rw (away.0) (none_on port id qs away.1)
+
+pub on-at : (port : Port) (id : MessageId) (qs : List Question) → AreInOrder qs → question_on port id qs ≡ where_on port (question_at id qs)
+on-at port id [] order = refl
+on-at port id (q ∷ qs) order = go (same_id q.id id) refl (on-at port id qs order.1)
+  where
+    others : same_id q.id id ≡ true → Each (λ k. same_id k.id id ≡ false) qs
+    others own =
+        let same : q.id ≡ id = same_id-true q.id id own in
+        subst (λ i. Each (λ k. same_id k.id i ≡ false) qs) same
+        (each_weaker (λ k. q.id.seq < k.id.seq) (λ k. same_id k.id q.id ≡ false) (λ k above. let less : q.id.seq < k.id.seq = above in and_right (k.id.boot == q.id.boot) (k.id.seq == q.id.seq) (ne_eqb k.id.seq q.id.seq (λ e. omega arith))) qs order.0)
+
+    go : (b : Bool) → same_id q.id id ≡ b → question_on port id qs ≡ where_on port (question_at id qs) → cond (b && same_port q.port port) (Some q) (question_on port id qs) ≡ where_on port (cond b (Some q) (question_at id qs))
+    go true own rest = ap (cond (same_port q.port port) (Some q)) (none_on port id qs (others own))
+    go false other rest = rest
 
 -- a stream's only question gone, no question is the stream's
 pub away_without : (qs : List Question) (test : Question → Bool) (q : Question) → AreApart qs → find test qs ≡ Some q → Each (λ k. k.stream ≢ q.stream) (without_question q.id qs)

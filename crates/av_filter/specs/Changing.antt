@@ -1,16 +1,16 @@
 -- Changes of the volume, and the cleanup that follows some.
-use Rattle.std.specs.Prelude.{ℕ, ◌&&◌, [], ◌∷◌, map, Option, Some, None, if◌then◌else◌}
+use Rattle.std.specs.Prelude.{ℕ, Bool, true, [], ◌∷◌, map, Option, Some, None}
 use Rattle.av_base.specs.declared.cause.Cause.TheVariants.{StreamRemoved}
-use Rattle.av_base.specs.declared.port.Port.TheVariants.{One}
 use Rattle.av_context.specs.Contexts.{set_at}
 use Rattle.av_context.specs.declared.context_state.ContextState.TheVariants.{Modified}
 use Rattle.av_filter_table.specs.Asking.{asks, ended}
 use Rattle.av_filter.specs.Again.{again, scan_message}
 use Rattle.av_filter.specs.declared.note.Note.TheVariants.{Quiet, NoStream}
+use Rattle.av_base.specs.declared.port.Port.{Port}
 use Rattle.av_filter_table.specs.declared.question.Question.{Question}
-use Rattle.av_filter.specs.Reaction.{Reaction, only, sends}
-use Rattle.av_filter_table.specs.Table.{Table, context_of, is_modified, can_ask, question_of, opens_of}
 use Rattle.av_frame.specs.Message.{via}
+use Rattle.av_filter.specs.Reaction.{Reaction, only, sends}
+use Rattle.av_filter_table.specs.Table.{Table, context_of, is_modified, asking, question_of, opens_of}
 use Rattle.av_frame.specs.declared.message.Body.TheVariants.{Abort}
 use Rattle.av_pend.specs.Pend.{denied}
 use Rattle.av_store.specs.Files.{Change, Create, Write, Cut, Remove}
@@ -46,8 +46,13 @@ changes t v (Write s o b) = rewritten t (changed_volume v (Write s o b)) s (ques
 changes t v (Cut s n) = rewritten t (changed_volume v (Cut s n)) s (question_of s t.questions)
 changes t v (Remove s) = removed t (changed_volume v (Remove s)) s (question_of s t.questions)
 
+-- a cleanup of a stream that is there: whether it was written, and where its scan would be asked for
+unfoldable pub cleaned_at : Table → Store → ℕ → Bool → Option Port → Reaction
+cleaned_at t v s true (Some port) = sends (asks t v port s) v (scan_message t v port s)
+cleaned_at t v s _ _ = only t v Quiet
+
 -- a cleanup
 unfoldable pub cleaned : Table → Store → ℕ → Option Stream → Reaction
 cleaned t v s None = only t v NoStream
 cleaned t v s (Some x) =
-    if is_modified (context_of t.contexts s) && can_ask t then sends (asks t v One s) v (scan_message t v One s) else only t v Quiet
+    cleaned_at t v s (is_modified (context_of t.contexts s)) (asking t)

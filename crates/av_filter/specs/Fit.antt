@@ -1,5 +1,5 @@
 -- When a filter's table is sound, and fits a volume.
-use Rattle.std.specs.Prelude.{ℕ, ◌≡◌, ◌≢◌, ◌<◌, ◌≤◌, List, [], ◌∷◌, None, Some}
+use Rattle.std.specs.Prelude.{ℕ, ◌≡◌, ◌≢◌, ◌<◌, ◌≤◌, true, List, [], ◌∷◌, None, Some}
 use Rattle.std.specs.List.{AllByRecursion}
 use Rattle.av_base.specs.declared.limits.LimitValues.{LimitValues}
 use Rattle.av_base.specs.declared.mode.Mode.{Mode}
@@ -9,6 +9,7 @@ use Rattle.av_filter.specs.Conduct.{FilterEvent, filter_refusal, filter_step}
 use Rattle.av_filter_table.specs.Table.{Table, context_of, mounted, question_at}
 use Rattle.av_filter_table.specs.declared.pended.Pended.{Pended}
 use Rattle.av_filter_table.specs.declared.question.Question.{Question}
+use Rattle.av_filter_table.specs.Ports.{is_open}
 use Rattle.av_store.specs.Rows.{Streams, stream_at}
 use Rattle.av_store.specs.Store.{Store}
 use Rattle.av_store.specs.declared.stream.Stream.{Stream}
@@ -73,3 +74,13 @@ pub record KeepsFit : Type 0 where
   pub mounts : (mode : Mode) (limits : LimitValues) (v : Store) → Fits (mounted mode limits v.boot) v
   pub events : (t : Table) (v : Store) (e : FilterEvent) → Fits t v → filter_refusal t v e ≡ None
       → Fits (filter_step t v e).table (filter_step t v e).volume
+
+-- each question runs on a port that is connected
+abbrev pub RunOnOpen : Table → Type 0
+RunOnOpen t = AllByRecursion (λ q. is_open q.port t.connected ≡ true) t.questions
+
+-- each event that is not refused leaves it so, and a filter just mounted has no question
+abbrev pub KeepsPorts : Type 0
+KeepsPorts =
+    (t : Table) (v : Store) (e : FilterEvent) → Fits t v → RunOnOpen t → filter_refusal t v e ≡ None
+    → RunOnOpen (filter_step t v e).table

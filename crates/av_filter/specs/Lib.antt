@@ -12,4 +12,5 @@ pub mod Opening
 pub mod Reaction
 pub mod Ready
 pub mod Receiving
+pub mod Room
 pub mod Verdict

@@ -1,6 +1,6 @@
 -- An open: it is answered by the stream, its context or the cache, or it waits for a question.
-use Rattle.std.specs.Prelude.{ℕ, ◌+◌, not, List, [], ◌∷◌, ◌++◌, Option, Some, None, if◌then◌else◌}
-use Rattle.av_base.specs.declared.port.Port.TheVariants.{One}
+use Rattle.std.specs.Prelude.{ℕ, ◌+◌, Bool, true, false, not, List, [], ◌∷◌, ◌++◌, Option, Some, None, if◌then◌else◌}
+use Rattle.std.specs.Option.{is_some}
 use Rattle.av_base.specs.declared.cause.Cause.TheVariants.{NoStream, NotConnected, Busy}
 use Rattle.av_base.specs.declared.message_id.MessageId.{MessageId}
 use Rattle.av_base.specs.declared.verdict.Verdict.{Verdict}
@@ -11,11 +11,13 @@ use Rattle.av_context.specs.declared.context_state.ContextState.TheVariants.{Jud
 use Rattle.av_filter_table.specs.Asking.{asks}
 use Rattle.av_filter.specs.Again.{scan_message}
 use Rattle.av_filter.specs.declared.note.Note.TheVariants.{Submitted}
+use Rattle.av_frame.specs.Message.{Letter}
+use Rattle.av_base.specs.declared.port.Port.{Port}
 use Rattle.av_filter_table.specs.declared.question.Question.{Question}
+use Rattle.av_filter_table.specs.Ports.{least_port}
 use Rattle.av_filter.specs.Reaction.{Reaction}
 use Rattle.av_filter_table.specs.Answering.{judged}
-use Rattle.av_filter_table.specs.Table.{Table, context_of, current, question_of, next_id, can_ask, has_room, raised}
-use Rattle.av_frame.specs.Message.{Letter}
+use Rattle.av_filter_table.specs.Table.{Table, context_of, current, question_of, next_id, asking, has_room, raised}
 use Rattle.av_pend.specs.Pend.{waiting_from, denied, refused}
 use Rattle.av_pend.specs.Waiting.{Waiting}
 use Rattle.av_pend.specs.declared.answer.Answer.{Answer}
@@ -46,6 +48,12 @@ pends t v s least id messages =
       note = Submitted v.opens;
     }
 
+-- by a new question: whether any port is connected, and where one is asked
+unfoldable pub open_new : Table → Store → ℕ → ℕ → Stream → Bool → Option Port → Reaction
+open_new t v s least x false port = answers_with t v (refused t.mode x.generation NotConnected (new_open v s least))
+open_new t v s least x true None = answers_with t v (refused t.mode x.generation Busy (new_open v s least))
+open_new t v s least x true (Some port) = pends (asks t v port s) v s least (next_id t) (scan_message t v port s ∷ [])
+
 -- by what the cache has of the content under the floor
 unfoldable pub open_cached : Table → Store → ℕ → ℕ → Stream → Option Entry → Reaction
 open_cached t v s least x (Some e) =
@@ -53,9 +61,7 @@ open_cached t v s least x (Some e) =
     (judged e.verdict x.generation t.floor (new_open v s least))
 open_cached t v s least x None =
     if not (has_room t) then answers_with t v (refused t.mode x.generation Busy (new_open v s least))
-    else (if not t.connected then answers_with t v (refused t.mode x.generation NotConnected (new_open v s least))
-    else (if not (can_ask t) then answers_with t v (refused t.mode x.generation Busy (new_open v s least))
-    else pends (asks t v One s) v s least (next_id t) (scan_message t v One s ∷ [])))
+    else open_new t v s least x (is_some (least_port t.connected)) (asking t)
 
 -- by the question of the stream
 unfoldable pub open_asked : Table → Store → ℕ → ℕ → Stream → Option Question → Reaction

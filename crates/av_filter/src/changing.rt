@@ -1,8 +1,5 @@
-ghost use Rattle.std.specs.Prelude.{◌≡◌, ◌≤◌, ◌+◌, ◌++◌, ◌∷◌, ◌&&◌, [], true, None, Ok, IsSome, IfOk, OnOk, OnErr, filter, length, vec_len};
+ghost use Rattle.std.specs.Prelude.{◌≡◌, ◌<◌, ◌∷◌, [], true, None, Ok, IsSome, IfOk, OnOk, OnErr, OnSome, length, if◌then◌else◌};
 ghost use Rattle.std.specs.Option.{option_map};
-ghost use Rattle.std.specs.Vec.{vec_capacity};
-ghost use Rattle.av_base.specs.declared.cause.Cause.TheVariants.{Unsettled};
-ghost use Rattle.av_base.specs.declared.port.Port.TheVariants.{One};
 ghost use Rattle.av_filter.specs.Again.{again};
 ghost use Rattle.av_filter.specs.Call.{Meets, MeetsAlways};
 ghost use Rattle.av_filter.specs.Changing.{changed_volume, changes, cleaned, removed, rewritten};
@@ -11,29 +8,26 @@ ghost use Rattle.av_filter.specs.Fit.{Fits};
 ghost use Rattle.av_filter.specs.Ready.{IsRunning};
 ghost use Rattle.av_filter.specs.declared.fault.FilterFault.{FilterFault};
 ghost use Rattle.av_filter.specs.declared.fault.FilterFault.TheVariants as fault;
-ghost use Rattle.av_filter_table.specs.Answering.{by_mode};
-ghost use Rattle.av_filter_table.specs.Asking.{asked_again, is_lost};
 ghost use Rattle.av_filter_table.specs.Rewriting.{change_by};
-ghost use Rattle.av_filter_table.specs.Table.{can_ask, context_of, is_modified, next_id, opens_of, question_of, sequence_left};
-ghost use Rattle.av_frame.specs.Message.{IsId, via};
+ghost use Rattle.av_filter_table.specs.Table.{asking, context_of, is_modified, question_of, sequence_left};
+ghost use Rattle.av_frame.specs.Message.{via};
 ghost use Rattle.av_frame.specs.declared.message.Body.TheVariants.{Abort};
 ghost use Rattle.std.specs.Result.{result_err};
 ghost use Rattle.av_store.specs.Files.{Remove};
 ghost use Rattle.av_store.specs.Rows.{stream_at};
 ghost use Rattle.av_store.specs.Seen.{change_of};
 
-use crate::asking_again::is_asked_again;
+use crate::asking_again::ask_or_close;
 use crate::closing::{close, room_for};
 use crate::ending::Ending;
 use crate::fault::FilterFault;
 use crate::note::Note;
 use crate::out::Out;
-use crate::running::{ask_scan, can_ask, is_there, running_of, scan_message};
-use av_base::{MessageId, Port, Refusal, StreamId};
+use crate::running::{ask_scan, asking, is_there, running_of, scan_message};
+use av_base::{Port, Refusal, StreamId};
 use av_context::ContextState;
 use av_filter_table::{FilterTable, Question, Rewriting};
 use av_frame::Message;
-use av_pend::Answer;
 use av_store::{StoreFault, Volume};
 use std::alloc::{AllocError, Global};
 
@@ -62,7 +56,6 @@ pub(crate) fn rewrite(
 }
 
 // A stream that is being scanned is written or cut: its question is asked again.
-#[tactic(auto, unfolding(crate::specs::Again::again))]
 fn rewrite_asked(
     table: &mut FilterTable,
     alloc: Global,
@@ -77,20 +70,10 @@ fn rewrite_asked(
         (changed_volume volume.old (change_by question.now.stream rewriting.entry)) question.now (via question.now.port (Abort question.now.id) ∷ [])) }
 {
     let mut answers = room_for(table, alloc, question)?;
-    let abort = Message::abort(question.port, question.id);
-    if !is_asked_again(table, question) {
-        let mut messages = Vec::with_capacity(alloc, 1)?;
-        accept(rewriting, volume, question.stream)?;
-        close(table, volume, question, Ending::Unsettled, &mut answers);
-        messages.push(abort).unwrap();
-        return Ok(Out::gives(answers, messages));
-    }
     let mut messages = Vec::with_capacity(alloc, 2)?;
-    let id = ask_anew_after(table, volume, rewriting, question, &mut answers)?;
-    messages.push(abort).unwrap();
-    messages
-        .push(scan_message(volume, Port::One, id, question.stream))
-        .unwrap();
+    accept(rewriting, volume, question.stream)?;
+    messages.push_reserved(Message::abort(question.port, question.id));
+    ask_or_close(table, volume, question, &mut answers, &mut messages);
     Ok(Out::gives(answers, messages))
 }
 
@@ -104,31 +87,6 @@ fn accept(rewriting: Rewriting<'_>, volume: &mut Volume, stream: StreamId) -> Re
         Ok(()) => Ok(()),
         Err(_) => Err(AllocError),
     }
-}
-
-// Asks a question anew after its stream was changed, and answers those of its opens that have no rescan left.
-fn ask_anew_after(
-    table: &mut FilterTable,
-    volume: &mut Volume,
-    rewriting: Rewriting<'_>,
-    question: &Question,
-    answers: &mut Vec<Answer>,
-) -> Result<MessageId, AllocError>
-    requires fits { Fits table.old volume.old }
-    requires runs { IsRunning table.old question.now }
-    requires accepted { result_err (change_of volume.old (change_by question.now.stream rewriting)) ≡ None }
-    requires left { sequence_left table.old ≡ true }
-    requires room { vec_len answers.old + length (opens_of question.now.id table.old.pended) ≤ vec_capacity answers.old }
-    ensures id { IfOk result (λ id. id ≡ next_id table.old) }
-    ensures can { OnOk result (IsId (next_id table.old)) }
-    ensures volume { OnOk result (change_of volume.old (change_by question.now.stream rewriting.entry) ≡ Ok volume.new) }
-    ensures answers { OnOk result (answers.new.items
-        ≡ answers.old.items ++ by_mode table.old volume.new Unsettled (filter (is_lost question.now.id) table.old.pended)) }
-    ensures table { OnOk result (table.new ≡ asked_again table.old volume.new One question.now) }
-    ensures err { OnErr result ((table.new ≡ table.old) × (volume.new ≡ volume.old)) }
-{
-    let (_mounted, _ranges) = (table.boot(), volume.limits());
-    table.ask_again_after(volume, rewriting, Port::One, question.id.seq, answers)
 }
 
 // A stream is removed.
@@ -187,23 +145,25 @@ pub(crate) fn clean_up(
     if !is_there(volume, stream) {
         return Ok(Out::says(alloc, Note::NoStream));
     }
-    if !is_to_be_asked(table, stream) {
+    let Some(port) = port_to_ask(table, stream) else {
         return Ok(Out::says(alloc, Note::Quiet));
-    }
+    };
     let mut messages = Vec::with_capacity(alloc, 1)?;
-    let id = ask_scan(table, volume, Port::One, stream)?;
+    let id = ask_scan(table, volume, port, stream)?;
     messages
-        .push(scan_message(volume, Port::One, id, stream))
+        .push(scan_message(volume, port, id, stream))
         .unwrap();
     Ok(Out::gives(Vec::new(alloc), messages))
 }
 
-// Whether a stream was written, and a question can be asked.
-fn is_to_be_asked(table: &FilterTable, stream: StreamId) -> bool
-    ensures { result ≡ (is_modified (context_of table.now.contexts stream) && can_ask table.now) }
+// Where a stream is asked about, if it was written and a question can be asked.
+fn port_to_ask(table: &FilterTable, stream: StreamId) -> Option<Port>
+    ensures port { result ≡ (if is_modified (context_of table.now.contexts stream) then asking table.now else None) }
+    ensures room { OnSome result (length table.now.questions < table.now.limits.questions) }
+    ensures left { OnSome result (sequence_left table.now ≡ true) }
 {
     match table.state_of(stream) {
-        Some(ContextState::Modified) => can_ask(table),
-        _ => false,
+        Some(ContextState::Modified) => asking(table),
+        _ => None,
     }
 }

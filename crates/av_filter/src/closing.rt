@@ -87,10 +87,11 @@ pub(crate) fn close(
     answers: &mut Vec<Answer>,
 )
     requires runs { IsRunning table.old question.now }
-    requires empty { answers.old.items ≡ [] }
     requires room { vec_len answers.old + length (opens_of question.now.id table.old.pended) ≤ vec_capacity answers.old }
-    ensures answers { answers.new.items ≡ all_told table.old volume.now ending (opens_of question.now.id table.old.pended) }
+    ensures answers { answers.new.items
+        ≡ answers.old.items ++ all_told table.old volume.now ending (opens_of question.now.id table.old.pended) }
     ensures table { table.new ≡ ended table.old question.now (context_after ending) }
+    ensures capacity { vec_capacity answers.new ≡ vec_capacity answers.old }
 {
     let number = question.id.seq;
     answer_opens(table, volume, number, ending, answers);
@@ -114,6 +115,7 @@ fn answer_opens(
     ensures answers { answers.new.items ≡ answers.old.items
         ++ all_told table.old volume.now ending (opens_of (id_of table.old.boot question) table.old.pended) }
     ensures table { table.new ≡ record table.old { pended = other_opens (id_of table.old.boot question) table.old.pended } }
+    ensures capacity { vec_capacity answers.new ≡ vec_capacity answers.old }
 {
     let mode = table.mode();
     'opens: while let Some(held) = table.take_open(question) {

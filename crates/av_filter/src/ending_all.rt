@@ -1,7 +1,7 @@
 ghost use Rattle.std.specs.Prelude.{◌≡◌, ◌≢◌, Ok, Err, IfErr, IfOk, OnErr};
 ghost use Rattle.av_base.specs.Answers.{Reads};
-ghost use Rattle.av_filter.specs.Call.{MeetsAlways, Reacts};
-ghost use Rattle.av_filter.specs.Conduct.{disconnects, restarts};
+ghost use Rattle.av_filter.specs.Call.{Reacts};
+ghost use Rattle.av_filter.specs.Conduct.{restarts};
 ghost use Rattle.av_store.specs.Store.{greatest, mount_of};
 
 use crate::out::Out;
@@ -9,24 +9,8 @@ use av_base::{Cause, Refusal};
 use av_filter_table::FilterTable;
 use av_filter_table::answering::{lose_questions, refuse_all};
 use av_store::{BootSpent, Volume};
-use std::alloc::{AllocError, Global};
+use std::alloc::Global;
 use std::mem;
-
-// The service is lost.
-#[tactic(auto, unfolding(crate::specs::Conduct::disconnects))]
-pub(crate) fn disconnect(
-    table: &mut FilterTable,
-    alloc: Global,
-    volume: &Volume,
-) -> Result<Out, AllocError>
-    ensures { MeetsAlways table.old volume.now table.new volume.now result (disconnects table.old volume.now) }
-{
-    let mut answers = Vec::with_capacity(alloc, table.pended_count())?;
-    refuse_all(table, volume, &mut answers, Cause::PortDisconnected);
-    lose_questions(table);
-    table.set_connected(false);
-    Ok(Out::gives(answers, Vec::new(alloc)))
-}
 
 // The filter is mounted anew.
 #[tactic(auto, unfolding(crate::specs::Conduct::restarts))]

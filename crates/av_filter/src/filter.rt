@@ -7,6 +7,7 @@ ghost use Rattle.av_filter.specs.Fit.{Fits};
 ghost use Rattle.av_filter.specs.Opening.{opened};
 ghost use Rattle.av_filter.specs.Receiving.{receives};
 ghost use Rattle.av_filter.specs.Verdict.{verdict_of};
+ghost use Rattle.av_filter_table.specs.Ports.{is_open};
 ghost use Rattle.av_filter_table.specs.Table.{context_of, mounted};
 ghost use Rattle.av_store.specs.Files.{Cut, Remove, Write};
 ghost use Rattle.av_store.specs.Rows.{stream_at};
@@ -16,8 +17,8 @@ use crate::ending_all::{self, mount_next};
 use crate::fault::FilterFault;
 use crate::out::Out;
 use crate::timing_out::time_out;
-use crate::{changing, opening, receiving};
-use av_base::{Limits, Mode, Refusal, Refused, StreamId, Verdict, Version};
+use crate::{changing, losing, opening, receiving};
+use av_base::{Limits, Mode, Port, Refusal, Refused, StreamId, Verdict, Version};
 use av_cache::VerdictCache;
 use av_context::ContextState;
 use av_filter_table::answering::abandon;
@@ -187,13 +188,20 @@ impl Filter {
         time_out(&mut self.table, alloc, volume, seq)
     }
 
-    /// The service is lost: every question ends, and every open is answered by the mode. It costs a logarithm for each.
-    pub fn disconnect(&mut self, alloc: Global, volume: &Volume) -> Result<Out, AllocError>
+    /// The service of a port is lost. Where the other port is connected, each question of the lost one is asked again there, in
+    /// the order of their ids, for those of its opens that have a rescan left; else every question ends, and every open is answered
+    /// by the mode. It costs a logarithm for each question and open, and the count of all questions.
+    pub fn disconnect(
+        &mut self,
+        alloc: Global,
+        volume: &Volume,
+        port: Port,
+    ) -> Result<Out, AllocError>
         requires fits { Fits self.old volume.now }
-        ensures event { MeetsAlways self.old volume.now self.new volume.now result (disconnects self.old volume.now) }
+        ensures event { MeetsAlways self.old volume.now self.new volume.now result (disconnects self.old volume.now port) }
         ensures fits { OnOk result (Fits self.new volume.now) }
     {
-        ending_all::disconnect(&mut self.table, alloc, volume)
+        losing::disconnect(&mut self.table, alloc, volume, port)
     }
 
     /// Mounts the filter anew, in its place: BootSpent, NoMemory. Every open is answered by the mode, and nothing is known
@@ -264,11 +272,11 @@ impl Filter {
         self.table.floor()
     }
 
-    /// Whether the scanning service is connected.
-    pub fn connected(&self) -> bool
-        ensures { result ≡ self.now.connected }
+    /// Whether a scanning service is connected at a port.
+    pub fn connected(&self, port: Port) -> bool
+        ensures { result ≡ is_open port self.now.connected }
     {
-        self.table.connected()
+        self.table.connected().is_open(port)
     }
 
     /// How many questions run. At once.

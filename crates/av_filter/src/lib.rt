@@ -10,6 +10,7 @@ mod ending_all;
 pub mod fault;
 pub mod filter;
 pub mod laws;
+mod losing;
 pub mod note;
 mod opening;
 pub mod out;

@@ -11,8 +11,8 @@ ghost use Rattle.av_pend.specs.Pend.{refused, waiting_from};
 ghost use Rattle.av_store.specs.Store.{greatest};
 
 use crate::out::Out;
-use crate::running::{can_ask, has_room, running_of, scan_message};
-use av_base::{Cause, Generation, OpenId, Port, StreamId, Verdict, Version};
+use crate::running::{asking, has_room, running_of, scan_message};
+use av_base::{Cause, Generation, OpenId, StreamId, Verdict, Version};
 use av_context::ContextState;
 use av_filter_table::answering::judge;
 use av_filter_table::{FilterTable, Question};
@@ -184,24 +184,19 @@ fn open_unknown(
     if !has_room(table) {
         return refuse_at_once(table, alloc, arrival, Cause::Busy);
     }
-    if !table.connected() {
+    if table.connected().least().is_none() {
         return refuse_at_once(table, alloc, arrival, Cause::NotConnected);
     }
-    if !can_ask(table) {
+    let Some(port) = asking(table) else {
         return refuse_at_once(table, alloc, arrival, Cause::Busy);
-    }
+    };
     let _mounted = table.boot();
     let mut messages = Vec::with_capacity(alloc, 1)?;
-    match table.ask_for(
-        Port::One,
-        arrival.stream,
-        arrival.generation,
-        arrival.waiting(),
-    ) {
+    match table.ask_for(port, arrival.stream, arrival.generation, arrival.waiting()) {
         Ok(id) => {
             table.raise(arrival.least);
             messages
-                .push(scan_message(volume, Port::One, id, arrival.stream))
+                .push(scan_message(volume, port, id, arrival.stream))
                 .unwrap();
             Ok(Out::asks(alloc, messages, arrival.open_id))
         }

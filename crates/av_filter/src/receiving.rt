@@ -1,10 +1,9 @@
 ghost use Rattle.std.specs.Prelude.{◌≡◌, ◌≤◌, ◌<◌, IfOk, drop, length, take};
 ghost use Rattle.av_base.specs.declared.limits.TheConstants.{MAX_CHUNK, MAX_LENGTH};
-ghost use Rattle.av_base.specs.declared.port.Port.TheVariants.{One};
 ghost use Rattle.av_filter.specs.Call.{MeetsAlways, Reacts};
 ghost use Rattle.av_filter.specs.Fit.{Fits};
 ghost use Rattle.av_filter.specs.Receiving.{greeted, reads, receives, receives_at, replies};
-ghost use Rattle.av_filter_table.specs.Table.{question_at};
+ghost use Rattle.av_filter_table.specs.Table.{question_on};
 ghost use Rattle.av_frame.specs.Message.{IsInRange, IsPart};
 ghost use Rattle.av_frame.specs.declared.message.Body.TheVariants.{Read};
 
@@ -12,7 +11,7 @@ use crate::asking_again::ask_again;
 use crate::closing::{refuse, settle};
 use crate::note::Note;
 use crate::out::Out;
-use crate::running::running_at;
+use crate::running::running_on;
 use av_base::{ByteList, Cause, MessageId, Port, Version};
 use av_filter_table::FilterTable;
 use av_frame::{Body, Message, NoChunkCause, Outcome};
@@ -20,7 +19,7 @@ use av_store::Volume;
 use std::alloc::{AllocError, Global};
 use std::cmp::min;
 
-// A message of the scanning service.
+// A message of the scanning service of a port.
 #[tactic(auto, unfolding(crate::specs::Receiving::receives_at))]
 pub(crate) fn receive(
     table: &mut FilterTable,
@@ -31,35 +30,20 @@ pub(crate) fn receive(
     requires { Fits table.old volume.now }
     ensures { MeetsAlways table.old volume.now table.new volume.now result (receives table.old volume.now message.now) }
 {
-    match message.port() {
-        Port::One => receive_at_one(table, alloc, volume, message.body()),
-        Port::Two => Ok(Out::says(alloc, Note::Ignored)),
-    }
-}
-
-// A message that came at the first port.
-#[tactic(auto, unfolding(crate::specs::Receiving::receives_at))]
-fn receive_at_one(
-    table: &mut FilterTable,
-    alloc: Global,
-    volume: &Volume,
-    body: &Body,
-) -> Result<Out, AllocError>
-    requires fits { Fits table.old volume.now }
-    requires in_range { IsInRange body.now }
-    ensures { MeetsAlways table.old volume.now table.new volume.now result (receives_at table.old volume.now One body.now) }
-{
-    match body {
+    let port = message.port();
+    match message.body() {
         Body::Hello {
             volume: number,
             version,
-        } => Ok(greet(table, alloc, volume, *number, *version)),
+        } => Ok(greet(table, alloc, volume, port, *number, *version)),
         Body::Updated { version } => {
             table.raise(*version);
             Ok(Out::says(alloc, Note::Quiet))
         }
-        Body::Read { id, offset, count } => read(table, alloc, volume, *id, *offset, *count),
-        Body::Reply { id, outcome } => reply(table, alloc, volume, *id, *outcome),
+        Body::Read { id, offset, count } => {
+            read(table, alloc, volume, port, *id, *offset, *count)
+        }
+        Body::Reply { id, outcome } => reply(table, alloc, volume, port, *id, *outcome),
         _ => Ok(Out::says(alloc, Note::Ignored)),
     }
 }
@@ -70,21 +54,23 @@ fn greet(
     table: &mut FilterTable,
     alloc: Global,
     volume: &Volume,
+    port: Port,
     number: u64,
     version: Version,
 ) -> Out
-    ensures { Reacts result table.new volume.now (greeted table.old volume.now number version) }
+    ensures { Reacts result table.new volume.now (greeted table.old volume.now port number version) }
 {
     if number != volume.number() {
         return Out::says(alloc, Note::WrongVolume);
     }
-    if table.connected() {
+    let connected = table.connected();
+    if connected.is_open(port) {
         return Out::says(alloc, Note::Connected);
     }
     if version.get() < table.floor().get() {
         return Out::says(alloc, Note::OldVersion);
     }
-    table.set_connected(true);
+    table.set_connected(connected.with(port));
     table.raise(version);
     Out::says(alloc, Note::Welcome)
 }
@@ -95,6 +81,7 @@ fn read(
     table: &FilterTable,
     alloc: Global,
     volume: &Volume,
+    port: Port,
     id: MessageId,
     offset: u64,
     count: u32,
@@ -103,30 +90,30 @@ fn read(
     requires asked { IsInRange (Read id offset count) }
     ensures { IfOk result
         (λ out. Reacts out table.now volume.now
-        (reads table.now volume.now id offset count (question_at id table.now.questions))) }
+        (reads table.now volume.now port id offset count (question_on port id table.now.questions))) }
 {
-    let Some(question) = running_at(table, id) else {
+    let Some(question) = running_on(table, port, id) else {
         return Out::sends(
             alloc,
-            Message::no_chunk(Port::One, id, offset, NoChunkCause::NoQuestion),
+            Message::no_chunk(port, id, offset, NoChunkCause::NoQuestion),
         );
     };
     let Some(bytes) = volume.content(question.stream) else {
         return Out::sends(
             alloc,
-            Message::no_chunk(Port::One, id, offset, NoChunkCause::PastEnd),
+            Message::no_chunk(port, id, offset, NoChunkCause::PastEnd),
         );
     };
     if bytes.len() as u64 <= offset {
         return Out::sends(
             alloc,
-            Message::no_chunk(Port::One, id, offset, NoChunkCause::PastEnd),
+            Message::no_chunk(port, id, offset, NoChunkCause::PastEnd),
         );
     }
     let _ranges = volume.limits();
     let most = min(u64::from(count), table.limits().values().chunk);
     let chunk = part(alloc, bytes, offset, most)?;
-    Out::sends(alloc, Message::chunk(Port::One, id, offset, chunk))
+    Out::sends(alloc, Message::chunk(port, id, offset, chunk))
 }
 
 // The service replies.
@@ -135,14 +122,15 @@ fn reply(
     table: &mut FilterTable,
     alloc: Global,
     volume: &Volume,
+    port: Port,
     id: MessageId,
     outcome: Outcome,
 ) -> Result<Out, AllocError>
     requires { Fits table.old volume.now }
     ensures { MeetsAlways table.old volume.now table.new volume.now result
-        (replies table.old volume.now outcome (question_at id table.old.questions)) }
+        (replies table.old volume.now outcome (question_on port id table.old.questions)) }
 {
-    let Some(question) = running_at(table, id) else {
+    let Some(question) = running_on(table, port, id) else {
         return Ok(Out::says(alloc, Note::NoWaiter));
     };
     match outcome {

@@ -1,10 +1,10 @@
-ghost use Rattle.std.specs.Prelude.{◌≡◌, true, None, IfOk, IfSome, OnErr, OnOk, is_some, length};
+ghost use Rattle.std.specs.Prelude.{◌≡◌, ◌<◌, true, None, IfOk, IfSome, OnErr, OnOk, OnSome, is_some, length};
 ghost use Rattle.std.specs.List.{AllByRecursion};
 ghost use Rattle.av_filter.specs.Fit.{AreInOrder, IsGiven, IsThere};
 ghost use Rattle.av_filter.specs.Ready.{IsRunning};
 ghost use Rattle.av_filter_table.specs.Answering.{present_bytes, present_generation};
 ghost use Rattle.av_filter_table.specs.Asking.{asks};
-ghost use Rattle.av_filter_table.specs.Table.{next_id, can_ask, has_room, question_at, question_of, sequence_left};
+ghost use Rattle.av_filter_table.specs.Table.{next_id, asking, has_room, question_at, question_of, question_on, sequence_left};
 ghost use Rattle.av_frame.specs.Message.{IsId, via};
 ghost use Rattle.av_frame.specs.declared.message.Body.TheVariants.{Scan};
 ghost use Rattle.av_store.specs.Rows.{stream_at};
@@ -25,6 +25,20 @@ pub(crate) fn running_at(table: &FilterTable, id: MessageId) -> Option<Question>
 {
     let (_boot, _last) = (table.boot(), table.sequence());
     table.question_at(id)
+}
+
+// The question of an id, if it runs on this port.
+pub(crate) fn running_on(table: &FilterTable, port: Port, id: MessageId) -> Option<Question>
+    requires given { AllByRecursion (IsGiven table.now.boot table.now.sequence) table.now.questions }
+    requires order { AreInOrder table.now.questions }
+    ensures found { result ≡ question_on port id table.now.questions }
+    ensures runs { IfSome result (λ q. IsRunning table.now q) }
+{
+    let question = running_at(table, id)?;
+    if question.port != port {
+        return None;
+    }
+    Some(question)
 }
 
 // The question that runs of a stream.
@@ -65,6 +79,7 @@ pub(crate) fn ask_scan(
 ) -> Result<MessageId, AllocError>
     requires none { question_of stream table.old.questions ≡ None }
     requires left { sequence_left table.old ≡ true }
+    requires room { length table.old.questions < table.old.limits.questions }
     ensures id { IfOk result (λ id. id ≡ next_id table.old) }
     ensures can { OnOk result (IsId (next_id table.old)) }
     ensures table { OnOk result (table.new ≡ asks table.old volume.now port stream) }
@@ -91,13 +106,17 @@ fn length_now(volume: &Volume, stream: StreamId) -> u64
     }
 }
 
-// Whether a question can be asked.
-pub(crate) fn can_ask(table: &FilterTable) -> bool
-    ensures { result ≡ can_ask table.now }
+// Where one question more would be asked, if it can be: on the least connected port.
+pub(crate) fn asking(table: &FilterTable) -> Option<Port>
+    ensures port { result ≡ asking table.now }
+    ensures room { OnSome result (length table.now.questions < table.now.limits.questions) }
+    ensures left { OnSome result (sequence_left table.now ≡ true) }
 {
-    table.connected()
-        && (table.question_count() as u64) < table.limits().values().questions
-        && sequence_left(table)
+    let has_place = (table.question_count() as u64) < table.limits().values().questions;
+    if has_place && sequence_left(table) {
+        return table.connected().least();
+    }
+    None
 }
 
 // Whether a number is left for a question.

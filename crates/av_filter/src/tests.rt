@@ -9,9 +9,9 @@ ghost use Rattle.av_filter.specs.Fit.{Fits};
 use self::plain::Plain;
 use self::rows::{ROWS, Row};
 use self::say::{said, told};
-use self::steps::{Step, message_of};
+use self::steps::{Step, at_port, message_of};
 use crate::{Filter, FilterFault, Note, Out};
-use av_base::{LimitField, LimitValues, Limits, Mode, Refusal, Refused, StreamId, Version};
+use av_base::{LimitField, LimitValues, Limits, Mode, Port, Refusal, Refused, StreamId, Version};
 use av_fakes::{may_refuse, refuse_no_more};
 use av_store::{BootSpent, Volume};
 use std::alloc::{AllocError, Global};
@@ -99,15 +99,16 @@ fn run_steps(
     requires fits { Fits filter.old volume.old }
 {
     for (i, (step, want)) in steps.iter().enumerate() {
+        let (port, step) = at_port(*step);
         let before = seen(filter, volume);
         may_refuse(alloc);
-        let mut outcome = happen(alloc, filter, volume, *step);
+        let mut outcome = happen(alloc, filter, volume, port, step);
         refuse_no_more(alloc);
         if let Err(Refusal::NoMemory) = outcome {
             if seen(filter, volume) != before {
                 return Ok(Some(i));
             }
-            outcome = happen(alloc, filter, volume, *step);
+            outcome = happen(alloc, filter, volume, port, step);
         }
         if said(alloc, outcome)?.as_str() != *want {
             return Ok(Some(i));
@@ -116,22 +117,24 @@ fn run_steps(
     Ok(None)
 }
 
-// What the readers tell: floor, connection, questions, held opens, open numbers.
-fn seen(filter: &Filter, volume: &Volume) -> (u64, bool, usize, usize, u64) {
+// What the readers tell: floor, connections, questions, held opens, open numbers.
+fn seen(filter: &Filter, volume: &Volume) -> (u64, bool, bool, usize, usize, u64) {
     (
         filter.floor().get(),
-        filter.connected(),
+        filter.connected(Port::One),
+        filter.connected(Port::Two),
         filter.question_count(),
         filter.pended_count(),
         volume.opens_left(),
     )
 }
 
-// What a filter gives out at a step.
+// What a filter gives out at a step that comes at a port.
 fn happen(
     alloc: Global,
     filter: &mut Filter,
     volume: &mut Volume,
+    port: Port,
     step: Step<'_>,
 ) -> Result<Out, Refusal<FilterFault>>
     requires fits { Fits filter.old volume.old }
@@ -149,8 +152,8 @@ fn happen(
         Step::Remove(stream) => filter.remove(alloc, volume, StreamId::new(stream)),
         Step::Cleanup(stream) => Ok(filter.cleanup(alloc, volume, StreamId::new(stream))?),
         Step::Timeout(seq) => Ok(filter.timeout(alloc, volume, seq)?),
-        Step::Disconnect => Ok(filter.disconnect(alloc, volume)?),
-        _ => match message_of(step) {
+        Step::Disconnect => Ok(filter.disconnect(alloc, volume, port)?),
+        _ => match message_of(port, step) {
             Some(message) => Ok(filter.message(alloc, volume, &message)?),
             None => Ok(Out {
                 answers: Vec::new(alloc),
@@ -205,9 +208,14 @@ fn run_beside(
         x = x
             .wrapping_mul(6_364_136_223_846_793_005)
             .wrapping_add(1_442_695_040_888_963_407);
+        let port = if (x >> 12) % 3 == 0 {
+            Port::Two
+        } else {
+            Port::One
+        };
         let step = step_of(i, x >> 20, plain);
-        let said = said(alloc, happen(alloc, filter, volume, step))?;
-        let want = plain.take(step)?;
+        let said = said(alloc, happen(alloc, filter, volume, port, step))?;
+        let want = plain.take(port, step)?;
         let counts = (filter.question_count(), filter.pended_count());
         if said.as_str() != want.as_str() || counts != plain.counts() {
             return Ok(Some(i));

@@ -1,7 +1,7 @@
 //! A filter as plain lists, written anew from docs/CONDUCT.md for the tests: it shares no code with the filter. It has no
 //! cache, which no sequence of events can tell: within one boot the floor only rises, and a restart empties the cache.
 use crate::tests::steps::Step;
-use av_base::Mode;
+use av_base::{Mode, Port};
 use std::alloc::{AllocError, Global};
 
 // What is known of a stream.
@@ -24,6 +24,7 @@ struct PlainStream {
 #[derive(Clone, Copy)]
 struct PlainQuestion {
     seq: u64,
+    port: Port,
     stream: u64,
     generation: u64,
 }
@@ -37,6 +38,14 @@ struct PlainOpen {
     rescans: u64,
 }
 
+// An open that is answered by the mode: its number, its stream, and the cause.
+#[derive(Clone, Copy)]
+struct PlainLoss {
+    id: u64,
+    stream: u64,
+    cause: u64,
+}
+
 #[derive(Drop)]
 pub(crate) struct Plain {
     alloc: Global,
@@ -44,7 +53,8 @@ pub(crate) struct Plain {
     boot: u64,
     seq: u64,
     opens: u64,
-    connected: bool,
+    one: bool,
+    two: bool,
     floor: u64,
     streams: Vec<PlainStream>,
     questions: Vec<PlainQuestion>,
@@ -69,7 +79,8 @@ impl Plain {
             boot: 1,
             seq: 0,
             opens: 0,
-            connected: false,
+            one: false,
+            two: false,
             floor: 0,
             streams,
             questions: Vec::new(alloc),
@@ -108,14 +119,14 @@ impl Plain {
         is_known && !self.waiting.is_empty()
     }
 
-    // What it gives out at a step, with limits of two questions and three held opens.
-    pub(crate) fn take(&mut self, step: Step<'_>) -> Result<String, AllocError> {
+    // What it gives out at a step that comes at a port, with limits of two questions and three held opens.
+    pub(crate) fn take(&mut self, port: Port, step: Step<'_>) -> Result<String, AllocError> {
         let mut text = String::new(self.alloc);
-        self.happen(step, &mut text)?;
+        self.happen(port, step, &mut text)?;
         Ok(text)
     }
 
-    fn happen(&mut self, step: Step<'_>, text: &mut String) -> Result<(), AllocError> {
+    fn happen(&mut self, port: Port, step: Step<'_>, text: &mut String) -> Result<(), AllocError> {
         match step {
             Step::Open(stream, least) => self.open(stream, least, text),
             Step::Write(stream, offset, bytes) => self.write(stream, offset, bytes, text),
@@ -123,23 +134,23 @@ impl Plain {
             Step::Remove(stream) => self.remove(stream, text),
             Step::Cleanup(stream) => self.cleanup(stream, text),
             Step::Timeout(seq) => self.time_out(seq, text),
-            Step::Disconnect => self.disconnect(text),
-            _ => self.hear(step, text),
+            Step::Disconnect => self.disconnect(port, text),
+            _ => self.hear(port, step, text),
         }
     }
 
-    // A message of the service.
-    fn hear(&mut self, step: Step<'_>, text: &mut String) -> Result<(), AllocError> {
+    // A message of the service of a port.
+    fn hear(&mut self, port: Port, step: Step<'_>, text: &mut String) -> Result<(), AllocError> {
         match step {
-            Step::Hello(_, version) => self.hello(version, text),
+            Step::Hello(_, version) => self.hello(port, version, text),
             Step::Updated(version) => {
                 self.floor = self.floor.max(version);
                 Ok(())
             }
-            Step::Read(boot, seq, offset, count) => self.read(boot, seq, offset, count, text),
-            Step::Clean(boot, seq, version) => self.reply(boot, seq, version, false, text),
-            Step::Infected(boot, seq, version) => self.reply(boot, seq, version, true, text),
-            Step::Failed(boot, seq) => self.fail(boot, seq, text),
+            Step::Read(boot, seq, offset, count) => self.read(port, boot, seq, offset, count, text),
+            Step::Clean(boot, seq, version) => self.reply(port, boot, seq, version, false, text),
+            Step::Infected(boot, seq, version) => self.reply(port, boot, seq, version, true, text),
+            Step::Failed(boot, seq) => self.fail(port, boot, seq, text),
             _ => self.add(text, "note Ignored"),
         }
     }
@@ -150,12 +161,48 @@ impl Plain {
         self.refuse_all(10, &mut text)?;
         self.boot = self.boot.wrapping_add(1);
         self.seq = 0;
-        self.connected = false;
+        self.one = false;
+        self.two = false;
         self.floor = 0;
         for stream in self.streams.iter_mut() {
             stream.known = Known::Nothing;
         }
         Ok(text)
+    }
+
+    fn is_connected(&self, port: Port) -> bool {
+        match port {
+            Port::One => self.one,
+            Port::Two => self.two,
+        }
+    }
+
+    fn set_connected(&mut self, port: Port, connected: bool) {
+        match port {
+            Port::One => self.one = connected,
+            Port::Two => self.two = connected,
+        }
+    }
+
+    // Where a question is asked.
+    fn least(&self) -> Option<Port> {
+        if self.one {
+            Some(Port::One)
+        } else if self.two {
+            Some(Port::Two)
+        } else {
+            None
+        }
+    }
+
+    // The question of a whole id, where it runs on this port.
+    fn question_on(&self, port: Port, boot: u64, seq: u64) -> Option<PlainQuestion> {
+        let question = self.question_of(boot, seq)?;
+        if question.port == port {
+            Some(question)
+        } else {
+            None
+        }
     }
 
     // The question of a whole id, where it runs.
@@ -230,8 +277,17 @@ impl Plain {
         self.add(text, part.as_str())
     }
 
+    // A message at a port.
+    fn send(&self, port: Port, line: &str, text: &mut String) -> Result<(), AllocError> {
+        self.add(text, line)?;
+        match port {
+            Port::One => Ok(()),
+            Port::Two => text.push_str(" port 2"),
+        }
+    }
+
     // A question is asked of the present content.
-    fn ask(&mut self, stream: u64, text: &mut String) -> Result<(), AllocError> {
+    fn ask(&mut self, port: Port, stream: u64, text: &mut String) -> Result<(), AllocError> {
         self.seq = self.seq.wrapping_add(1);
         let (boot, seq) = (self.boot, self.seq);
         let generation = self.generation_of(stream);
@@ -241,6 +297,7 @@ impl Plain {
         };
         self.questions.push(PlainQuestion {
             seq,
+            port,
             stream,
             generation,
         })?;
@@ -248,7 +305,7 @@ impl Plain {
         let part = format!(in self.alloc;
             "scan {boot}.{seq} stream {stream} generation {generation} length {length}"
         )?;
-        self.add(text, part.as_str())
+        self.send(port, part.as_str(), text)
     }
 
     fn open(&mut self, stream: u64, least: u64, text: &mut String) -> Result<(), AllocError> {
@@ -295,13 +352,13 @@ impl Plain {
         if full {
             return self.unjudged(id, stream, 4, text);
         }
-        if !self.connected {
+        let Some(port) = self.least() else {
             return self.unjudged(id, stream, 3, text);
-        }
+        };
         if self.questions.len() >= 2 {
             return self.unjudged(id, stream, 4, text);
         }
-        self.ask(stream, text)?;
+        self.ask(port, stream, text)?;
         open.question = self.seq;
         Ok(self.waiting.push(open)?)
     }
@@ -354,13 +411,13 @@ impl Plain {
             }
         }
         self.waiting.retain(|w| w.question != seq);
-        self.abort(seq, text)
+        self.abort(question, text)
     }
 
-    fn abort(&self, seq: u64, text: &mut String) -> Result<(), AllocError> {
-        let boot = self.boot;
+    fn abort(&self, question: PlainQuestion, text: &mut String) -> Result<(), AllocError> {
+        let (boot, seq) = (self.boot, question.seq);
         let part = format!(in self.alloc; "abort {boot}.{seq}")?;
-        self.add(text, part.as_str())
+        self.send(question.port, part.as_str(), text)
     }
 
     fn changed(&mut self, stream: u64, text: &mut String) -> Result<(), AllocError> {
@@ -379,16 +436,38 @@ impl Plain {
         abort: bool,
         text: &mut String,
     ) -> Result<(), AllocError> {
+        let mut lost = Vec::new(self.alloc);
+        let mut scan = String::new(self.alloc);
+        self.ask_again(question, &mut lost, &mut scan)?;
+        self.tell(lost.as_slice(), text)?;
+        if abort {
+            self.abort(question, text)?;
+        }
+        self.add_some(text, scan.as_str())
+    }
+
+    // A question ends and is asked again, if that can be: which of its opens are lost, and the scan that is asked for.
+    fn ask_again(
+        &mut self,
+        question: PlainQuestion,
+        lost: &mut Vec<PlainLoss>,
+        scan: &mut String,
+    ) -> Result<(), AllocError> {
         let old = question.seq;
-        let held = self
-            .waiting
-            .iter()
-            .any(|w| w.question == old && w.rescans < 8);
+        let port = self.least();
+        let held = port.is_some()
+            && self
+                .waiting
+                .iter()
+                .any(|w| w.question == old && w.rescans < 8);
         self.questions.retain(|q| q.seq != old);
         for open in self.waiting.as_slice() {
             if open.question == old && (!held || open.rescans >= 8) {
-                let cause = if open.rescans >= 8 { 8 } else { 4 };
-                self.unjudged(open.id, open.stream, cause, text)?;
+                lost.push(PlainLoss {
+                    id: open.id,
+                    stream: open.stream,
+                    cause: if open.rescans >= 8 { 8 } else { 4 },
+                })?;
             }
         }
         let next = self.seq.wrapping_add(1);
@@ -400,70 +479,88 @@ impl Plain {
                 open.rescans = open.rescans.wrapping_add(1);
             }
         }
-        if abort {
-            self.abort(old, text)?;
+        match port {
+            Some(port) if held => self.ask(port, question.stream, scan),
+            _ => {
+                self.set_known(question.stream, Known::Modified);
+                Ok(())
+            }
         }
-        if held {
-            return self.ask(question.stream, text);
+    }
+
+    // Opens that are answered by the mode.
+    fn tell(&self, lost: &[PlainLoss], text: &mut String) -> Result<(), AllocError> {
+        for open in lost {
+            self.unjudged(open.id, open.stream, open.cause, text)?;
         }
-        self.set_known(question.stream, Known::Modified);
         Ok(())
+    }
+
+    fn add_some(&self, text: &mut String, part: &str) -> Result<(), AllocError> {
+        if part.is_empty() {
+            return Ok(());
+        }
+        self.add(text, part)
     }
 
     fn cleanup(&mut self, stream: u64, text: &mut String) -> Result<(), AllocError> {
         let Some(found) = self.streams.iter().find(|s| s.id == stream) else {
             return self.add(text, "note NoStream");
         };
-        if found.known == Known::Modified && self.connected && self.questions.len() < 2 {
-            return self.ask(stream, text);
+        if found.known != Known::Modified || self.questions.len() >= 2 {
+            return Ok(());
         }
-        Ok(())
+        match self.least() {
+            Some(port) => self.ask(port, stream, text),
+            None => Ok(()),
+        }
     }
 
-    fn hello(&mut self, version: u64, text: &mut String) -> Result<(), AllocError> {
-        if self.connected {
+    fn hello(&mut self, port: Port, version: u64, text: &mut String) -> Result<(), AllocError> {
+        if self.is_connected(port) {
             return self.add(text, "note Connected");
         }
         if version < self.floor {
             return self.add(text, "note OldVersion");
         }
-        self.connected = true;
+        self.set_connected(port, true);
         self.floor = version;
         self.add(text, "note Welcome")
     }
 
     fn read(
         &self,
+        port: Port,
         boot: u64,
         seq: u64,
         offset: u64,
         count: u32,
         text: &mut String,
     ) -> Result<(), AllocError> {
-        let Some(question) = self.question_of(boot, seq) else {
-            return self.no_chunk(boot, seq, offset, 1, text);
+        let Some(question) = self.question_on(port, boot, seq) else {
+            return self.no_chunk(port, boot, seq, offset, 1, text);
         };
         let Some(found) = self.streams.iter().find(|s| s.id == question.stream) else {
             return self.add(text, "a question of no stream");
         };
         if offset >= found.bytes.len() as u64 {
-            return self.no_chunk(boot, seq, offset, 2, text);
+            return self.no_chunk(port, boot, seq, offset, 2, text);
         }
-        let part = format!(in self.alloc; "chunk {boot}.{seq} offset {offset} bytes")?;
-        self.add(text, part.as_str())?;
+        let mut part = format!(in self.alloc; "chunk {boot}.{seq} offset {offset} bytes")?;
         for byte in found
             .bytes
             .iter()
             .skip(offset as usize)
             .take(count as usize)
         {
-            text.push_str(format!(in self.alloc; " {byte}")?.as_str())?;
+            part.push_str(format!(in self.alloc; " {byte}")?.as_str())?;
         }
-        Ok(())
+        self.send(port, part.as_str(), text)
     }
 
     fn no_chunk(
         &self,
+        port: Port,
         boot: u64,
         seq: u64,
         offset: u64,
@@ -471,18 +568,19 @@ impl Plain {
         text: &mut String,
     ) -> Result<(), AllocError> {
         let part = format!(in self.alloc; "nochunk {boot}.{seq} offset {offset} cause {cause}")?;
-        self.add(text, part.as_str())
+        self.send(port, part.as_str(), text)
     }
 
     fn reply(
         &mut self,
+        port: Port,
         boot: u64,
         seq: u64,
         version: u64,
         infected: bool,
         text: &mut String,
     ) -> Result<(), AllocError> {
-        let Some(question) = self.question_of(boot, seq) else {
+        let Some(question) = self.question_on(port, boot, seq) else {
             return self.add(text, "note NoWaiter");
         };
         if version < self.floor {
@@ -500,8 +598,14 @@ impl Plain {
         Ok(())
     }
 
-    fn fail(&mut self, boot: u64, seq: u64, text: &mut String) -> Result<(), AllocError> {
-        let Some(question) = self.question_of(boot, seq) else {
+    fn fail(
+        &mut self,
+        port: Port,
+        boot: u64,
+        seq: u64,
+        text: &mut String,
+    ) -> Result<(), AllocError> {
+        let Some(question) = self.question_on(port, boot, seq) else {
             return self.add(text, "note NoWaiter");
         };
         self.end_by_mode(question, 7, text)
@@ -512,7 +616,7 @@ impl Plain {
             return self.add(text, "note NoWaiter");
         };
         self.end_by_mode(question, 5, text)?;
-        self.abort(seq, text)
+        self.abort(question, text)
     }
 
     fn end_by_mode(
@@ -533,14 +637,35 @@ impl Plain {
         Ok(())
     }
 
-    fn disconnect(&mut self, text: &mut String) -> Result<(), AllocError> {
-        self.connected = false;
+    fn disconnect(&mut self, port: Port, text: &mut String) -> Result<(), AllocError> {
+        self.set_connected(port, false);
+        if self.least().is_some() {
+            return self.move_questions(port, text);
+        }
         for stream in self.streams.iter_mut() {
             if stream.known == Known::Scanning {
                 stream.known = Known::Modified;
             }
         }
         self.refuse_all(6, text)
+    }
+
+    // The questions of a port are asked again on the other one; the opens that are lost by that are answered in their order.
+    fn move_questions(&mut self, port: Port, text: &mut String) -> Result<(), AllocError> {
+        let mut moved = Vec::new(self.alloc);
+        for question in self.questions.as_slice() {
+            if question.port == port {
+                moved.push(*question)?;
+            }
+        }
+        let mut lost = Vec::new(self.alloc);
+        let mut scans = String::new(self.alloc);
+        for question in moved.as_slice() {
+            self.ask_again(*question, &mut lost, &mut scans)?;
+        }
+        lost.sort_unstable_by_key(|loss| loss.id);
+        self.tell(lost.as_slice(), text)?;
+        self.add_some(text, scans.as_str())
     }
 
     // Every question ends, and every open is answered by the mode.

@@ -20,7 +20,7 @@ const WELCOME: &str = "note Welcome";
 
 const ASKED: &str = "scan 1.1 stream 1 generation 2 length 3, number 1";
 
-pub const ROWS: [Row<'static>; 19] = [
+pub const ROWS: [Row<'static>; 24] = [
     Row {
         name: "a clean reply grants, and the next open is granted at once",
         mode: Mode::FailClosed,
@@ -415,28 +415,215 @@ pub const ROWS: [Row<'static>; 19] = [
         after: &[],
     },
     Row {
-        name: "what comes at the second port is passed over",
+        name: "each port has a service of its own, and a question is asked on the least that is connected",
         mode: Mode::FailClosed,
         limit: FULL,
         steps: &[
-            (Step::AtTwo(&Step::Hello(1, 1)), "note Ignored"),
+            (Step::AtTwo(&Step::Hello(1, 1)), WELCOME),
+            (Step::AtTwo(&Step::Hello(1, 1)), "note Connected"),
             (Step::Write(1, 0, b"ABC"), ""),
-            (Step::Open(1, 0), "open 1 denied cause 3, number 1"),
-            (Step::AtTwo(&Step::Updated(9)), "note Ignored"),
-            (Step::Hello(1, 1), WELCOME),
-            (Step::AtTwo(&Step::Hello(1, 1)), "note Ignored"),
             (
                 Step::Open(1, 0),
-                "scan 1.1 stream 1 generation 2 length 3, number 2",
+                "scan 1.1 stream 1 generation 2 length 3 port 2, number 1",
             ),
-            (Step::AtTwo(&Step::Read(1, 1, 0, 3)), "note Ignored"),
-            (Step::AtTwo(&Step::Clean(1, 1, 1)), "note Ignored"),
-            (Step::AtTwo(&Step::Failed(1, 1)), "note Ignored"),
+            (Step::Hello(1, 1), WELCOME),
+            (
+                Step::Open(2, 0),
+                "scan 1.2 stream 2 generation 1 length 0, number 2",
+            ),
+            (Step::Read(1, 1, 0, 3), "nochunk 1.1 offset 0 cause 1"),
+            (Step::Clean(1, 1, 1), "note NoWaiter"),
+            (Step::Failed(1, 1), "note NoWaiter"),
+            (Step::AtTwo(&Step::Clean(1, 2, 1)), "note NoWaiter"),
+            (
+                Step::AtTwo(&Step::Read(1, 2, 0, 3)),
+                "nochunk 1.2 offset 0 cause 1 port 2",
+            ),
+            (
+                Step::AtTwo(&Step::Read(1, 1, 0, 3)),
+                "chunk 1.1 offset 0 bytes 65 66 67 port 2",
+            ),
+            (
+                Step::AtTwo(&Step::Read(1, 1, 3, 3)),
+                "nochunk 1.1 offset 3 cause 2 port 2",
+            ),
             (Step::AtTwo(&Step::Abort(1, 1)), "note Ignored"),
-            (Step::Read(1, 1, 0, 3), "chunk 1.1 offset 0 bytes 65 66 67"),
+            (
+                Step::AtTwo(&Step::Clean(1, 1, 1)),
+                "open 1 granted stream 1 generation 2 version 1 least 0",
+            ),
+            (
+                Step::Clean(1, 2, 1),
+                "open 2 granted stream 2 generation 1 version 1 least 0",
+            ),
+        ],
+        restart: None,
+        after: &[],
+    },
+    Row {
+        name: "an abort goes to the question's port, and the scan of the new content to the least that is connected",
+        mode: Mode::FailClosed,
+        limit: FULL,
+        steps: &[
+            (Step::AtTwo(&Step::Hello(1, 1)), WELCOME),
+            (Step::Write(1, 0, b"ABC"), ""),
+            (
+                Step::Open(1, 0),
+                "scan 1.1 stream 1 generation 2 length 3 port 2, number 1",
+            ),
+            (Step::Hello(1, 1), WELCOME),
+            (
+                Step::Write(1, 3, b"D"),
+                "abort 1.1 port 2, scan 1.2 stream 1 generation 3 length 4",
+            ),
+            (Step::Timeout(2), "open 1 denied cause 5, abort 1.2"),
+            (Step::Cleanup(1), "scan 1.3 stream 1 generation 3 length 4"),
+        ],
+        restart: None,
+        after: &[],
+    },
+    Row {
+        name: "the questions of a port that is lost are asked again on the other, and nobody hears of it",
+        mode: Mode::FailClosed,
+        limit: FULL,
+        steps: &[
+            (Step::Write(1, 0, b"ABC"), ""),
+            (Step::Hello(1, 1), WELCOME),
+            (Step::AtTwo(&Step::Hello(1, 1)), WELCOME),
+            (Step::Open(1, 0), ASKED),
+            (
+                Step::Open(2, 0),
+                "scan 1.2 stream 2 generation 1 length 0, number 2",
+            ),
+            (Step::Open(1, 0), "number 3"),
+            (
+                Step::Disconnect,
+                "scan 1.3 stream 1 generation 2 length 3 port 2, scan 1.4 stream 2 generation 1 length 0 port 2",
+            ),
+            (Step::Clean(1, 1, 1), "note NoWaiter"),
+            (Step::Read(1, 1, 0, 3), "nochunk 1.1 offset 0 cause 1"),
+            (Step::Disconnect, ""),
+            (
+                Step::AtTwo(&Step::Clean(1, 3, 1)),
+                "open 1 granted stream 1 generation 2 version 1 least 0, open 3 granted stream 1 generation 2 version 1 least 0",
+            ),
+            (Step::AtTwo(&Step::Disconnect), "open 2 denied cause 6"),
+            (Step::Open(2, 0), "open 4 denied cause 3, number 4"),
+        ],
+        restart: None,
+        after: &[],
+    },
+    Row {
+        name: "a port that is lost has no question, and the last one loses all",
+        mode: Mode::FailOpen,
+        limit: FULL,
+        steps: &[
+            (Step::Write(1, 0, b"ABC"), ""),
+            (Step::Hello(1, 1), WELCOME),
+            (Step::AtTwo(&Step::Hello(1, 1)), WELCOME),
+            (Step::Open(1, 0), ASKED),
+            (Step::AtTwo(&Step::Disconnect), ""),
+            (
+                Step::Disconnect,
+                "open 1 unscanned stream 1 generation 2 cause 6",
+            ),
+            (
+                Step::Open(1, 0),
+                "open 2 unscanned stream 1 generation 2 cause 3, number 2",
+            ),
+        ],
+        restart: None,
+        after: &[],
+    },
+    Row {
+        name: "an open survives eight losses, and what the ninth answers stands in the order of the opens",
+        mode: Mode::FailClosed,
+        limit: FULL,
+        steps: &[
+            (Step::Hello(1, 1), WELCOME),
+            (Step::AtTwo(&Step::Hello(1, 1)), WELCOME),
+            (
+                Step::Open(1, 0),
+                "scan 1.1 stream 1 generation 1 length 0, number 1",
+            ),
+            (
+                Step::Open(2, 0),
+                "scan 1.2 stream 2 generation 1 length 0, number 2",
+            ),
+            (Step::Open(1, 0), "number 3"),
+            (
+                Step::Disconnect,
+                "scan 1.3 stream 1 generation 1 length 0 port 2, scan 1.4 stream 2 generation 1 length 0 port 2",
+            ),
+            (Step::Hello(1, 1), WELCOME),
+            (
+                Step::AtTwo(&Step::Disconnect),
+                "scan 1.5 stream 1 generation 1 length 0, scan 1.6 stream 2 generation 1 length 0",
+            ),
+            (Step::AtTwo(&Step::Hello(1, 1)), WELCOME),
+            (
+                Step::Disconnect,
+                "scan 1.7 stream 1 generation 1 length 0 port 2, scan 1.8 stream 2 generation 1 length 0 port 2",
+            ),
+            (Step::Hello(1, 1), WELCOME),
+            (
+                Step::AtTwo(&Step::Disconnect),
+                "scan 1.9 stream 1 generation 1 length 0, scan 1.10 stream 2 generation 1 length 0",
+            ),
+            (Step::AtTwo(&Step::Hello(1, 1)), WELCOME),
+            (
+                Step::Disconnect,
+                "scan 1.11 stream 1 generation 1 length 0 port 2, scan 1.12 stream 2 generation 1 length 0 port 2",
+            ),
+            (Step::Hello(1, 1), WELCOME),
+            (
+                Step::AtTwo(&Step::Disconnect),
+                "scan 1.13 stream 1 generation 1 length 0, scan 1.14 stream 2 generation 1 length 0",
+            ),
+            (Step::AtTwo(&Step::Hello(1, 1)), WELCOME),
+            (
+                Step::Disconnect,
+                "scan 1.15 stream 1 generation 1 length 0 port 2, scan 1.16 stream 2 generation 1 length 0 port 2",
+            ),
+            (Step::Hello(1, 1), WELCOME),
+            (
+                Step::AtTwo(&Step::Disconnect),
+                "scan 1.17 stream 1 generation 1 length 0, scan 1.18 stream 2 generation 1 length 0",
+            ),
+            (Step::AtTwo(&Step::Hello(1, 1)), WELCOME),
+            (
+                Step::Disconnect,
+                "open 1 denied cause 8, open 2 denied cause 8, open 3 denied cause 8",
+            ),
+            (
+                Step::Open(1, 0),
+                "scan 1.19 stream 1 generation 1 length 0 port 2, number 4",
+            ),
+        ],
+        restart: None,
+        after: &[],
+    },
+    Row {
+        name: "the floor is one for both ports, and rises at whichever",
+        mode: Mode::FailClosed,
+        limit: FULL,
+        steps: &[
+            (Step::Write(1, 0, b"ABC"), ""),
+            (Step::Hello(1, 1), WELCOME),
+            (Step::Open(1, 0), ASKED),
+            (Step::AtTwo(&Step::Hello(1, 2)), WELCOME),
             (
                 Step::Clean(1, 1, 1),
-                "open 2 granted stream 1 generation 2 version 1 least 0",
+                "scan 1.2 stream 1 generation 2 length 3",
+            ),
+            (Step::AtTwo(&Step::Disconnect), ""),
+            (Step::AtTwo(&Step::Hello(1, 1)), "note OldVersion"),
+            (Step::AtTwo(&Step::Updated(3)), ""),
+            (Step::AtTwo(&Step::Hello(1, 2)), "note OldVersion"),
+            (Step::Updated(2), ""),
+            (
+                Step::Clean(1, 2, 3),
+                "open 1 granted stream 1 generation 2 version 3 least 0",
             ),
         ],
         restart: None,

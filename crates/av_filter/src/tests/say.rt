@@ -1,6 +1,6 @@
 // What a filter gives out, as text.
 use crate::{FilterFault, Note, Out};
-use av_base::{MessageId, Refusal};
+use av_base::{MessageId, Port, Refusal};
 use av_frame::{Body, Message};
 use av_pend::Answer;
 use std::alloc::{AllocError, Global};
@@ -29,7 +29,11 @@ fn tell(alloc: Global, out: &Out, text: &mut String) -> Result<(), AllocError> {
         add(text, answer_line(alloc, *answer)?.as_str())?;
     }
     for message in &out.messages {
-        add(text, message_line(alloc, message)?.as_str())?;
+        let mut line = message_line(alloc, message)?;
+        if message.port() == Port::Two {
+            line.push_str(" port 2")?;
+        }
+        add(text, line.as_str())?;
     }
     add(text, note_line(alloc, out.note)?.as_str())
 }

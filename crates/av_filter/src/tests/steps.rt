@@ -26,16 +26,21 @@ pub enum Step<'a> {
     Abort(u64, u64),
     Timeout(u64),
     Disconnect,
-    // The message of this step comes at the second port.
+    // This step comes at the second port: a message, or a disconnection.
     AtTwo(&'a Step<'a>),
 }
 
-// The message that a step sends, where it is one and its numbers are in range.
-pub fn message_of(step: Step<'_>) -> Option<Message> {
-    let (port, body) = match step {
-        Step::AtTwo(step) => (Port::Two, body_of(*step)?),
-        _ => (Port::One, body_of(step)?),
-    };
+// A step without its port, and the port.
+pub fn at_port(step: Step<'_>) -> (Port, Step<'_>) {
+    match step {
+        Step::AtTwo(step) => (Port::Two, *step),
+        _ => (Port::One, step),
+    }
+}
+
+// The message that a step sends at a port, where it is one and its numbers are in range.
+pub fn message_of(port: Port, step: Step<'_>) -> Option<Message> {
+    let body = body_of(step)?;
     if body.is_in_range() {
         Some(Message::new(port, body))
     } else {

@@ -12,6 +12,7 @@ invariant-opens l = record {
       ≡ l.initial.answers.items ++ all_told l.initial.table l.volume l.ending (opens_of (id_of l.initial.table.boot l.question) l.initial.table.pended);
   others : other_opens (id_of l.table.boot l.question) l.table.pended ≡ other_opens (id_of l.initial.table.boot l.question) l.initial.table.pended;
   rest : l.table ≡ record l.initial.table { pended = l.table.pended };
+  capacity : vec_capacity l.answers ≡ vec_capacity l.initial.answers;
   room : vec_len l.answers + length (opens_of (id_of l.table.boot l.question) l.table.pended) ≤ vec_capacity l.answers;
 }
 

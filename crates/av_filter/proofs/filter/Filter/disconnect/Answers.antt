@@ -8,4 +8,4 @@ pub returns-clause-fits : goal.returns-clause-fits
 unfolding filter_refusal filter_step
 returns-clause-fits c =
     let v = c.args.volume.now in
-    fits_always c.disconnect.result c.self.inside.table v c.disconnect.new.table v (Disconnects) (subst (λ t. Fits t v) (sym c.self.view_is) c.requires.fits) refl c.disconnect.ensures
+    fits_always c.disconnect.result c.self.inside.table v c.disconnect.new.table v (Disconnects c.args.port) (subst (λ t. Fits t v) (sym c.self.view_is) c.requires.fits) refl c.disconnect.ensures
