@@ -41,7 +41,7 @@ kept_with_event fit b t t' v v' e events kept room free table volume grown =
       volume = volume ∙ ap (λ (k : Kept). k.volume) there;
       legal = subst (IsFilterAudit first b.start) (sym grown) (legal-append first b.start b.events one kept.legal (subst (λ (k : Kept). IsFilterAudit k.table k.volume one) here (free, record { answers = refl; messages = refl; note = refl }, tt)));
       within = omega arith;
-      behind = omega (arith, kept.behind);
+      behind = λ p. omega (arith, kept.behind p);
       fits = subst (λ (x : Table). Fits x v') (sym table) (subst (λ (x : Store). Fits r.table x) (sym volume) (fit.events t v e kept.fits free));
     }
 

@@ -1,6 +1,7 @@
 -- What calls of the filter answer is what an event does.
 use Rattle.std.proofs.Common.{◌≡◌, ℕ, None, Result, Ok, Err, refl}
 use Rattle.std.specs.Result.{result_ok}
+use Rattle.av_base.specs.declared.port.Port.{Port}
 use Rattle.av_base.specs.declared.refusal.Refusal.{Refusal}
 use Rattle.av_base.specs.declared.refusal.Refusal.TheVariants.{Fault, NoMemory}
 use Rattle.av_filter.specs.Call.{Meets, MeetsAlways}
@@ -36,6 +37,6 @@ pub timed_out : {E : Type 0} (r : Result Out E) (t : Table) (v : Store) (t' : Ta
 unfolding filter_refusal
 timed_out r t v t' seq h = meets_always r t v t' (TimesOut seq) refl h
 
-pub disconnected : {E : Type 0} (r : Result Out E) (t : Table) (v : Store) (t' : Table) → MeetsAlways t v t' v r (disconnects t v) → Did t v t' v Disconnects (result_ok r)
+pub disconnected : {E : Type 0} (r : Result Out E) (t : Table) (v : Store) (t' : Table) (port : Port) → MeetsAlways t v t' v r (disconnects t v port) → Did t v t' v (Disconnects port) (result_ok r)
 unfolding filter_step filter_refusal
-disconnected r t v t' h = meets_always r t v t' Disconnects refl h
+disconnected r t v t' port h = meets_always r t v t' (Disconnects port) refl h

@@ -3,4 +3,5 @@ pub mod ClaimLemmas
 pub mod EventLemmas
 pub mod OpenLemmas
 pub mod OrderLemmas
+mod PortLemmas
 pub mod VersionLemmas

@@ -1,13 +1,16 @@
 -- Each open's note has its number, whatever it is answered.
 use Rattle.std.proofs.Common.{◌≡◌, ℕ, ◌+◌, not, Bool, true, false, cond, Option, None, Some, Ok, refl, ap, ◌∙◌}
+use Rattle.std.specs.Option.{is_some}
+use Rattle.av_base.specs.declared.port.Port.{Port}
 use Rattle.av_base.specs.declared.verdict.Verdict.{Verdict}
 use Rattle.av_cache.specs.Cache.{look}
 use Rattle.av_cache.specs.declared.entry.Entry.{Entry}
 use Rattle.av_filter.specs.Conduct.{Opens, filter_step}
-use Rattle.av_filter.specs.Opening.{open_asked, open_cached, open_found, open_judged, opened, taken}
+use Rattle.av_filter.specs.Opening.{open_asked, open_cached, open_found, open_judged, open_new, opened, taken}
 use Rattle.av_filter.specs.Reaction.{Reaction}
 use Rattle.av_filter.specs.declared.note.Note.TheVariants.{Submitted}
-use Rattle.av_filter_table.specs.Table.{Table, can_ask, context_of, current, has_room, question_of, raised}
+use Rattle.av_filter_table.specs.Ports.{least_port}
+use Rattle.av_filter_table.specs.Table.{Table, asking, context_of, current, has_room, question_of, raised}
 use Rattle.av_filter_table.specs.declared.question.Question.{Question}
 use Rattle.av_gate.proofs.BookLemmas.{told}
 use Rattle.av_gate.specs.Book.{Book, happens, state_of}
@@ -23,10 +26,16 @@ either : (n : ℕ) (b : Bool) (x y : Reaction) → Numbered n x → Numbered n y
 either n true x y p q = p
 either n false x y p q = q
 
+new : (t : Table) (v : Store) (s least : ℕ) (x : Stream) (b : Bool) (o : Option Port) → Numbered v.opens (open_new t v s least x b o)
+unfolding open_new
+new t v s least x false o = refl
+new t v s least x true None = refl
+new t v s least x true (Some port) = refl
+
 cached : (t : Table) (v : Store) (s least : ℕ) (x : Stream) (o : Option Entry) → Numbered v.opens (open_cached t v s least x o)
 unfolding open_cached
 cached t v s least x (Some e) = refl
-cached t v s least x None = either v.opens (not (has_room t)) _ _ refl (either v.opens (not t.connected) _ _ refl (either v.opens (not (can_ask t)) _ _ refl refl))
+cached t v s least x None = either v.opens (not (has_room t)) _ _ refl (new t v s least x (is_some (least_port t.connected)) (asking t))
 
 asked : (t : Table) (v : Store) (s least : ℕ) (x : Stream) (o : Option Question) → Numbered v.opens (open_asked t v s least x o)
 unfolding open_asked

@@ -23,7 +23,7 @@ event_called v (call.Write name offset bytes) = Changes (Write (stream_of v name
 event_called v (call.CleanUp name) = CleansUp (stream_of v name)
 event_called v (call.Receive m) = Receives m
 event_called v (call.TimeOut seq) = TimesOut seq
-event_called v call.Disconnect = Disconnects
+event_called v (call.Disconnect port) = Disconnects port
 
 -- the event at the call's place is the call, with the call's note
 abbrev pub Matches : Store → List FilterEntry → SeatCall → Type 0

@@ -1,7 +1,7 @@
 ghost use Rattle.std.specs.Prelude.{◌≡◌, IfOk};
 ghost use Rattle.av_gate.specs.declared.call.Call.TheVariants as call;
 
-use av_base::{ByteList, Version};
+use av_base::{ByteList, Port, Version};
 use av_frame::Message;
 use std::alloc::{AllocError, Global};
 
@@ -31,8 +31,10 @@ pub enum Call {
     TimeOut {
         seq: u64,
     },
-    /// The service is lost.
-    Disconnect,
+    /// The service of a port is lost.
+    Disconnect {
+        port: Port,
+    },
 }
 
 // Calls by copies of their arguments.

@@ -1,4 +1,4 @@
-use av_base::{ByteList, StreamId, Version};
+use av_base::{ByteList, Port, StreamId, Version};
 use av_frame::Message;
 
 /// What happened to the filter behind a gate. A name that no stream has is stream 0.
@@ -27,6 +27,8 @@ pub enum Event {
     TimeOut {
         seq: u64,
     },
-    /// The service was lost.
-    Disconnect,
+    /// The service of a port was lost.
+    Disconnect {
+        port: Port,
+    },
 }

@@ -8,9 +8,10 @@ ghost use Rattle.av_store.specs.Store.{mount_of};
 use crate::call::Call;
 use crate::fault::GateFault;
 use crate::locked::Locked;
+use crate::port_waits::PortWaits;
 use crate::seat::{Seat, SeatCall};
 use crate::settled::Settled;
-use av_base::{Limits, Mode, Refusal, Refused, Version};
+use av_base::{Limits, Mode, Port, Refusal, Refused, Version};
 use av_ends::{Floor, Ticket, TicketNote};
 use av_filter::Note;
 use av_frame::Message;
@@ -32,8 +33,8 @@ pub struct Gate {
     pub(crate) inner: Mutex<Inner>,
     // An open that was held has its answer.
     pub(crate) answered: Condvar,
-    // A message waits, or the gate was stopped.
-    pub(crate) sent: Condvar,
+    // A message of a port waits, or the gate was stopped.
+    pub(crate) sent: PortWaits,
     pub(crate) floor: Floor,
     pub(crate) limits: Limits,
     pub(crate) alloc: Global,
@@ -69,7 +70,7 @@ impl Gate {
         let gate = Gate {
             inner: Mutex::new(inner),
             answered: Condvar::new(),
-            sent: Condvar::new(),
+            sent: PortWaits::new(),
             floor,
             limits,
             alloc,
@@ -201,7 +202,8 @@ impl Gate {
         Ok(self.settle(seat, call, settled))
     }
 
-    /// The same, and wakes nobody who waits for messages: what it gave out is for the caller to take and to send.
+    /// The same, and wakes nobody who waits for messages of the port at which it came: what it gave out there is for the caller
+    /// to take and to send.
     pub fn message_quietly<R: Wait>(
         &self,
         rt: &R,
@@ -217,7 +219,7 @@ impl Gate {
     {
         let (call, settled) = self.receive(rt, alloc, seat, message)?;
         let quiet = Settled {
-            messages: 0,
+            messages: settled.messages.with(message.port(), 0),
             ..settled
         };
         Ok(self.settle(seat, call, quiet))
@@ -269,24 +271,26 @@ impl Gate {
         Ok(self.settle(seat, call, settled))
     }
 
-    /// The service is lost: AuditFull, NoMemory. Every open that is held is answered by the mode.
+    /// The service of a port is lost: AuditFull, NoMemory. Where the other port is connected, what was asked here is asked again
+    /// there, for opens that have a rescan left; else every open that is held is answered by the mode.
     pub fn disconnect<R: Wait>(
         &self,
         rt: &R,
         alloc: Global,
         seat: &mut Seat,
+        port: Port,
     ) -> Result<Note, Refusal<GateFault>>
         requires { IsSeatOf self.now seat.old }
         ensures same { IsSeatOf self.now seat.new }
         ensures later { floor_seen seat.old ≤ floor_seen seat.new }
-        ensures call { Adds seat.old seat.new call.Disconnect result }
+        ensures call { Adds seat.old seat.new (call.Disconnect port) result }
     {
-        let call = self.prepare(seat, Ok(Call::Disconnect))?;
+        let call = self.prepare(seat, Ok(Call::Disconnect { port }))?;
         let settled = self
             .inner
             .lock(rt)
             .locked
-            .disconnect(alloc, call.is_some())?;
+            .disconnect(alloc, call.is_some(), port)?;
         Ok(self.settle(seat, call, settled))
     }
 
@@ -330,9 +334,7 @@ impl Gate {
         if settled.answers > 0 {
             self.answered.notify_all();
         }
-        if settled.messages > 0 {
-            self.sent.notify_all();
-        }
+        self.sent.wake(settled.messages);
         seat.calls.push_reserved(SeatCall {
             place: settled.place,
             call,
@@ -384,25 +386,32 @@ impl Gate {
         unreachable!()
     }
 
-    /// The messages that wait to be sent to the service, in their order. Where memory refuses, they stay.
+    /// Whether a scanning service is connected at a port now.
+    pub fn connected<R: Wait>(&self, rt: &R, port: Port) -> bool {
+        self.inner.lock(rt).locked.connected(port)
+    }
+
+    /// The messages that wait to be sent to the service of a port, in their order. Where memory refuses, they stay.
     pub fn take_outgoing<R: Wait>(
         &self,
         rt: &R,
         alloc: Global,
+        port: Port,
     ) -> Result<Vec<Message>, AllocError> {
-        self.inner.lock(rt).locked.take_outgoing(alloc)
+        self.inner.lock(rt).locked.take_outgoing(alloc, port)
     }
 
-    /// Waits for messages and takes them out. None once the gate was stopped and none is left.
+    /// Waits for messages of a port and takes them out. None once the gate was stopped and none is left.
     pub fn wait_outgoing<R: Wait>(
         &self,
         rt: &R,
         alloc: Global,
+        port: Port,
     ) -> Result<Option<Vec<Message>>, AllocError>
         ensures some { IfOk result (λ waited. IfSome waited (λ messages. messages.items ≢ [])) }
     {
-        let mut inner = self.await_messages(rt);
-        let messages = inner.locked.take_outgoing(alloc)?;
+        let mut inner = self.await_messages(rt, port);
+        let messages = inner.locked.take_outgoing(alloc, port)?;
         Ok(if messages.is_empty() {
             None
         } else {
@@ -410,23 +419,25 @@ impl Gate {
         })
     }
 
-    /// Waits for messages and leaves them: whether some wait. They don't once the gate was stopped and none is left. So a caller
-    /// may take a lock of its own before it takes them out, and somebody else may have taken them by then.
-    pub fn await_outgoing<R: Wait>(&self, rt: &R) -> bool {
-        self.await_messages(rt).locked.has_outgoing()
+    /// Waits for messages of a port and leaves them: whether some wait. They don't once the gate was stopped and none is left. So
+    /// a caller may take a lock of its own before it takes them out, and somebody else may have taken them by then.
+    pub fn await_outgoing<R: Wait>(&self, rt: &R, port: Port) -> bool {
+        self.await_messages(rt, port).locked.has_outgoing(port)
     }
 
-    // Waits for messages, or until the gate is stopped.
-    fn await_messages<R: Wait>(&self, rt: &R) -> MutexGuard<'_, Inner> {
-        self.sent.wait_while(rt, self.inner.lock(rt), |inner| {
-            !inner.is_stopped && !inner.locked.has_outgoing()
-        })
+    // Waits for messages of a port, or until the gate is stopped.
+    fn await_messages<R: Wait>(&self, rt: &R, port: Port) -> MutexGuard<'_, Inner> {
+        self.sent
+            .at(port)
+            .wait_while(rt, self.inner.lock(rt), |inner| {
+                !inner.is_stopped && !inner.locked.has_outgoing(port)
+            })
     }
 
-    /// Ends the waits for messages, once those that wait were taken out, and the waits of `wait_or_stop`.
+    /// Ends the waits for messages of both ports, once those that wait were taken out, and the waits of `wait_or_stop`.
     pub fn stop<R: Wait>(&self, rt: &R) {
         self.inner.lock(rt).is_stopped = true;
-        self.sent.notify_all();
+        self.sent.wake_all();
         self.answered.notify_all();
     }
 

@@ -29,6 +29,6 @@ pub(crate) fn happen(
         Event::CleanUp { stream } => filter.cleanup(alloc, volume, *stream).ok(),
         Event::Receive { message } => filter.message(alloc, volume, message).ok(),
         Event::TimeOut { seq } => filter.timeout(alloc, volume, *seq).ok(),
-        Event::Disconnect => filter.disconnect(alloc, volume).ok(),
+        Event::Disconnect { port } => filter.disconnect(alloc, volume, *port).ok(),
     }
 }

@@ -2,7 +2,8 @@ ghost use Rattle.std.specs.Prelude.{◌≡◌, ◌≤◌, ◌<◌, ◌↔◌, le
 ghost use Rattle.av_base.specs.Answers.{Answers, Reads};
 ghost use Rattle.av_filter.specs.Conduct.{Changes, CleansUp, Disconnects, Opens, Receives, TimesOut};
 ghost use Rattle.av_filter.specs.declared.note.Note.TheVariants.{Submitted};
-ghost use Rattle.av_gate.specs.Book.{happens, opening, settled_of, state_of, stream_of, waiting_of};
+ghost use Rattle.av_filter_table.specs.Ports.{is_open};
+ghost use Rattle.av_gate.specs.Book.{happens, opening, sent_at, settled_of, state_of, stream_of, taken_to, waiting_of};
 ghost use Rattle.av_gate.specs.Claims.{IsLegal, Stands};
 ghost use Rattle.av_gate.specs.Events.{event_of};
 ghost use Rattle.av_gate.specs.Versions.{version_shown};
@@ -12,14 +13,15 @@ ghost use Rattle.av_store.specs.Store.{mount_of};
 
 use crate::answer_place::AnswerPlace;
 use crate::audit::Audit;
-use crate::copying::{messages_of, quiet_ones};
+use crate::copying::{count_each, messages_of, quiet_ones};
 use crate::entry::Entry;
 use crate::event::Event;
 use crate::fault::GateFault;
 use crate::happening::happen;
 use crate::naming::stream_of;
+use crate::port_counts::PortCounts;
 use crate::settled::Settled;
-use av_base::{ByteList, Limits, Mode, OpenId, Refusal, Refused, Version};
+use av_base::{ByteList, Limits, Mode, OpenId, Port, Refusal, Refused, Version};
 use av_ends::{Due, Receipt, Ticket};
 use av_filter::laws::{audits_answer_once, events_keep_fit};
 use av_filter::{Filter, FilterFault};
@@ -39,7 +41,8 @@ pub struct Locked {
     filter: Filter,
     volume: Volume,
     events: Vec<Entry>,
-    sent: usize,
+    // Of how many events the messages of each port were taken out.
+    sent: PortCounts,
     // The other ends of the tickets whose opens wait, by their opens' numbers.
     owed: BTreeMap<u64, Due>,
     // Where each open's answer stands, by the order of the opens. No contract sees it: what is found there is looked at.
@@ -89,7 +92,7 @@ impl Locked {
             filter,
             volume,
             events: Vec::new(alloc),
-            sent: 0,
+            sent: PortCounts::none(),
             owed: BTreeMap::new(alloc),
             places: Vec::new(alloc),
         })
@@ -212,20 +215,21 @@ impl Locked {
         self.add(alloc, has_room, Event::TimeOut { seq })
     }
 
-    /// The service is lost: AuditFull, NoMemory.
+    /// The service of a port is lost: AuditFull, NoMemory.
     #[tactic(auto, unfolding(av_filter::specs::Conduct::filter_refusal))]
     pub fn disconnect(
         &mut self,
         alloc: Global,
         has_room: bool,
+        port: Port,
     ) -> Result<Settled, Refusal<GateFault>>
-        ensures event { Answers self.old self.new result (happens self.old Disconnects) }
+        ensures event { Answers self.old self.new result (happens self.old (Disconnects port)) }
         ensures room { OnOk result (IsTrue has_room) }
     {
         if self.is_full() {
             return Err(Refusal::Fault(GateFault::AuditFull));
         }
-        self.add(alloc, has_room, Event::Disconnect)
+        self.add(alloc, has_room, Event::Disconnect { port })
     }
 
     // An event that nothing but memory refuses happens, and is kept.
@@ -251,7 +255,7 @@ impl Locked {
             note: out.note,
             floor: self.filter.floor(),
             answers: out.answers.len(),
-            messages: out.messages.len(),
+            messages: count_each(out.messages.as_slice()),
         };
         let before = self.start.opens();
         show(&mut self.owed, out.answers.as_slice());
@@ -288,25 +292,28 @@ impl Locked {
         self.events.len() as u64 >= self.limits.values().audit
     }
 
-    /// The messages that wait, in their order. Where memory refuses, they stay.
-    pub fn take_outgoing(&mut self, alloc: Global) -> Result<Vec<Message>, AllocError>
-        ensures ok { IfOk result (λ ms. ms.items ≡ waiting_of self.old) }
-        ensures after { OnOk result (self.new ≡ record self.old { sent = length self.old.events }) }
+    /// The messages of a port that wait, in their order; those of the other port stay. Where memory refuses, all do.
+    pub fn take_outgoing(&mut self, alloc: Global, port: Port) -> Result<Vec<Message>, AllocError>
+        ensures ok { IfOk result (λ ms. ms.items ≡ waiting_of port self.old) }
+        ensures after { OnOk result (self.new ≡ taken_to port (length self.old.events) self.old) }
         ensures err { OnErr result (self.new ≡ self.old) }
     {
-        let messages = messages_of(alloc, &self.events[self.sent..])?;
-        self.sent = self.events.len();
+        let sent = self.sent.at(port);
+        let messages = messages_of(alloc, &self.events[sent..], port)?;
+        self.sent = self.sent.with(port, self.events.len());
         Ok(messages)
     }
 
-    /// Whether a message waits. Events that sent none are passed over for good, so that none is looked at twice.
-    pub fn has_outgoing(&mut self) -> bool
-        ensures told { MatchBool result (waiting_of self.old ≢ []) (waiting_of self.old ≡ []) }
-        ensures sent { self.new ≡ record self.old { sent = self.new.sent } }
-        ensures waiting { waiting_of self.new ≡ waiting_of self.old }
+    /// Whether a message of a port waits. Events that sent none there are passed over for good, so that none is looked at twice.
+    pub fn has_outgoing(&mut self, port: Port) -> bool
+        ensures told { MatchBool result (waiting_of port self.old ≢ []) (waiting_of port self.old ≡ []) }
+        ensures sent { self.new ≡ taken_to port (sent_at port self.new) self.old }
+        ensures waiting { waiting_of port self.new ≡ waiting_of port self.old }
     {
-        self.sent += quiet_ones(&self.events[self.sent..]);
-        self.sent < self.events.len()
+        let sent = self.sent.at(port);
+        let next = sent + quiet_ones(&self.events[sent..], port);
+        self.sent = self.sent.with(port, next);
+        next < self.events.len()
     }
 
     /// The volume as the mount left it.
@@ -321,6 +328,13 @@ impl Locked {
         ensures { result.now ≡ self.now.events }
     {
         self.events.as_slice()
+    }
+
+    /// Whether a scanning service is connected at a port.
+    pub fn connected(&self, port: Port) -> bool
+        ensures { result ≡ is_open port (state_of self.now).table.connected }
+    {
+        self.filter.connected(port)
     }
 
     /// Whether a question runs.

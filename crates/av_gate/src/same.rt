@@ -44,8 +44,8 @@ pub(crate) fn is_called(event: &Event, call: &Call, volume: &Volume) -> bool
             Event::TimeOut { seq: found } => found == seq,
             _ => false,
         },
-        Call::Disconnect => match event {
-            Event::Disconnect => true,
+        Call::Disconnect { port } => match event {
+            Event::Disconnect { port: found } => found == port,
             _ => false,
         },
     }

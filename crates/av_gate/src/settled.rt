@@ -1,3 +1,4 @@
+use crate::port_counts::PortCounts;
 use av_base::Version;
 use av_filter::Note;
 
@@ -10,7 +11,7 @@ pub struct Settled {
     pub note: Note,
     /// The filter's floor after it.
     pub floor: Version,
-    /// How many answers and how many messages it gave out.
+    /// How many answers it gave out, and how many messages of each port.
     pub answers: usize,
-    pub messages: usize,
+    pub messages: PortCounts,
 }

@@ -8,7 +8,8 @@ ghost use Rattle.av_gate.specs.Seats.{IsSeatOf};
 use self::rows::{ROWS, Row};
 use self::said::{Said, Step, Told, message_of, what_is_said, what_is_told};
 use crate::{Audit, CloseFault, Event, Gate, GateFault, Seat, Unclosed};
-use av_base::{LimitField, LimitValues, Limits, Mode, Refusal, Refused, StreamId};
+use av_base::Port::{One, Two};
+use av_base::{LimitField, LimitValues, Limits, Mode, Port, Refusal, Refused, StreamId};
 use av_ends::{Receipt, Ticket};
 use av_fakes::{may_refuse, refuse_no_more};
 use av_filter::Note;
@@ -105,7 +106,7 @@ fn take<R: Wait>(
         Step::Write(name, offset, bytes) => gate.write(rt, alloc, seat, name, offset, bytes),
         Step::Cleanup(name) => gate.cleanup(rt, alloc, seat, name),
         Step::TimeOut(seq) => gate.timeout(rt, alloc, seat, seq),
-        Step::Disconnect => gate.disconnect(rt, alloc, seat),
+        Step::Disconnect(port) => gate.disconnect(rt, alloc, seat, port),
         _ => match message_of(step) {
             Some(message) => gate.message(rt, alloc, seat, &message),
             None => Ok(Note::Ignored),
@@ -149,8 +150,25 @@ fn answers_told(alloc: Global, tickets: &[Ticket]) -> Result<Vec<Told>, Fail> {
     Ok(all)
 }
 
-// Runs a row: whether each step said what it is to, what the tickets tell, and how many messages there were. What is left is
-// for the gate's end.
+// How many messages of a port are taken out. What memory refuses is taken again.
+fn taken_at<R: Wait>(rt: &R, alloc: Global, gate: &Gate, port: Port) -> Result<usize, Fail> {
+    may_refuse(alloc);
+    let first = gate.take_outgoing(rt, alloc, port);
+    refuse_no_more(alloc);
+    let messages = match first {
+        Ok(messages) => messages,
+        Err(_) => gate.take_outgoing(rt, alloc, port)?,
+    };
+    Ok(
+        messages
+            .iter()
+            .filter(|message| message.port() == port)
+            .count(),
+    )
+}
+
+// Runs a row: whether each step said what it is to, what the tickets tell, and how many messages there were of each port. What
+// is left is for the gate's end.
 fn run<R: Wait + Abort>(
     rt: &R,
     alloc: Global,
@@ -165,15 +183,13 @@ fn run<R: Wait + Abort>(
     assert_eq!(rt; apart, None, "{}", row.name);
     let told = answers_told(alloc, tickets.as_slice())?;
     assert_eq!(rt; told.as_slice(), row.told, "{}", row.name);
-    may_refuse(alloc);
-    let first = gate.take_outgoing(rt, alloc);
-    refuse_no_more(alloc);
-    let messages = match first {
-        Ok(messages) => messages,
-        Err(_) => gate.take_outgoing(rt, alloc)?,
-    };
-    assert_eq!(rt; messages.len(), row.messages, "{}", row.name);
-    assert_eq!(rt; gate.take_outgoing(rt, alloc)?.len(), 0, "{}", row.name);
+    for left in [row.messages, [0, 0]] {
+        let messages = [
+            taken_at(rt, alloc, gate, One)?,
+            taken_at(rt, alloc, gate, Two)?,
+        ];
+        assert_eq!(rt; messages, left, "{}", row.name);
+    }
     Ok((seats_of(alloc, seat)?, receipts_of(alloc, tickets)?))
 }
 
@@ -216,9 +232,9 @@ fn refused_or_not_every_row_is_answered_as_written(rt: HostRuntime) -> Result<()
 }
 
 const FULL: [(Step<'static>, Said); 5] = [
-    (Step::Hello(1), Said::Welcome),
+    (Step::Hello(One, 1), Said::Welcome),
     (Step::Open(b"a"), Said::Submitted(1)),
-    (Step::Clean(1, 1), Said::Quiet),
+    (Step::Clean(One, 1, 1), Said::Quiet),
     (Step::Open(b"a"), Said::AuditFull),
     (Step::Write(b"a", 9, b"A"), Said::AuditFull),
 ];
@@ -274,7 +290,7 @@ fn an_audit_holds_a_write_with_its_bytes(rt: HostRuntime) -> Result<(), Fail> {
         limit: (LimitField::Audit, 2),
         steps: &[(Step::Write(b"b", 1, b"XY"), Said::Quiet)],
         told: &[],
-        messages: 0,
+        messages: [0, 0],
         closing: None,
     };
     let Ok(audit) = run_closed(&rt, rt.alloc(), &row)? else {

@@ -1,10 +1,11 @@
-ghost use Rattle.std.specs.Prelude.{◌≡◌, ◌<◌, IfOk, IfSome, None};
+ghost use Rattle.std.specs.Prelude.{◌≡◌, ◌≤◌, ◌<◌, IfOk, IfSome, None};
 ghost use Rattle.av_desk.specs.Book.{compiled, state_of};
 ghost use Rattle.av_desk.specs.Call.{AddsOrReturns, fault_of, publish_fault};
 ghost use Rattle.av_service.specs.Audit.{Publishes, respond};
-ghost use Rattle.av_service.specs.Call.{MeetsAlways};
+ghost use Rattle.av_service.specs.Call.{Responds};
 ghost use Rattle.av_service.specs.Conduct.{service_step};
 ghost use Rattle.av_service.specs.Conduct as conduct;
+ghost use Rattle.av_service.specs.Room.{publishing};
 ghost use Rattle.av_sigset.specs.Publication.{publication_of};
 ghost use Rattle.av_sigset.specs.Set.{patterns_of};
 
@@ -16,7 +17,7 @@ use crate::shared::SharedAutomaton;
 use av_base::{Refusal, Refused, Version};
 use av_service::{Note, Service, ServiceOut};
 use av_sigset::{CatalogueFault, SignatureSet};
-use std::alloc::{AllocError, Global};
+use std::alloc::Global;
 use std::snapshot::Snapshot;
 
 impl Locked {
@@ -41,14 +42,16 @@ impl Locked {
         let Some(automaton) = built else {
             return Err(no_memory(set));
         };
-        if self.events.reserve(1).is_err() || self.catalogue.room(set.version()).is_err() {
+        let version = set.version();
+        if self.events.reserve(1).is_err()
+            || self.catalogue.room(version).is_err()
+            || self.service.room(version).is_err()
+        {
             return Err(no_memory(set));
         }
-        let Ok(out) = publish(&mut self.service, alloc, set.version()) else {
-            return Err(no_memory(set));
-        };
+        let out = publish(&mut self.service, alloc, version);
         let event = Event::Publish {
-            version: set.version(),
+            version,
             set: Snapshot::of(&set),
         };
         match self.catalogue.publish(set) {
@@ -74,11 +77,15 @@ impl Locked {
     }
 }
 
-// Tells the service of a publication, which gives out no work.
-fn publish(service: &mut Service, alloc: Global, version: Version) -> Result<ServiceOut, AllocError>
-    requires { service.old.desk.version < version }
-    ensures event { MeetsAlways service.old.desk service.new.desk result (service_step service.old.desk (conduct.Publishes version)) }
-    ensures silent { IfOk result (λ out. out.work ≡ None) }
+// Tells the service of a publication, for which it has room. It gives out no work.
+fn publish(service: &mut Service, alloc: Global, version: Version) -> ServiceOut
+    requires later { service.old.desk.version < version }
+    requires room { publishing service.old.desk ≤ service.old.room }
+    ensures event { Responds result service.new.desk (service_step service.old.desk (conduct.Publishes version)) }
+    ensures silent { result.work ≡ None }
 {
-    service.publish(alloc, version)
+    match service.publish(alloc, version) {
+        Ok(out) => out,
+        Err(_) => unreachable!(),
+    }
 }

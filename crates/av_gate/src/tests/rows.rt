@@ -1,6 +1,7 @@
 // Scripts of steps through one gate over the streams a and b, each at generation 2, and what comes of them.
 use crate::CloseFault;
 use crate::tests::said::{Said, Step, Told};
+use av_base::Port::{One, Two};
 use av_base::{Cause, LimitField, Mode};
 use av_store::StoreFault;
 
@@ -10,27 +11,27 @@ pub struct Row<'a> {
     pub mode: Mode,
     pub limit: (LimitField, u64),
     pub steps: &'a [(Step<'a>, Said)],
-    // What the tickets show at the end, and how many messages there were.
+    // What the tickets show at the end, and how many messages there were of each port.
     pub told: &'a [Told],
-    pub messages: usize,
+    pub messages: [usize; 2],
     // Why the gate is not closed.
     pub closing: Option<CloseFault>,
 }
 
-pub const ROWS: [Row<'static>; 10] = [
+pub const ROWS: [Row<'static>; 14] = [
     Row {
         name: "a question whose time is up is answered by the mode, and a late reply finds no waiter",
         mode: Mode::FailClosed,
         limit: (LimitField::Audit, 5),
         steps: &[
             (Step::Write(b"a", 0, b"XY"), Said::Quiet),
-            (Step::Hello(1), Said::Welcome),
+            (Step::Hello(One, 1), Said::Welcome),
             (Step::Open(b"a"), Said::Submitted(1)),
             (Step::TimeOut(1), Said::Quiet),
-            (Step::Clean(1, 1), Said::NoWaiter),
+            (Step::Clean(One, 1, 1), Said::NoWaiter),
         ],
         told: &[Told::Denied(Cause::TimedOut)],
-        messages: 2,
+        messages: [2, 0],
         closing: None,
     },
     Row {
@@ -39,13 +40,13 @@ pub const ROWS: [Row<'static>; 10] = [
         limit: (LimitField::Audit, 5),
         steps: &[
             (Step::Write(b"a", 0, b"XY"), Said::Quiet),
-            (Step::Hello(1), Said::Welcome),
+            (Step::Hello(One, 1), Said::Welcome),
             (Step::Open(b"a"), Said::Submitted(1)),
             (Step::TimeOut(1), Said::Quiet),
-            (Step::Clean(1, 1), Said::NoWaiter),
+            (Step::Clean(One, 1, 1), Said::NoWaiter),
         ],
         told: &[Told::Unscanned(3, Cause::TimedOut)],
-        messages: 2,
+        messages: [2, 0],
         closing: None,
     },
     Row {
@@ -54,9 +55,9 @@ pub const ROWS: [Row<'static>; 10] = [
         limit: (LimitField::Audit, 100),
         steps: &[
             (Step::Write(b"a", 0, b"XY"), Said::Quiet),
-            (Step::Hello(1), Said::Welcome),
+            (Step::Hello(One, 1), Said::Welcome),
             (Step::Open(b"a"), Said::Submitted(1)),
-            (Step::Disconnect, Said::Quiet),
+            (Step::Disconnect(One), Said::Quiet),
             (Step::Open(b"a"), Said::Submitted(2)),
             (Step::Open(b"c"), Said::Submitted(3)),
             (
@@ -70,7 +71,7 @@ pub const ROWS: [Row<'static>; 10] = [
             Told::Denied(Cause::NotConnected),
             Told::Denied(Cause::NoStream),
         ],
-        messages: 1,
+        messages: [1, 0],
         closing: None,
     },
     Row {
@@ -78,7 +79,7 @@ pub const ROWS: [Row<'static>; 10] = [
         mode: Mode::FailClosed,
         limit: (LimitField::Pended, 1),
         steps: &[
-            (Step::Hello(1), Said::Welcome),
+            (Step::Hello(One, 1), Said::Welcome),
             (Step::Write(b"a", 0, b"ABC"), Said::Quiet),
             (Step::Cleanup(b"a"), Said::Quiet),
             (Step::Cleanup(b"a"), Said::Quiet),
@@ -86,7 +87,7 @@ pub const ROWS: [Row<'static>; 10] = [
             (Step::Open(b"a"), Said::Submitted(2)),
         ],
         told: &[Told::Waits, Told::Denied(Cause::Busy)],
-        messages: 1,
+        messages: [1, 0],
         closing: Some(CloseFault::Held),
     },
     Row {
@@ -94,19 +95,19 @@ pub const ROWS: [Row<'static>; 10] = [
         mode: Mode::FailClosed,
         limit: (LimitField::Pended, 1),
         steps: &[
-            (Step::Hello(1), Said::Welcome),
+            (Step::Hello(One, 1), Said::Welcome),
             (Step::Write(b"a", 0, b"ABC"), Said::Quiet),
             (Step::Cleanup(b"a"), Said::Quiet),
             (Step::Cleanup(b"a"), Said::Quiet),
             (Step::Open(b"a"), Said::Submitted(1)),
             (Step::Open(b"a"), Said::Submitted(2)),
-            (Step::Disconnect, Said::Quiet),
+            (Step::Disconnect(One), Said::Quiet),
         ],
         told: &[
             Told::Denied(Cause::PortDisconnected),
             Told::Denied(Cause::Busy),
         ],
-        messages: 1,
+        messages: [1, 0],
         closing: None,
     },
     Row {
@@ -114,15 +115,15 @@ pub const ROWS: [Row<'static>; 10] = [
         mode: Mode::FailClosed,
         limit: (LimitField::Audit, 3),
         steps: &[
-            (Step::Hello(1), Said::Welcome),
+            (Step::Hello(One, 1), Said::Welcome),
             (Step::Open(b"a"), Said::Submitted(1)),
-            (Step::Clean(1, 1), Said::Quiet),
+            (Step::Clean(One, 1, 1), Said::Quiet),
             (Step::Open(b"a"), Said::AuditFull),
             (Step::Write(b"a", 9, b"A"), Said::AuditFull),
-            (Step::Disconnect, Said::AuditFull),
+            (Step::Disconnect(One), Said::AuditFull),
         ],
         told: &[Told::Granted(2, 1)],
-        messages: 1,
+        messages: [1, 0],
         closing: None,
     },
     Row {
@@ -131,17 +132,17 @@ pub const ROWS: [Row<'static>; 10] = [
         limit: (LimitField::Audit, 2),
         steps: &[
             (Step::Write(b"a", 9, b"A"), Said::Refused(StoreFault::Hole)),
-            (Step::Hello(1), Said::Welcome),
-            (Step::Disconnect, Said::Quiet),
+            (Step::Hello(One, 1), Said::Welcome),
+            (Step::Disconnect(One), Said::Quiet),
             (Step::Open(b"a"), Said::AuditFull),
             (Step::Write(b"c", 0, b"A"), Said::AuditFull),
             (Step::Cleanup(b"a"), Said::AuditFull),
-            (Step::Hello(1), Said::AuditFull),
+            (Step::Hello(One, 1), Said::AuditFull),
             (Step::TimeOut(1), Said::AuditFull),
-            (Step::Disconnect, Said::AuditFull),
+            (Step::Disconnect(One), Said::AuditFull),
         ],
         told: &[],
-        messages: 0,
+        messages: [0, 0],
         closing: None,
     },
     Row {
@@ -149,15 +150,15 @@ pub const ROWS: [Row<'static>; 10] = [
         mode: Mode::FailClosed,
         limit: (LimitField::Audit, 100),
         steps: &[
-            (Step::Hello(1), Said::Welcome),
+            (Step::Hello(One, 1), Said::Welcome),
             (Step::Open(b"a"), Said::Submitted(1)),
             (Step::Write(b"a", 3, b"D"), Said::Quiet),
-            (Step::Clean(1, 1), Said::NoWaiter),
-            (Step::Clean(2, 1), Said::Quiet),
+            (Step::Clean(One, 1, 1), Said::NoWaiter),
+            (Step::Clean(One, 2, 1), Said::Quiet),
             (Step::Open(b"a"), Said::Submitted(2)),
         ],
         told: &[Told::Granted(3, 1), Told::Granted(3, 1)],
-        messages: 3,
+        messages: [3, 0],
         closing: None,
     },
     Row {
@@ -165,16 +166,79 @@ pub const ROWS: [Row<'static>; 10] = [
         mode: Mode::FailClosed,
         limit: (LimitField::Audit, 100),
         steps: &[
-            (Step::Hello(1), Said::Welcome),
+            (Step::Hello(One, 1), Said::Welcome),
             (Step::Open(b"a"), Said::Submitted(1)),
-            (Step::Updated(2), Said::Quiet),
-            (Step::Clean(1, 1), Said::Quiet),
+            (Step::Updated(One, 2), Said::Quiet),
+            (Step::Clean(One, 1, 1), Said::Quiet),
             (Step::Open(b"b"), Said::Submitted(2)),
-            (Step::Clean(2, 2), Said::Quiet),
-            (Step::Clean(3, 2), Said::Quiet),
+            (Step::Clean(One, 2, 2), Said::Quiet),
+            (Step::Clean(One, 3, 2), Said::Quiet),
         ],
         told: &[Told::Granted(2, 2), Told::Granted(2, 2)],
-        messages: 3,
+        messages: [3, 0],
+        closing: None,
+    },
+    Row {
+        name: "the first port is lost: what was asked there is asked at the other",
+        mode: Mode::FailClosed,
+        limit: (LimitField::Audit, 100),
+        steps: &[
+            (Step::Hello(One, 1), Said::Welcome),
+            (Step::Hello(Two, 1), Said::Welcome),
+            (Step::Open(b"a"), Said::Submitted(1)),
+            (Step::Open(b"b"), Said::Submitted(2)),
+            (Step::Disconnect(One), Said::Quiet),
+            (Step::Clean(One, 1, 1), Said::NoWaiter),
+            (Step::Clean(Two, 3, 1), Said::Quiet),
+            (Step::Clean(Two, 4, 1), Said::Quiet),
+        ],
+        told: &[Told::Granted(2, 1), Told::Granted(2, 1)],
+        messages: [2, 2],
+        closing: None,
+    },
+    Row {
+        name: "the spare is lost first and then the other: what can't be judged is let through",
+        mode: Mode::FailOpen,
+        limit: (LimitField::Audit, 5),
+        steps: &[
+            (Step::Hello(One, 1), Said::Welcome),
+            (Step::Hello(Two, 1), Said::Welcome),
+            (Step::Open(b"a"), Said::Submitted(1)),
+            (Step::Disconnect(Two), Said::Quiet),
+            (Step::Disconnect(One), Said::Quiet),
+        ],
+        told: &[Told::Unscanned(2, Cause::PortDisconnected)],
+        messages: [1, 0],
+        closing: None,
+    },
+    Row {
+        name: "a question is asked at the spare where that alone is connected, and a reply at the other port finds no waiter",
+        mode: Mode::FailClosed,
+        limit: (LimitField::Audit, 100),
+        steps: &[
+            (Step::Hello(Two, 1), Said::Welcome),
+            (Step::Open(b"a"), Said::Submitted(1)),
+            (Step::Clean(One, 1, 1), Said::NoWaiter),
+            (Step::Clean(Two, 1, 1), Said::Quiet),
+        ],
+        told: &[Told::Granted(2, 1)],
+        messages: [0, 1],
+        closing: None,
+    },
+    Row {
+        name: "a write moves a question of the spare to the first port, and the spare is told to give it up",
+        mode: Mode::FailClosed,
+        limit: (LimitField::Audit, 100),
+        steps: &[
+            (Step::Hello(Two, 1), Said::Welcome),
+            (Step::Open(b"a"), Said::Submitted(1)),
+            (Step::Hello(One, 1), Said::Welcome),
+            (Step::Write(b"a", 3, b"D"), Said::Quiet),
+            (Step::Clean(Two, 2, 1), Said::NoWaiter),
+            (Step::Clean(One, 2, 1), Said::Quiet),
+        ],
+        told: &[Told::Granted(3, 1)],
+        messages: [1, 2],
         closing: None,
     },
     Row {
@@ -183,7 +247,7 @@ pub const ROWS: [Row<'static>; 10] = [
         limit: (LimitField::Audit, 1),
         steps: &[],
         told: &[],
-        messages: 0,
+        messages: [0, 0],
         closing: None,
     },
 ];

@@ -12,13 +12,13 @@ pub enum Step<'a> {
     // name, offset, bytes
     Write(&'a [u8], u64, &'a [u8]),
     Cleanup(&'a [u8]),
-    // version
-    Hello(u64),
-    Updated(u64),
-    // question, version
-    Clean(u64, u64),
+    // port, version
+    Hello(Port, u64),
+    Updated(Port, u64),
+    // port, question, version
+    Clean(Port, u64, u64),
     TimeOut(u64),
-    Disconnect,
+    Disconnect(Port),
 }
 
 #[derive(Clone, Copy, PartialEq, Eq, Debug)]
@@ -103,26 +103,39 @@ pub fn what_is_told(answer: Option<&Answer>) -> Told {
 
 // The message of a step that is one, where its numbers are in range.
 pub fn message_of(step: Step<'_>) -> Option<Message> {
-    let body = match step {
-        Step::Hello(version) => Body::Hello {
-            volume: 1,
-            version: Version::new(version),
-        },
-        Step::Updated(version) => Body::Updated {
-            version: Version::new(version),
-        },
-        Step::Clean(seq, version) => Body::Reply {
-            id: MessageId { boot: 1, seq },
-            outcome: Outcome::Judged {
-                version: Version::new(version),
-                verdict: Verdict::Clean,
-            },
-        },
-        _ => return None,
-    };
+    let (port, body) = fields_of(step)?;
     if body.is_in_range() {
-        Some(Message::new(Port::One, body))
+        Some(Message::new(port, body))
     } else {
         None
+    }
+}
+
+fn fields_of(step: Step<'_>) -> Option<(Port, Body)> {
+    match step {
+        Step::Hello(port, version) => {
+            let hello = Body::Hello {
+                volume: 1,
+                version: Version::new(version),
+            };
+            Some((port, hello))
+        }
+        Step::Updated(port, version) => {
+            let updated = Body::Updated {
+                version: Version::new(version),
+            };
+            Some((port, updated))
+        }
+        Step::Clean(port, seq, version) => {
+            let reply = Body::Reply {
+                id: MessageId { boot: 1, seq },
+                outcome: Outcome::Judged {
+                    version: Version::new(version),
+                    verdict: Verdict::Clean,
+                },
+            };
+            Some((port, reply))
+        }
+        _ => None,
     }
 }

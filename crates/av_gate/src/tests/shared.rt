@@ -5,7 +5,8 @@ ghost use Rattle.av_gate.specs.Seats.{IsSeatOf};
 use super::said::{Step, Told, message_of, what_is_told};
 use super::{closed, gate_of_two, take};
 use crate::{Audit, CloseFault, Gate, GateFault, Seat};
-use av_base::{Limits, Mode, Refusal};
+use av_base::Port::{One, Two};
+use av_base::{Limits, Mode, Port, Refusal};
 use av_ends::{Receipt, Ticket};
 use av_filter::Note;
 use std::alloc::Global;
@@ -60,10 +61,10 @@ fn two_seats<R: Threads + Wait + Abort + Sync>(
 ) -> Result<(Vec<Seat>, Vec<Receipt>), Fail>
     requires { IsSeatOf gate.now seat }
 {
-    happens(rt, alloc, gate, &mut seat, Step::Hello(1))?;
+    happens(rt, alloc, gate, &mut seat, Step::Hello(One, 1))?;
     assert_eq!(rt; gate.floor(&mut seat).get(), 1);
     let first_b = gate.open(rt, alloc, &mut seat, b"b")?;
-    happens(rt, alloc, gate, &mut seat, Step::Clean(1, 1))?;
+    happens(rt, alloc, gate, &mut seat, Step::Clean(One, 1, 1))?;
     assert_eq!(rt; shown(&first_b), Told::Granted(2, 1));
     let held = gate.open(rt, alloc, &mut seat, b"a")?;
     assert_eq!(rt; shown(&held), Told::Waits);
@@ -79,15 +80,15 @@ fn two_seats<R: Threads + Wait + Abort + Sync>(
     let (mut other, second_b) = theirs?;
     assert_eq!(rt; shown(&second_b), Told::Granted(2, 1));
     assert_eq!(rt; shown(&held), Told::Waits);
-    happens(rt, alloc, gate, &mut seat, Step::Clean(2, 1))?;
+    happens(rt, alloc, gate, &mut seat, Step::Clean(One, 2, 1))?;
     let mut note = held.note();
     assert_eq!(rt; what_is_told(held.poll(&mut note)), Told::Granted(2, 1));
     assert_eq!(rt; what_is_told(held.poll(&mut note)), Told::Granted(2, 1));
     happens(rt, alloc, gate, &mut other, Step::Write(b"b", 0, b"D"))?;
     let third_b = gate.open(rt, alloc, &mut other, b"b")?;
-    happens(rt, alloc, gate, &mut seat, Step::Clean(3, 1))?;
+    happens(rt, alloc, gate, &mut seat, Step::Clean(One, 3, 1))?;
     assert_eq!(rt; shown(&third_b), Told::Granted(3, 1));
-    assert_eq!(rt; gate.take_outgoing(rt, alloc)?.len(), 3);
+    assert_eq!(rt; gate.take_outgoing(rt, alloc, One)?.len(), 3);
     let mut seats = Vec::new(alloc);
     seats.push(seat)?;
     seats.push(other)?;
@@ -142,17 +143,19 @@ fn answered_quietly<R: Wait + Abort>(
 ) -> Result<(Vec<Seat>, Vec<Receipt>), Fail>
     requires { IsSeatOf gate.now seat }
 {
-    let (Some(hello), Some(clean)) = (message_of(Step::Hello(1)), message_of(Step::Clean(1, 1)))
-    else {
+    let (Some(hello), Some(clean)) = (
+        message_of(Step::Hello(One, 1)),
+        message_of(Step::Clean(One, 1, 1)),
+    ) else {
         return Err(Fail::new("no message"));
     };
     let note = gate.message_quietly(rt, alloc, &mut seat, &hello)?;
     assert_eq!(rt; (note, gate.floor(&mut seat).get()), (Note::Welcome, 1));
     let ticket = gate.open(rt, alloc, &mut seat, b"a")?;
-    assert!(rt; gate.await_outgoing(rt) && gate.await_outgoing(rt));
-    assert_eq!(rt; gate.take_outgoing(rt, alloc)?.len(), 1);
+    assert!(rt; gate.await_outgoing(rt, One) && gate.await_outgoing(rt, One));
+    assert_eq!(rt; gate.take_outgoing(rt, alloc, One)?.len(), 1);
     gate.stop(rt);
-    assert!(rt; !gate.await_outgoing(rt));
+    assert!(rt; !gate.await_outgoing(rt, One));
     gate.message_quietly(rt, alloc, &mut seat, &clean)?;
     assert_eq!(rt; shown(&ticket), Told::Granted(2, 1));
     let mut seats = Vec::new(alloc);
@@ -183,7 +186,7 @@ fn denied_once<R: Wait>(
 {
     let mut other = gate.seat(&mut seat);
     let ticket = gate.open(rt, alloc, &mut seat, b"a")?;
-    happens(rt, alloc, gate, &mut other, Step::Disconnect)?;
+    happens(rt, alloc, gate, &mut other, Step::Disconnect(One))?;
     let mut seats = Vec::new(alloc);
     seats.push(seat)?;
     seats.push(other)?;
@@ -255,7 +258,7 @@ fn asked_only<R: Wait>(
 ) -> Result<(Vec<Seat>, Vec<Receipt>), Fail>
     requires { IsSeatOf gate.now seat }
 {
-    happens(rt, alloc, gate, &mut seat, Step::Hello(1))?;
+    happens(rt, alloc, gate, &mut seat, Step::Hello(One, 1))?;
     let _ticket = gate.open(rt, alloc, &mut seat, b"a")?;
     let mut seats = Vec::new(alloc);
     seats.push(seat)?;
@@ -272,7 +275,7 @@ fn raises<R: Wait>(
     requires { IsSeatOf gate.now seat }
 {
     for version in 1..101u64 {
-        happens(rt, alloc, gate, &mut seat, Step::Updated(version))?;
+        happens(rt, alloc, gate, &mut seat, Step::Updated(One, version))?;
         thread::yield_now();
     }
     Ok(seat)
@@ -328,12 +331,13 @@ fn a_floor_that_is_read_while_it_rises_never_goes_back(rt: HostRuntime) -> Resul
     Ok(())
 }
 
-// Replies to the questions of these numbers, under version 1.
+// Replies at a port to the questions of these numbers, under version 1.
 fn replies<R: Wait>(
     rt: &R,
     alloc: Global,
     gate: &Gate,
     seat: &mut Seat,
+    port: Port,
     first: u64,
     end: u64,
 ) -> Result<(), Refusal<GateFault>>
@@ -341,44 +345,49 @@ fn replies<R: Wait>(
     ensures { IsSeatOf gate.now seat.new }
 {
     for seq in first..end {
-        happens(rt, alloc, gate, seat, Step::Clean(seq, 1))?;
+        happens(rt, alloc, gate, seat, Step::Clean(port, seq, 1))?;
     }
     Ok(())
 }
 
-// Replies to each question as its message comes, until the gate is stopped.
+// Replies to each question of a port as its message comes, from this number on, until the gate is stopped.
 fn serves<R: Wait>(
     rt: &R,
     alloc: Global,
     gate: &Gate,
     mut seat: Seat,
+    port: Port,
+    first: u64,
 ) -> Result<Seat, Refusal<GateFault>>
     requires { IsSeatOf gate.now seat }
 {
-    let mut next: u64 = 1;
+    let mut next = first;
     for _ in rt.forever() {
-        let Some(messages) = gate.wait_outgoing(rt, alloc)? else {
+        let Some(messages) = gate.wait_outgoing(rt, alloc, port)? else {
             return Ok(seat);
         };
         let end = next.saturating_add(messages.len() as u64);
-        replies(rt, alloc, gate, &mut seat, next, end)?;
+        replies(rt, alloc, gate, &mut seat, port, next, end)?;
         next = end;
     }
     Ok(seat)
 }
 
-// Opens both streams, waits for the answers, and stops the gate.
+// Opens both streams, loses a port where it is said to, waits for the answers, and stops the gate.
 fn opens_both<R: Wait>(
     rt: &R,
     alloc: Global,
     gate: &Gate,
     mut seat: Seat,
+    lost: Option<Port>,
 ) -> Result<(Seat, Told, Told), Refusal<GateFault>>
     requires { IsSeatOf gate.now seat }
 {
-    happens(rt, alloc, gate, &mut seat, Step::Hello(1))?;
     let first = gate.open(rt, alloc, &mut seat, b"a")?;
     let second = gate.open(rt, alloc, &mut seat, b"b")?;
+    if let Some(port) = lost {
+        gate.disconnect(rt, alloc, &mut seat, port)?;
+    }
     let mut note = first.note();
     let one = what_is_told(Some(gate.wait(rt, &first, &mut note)));
     let mut note = second.note();
@@ -387,11 +396,15 @@ fn opens_both<R: Wait>(
     Ok((seat, one, other))
 }
 
+// Two opens that wait for the service of a port, which replies in a thread of its own to questions from a number on.
 fn served<R: Threads + Wait + Abort + Sync>(
     rt: &R,
     alloc: Global,
     gate: &Gate,
     mut seat: Seat,
+    port: Port,
+    first: u64,
+    lost: Option<Port>,
 ) -> Result<(Vec<Seat>, Vec<Receipt>), Fail>
     requires { IsSeatOf gate.now seat }
 {
@@ -400,10 +413,10 @@ fn served<R: Threads + Wait + Abort + Sync>(
         rt,
         move ||
             requires { IsSeatOf gate.now seat }
-        { opens_both(rt, alloc, gate, seat) },
+        { opens_both(rt, alloc, gate, seat, lost) },
         move ||
             requires { IsSeatOf gate.now other }
-        { serves(rt, alloc, gate, other) },
+        { serves(rt, alloc, gate, other, port, first) },
     );
     let other = service?;
     let (seat, one, two) = opened?;
@@ -414,11 +427,49 @@ fn served<R: Threads + Wait + Abort + Sync>(
     Ok((seats, Vec::new(alloc)))
 }
 
+// The service of the first port greets.
+fn served_alone<R: Threads + Wait + Abort + Sync>(
+    rt: &R,
+    alloc: Global,
+    gate: &Gate,
+    mut seat: Seat,
+) -> Result<(Vec<Seat>, Vec<Receipt>), Fail>
+    requires { IsSeatOf gate.now seat }
+{
+    happens(rt, alloc, gate, &mut seat, Step::Hello(One, 1))?;
+    served(rt, alloc, gate, seat, One, 1, None)
+}
+
+// Both greet, and the first port is lost behind the opens.
+fn served_by_the_spare<R: Threads + Wait + Abort + Sync>(
+    rt: &R,
+    alloc: Global,
+    gate: &Gate,
+    mut seat: Seat,
+) -> Result<(Vec<Seat>, Vec<Receipt>), Fail>
+    requires { IsSeatOf gate.now seat }
+{
+    happens(rt, alloc, gate, &mut seat, Step::Hello(One, 1))?;
+    assert!(rt; gate.connected(rt, One) && !gate.connected(rt, Two));
+    happens(rt, alloc, gate, &mut seat, Step::Hello(Two, 1))?;
+    assert!(rt; gate.connected(rt, One) && gate.connected(rt, Two));
+    served(rt, alloc, gate, seat, Two, 3, Some(One))
+}
+
 #[test]
 fn openers_and_the_service_wait_for_each_other(rt: HostRuntime) -> Result<(), Fail> {
     let alloc = rt.alloc();
     let (gate, seat) = gate_of_two(alloc, Mode::FailClosed, Limits::greatest())?;
-    let left = served(&rt, alloc, &gate, seat);
+    let left = served_alone(&rt, alloc, &gate, seat);
     assert_eq!(rt; count(end(gate, left)?), Ok(5));
+    Ok(())
+}
+
+#[test]
+fn a_spare_is_woken_for_what_is_asked_again_there(rt: HostRuntime) -> Result<(), Fail> {
+    let alloc = rt.alloc();
+    let (gate, seat) = gate_of_two(alloc, Mode::FailClosed, Limits::greatest())?;
+    let left = served_by_the_spare(&rt, alloc, &gate, seat);
+    assert_eq!(rt; count(end(gate, left)?), Ok(7));
     Ok(())
 }
