@@ -1,6 +1,7 @@
 -- How much a call of the filter answers: no more than opens wait, and one. And that an open takes a number.
 use Rattle.std.proofs.Common.{ℕ, ◌≡◌, ◌+◌, ◌≤◌, length, arith, ap, ◌∙◌}
 use Rattle.std.specs.Prelude.{Result, Ok, Err, IfOk}
+use Rattle.av_base.specs.declared.port.Port.{Port}
 use Rattle.av_filter.proofs.BoundLemmas.{leads_to}
 use Rattle.av_filter.proofs.RoomLemmas.{small_reaction}
 use Rattle.av_filter.specs.Call.{MeetsAlways, Reacts}
@@ -24,9 +25,9 @@ pub few_opened : (out : Out) (t t' : Table) (v v' : Store) (s least : ℕ) → R
 unfolding filter_step
 few_opened out t t' v v' s least reacts = few out t t' v v' (Opens s least) reacts
 
-pub few_disconnected : (out : Out) (t t' : Table) (v v' : Store) → Reacts out t' v' (disconnects t v) → length out.answers.items ≤ length t.pended + 1
+pub few_disconnected : (out : Out) (t t' : Table) (v v' : Store) (port : Port) → Reacts out t' v' (disconnects t v port) → length out.answers.items ≤ length t.pended + 1
 unfolding filter_step
-few_disconnected out t t' v v' reacts = few out t t' v v' Disconnects reacts
+few_disconnected out t t' v v' port reacts = few out t t' v v' (Disconnects port) reacts
 
 pub few_told : {E : Type 0} (r : Result Out E) (t t' : Table) (v v' : Store) (m : Letter) → MeetsAlways t v t' v' r (receives t v m) → IfOk r (λ out. length out.answers.items ≤ length t.pended + 1)
 few_told (Ok out) t t' v v' m reacts = few_received out t t' v v' m reacts

@@ -7,10 +7,13 @@ use Rattle.std.proofs.KnownBytes.{Appends-nil, Appends-trans}
 use Rattle.std.proofs.lemmas.Grind.{flat_map-append}
 use Rattle.std.proofs.lemmas.List.{map-append}
 use Rattle.av_base.proofs.DeviceLemmas.{prefix_after}
+use Rattle.av_base.specs.Port.{same_port}
+use Rattle.av_base.specs.declared.port.Port.TheVariants.{One}
 use Rattle.av_base.specs.Device.{AppendsPrefix}
 use Rattle.av_filter.specs.Call.{Reacts}
 use Rattle.av_filter.specs.Conduct.{FilterEvent, Disconnects, Opens, Receives, filter_step}
 use Rattle.av_filter.specs.declared.out.Out.{Out}
+use Rattle.av_filter_table.specs.Ports.{is_open}
 use Rattle.av_filter_table.specs.Table.{Table}
 use Rattle.av_frame.specs.Laws.{FaultStays}
 use Rattle.av_frame.specs.Message.{Letter}
@@ -157,19 +160,40 @@ amid_event e out t t' v v' answers mid given reacts same kept = record {
   };
 }
 
+-- what a message of this port brings
+abbrev brought : List ℕ → Standing → Letter → List FilterEvent
+brought opens s m = Receives m ∷ due opens s.submitted (happened s.led (Receives m)).table
+
+brings : (opens : List ℕ) (s : Standing) (m : Letter) → same_port m.port One ≡ true → events_of opens s m ≡ brought opens s m
+brings opens s m here = ap (λ b. cond b (brought opens s m) []) here
+
+-- and where it leads
+hears_here : (opens : List ℕ) (s : Standing) (m : Letter) → same_port m.port One ≡ true → heard opens s m ≡ joined opens s.submitted (happened s.led (Receives m))
+hears_here opens s m here = ap (λ b. cond b (joined opens s.submitted (happened s.led (Receives m))) s) here
+
+-- one of the other port leads nowhere
+pub hears_other : (opens : List ℕ) (m : Letter) (t : Table) (v : Store) (answers : List Answer) (submitted : Bool) (waits : List ℕ) → same_port m.port One ≡ false
+    → Hears (heard opens (standing t v answers submitted) m) t v answers submitted waits waits
+hears_other opens m t v answers submitted waits other =
+    let s = standing t v answers submitted in
+    subst (λ k. Hears k t v answers submitted waits waits) (sym (ap (λ b. cond b (joined opens s.submitted (happened s.led (Receives m))) s) other))
+    (record { puts = record { at = record { table = refl; volume = refl; answered = refl }; sent = sym (append-nil waits) }; submitted_is = refl })
+
 -- memory was refused to one of the opens behind a message
 pub amid_joined : (opens : List ℕ) (s : Standing) (m : Letter) (t t' : Table) (v v' : Store) (answers answers' : List Answer) (before : Bool)
-    → IsAt (happened s.led (Receives m)) t v answers → before ≡ s.submitted
+    → same_port m.port One ≡ true → IsAt (happened s.led (Receives m)) t v answers → before ≡ s.submitted
     → IsAmid (unled t v answers) (due opens before t) t' v' answers' → IsAmid s.led (events_of opens s m) t' v' answers'
-amid_joined opens s m t t' v v' answers answers' before first same second =
+amid_joined opens s m t t' v v' answers answers' before here first same second =
     let all : due opens before t ≡ due opens s.submitted (happened s.led (Receives m)).table =
     ap (λ b. due opens b t) same ∙ ap (due opens s.submitted) first.table in
-    amid_then s.led (Receives m ∷ []) _ t t' v v' answers answers' first (subst (λ es. IsAmid (unled t v answers) es t' v' answers') all second)
+    subst (λ es. IsAmid s.led es t' v' answers') (sym (brings opens s m here))
+    (amid_then s.led (Receives m ∷ []) _ t t' v v' answers answers' first (subst (λ es. IsAmid (unled t v answers) es t' v' answers') all second))
 
 -- or to the message
-pub amid_received : (opens : List ℕ) (s : Standing) (m : Letter) (t' : Table) (v' : Store) (answers' : List Answer) → IsAmid s.led (Receives m ∷ []) t' v' answers' → IsAmid s.led (events_of opens s m) t' v' answers'
-amid_received opens s m t' v' answers' amid =
-    amid_more s.led (Receives m ∷ []) (due opens s.submitted (happened s.led (Receives m)).table) (events_of opens s m) t' v' answers' refl amid
+pub amid_received : (opens : List ℕ) (s : Standing) (m : Letter) (t' : Table) (v' : Store) (answers' : List Answer) → same_port m.port One ≡ true
+    → IsAmid s.led (Receives m ∷ []) t' v' answers' → IsAmid s.led (events_of opens s m) t' v' answers'
+amid_received opens s m t' v' answers' here amid =
+    amid_more s.led (Receives m ∷ []) (due opens s.submitted (happened s.led (Receives m)).table) (events_of opens s m) t' v' answers' (sym (brings opens s m here)) amid
 
 -- ---- messages one by one
 
@@ -185,14 +209,14 @@ joined_by false submitted es w x = refl
 
 -- what joins behind a message
 pub hears_joined : (opens : List ℕ) (s : Standing) (m : Letter) (t t' : Table) (v v' : Store) (answers answers' : List Answer) (waited waits more : List ℕ) (before submitted : Bool)
-    → Puts (happened s.led (Receives m)) t v answers waited waits → before ≡ s.submitted
+    → same_port m.port One ≡ true → Puts (happened s.led (Receives m)) t v answers waited waits → before ≡ s.submitted
     → Hears (joined opens before (unled t v answers)) t' v' answers' submitted waits more → Hears (heard opens s m) t' v' answers' submitted waited more
-hears_joined opens s m t t' v v' answers answers' waited waits more before submitted first same second =
+hears_joined opens s m t t' v v' answers answers' waited waits more before submitted at first same second =
     let w = happened s.led (Receives m) in
     let x : Standing = joined opens s.submitted (restarted w) in
     let here : joined opens before (unled t v answers) ≡ x = ap (λ b. joined opens b (unled t v answers)) same ∙ ap (joined opens s.submitted) (found w t v answers first.at) in
     let whole : heard opens s m ≡ behind_all w x =
-    ap (joined opens s.submitted) (happened_from w []) ∙ joined_by (w.table.connected && not s.submitted) s.submitted (opens_of opens) w (restarted w) in
+    hears_here opens s m at ∙ ap (joined opens s.submitted) (happened_from w []) ∙ joined_by (is_open One w.table.connected && not s.submitted) s.submitted (opens_of opens) w (restarted w) in
     let h : Hears x t' v' answers' submitted waits more = subst (λ k. Hears k t' v' answers' submitted waits more) here second in
     subst (λ k. Hears k t' v' answers' submitted waited more) (sym whole)
     (record {
@@ -208,11 +232,20 @@ hears_joined opens s m t t' v v' answers answers' waited waits more before submi
     })
 
 -- a message, behind what happened before
-heard_from : (opens : List ℕ) (s : Standing) (m : Letter) → heard opens s m ≡ behind_all s.led (heard opens (record { led = restarted s.led; submitted = s.submitted }) m)
-heard_from opens s m =
+abbrev heard_as : Bool → List ℕ → Standing → Letter → Standing
+heard_as b opens s m = cond b (joined opens s.submitted (happened s.led (Receives m))) s
+
+heard_by : (b : Bool) (opens : List ℕ) (s : Standing) (m : Letter) → heard_as b opens s m ≡ behind_all s.led (heard_as b opens (record { led = restarted s.led; submitted = s.submitted }) m)
+heard_by true opens s m =
     let x = happened (restarted s.led) (Receives m) in
     ap (joined opens s.submitted) (happened_from s.led (Receives m ∷ []))
-    ∙ joined_by (x.table.connected && not s.submitted) s.submitted (opens_of opens) s.led x
+    ∙ joined_by (is_open One x.table.connected && not s.submitted) s.submitted (opens_of opens) s.led x
+heard_by false opens s m =
+    ap (λ l. record { led = record { table = s.led.table; volume = s.led.volume; sent = l; answers = s.led.answers }; submitted = s.submitted })
+    (sym (append-nil s.led.sent))
+
+heard_from : (opens : List ℕ) (s : Standing) (m : Letter) → heard opens s m ≡ behind_all s.led (heard opens (record { led = restarted s.led; submitted = s.submitted }) m)
+heard_from opens s m = heard_by (same_port m.port One) opens s m
 
 -- one more, as long as opens are left to be answered
 by_case : (b : Bool) (s x y : Standing) (H : Standing → Standing) (P : Standing → Bool) → P s ≡ b → P (cond b s x) ≡ false → (P x ≡ false → y ≡ H x) → cond b s y ≡ H (cond b s x)
@@ -389,8 +422,8 @@ refused_sent Memory w u text sent = sent
 refused_sent AuditFull w u text sent = prefix_whole w u text sent
 
 -- where a disconnection led
-left_at : (w : Led) (t t' : Table) (v : Store) (answers answers' : List Answer) → IsAt w t v answers → IsAt (happened (unled t v answers) Disconnects) t' v answers' → IsAt (happened w Disconnects) t' v answers'
-left_at w t t' v answers answers' first second = at_then w t t' v v answers answers' (Disconnects ∷ []) first second
+left_at : (w : Led) (t t' : Table) (v : Store) (answers answers' : List Answer) → IsAt w t v answers → IsAt (happened (unled t v answers) (Disconnects One)) t' v answers' → IsAt (happened w (Disconnects One)) t' v answers'
+left_at w t t' v answers answers' first second = at_then w t t' v v answers answers' (Disconnects One ∷ []) first second
 
 kept_at : (w : Led) (t t' : Table) (v : Store) (answers answers' : List Answer) → IsAt w t v answers → t' ≡ t → answers' ≡ answers → IsAt w t' v answers'
 kept_at w t t' v answers answers' at table same = record { table = table ∙ at.table; volume = at.volume; answered = same ∙ at.answered }
@@ -402,8 +435,8 @@ kept_within opens from a messages s t t' v answers answers' table same within = 
 -- an engine that would end otherwise than by Memory, with this left of its run, ends so or with Memory
 ends_as : (opens : List ℕ) (old : Table) (store : Store) (a w u : Option (List ℕ)) (turns : ℕ) (e end : End) (t t' : Table) (v : Store) (answers answers' : List Answer)
     → (runs : RunsTo opens old store t v answers a w u turns e) → IsAt (filter_run old store opens runs.messages).led t v answers
-    → (IsAt (happened (filter_run old store opens runs.messages).led Disconnects) t' v answers' → IsLeft e (IsWithin opens (unled old store []) a runs.messages (filter_run old store opens runs.messages) t' v answers') (is_done store.opens (length opens) (filter_run old store opens runs.messages)) (filter_run old store opens runs.messages).led t' v answers')
-    → ((end ≡ e) × IsAt (happened (unled t v answers) Disconnects) t' v answers') ⊎ ((end ≡ Memory) × (t' ≡ t) × (answers' ≡ answers))
+    → (IsAt (happened (filter_run old store opens runs.messages).led (Disconnects One)) t' v answers' → IsLeft e (IsWithin opens (unled old store []) a runs.messages (filter_run old store opens runs.messages) t' v answers') (is_done store.opens (length opens) (filter_run old store opens runs.messages)) (filter_run old store opens runs.messages).led t' v answers')
+    → ((end ≡ e) × IsAt (happened (unled t v answers) (Disconnects One)) t' v answers') ⊎ ((end ≡ Memory) × (t' ≡ t) × (answers' ≡ answers))
     → WatchesTo opens old store t' v answers' a w u turns end
 ends_as opens old store a w u turns e end t t' v answers answers' runs at left (inl k) =
     subst (λ x. WatchesTo opens old store t' v answers' a w u turns x) (sym k.0)

@@ -75,13 +75,17 @@ between =
     ∷ Comes (via One (Chunk first_id 0 (65 ∷ 66 ∷ 67 ∷ [])))
     ∷ []
 
+-- the messages of the other port that come beside them
+abbrev pub among_others : List Letter
+among_others = via Two (Hello 1 1) ∷ (up ++ via Two (Reply first_id (Judged 1 Clean)) ∷ [])
+
 -- a filter that was greeted before
 abbrev pub greeted_table : Table
 greeted_table = (happened (unled worked_table worked_store []) (Receives (via One (Hello 1 1)))).table
 
 -- Each side's text of what the other sends is that of the worked run. A message behind the last answer changes nothing; where
 -- the service is lost before its reply, the open is denied; and a filter that was greeted before submits at once. A newer set
--- begins the scan anew, and is what its reply names. What comes at the second port changes nothing.
+-- begins the scan anew, and is what its reply names. What comes at the second port changes nothing, also between others.
 pub record AreWorked : Type 0 where
   pub serves : (service_run worked_patterns worked_desk down).sent ≡ up
   pub renews : (fresh_run (first_set ∷ []) worked_desk between).sent
@@ -106,7 +110,8 @@ pub record AreWorked : Type 0 where
       }
   pub none_at_once : (filter_run worked_table worked_store [] up).led.sent ≡ []
   pub not_at_two : (filter_run worked_table worked_store (1 ∷ []) (map (via Two) (Hello 1 1 ∷ []))).led.sent ≡ []
+  pub others : filter_run worked_table worked_store (1 ∷ []) among_others ≡ filter_run worked_table worked_store (1 ∷ []) up
   pub none_served_at_two : (service_run worked_patterns worked_desk (map (via Two) (Scan first_id 1 2 3 ∷ []))).sent
       ≡ via One (Hello 1 1) ∷ []
-  pub lost : (happened (filter_run worked_table worked_store (1 ∷ []) (via One (Hello 1 1) ∷ [])).led Disconnects).answers
+  pub lost : (happened (filter_run worked_table worked_store (1 ∷ []) (via One (Hello 1 1) ∷ [])).led (Disconnects One)).answers
       ≡ Denied 1 PortDisconnected ∷ []

@@ -5,6 +5,7 @@ use Rattle.av_engines.specs.declared.end.End.{End}
 use Rattle.av_engines.specs.declared.end.End.TheVariants.{Done, WriteFault, Memory, AuditFull}
 use Rattle.av_engines.specs.Spelled.{AreSpelled, CameIn, IsSent, SpellsFirst}
 use Rattle.av_engines.specs.Watching.{Led, Standing, all_happened, due, events_of, filter_run, filter_text, happened, is_done, unled}
+use Rattle.av_base.specs.declared.port.Port.TheVariants.{One}
 use Rattle.av_filter.specs.Conduct.{FilterEvent, Disconnects}
 use Rattle.av_filter_table.specs.Table.{Table}
 use Rattle.av_frame.specs.Message.{Letter}
@@ -40,8 +41,8 @@ pub data IsWithin (opens : List ℕ) (from : Led) (input : Option (List ℕ)) (m
 abbrev pub IsLeft : End → Type 0 → Bool → Led → Table → Store → List Answer → Type 0
 IsLeft Done within done w t v answers = (done ≡ true) × IsAt w t v answers
 IsLeft Memory within done w t v answers = within
-IsLeft WriteFault within done w t v answers = IsAt (happened w Disconnects) t v answers
-IsLeft _ within done w t v answers = (done ≡ false) × IsAt (happened w Disconnects) t v answers
+IsLeft WriteFault within done w t v answers = IsAt (happened w (Disconnects One)) t v answers
+IsLeft _ within done w t v answers = (done ≡ false) × IsAt (happened w (Disconnects One)) t v answers
 
 -- some messages of the input, which came in so many reads at most, were handled, and the filter sent its text of them and
 -- answered as its conduct does
@@ -89,5 +90,5 @@ Leaves Done end t v answers t' answers' = (end ≡ Done) × (t' ≡ t) × (answe
 Leaves Memory end t v answers t' answers' = (end ≡ Memory) × (t' ≡ t) × (answers' ≡ answers)
 Leaves AuditFull end t v answers t' answers' = (end ≡ AuditFull) × (t' ≡ t) × (answers' ≡ answers)
 Leaves would end t v answers t' answers' =
-    ((end ≡ would) × IsAt (happened (unled t v answers) Disconnects) t' v answers')
+    ((end ≡ would) × IsAt (happened (unled t v answers) (Disconnects One)) t' v answers')
     ⊎ ((end ≡ Memory) × (t' ≡ t) × (answers' ≡ answers))

@@ -1,9 +1,12 @@
--- The filter over a stream of frames: what it sends and answers as messages come, the opens submitted as soon as it is
--- connected, at once or right after a message.
+-- The filter over a stream of frames at port One, port Two not connected: what it sends and answers as messages come, the opens
+-- submitted as soon as it is connected, at once or right after a message.
 use Rattle.std.specs.Prelude.{ℕ, ◌&&◌, ◌==◌, Bool, true, false, not, nat_lt, List, [], ◌∷◌, ◌++◌, length, map, if◌then◌else◌}
 use Rattle.std.specs.List.{count_by, flat_map}
+use Rattle.av_base.specs.Port.{same_port}
+use Rattle.av_base.specs.declared.port.Port.TheVariants.{One}
 use Rattle.av_filter.specs.Conduct.{FilterEvent, Opens, Receives, filter_step}
 use Rattle.av_filter.specs.Reaction.{Reaction}
+use Rattle.av_filter_table.specs.Ports.{is_open}
 use Rattle.av_filter_table.specs.Table.{Table}
 use Rattle.av_frame.specs.Message.{Letter}
 use Rattle.av_frame.specs.Spelling.{frame}
@@ -43,20 +46,21 @@ pub record Standing : Type 0 where
 -- the filter is connected, so that the opens are submitted where they weren't, or it isn't
 abbrev pub joined : List ℕ → Bool → Led → Standing
 joined opens submitted w =
-    if w.table.connected && not submitted then record { led = all_happened w (opens_of opens); submitted = true }
+    if is_open One w.table.connected && not submitted then record { led = all_happened w (opens_of opens); submitted = true }
     else record { led = w; submitted = submitted }
 
 -- the opens that are submitted there
 abbrev pub due : List ℕ → Bool → Table → List FilterEvent
-due opens submitted t = if t.connected && not submitted then opens_of opens else []
+due opens submitted t = if is_open One t.connected && not submitted then opens_of opens else []
 
--- a message comes
+-- a message comes; one of the other port is passed over
 abbrev pub heard : List ℕ → Standing → Letter → Standing
-heard opens s m = joined opens s.submitted (happened s.led (Receives m))
+heard opens s m = if same_port m.port One then joined opens s.submitted (happened s.led (Receives m)) else s
 
--- what a message brings: it comes, and where it is the first that leaves the filter connected the opens are submitted
+-- what a message of this port brings: it comes, and where it is the first that leaves the filter connected the opens are submitted
 abbrev pub events_of : List ℕ → Standing → Letter → List FilterEvent
-events_of opens s m = Receives m ∷ due opens s.submitted (happened s.led (Receives m)).table
+events_of opens s m =
+    if same_port m.port One then Receives m ∷ due opens s.submitted (happened s.led (Receives m)).table else []
 
 -- how many answers are to opens of a later number than this one
 abbrev pub later : ℕ → List Answer → ℕ

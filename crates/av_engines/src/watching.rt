@@ -1,12 +1,14 @@
 ghost use Rattle.std.specs.Prelude.{◌≡◌, ◌≤◌, ◌<◌, ◌+◌, ◌++◌, ◌∷◌, [], length, false, IfOk, OnErr, OnOk, vec_len};
 ghost use Rattle.std.specs.List.{flat_map};
 ghost use Rattle.std.specs.Vec.{vec_capacity};
+ghost use Rattle.av_base.specs.declared.port.Port.TheVariants.{One, Two};
 ghost use Rattle.av_engines.specs.FilterEnd.{Hears, IsAmid, IsAt, Leaves, Puts, RunsTo, WatchesTo};
 ghost use Rattle.av_engines.specs.Incoming.{unread};
 ghost use Rattle.av_engines.specs.Watching.{all_happened, due, events_of, happened, heard, joined, opens_of, standing, unled};
 ghost use Rattle.av_filter.specs.Call.{MeetsAlways};
 ghost use Rattle.av_filter.specs.Conduct.{Disconnects, Opens, Receives, filter_step};
 ghost use Rattle.av_filter.specs.Fit.{Fits};
+ghost use Rattle.av_filter_table.specs.Ports.{is_open};
 ghost use Rattle.av_frame.specs.Spelling.{frame};
 ghost use Rattle.av_store.specs.Store.{greatest};
 
@@ -14,7 +16,7 @@ use crate::end::End;
 use crate::exchange::Exchange;
 use crate::outgoing::Outgoing;
 use crate::tally::Tally;
-use av_base::{Refusal, StreamId, Version};
+use av_base::{Port, Refusal, StreamId, Version};
 use av_filter::{Filter, Out};
 use av_frame::Message;
 use av_frame::laws::bytes_spell_one_list;
@@ -43,11 +45,13 @@ impl Watched {
     }
 }
 
-/// Runs a filter over a stream of frames: it handles each message that comes, and submits an open of each of these streams,
-/// in order, for any version, as soon as it is connected: at once, or right after the message that connects it. It ends with
-/// Done once all of them are answered, at once where there are none, and what was sent went out. Else with ReadFault, also once `turns` reads were
-/// made; WriteFault; Frame; Closed; each of these disconnects the filter, so that each open that was submitted is answered;
-/// or with Memory, also where it is refused to that: the filter is where the messages led, or within the next of them. It holds the answers, a buffer, and the frames of one message.
+/// Runs a filter over a stream of frames at its first port, where no service is connected at the other one: it handles each
+/// message of this port that comes, passes over those of the other, and submits an open of each of these streams, in order, for any
+/// version, as soon as it is connected: at once, or right after the message that connects it. It ends with Done once all of them
+/// are answered, at once where there are none, and what was sent went out. Else with ReadFault, also once `turns` reads were made;
+/// WriteFault; Frame; Closed; each of these disconnects the port, so that each open that was submitted is answered; or with
+/// Memory, also where it is refused to that: the filter is where the messages led, or within the next of them. It holds the
+/// answers, a buffer, and the frames of one message.
 pub fn serve_filter<R: Read, W: Write>(
     alloc: Global,
     volume: &mut Volume,
@@ -58,6 +62,7 @@ pub fn serve_filter<R: Read, W: Write>(
     turns: u64,
 ) -> Watched
     requires fits { Fits filter.old volume.old }
+    requires alone { is_open Two filter.old.connected ≡ false }
     requires left { volume.old.opens + length opens.now ≤ greatest }
     ensures watches { WatchesTo opens.now filter.old volume.old filter.new volume.new result.answers.items
         (R.remaining reader.old) (W.contents writer.old) (W.contents writer.new) turns result.end }
@@ -142,7 +147,7 @@ fn watch<R: Read, W: Write>(
     }
 }
 
-// Handles a message, and submits the opens where it connects the filter.
+// Handles a message of the first port, and submits the opens where it connects the filter.
 fn hear(
     alloc: Global,
     volume: &mut Volume,
@@ -166,6 +171,9 @@ fn hear(
     ensures fits { Fits filter.new volume.new }
     ensures first { tally.new.first ≡ tally.old.first }
 {
+    if message.port() != Port::One {
+        return Ok(());
+    }
     receive(alloc, volume, filter, tally, outgoing, message)?;
     join(alloc, volume, filter, opens, tally, outgoing)
 }
@@ -192,7 +200,7 @@ fn join(
     ensures fits { Fits filter.new volume.new }
     ensures first { tally.new.first ≡ tally.old.first }
 {
-    if filter.connected() && !tally.submitted {
+    if filter.connected(Port::One) && !tally.submitted {
         tally.submitted = true;
         submit_all(alloc, volume, filter, opens, tally, outgoing)?;
     }
@@ -250,13 +258,13 @@ fn disconnect(
 ) -> Result<(), AllocError>
     requires fits { Fits filter.old volume.now }
     ensures ok { OnOk result
-        (IsAt (happened (unled filter.old volume.now tally.old.answers.items) Disconnects) filter.new
+        (IsAt (happened (unled filter.old volume.now tally.old.answers.items) (Disconnects One)) filter.new
         volume.now tally.new.answers.items) }
     ensures err { OnErr result ((filter.new ≡ filter.old) × (tally.new.answers.items ≡ tally.old.answers.items)) }
     ensures fits { Fits filter.new volume.now }
 {
     tally.make_room(filter)?;
-    let out = filter.disconnect(alloc, volume)?;
+    let out = filter.disconnect(alloc, volume, Port::One)?;
     tally.add(out.answers);
     Ok(())
 }

@@ -3,7 +3,8 @@ ghost use Rattle.av_engines.specs.declared.end.End.TheVariants.{Done};
 ghost use Rattle.av_gate.specs.Seats.{IsSeatOf, floor_seen};
 
 use crate::ending::end_of;
-use crate::sender::{Sender, Unsent};
+use crate::sender::{PortOutbox, Sender, Unsent};
+use av_base::Port;
 use av_engines::{End, Incoming};
 use av_frame::Message;
 use av_gate::{Gate, Seat};
@@ -11,15 +12,16 @@ use std::alloc::Global;
 use std::io::{Read, Write};
 use std::sync::Wait;
 
-/// Hands each message that a stream of frames spells to the gate, until the stream ends, fails, or was read `turns` times:
-/// Closed, ReadFault, Frame, each of which is a disconnection of the gate, and so is WriteFault; Memory and AuditFull, which are
-/// none, so that opens may stay without an answer. What the gate gives out meanwhile is sent before the stream is read again: a
-/// message that has come whole is handled first.
+/// Hands each message of a port that a stream of frames spells to the gate, and passes over those of the other, until the stream
+/// ends, fails, or was read `turns` times: Closed, ReadFault, Frame, each of which is a disconnection of the port, and so is
+/// WriteFault; Memory and AuditFull, which are none, so that opens may stay without an answer. What the gate gives out at the port
+/// meanwhile is sent before the stream is read again: a message that has come whole is handled first.
 pub fn gate_in<R: Wait, S: Read, W: Write>(
     rt: &R,
     alloc: Global,
     gate: &Gate,
     seat: &mut Seat,
+    port: Port,
     reader: &mut S,
     sender: &Sender<W>,
     turns: u64,
@@ -32,15 +34,16 @@ pub fn gate_in<R: Wait, S: Read, W: Write>(
     let Ok(mut incoming) = Incoming::new(alloc, turns) else {
         return End::Memory;
     };
-    take_messages(rt, alloc, gate, seat, reader, sender, &mut incoming)
+    take_messages(rt, alloc, gate, seat, port, reader, sender, &mut incoming)
 }
 
-// Each message as an event.
+// Each message of the port as an event.
 fn take_messages<R: Wait, S: Read, W: Write>(
     rt: &R,
     alloc: Global,
     gate: &Gate,
     seat: &mut Seat,
+    port: Port,
     reader: &mut S,
     sender: &Sender<W>,
     incoming: &mut Incoming,
@@ -51,12 +54,15 @@ fn take_messages<R: Wait, S: Read, W: Write>(
     ensures end { result ≢ Done }
 {
     'messages: for _ in rt.forever() {
-        let message = match next_message(rt, alloc, gate, seat, reader, sender, incoming) {
+        let message = match next_message(rt, alloc, gate, seat, port, reader, sender, incoming) {
             Ok(message) => message,
             Err(end) => return end,
         };
+        if message.port() != port {
+            continue;
+        }
         if let Err(refusal) = gate.message_quietly(rt, alloc, seat, &message) {
-            return after_sending(rt, alloc, gate, seat, sender, end_of(refusal));
+            return after_sending(rt, alloc, gate, seat, port, sender, end_of(refusal));
         }
     }
     unreachable!()
@@ -68,6 +74,7 @@ fn after_sending<R: Wait, W: Write>(
     alloc: Global,
     gate: &Gate,
     seat: &mut Seat,
+    port: Port,
     sender: &Sender<W>,
     end: End,
 ) -> End
@@ -77,7 +84,7 @@ fn after_sending<R: Wait, W: Write>(
     ensures later { floor_seen seat.old ≤ floor_seen seat.new }
     ensures end { result ≢ Done }
 {
-    match send(rt, alloc, gate, seat, sender) {
+    match send(rt, alloc, gate, seat, port, sender) {
         Ok(()) => end,
         Err(end) => end,
     }
@@ -89,6 +96,7 @@ fn next_message<R: Wait, S: Read, W: Write>(
     alloc: Global,
     gate: &Gate,
     seat: &mut Seat,
+    port: Port,
     reader: &mut S,
     sender: &Sender<W>,
     incoming: &mut Incoming,
@@ -101,21 +109,22 @@ fn next_message<R: Wait, S: Read, W: Write>(
     if let Ok(Some(message)) = incoming.arrived() {
         return Ok(message);
     }
-    send(rt, alloc, gate, seat, sender)?;
+    send(rt, alloc, gate, seat, port, sender)?;
     match incoming.next(reader) {
         Ok(message) => Ok(message),
-        Err(end) => Err(with_disconnection(rt, alloc, gate, seat, end)),
+        Err(end) => Err(with_disconnection(rt, alloc, gate, seat, port, end)),
     }
 }
 
-/// Writes each message of the gate to a stream as a frame, until the gate is stopped and none is left: Done. Else WriteFault,
-/// which is a disconnection of the gate; Memory and AuditFull, which are none. It is woken for what calls of others give out,
-/// and sends what another loop of the sender has not sent.
+/// Writes each message of a port of the gate to a stream as a frame, until the gate is stopped and none is left: Done. Else
+/// WriteFault, which is a disconnection of the port; Memory and AuditFull, which are none. It is woken for what calls of others
+/// give out, and sends what another loop of the sender has not sent.
 pub fn gate_out<R: Wait, W: Write>(
     rt: &R,
     alloc: Global,
     gate: &Gate,
     seat: &mut Seat,
+    port: Port,
     sender: &Sender<W>,
 ) -> End
     requires { IsSeatOf gate.now seat.old }
@@ -123,10 +132,10 @@ pub fn gate_out<R: Wait, W: Write>(
     ensures later { floor_seen seat.old ≤ floor_seen seat.new }
 {
     'batches: for _ in rt.forever() {
-        if !gate.await_outgoing(rt) {
+        if !gate.await_outgoing(rt, port) {
             return End::Done;
         }
-        if let Err(end) = send(rt, alloc, gate, seat, sender) {
+        if let Err(end) = send(rt, alloc, gate, seat, port, sender) {
             return end;
         }
     }
@@ -139,6 +148,7 @@ fn send<R: Wait, W: Write>(
     alloc: Global,
     gate: &Gate,
     seat: &mut Seat,
+    port: Port,
     sender: &Sender<W>,
 ) -> Result<(), End>
     requires { IsSeatOf gate.now seat.old }
@@ -146,18 +156,25 @@ fn send<R: Wait, W: Write>(
     ensures later { floor_seen seat.old ≤ floor_seen seat.new }
     ensures end { IfErr result (λ end. end ≢ Done) }
 {
-    match sender.send(rt, alloc, gate) {
+    match sender.send(rt, alloc, &PortOutbox { gate, port }) {
         Ok(()) => Ok(()),
         Err(Unsent::WriteFault) => {
-            Err(with_disconnection(rt, alloc, gate, seat, End::WriteFault))
+            Err(with_disconnection(rt, alloc, gate, seat, port, End::WriteFault))
         }
         Err(Unsent::Lost) => Err(End::WriteFault),
         Err(Unsent::Memory) => Err(End::Memory),
     }
 }
 
-// Tells the gate that the service is lost, where this end says so.
-fn with_disconnection<R: Wait>(rt: &R, alloc: Global, gate: &Gate, seat: &mut Seat, end: End) -> End
+// Tells the gate that the port's service is lost, where this end says so.
+fn with_disconnection<R: Wait>(
+    rt: &R,
+    alloc: Global,
+    gate: &Gate,
+    seat: &mut Seat,
+    port: Port,
+    end: End,
+) -> End
     requires { IsSeatOf gate.now seat.old }
     ensures same { IsSeatOf gate.now seat.new }
     ensures later { floor_seen seat.old ≤ floor_seen seat.new }
@@ -166,7 +183,7 @@ fn with_disconnection<R: Wait>(rt: &R, alloc: Global, gate: &Gate, seat: &mut Se
     match end {
         End::Done | End::Memory | End::AuditFull => end,
         End::ReadFault | End::WriteFault | End::Frame | End::Closed => {
-            match gate.disconnect(rt, alloc, seat) {
+            match gate.disconnect(rt, alloc, seat, port) {
                 Ok(_) => end,
                 Err(refusal) => end_of(refusal),
             }

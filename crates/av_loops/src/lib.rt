@@ -2,12 +2,12 @@
 //! that has both sides: into the gate and out of it, into the desk and out of it, and from the pool back to the desk.
 //!
 //! ```text
-//! let sender = Sender::new(alloc, &stream);                             // one a side
-//! gate_in(&rt, alloc, &gate, &mut seat, &mut stream, &sender, turns)    // frames that come: events of the gate, and frames
-//! gate_out(&rt, alloc, &gate, &mut seat, &sender)                       // messages of the gate that others give out: frames
-//! desk_in(&rt, alloc, &desk, &mut giver, &mut stream, &sender, turns)   // frames that come: events of the desk, works, frames
-//! desk_done(&rt, alloc, &desk, &mut taker, &sender)                     // works that were run: events of the desk, and frames
-//! desk_out(&rt, alloc, &desk, &sender)                                  // messages of the desk that others send: frames
+//! let sender = Sender::new(alloc, &stream);                                 // one a side
+//! gate_in(&rt, alloc, &gate, &mut seat, port, &mut stream, &sender, turns)  // frames that come: events of the gate, and frames
+//! gate_out(&rt, alloc, &gate, &mut seat, port, &sender)                     // messages of the gate that others give out: frames
+//! desk_in(&rt, alloc, &desk, &mut giver, &mut stream, &sender, turns)       // frames that come: events of the desk, works, frames
+//! desk_done(&rt, alloc, &desk, &mut taker, &sender)                         // works that were run: events of the desk, and frames
+//! desk_out(&rt, alloc, &desk, &sender)                                      // messages of the desk that others send: frames
 //! ```
 #![tactic(auto)]
 

@@ -1,3 +1,4 @@
+use av_base::Port;
 use av_desk::Desk;
 use av_engines::Outgoing;
 use av_frame::Message;
@@ -39,9 +40,16 @@ pub(crate) trait Outbox {
     fn take_outgoing<R: Wait>(&self, rt: &R, alloc: Global) -> Result<Vec<Message>, AllocError>;
 }
 
-impl Outbox for Gate {
+/// The messages of a gate's port.
+#[derive(Clone, Copy)]
+pub(crate) struct PortOutbox<'g> {
+    pub(crate) gate: &'g Gate,
+    pub(crate) port: Port,
+}
+
+impl Outbox for PortOutbox<'_> {
     fn take_outgoing<R: Wait>(&self, rt: &R, alloc: Global) -> Result<Vec<Message>, AllocError> {
-        Gate::take_outgoing(self, rt, alloc)
+        self.gate.take_outgoing(rt, alloc, self.port)
     }
 }
 

@@ -128,7 +128,8 @@ pub fn watched_again<R: Read, W: Write>(
         &mut FakeWriter::new(alloc),
         1_000,
     );
-    if first.end != End::Done || volume.opens_left() < opens.len() as u64 {
+    let is_other_connected = filter.connected(Port::Two);
+    if first.end != End::Done || is_other_connected || volume.opens_left() < opens.len() as u64 {
         filter.abandon();
         return Err(Unmade);
     }

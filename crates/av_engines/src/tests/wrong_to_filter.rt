@@ -12,13 +12,27 @@ const HELLO_2: &str = "00000012 0501 [1] [2]";
 // Hello of volume 2 and version 9.
 const HELLO_OF_2: &str = "00000012 0501 [2] [9]";
 
+// At the second port: Hello of volume 1 and version 9, Read 1.1 of 3 bytes from 0, Reply 1.1 clean under version 1.
+const HELLO_AT_2: &str = "00000012 0502 [1] [9]";
+
+const READ_AT_2: &str = "0000001e 0602 [1] [1] [0] 00000003";
+
+const CLEAN_AT_2: &str = "0000001b 0702 [1] [1] 00 [1]";
+
 // NoChunk 1.1 from 0: there is no such question.
 const NO_QUESTION: &str = "0000001b 0301 [1] [1] [0] 01";
 
 // Updated to version 2.
 const UPDATED_2: &str = "0000000a 0801 [2]";
 
-const GREETINGS: [Case<'static>; 7] = [
+const GREETINGS: [Case<'static>; 8] = [
+    Case {
+        name: "at the other port, as what else comes there: it is passed over",
+        limit: FULL,
+        comes: &[HELLO_AT_2, HELLO, READ_AT_2, CLEAN_AT_2, READ, CLEAN],
+        sends: &[SCAN, CHUNK],
+        side: Side::Filter(End::Done, Told::Granted(1)),
+    },
     Case {
         name: "of another volume: it is not connected, and no open is submitted",
         limit: FULL,

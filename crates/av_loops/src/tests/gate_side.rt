@@ -3,7 +3,7 @@ ghost use Rattle.std.specs.Prelude.{IfOk};
 ghost use Rattle.av_gate.specs.Seats.{IsSeatOf};
 
 use crate::{Sender, gate_in, gate_out};
-use av_base::{Cause, LimitValues, Limits, Mode, OpenId};
+use av_base::{Cause, LimitValues, Limits, Mode, OpenId, Port};
 use av_engines::End;
 use av_fakes::{FakeReader, FakeWriter, Fault, may_refuse, refuse_no_more};
 use av_filter::Note;
@@ -64,7 +64,16 @@ fn ends_in<R: Wait>(
 ) -> Result<(End, usize, bool), Fail> {
     let (gate, mut seat) = gate_of_one(alloc, limits)?;
     let sender = Sender::new(alloc, FakeWriter::new(alloc));
-    let end = gate_in(rt, alloc, &gate, &mut seat, reader, &sender, turns);
+    let end = gate_in(
+        rt,
+        alloc,
+        &gate,
+        &mut seat,
+        Port::One,
+        reader,
+        &sender,
+        turns,
+    );
     let (events, disconnects) = ended(alloc, gate, seat)?;
     Ok((end, events, disconnects))
 }
@@ -79,7 +88,7 @@ fn ended(alloc: Global, gate: Gate, seat: Seat) -> Result<(usize, bool), Fail> {
     match gate.close(seats, Vec::new(alloc)) {
         Ok(audit) => {
             let disconnects = match audit.events.last() {
-                Some(entry) => matches!(entry.event(), Event::Disconnect),
+                Some(entry) => matches!(entry.event(), Event::Disconnect { port: Port::One }),
                 None => false,
             };
             Ok((audit.events.len(), disconnects))
@@ -95,6 +104,18 @@ fn ended(alloc: Global, gate: Gate, seat: Seat) -> Result<(usize, bool), Fail> {
             Err(Fail::new("not closed"))
         }
     }
+}
+
+// The same as HELLO at the second port.
+const HELLO_AT_2: &[u8] = b"\0\0\0\x12\x05\x02\0\0\0\0\0\0\0\x01\0\0\0\0\0\0\0\x01";
+
+#[test]
+fn what_comes_at_another_port_is_passed_over(rt: HostRuntime) -> Result<(), Fail> {
+    let all = Limits::greatest();
+    let mut reader = FakeReader::new(HELLO_AT_2);
+    let got = ends_in(&rt, rt.alloc(), all, &mut reader, 10)?;
+    assert!(&rt; got == (End::Closed, 1, true));
+    Ok(())
 }
 
 #[test]
@@ -174,11 +195,11 @@ fn out_of<R: Wait>(
     let ticket = gate.open(rt, alloc, seat, b"a")?;
     gate.stop(rt);
     let end = match reader {
-        Some(mut reader) => gate_in(rt, alloc, gate, seat, &mut reader, sender, 10),
-        None => gate_out(rt, alloc, gate, seat, sender),
+        Some(mut reader) => gate_in(rt, alloc, gate, seat, Port::One, &mut reader, sender, 10),
+        None => gate_out(rt, alloc, gate, seat, Port::One, sender),
     };
     let answer = ticket.poll(&mut ticket.note()).copied();
-    gate.disconnect(rt, alloc, seat)?;
+    gate.disconnect(rt, alloc, seat, Port::One)?;
     Ok((end, answer))
 }
 
@@ -255,7 +276,16 @@ fn refused_or_not_a_loop_into_a_gate_comes_to_an_end(rt: HostRuntime) -> Result<
     let mut reader = FakeReader::new(HELLO);
     let sender = Sender::new(alloc, FakeWriter::new(alloc));
     may_refuse(alloc);
-    let end = gate_in(&rt, alloc, &gate, &mut seat, &mut reader, &sender, 10);
+    let end = gate_in(
+        &rt,
+        alloc,
+        &gate,
+        &mut seat,
+        Port::One,
+        &mut reader,
+        &sender,
+        10,
+    );
     refuse_no_more(alloc);
     let (events, disconnects) = ended(alloc, gate, seat)?;
     assert!(&rt;

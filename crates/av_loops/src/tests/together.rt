@@ -3,7 +3,7 @@ ghost use Rattle.std.specs.Prelude.{IfOk};
 ghost use Rattle.av_gate.specs.Seats.{IsSeatOf};
 
 use crate::{Sender, gate_in, gate_out};
-use av_base::{Limits, Mode};
+use av_base::{Limits, Mode, Port};
 use av_engines::{End, Incoming, Outgoing};
 use av_fakes::{FakeReader, FakeWriter};
 use av_gate::{Gate, Seat, Unclosed};
@@ -49,7 +49,16 @@ fn reads<R: Wait>(
     requires { IsSeatOf gate.now seat }
 {
     let mut reader = FakeReader::new(text).in_pieces_of(READ.len());
-    let end = gate_in(rt, alloc, gate, &mut seat, &mut reader, sender, 10_000);
+    let end = gate_in(
+        rt,
+        alloc,
+        gate,
+        &mut seat,
+        Port::One,
+        &mut reader,
+        sender,
+        10_000,
+    );
     (seat, end)
 }
 
@@ -63,7 +72,7 @@ fn writes<R: Wait>(
 ) -> (Seat, End)
     requires { IsSeatOf gate.now seat }
 {
-    let end = gate_out(rt, alloc, gate, &mut seat, sender);
+    let end = gate_out(rt, alloc, gate, &mut seat, Port::One, sender);
     (seat, end)
 }
 
