@@ -1,8 +1,11 @@
 use Rattle.std.proofs.Common.{ℕ, ◌≡◌, ◌+◌, ◌++◌, true, false, List, [], ◌∷◌, Option, None, Some, refl, sym, ap, ◌∙◌, append_assoc, append-nil, arith, codes, decimal, if◌then◌else◌}
 use Rattle.std.proofs.lemmas.Fmt.{decimal_digit}
+use Rattle.std.specs.Fmt.{digits}
 use Rattle.std.specs.List.{between}
 use Rattle.json.specs.Token.{Token}
 use Rattle.av_base.specs.Part.{spelt}
+use Rattle.av_base.specs.declared.port.Port.{Port}
+use Rattle.av_base.specs.declared.port.Port.TheVariants.{One, Two}
 use Rattle.av_base.specs.declared.verdict.Verdict.TheVariants.{Clean, Infected}
 use Rattle.av_filter.specs.declared.note.Note.{Note as FilterNote}
 use Rattle.av_filter.specs.declared.note.Note.TheVariants as filter
@@ -26,11 +29,11 @@ use Rattle.av_world.specs.declared.report.Report.{Report}
 use Rattle.av_world.specs.Objects.{opens_tokens, report_tokens, sent_tokens}
 use Rattle.av_world.specs.Objects.Answers.{answer_tokens, answers_tokens, given_tokens, pended_tokens, submitted_tokens}
 use Rattle.av_world.specs.Objects.Lines.{is, line_tokens, note_tokens, noted_tokens, verdict_members}
-use Rattle.av_world.specs.Objects.Messages.{body_tokens, message_tokens, work_tokens}
+use Rattle.av_world.specs.Objects.Messages.{body_tokens, lent_tokens, message_tokens, work_tokens}
 use Rattle.av_world.specs.Text.{opens_text, report_text, sent_text}
 use Rattle.av_world.specs.Text.Answers.{answer_text, answers_text, given_text, is_answered, pended_text, submitted_text}
 use Rattle.av_world.specs.Text.Lines.{line_text, verdict_parts}
-use Rattle.av_world.specs.Text.Messages.{body_text, message_text, placed, work_text}
+use Rattle.av_world.specs.Text.Messages.{body_text, lent_text, message_text, placed, work_text}
 use Rattle.av_world.specs.Text.Notes.{note_text, note_word, noted}
 
 -- these objects lead back to this text, whatever stands behind them
@@ -92,43 +95,67 @@ pub tells_pended : (note : Note) (answers : List Given) → Tells (pended_tokens
 tells_pended (Filter note) answers = tells_submitted note answers
 tells_pended (Service note) answers = tells_nothing
 
-tells_body : (way : Way) (place : ℕ) (body : Body) → Tells (body_tokens way place body) (body_text way place body)
-unfolding object_tokens text_tokens number_tokens
-tells_body Down place (Scan id stream generation size) ts = refl
-tells_body Down place (Chunk id offset bytes) ts = refl
-tells_body Down place (NoChunk id offset cause) ts = refl
-tells_body Down place (Abort id) ts = refl
-tells_body Down place (Hello volume version) ts = refl
-tells_body Down place (Read id offset count) ts = refl
-tells_body Down place (Reply id (Judged version Clean)) ts = refl
-tells_body Down place (Reply id (Judged version (Infected index end_at))) ts = refl
-tells_body Down place (Reply id (Failed cause)) ts = refl
-tells_body Down place (Updated version) ts = refl
-tells_body Up place (Scan id stream generation size) ts = refl
-tells_body Up place (Chunk id offset bytes) ts = refl
-tells_body Up place (NoChunk id offset cause) ts = refl
-tells_body Up place (Abort id) ts = refl
-tells_body Up place (Hello volume version) ts = refl
-tells_body Up place (Read id offset count) ts = refl
-tells_body Up place (Reply id (Judged version Clean)) ts = refl
-tells_body Up place (Reply id (Judged version (Infected index end_at))) ts = refl
-tells_body Up place (Reply id (Failed cause)) ts = refl
-tells_body Up place (Updated version) ts = refl
+tells_body : (way : Way) (place : ℕ) (port : Port) (body : Body) → Tells (body_tokens way place port body) (body_text way place port body)
+unfolding object_tokens text_tokens number_tokens digits
+tells_body Down place One (Scan id stream generation size) ts = refl
+tells_body Down place One (Chunk id offset bytes) ts = refl
+tells_body Down place One (NoChunk id offset cause) ts = refl
+tells_body Down place One (Abort id) ts = refl
+tells_body Down place One (Hello volume version) ts = refl
+tells_body Down place One (Read id offset count) ts = refl
+tells_body Down place One (Reply id (Judged version Clean)) ts = refl
+tells_body Down place One (Reply id (Judged version (Infected index end_at))) ts = refl
+tells_body Down place One (Reply id (Failed cause)) ts = refl
+tells_body Down place One (Updated version) ts = refl
+tells_body Down place Two (Scan id stream generation size) ts = refl
+tells_body Down place Two (Chunk id offset bytes) ts = refl
+tells_body Down place Two (NoChunk id offset cause) ts = refl
+tells_body Down place Two (Abort id) ts = refl
+tells_body Down place Two (Hello volume version) ts = refl
+tells_body Down place Two (Read id offset count) ts = refl
+tells_body Down place Two (Reply id (Judged version Clean)) ts = refl
+tells_body Down place Two (Reply id (Judged version (Infected index end_at))) ts = refl
+tells_body Down place Two (Reply id (Failed cause)) ts = refl
+tells_body Down place Two (Updated version) ts = refl
+tells_body Up place One (Scan id stream generation size) ts = refl
+tells_body Up place One (Chunk id offset bytes) ts = refl
+tells_body Up place One (NoChunk id offset cause) ts = refl
+tells_body Up place One (Abort id) ts = refl
+tells_body Up place One (Hello volume version) ts = refl
+tells_body Up place One (Read id offset count) ts = refl
+tells_body Up place One (Reply id (Judged version Clean)) ts = refl
+tells_body Up place One (Reply id (Judged version (Infected index end_at))) ts = refl
+tells_body Up place One (Reply id (Failed cause)) ts = refl
+tells_body Up place One (Updated version) ts = refl
+tells_body Up place Two (Scan id stream generation size) ts = refl
+tells_body Up place Two (Chunk id offset bytes) ts = refl
+tells_body Up place Two (NoChunk id offset cause) ts = refl
+tells_body Up place Two (Abort id) ts = refl
+tells_body Up place Two (Hello volume version) ts = refl
+tells_body Up place Two (Read id offset count) ts = refl
+tells_body Up place Two (Reply id (Judged version Clean)) ts = refl
+tells_body Up place Two (Reply id (Judged version (Infected index end_at))) ts = refl
+tells_body Up place Two (Reply id (Failed cause)) ts = refl
+tells_body Up place Two (Updated version) ts = refl
 
 pub tells_message : (way : Way) (place : ℕ) (message : Letter) → Tells (message_tokens way place message) (message_text way place message)
-tells_message way place m = tells_body way place m.body
+tells_message way place m = tells_body way place m.port m.body
 
-pub tells_work : (place : ℕ) (work : Option WorkState) → Tells (work_tokens place work) (work_text place work)
-unfolding object_tokens text_tokens number_tokens
-tells_work place None ts = refl
-tells_work place (Some work) ts = refl
+tells_lent : (place : ℕ) (port : Port) (work : WorkState) → Tells (lent_tokens place port work) (lent_text place port work)
+unfolding object_tokens text_tokens number_tokens digits
+tells_lent place One work ts = refl
+tells_lent place Two work ts = refl
+
+pub tells_work : (place : ℕ) (work : Option (Port × WorkState)) → Tells (work_tokens place work) (work_text place work)
+tells_work place None = tells_nothing
+tells_work place (Some x) = tells_lent place x.0 x.1
 
 pub tells_placed : {A : Type 0} (f : ℕ → A → List Token) (g : ℕ → A → List ℕ) → ((k : ℕ) (x : A) → Tells (f k x) (g k x))
     → (k : ℕ) (xs : List A) → Tells (placed f k xs) (placed g k xs)
 tells_placed f g one k [] = tells_nothing
 tells_placed f g one k (x ∷ xs) = tells_both (f k x) (placed f (k + 1) xs) (g k x) (placed g (k + 1) xs) (one k x) (tells_placed f g one (k + 1) xs)
 
-pub tells_works : (k : ℕ) (works : List (Option WorkState)) → Tells (placed work_tokens k works) (placed work_text k works)
+pub tells_works : (k : ℕ) (works : List (Option (Port × WorkState))) → Tells (placed work_tokens k works) (placed work_text k works)
 tells_works k works = tells_placed work_tokens work_text tells_work k works
 
 pub tells_opens : (r : Report) (answers : List Given) → Tells (opens_tokens r answers) (opens_text r answers)
@@ -136,7 +163,7 @@ tells_opens r answers =
     let given = between r.before.answers r.after.answers answers in
     tells_both (answers_tokens given) (pended_tokens r.note given) (answers_text given) (pended_text r.note given) (tells_answers given) (tells_pended r.note given)
 
-pub tells_sent : (r : Report) (down up : List Letter) (works : List (Option WorkState)) → Tells (sent_tokens r down up works) (sent_text r down up works)
+pub tells_sent : (r : Report) (down up : List Letter) (works : List (Option (Port × WorkState))) → Tells (sent_tokens r down up works) (sent_text r down up works)
 tells_sent r down up works =
     let d = between r.before.down r.after.down down in
     let u = between r.before.up r.after.up up in
@@ -173,7 +200,7 @@ objects_tell_text w r =
 pub judgement_tells_text : JudgementTellsText
 unfolding object_tokens text_tokens number_tokens
 judgement_tells_text j =
-    elim j.verdict as (λ v. text_back (object_tokens (is (codes "judge") ∷ number_tokens (codes "stream") j.stream ∷ number_tokens (codes "generation") j.generation ∷ number_tokens (codes "version") j.version ∷ verdict_members v)) ≡ spelt (codes "judge " ∷ decimal j.stream ∷ codes " generation " ∷ decimal j.generation ∷ codes " version " ∷ decimal j.version ∷ verdict_parts v)) [
+    elim j.verdict as (λ v. text_back (object_tokens (is (codes "judge") ∷ number_tokens (codes "stream") j.stream ∷ number_tokens (codes "generation") j.generation ∷ number_tokens (codes "version") j.version ∷ verdict_members v [])) ≡ spelt (codes "judge " ∷ decimal j.stream ∷ codes " generation " ∷ decimal j.generation ∷ codes " version " ∷ decimal j.version ∷ verdict_parts v (codes "\n"))) [
       | Clean ↦ append-nil _
       | Infected index end_at ↦ append-nil _
     ]

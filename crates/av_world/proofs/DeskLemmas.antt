@@ -162,7 +162,7 @@ module _ (p : Past) (down : List Letter) (works : List WorkState) (d : Desk) (f 
   unfolding scan_cached verdict verdict_to
   scan_told id s g l on h (Some e) at = record {
     fits = cached (in_front e d.cache) (front_right p e d.cache (find_each (IsRightEntry p) (has_key s g d.version) d.cache e f.cache at) f.cache);
-    up = (record { of = about d.port s g l; told = h.told; right = look_right p s g d.version d.cache e f.cache at }, tt);
+    up = (record { of = about d.port s g l; told = h.told; there = refl; right = look_right p s g d.version d.cache e f.cache at }, tt);
   }
   scan_told id s g l on h None at =
       cond_both (nat_le d.limits.jobs (length d.jobs)) _ _ (Told p down works) (λ e. record { fits = same; up = (tt, tt) })
@@ -174,7 +174,7 @@ module _ (p : Past) (down : List Letter) (works : List WorkState) (d : Desk) (f 
       let right : IsVerdictOf p s g d.version Clean = record { patterns = set.0; bytes = h.bytes; published = set.1; held = h.held; right = clean } in
       record {
         fits = cached _ (put_right p d.limits.cache _ d.cache right f.cache);
-        up = (record { of = about d.port s g l; told = h.told; right = right }, tt);
+        up = (record { of = about d.port s g l; told = h.told; there = refl; right = right }, tt);
       })
       (λ e. record {
         fits = subst (λ ws. DeskFits p down ws (record d { jobs = d.jobs ++ new_job d.version id s g l ∷ [] })) (sym (append-nil works)) record {
@@ -359,7 +359,7 @@ module _ (p : Past) (down : List Letter) (works : List WorkState) (d : Desk) (f 
         let right : IsVerdictOf p j.stream j.generation d.version r = record { patterns = job.patterns; bytes = job.bytes; published = job.published; held = job.held; right = h } in
         record {
           fits = fewer p down works d f solid (λ (k : Job). not (same_id k.id j.id)) _ (put_right p d.limits.cache _ d.cache right f.cache);
-          up = (record { of = about d.port j.stream j.generation j.length; told = job.told; right = right }, tt);
+          up = (record { of = about d.port j.stream j.generation j.length; told = job.told; there = refl; right = right }, tt);
         }
 
     whole : j.offset + loan_count j.loan ≡ j.length → now_judged ≡ job.bytes
@@ -427,7 +427,7 @@ connects_told p down works d f ok = record {
     some_version false e ok = eqb-false d.version 0 e
 
 -- ports that pass the test are one
-one_port : (p q : Port) → same_port p q ≡ true → p ≡ q
+pub one_port : (p q : Port) → same_port p q ≡ true → p ≡ q
 one_port One One e = refl
 one_port One Two e = absurd cc
 one_port Two One e = absurd cc
@@ -459,9 +459,9 @@ unfolding published_as
 latest_published [] h = absurd (h refl)
 latest_published (q ∷ qs) h = (q.patterns, rw (eq-eqb q.version q.version refl) refl)
 
-pub restarts_told : (p : Past) (down : List Letter) (works : List WorkState) (d : Desk) → DeskFits p down works d → Told p down works (service_step d (Restarts (latest_as p.sets)))
+pub restarts_told : (p : Past) (down : List Letter) (works : List WorkState) (d : Desk) → DeskFits p down works d → (n : ℕ) → ((n ≡ 0 → ⊥) → (set : List Pattern) × (published_as p.sets n ≡ Some set)) → Told p down works (service_step d (Restarts n))
 unfolding service_step
-restarts_told p down works d f = jobless p down works d f (latest_as p.sets) [] tt (latest_published p.sets) Quiet
+restarts_told p down works d f n known = jobless p down works d f n [] tt known Quiet
 
 -- what asks for the bytes of jobs tells no verdict
 reads_fit : (p : Past) (down : List Letter) (port : Port) (limits : LimitValues) (v : ℕ) (js : List Job) → Each (UpFits p down) (map (via port) (map (λ j. read_message limits (afresh v j)) js))

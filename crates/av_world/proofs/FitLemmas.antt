@@ -1,11 +1,9 @@
 -- The invariant of the filter's side: what its table holds fits what the streams have held, and what was sent is true.
-use Rattle.std.proofs.Common.{◌≡◌, ◌≢◌, ℕ, ◌+◌, ◌<◌, Bool, false, not, ◌==◌, List, [], ◌∷◌, ◌++◌, length, take, drop, map, find, Option, Some, None, Ok, refl, sym, ap, ◌∙◌, subst, arith, inl, inr, ◌⊎◌}
+use Rattle.std.proofs.Common.{◌≡◌, ◌≢◌, ℕ, ◌+◌, ◌<◌, Bool, false, not, ◌==◌, List, [], ◌∷◌, ◌++◌, length, take, drop, map, find, Option, Some, None, Ok, refl, sym, ap, ◌∙◌, subst, arith, inl, inr, ◌⊎◌, true, is_some}
 use Rattle.std.specs.List.{AllByRecursion as Each}
 use Rattle.std.proofs.lemmas.Bool.{cases_eq, ne_eqb, and_left, and_right}
 use Rattle.av_base.specs.MessageId.{same_id}
 use Rattle.av_base.specs.declared.message_id.MessageId.{MessageId}
-use Rattle.av_base.specs.declared.port.Port.TheVariants.{One}
-use Rattle.av_base.specs.declared.port.Port.{Port}
 use Rattle.av_base.specs.declared.verdict.Verdict.{Verdict}
 use Rattle.av_cache.specs.declared.entry.Entry.{Entry}
 use Rattle.av_context.specs.Contexts.{set_at}
@@ -18,9 +16,10 @@ use Rattle.av_filter_table.specs.Asking.{lost_contexts}
 use Rattle.av_filter_table.specs.Answering.{stream_bytes, stream_generation}
 use Rattle.av_filter_table.specs.Table.{Table, context_of, question_of, without_question}
 use Rattle.av_filter_table.specs.declared.question.Question.{Question}
-use Rattle.av_frame.specs.Message.{Letter, via}
-use Rattle.av_frame.specs.declared.message.Body.TheVariants.{Scan, Chunk, Reply}
 use Rattle.av_frame.specs.declared.message.Body.{Body}
+use Rattle.av_frame.specs.Message.{Letter, via}
+use Rattle.av_base.specs.declared.port.Port.{Port}
+use Rattle.av_frame.specs.declared.message.Body.TheVariants.{Scan, Chunk, Reply}
 use Rattle.av_frame.specs.declared.outcome.Outcome.{Outcome}
 use Rattle.av_frame.specs.declared.outcome.Outcome.TheVariants.{Judged, Failed}
 use Rattle.av_sigset.specs.Publication.{published_as}
@@ -32,10 +31,11 @@ use Rattle.av_store.specs.Rows.{Streams, stream_at}
 use Rattle.av_store.specs.Seen.{Keeps, change_of, seen}
 use Rattle.av_store.specs.Store.{Store}
 use Rattle.av_store.specs.declared.stream.Stream.{Stream}
-use Rattle.av_filter.proofs.QuestionLemmas.{apart-filter, apart-push, away_none, away_without}
-use Rattle.av_world.proofs.AskedLemmas.{asked_more, asked_new, asked_scan, asked_scan_other, IsPlain}
+use Rattle.av_filter.proofs.QuestionLemmas.{apart-filter, apart-push, away_none, away_without, same_id-true}
+use Rattle.av_world.proofs.AskedLemmas.{asked_more, asked_new, once-append, one_once, plain_once, some_none, asked_scan, asked_scan_other, IsPlain}
 use Rattle.av_world.proofs.ContentLemmas.{kept_change, present_content, stream_away, stream_stays}
 use Rattle.av_filter.proofs.EachLemmas.{each_weaker, each-append, each-filter}
+use Rattle.av_world.specs.Whole.{ScanOnce}
 use Rattle.av_world.specs.Held.{Asked, asked}
 use Rattle.av_world.specs.Past.{Past, changes, IsVerdictOf, IsRightEntry}
 
@@ -58,7 +58,7 @@ about port s g l = record { port = port; stream = s; generation = g; length = l 
 
 -- a message that was sent down tells what it names: a scan the stream's content, a chunk a part of it
 pub record ScanFits (p : Past) (down : List Letter) (port : Port) (id : MessageId) (s g l : ℕ) : Type 0 where
-  pub told : asked down id ≡ Some (record { port = port; stream = s; generation = g; length = l })
+  pub told : asked down id ≡ Some (about port s g l)
   pub bytes : List ℕ
   pub held : content p.streams s g ≡ Some bytes
   pub size : length bytes ≡ l
@@ -79,23 +79,24 @@ abbrev pub DownFits : Past → List Letter → Letter → Type 0
 DownFits p down m = BodyFits p down m.port m.body
 
 -- a reply that was sent up tells the verdict of what was asked about
-pub record ReplyFits (p : Past) (down : List Letter) (id : MessageId) (v : ℕ) (r : Verdict) : Type 0 where
+pub record ReplyFits (p : Past) (down : List Letter) (port : Port) (id : MessageId) (v : ℕ) (r : Verdict) : Type 0 where
   pub of : Asked
   pub told : asked down id ≡ Some of
+  pub there : of.port ≡ port
   pub right : IsVerdictOf p of.stream of.generation v r
 
-abbrev pub OutcomeFits : Past → List Letter → MessageId → Outcome → Type 0
-OutcomeFits p down id (Judged v r) = ReplyFits p down id v r
-OutcomeFits p down id (Failed reason) = Unit {0}
+abbrev pub OutcomeFits : Past → List Letter → Port → MessageId → Outcome → Type 0
+OutcomeFits p down port id (Judged v r) = ReplyFits p down port id v r
+OutcomeFits p down port id (Failed reason) = Unit {0}
 
-abbrev pub UpBody : Past → List Letter → Body → Type 0
-UpBody p down (Reply id outcome) = OutcomeFits p down id outcome
-UpBody p down _ = Unit {0}
+abbrev pub UpBody : Past → List Letter → Port → Body → Type 0
+UpBody p down port (Reply id outcome) = OutcomeFits p down port id outcome
+UpBody p down port _ = Unit {0}
 
 abbrev pub UpFits : Past → List Letter → Letter → Type 0
-UpFits p down m = UpBody p down m.body
+UpFits p down m = UpBody p down m.port m.body
 
-body_grows : (p p' : Past) (down more : List Letter) → Grown p p' → (port : Port) (m : Body) → BodyFits p down port m → BodyFits p' (down ++ more) port m
+pub body_grows : (p p' : Past) (down more : List Letter) → Grown p p' → (port : Port) (m : Body) → BodyFits p down port m → BodyFits p' (down ++ more) port m
 body_grows p p' down more up port (Scan id s g l) h = record { told = asked_more down more id _ h.told; bytes = h.bytes; held = up.contents s g h.bytes h.held; size = h.size }
 body_grows p p' down more up port (Chunk id o b) h =
     record { of = h.of; told = asked_more down more id _ h.told; bytes = h.bytes; held = up.contents h.of.stream h.of.generation h.bytes h.held; part = h.part }
@@ -104,16 +105,16 @@ body_grows p p' down more up port _ h = tt
 pub down_grows : (p p' : Past) (down more : List Letter) → Grown p p' → (m : Letter) → DownFits p down m → DownFits p' (down ++ more) m
 down_grows p p' down more up m h = body_grows p p' down more up m.port m.body h
 
-outcome_grows : (p p' : Past) (down more : List Letter) → Grown p p' → (id : MessageId) (o : Outcome) → OutcomeFits p down id o → OutcomeFits p' (down ++ more) id o
-outcome_grows p p' down more up id (Judged v r) h = record { of = h.of; told = asked_more down more id _ h.told; right = right_grows p p' _ _ _ _ up h.right }
-outcome_grows p p' down more up id (Failed reason) h = tt
+outcome_grows : (p p' : Past) (down more : List Letter) → Grown p p' → (port : Port) (id : MessageId) (o : Outcome) → OutcomeFits p down port id o → OutcomeFits p' (down ++ more) port id o
+outcome_grows p p' down more up port id (Judged v r) h = record { of = h.of; told = asked_more down more id _ h.told; there = h.there; right = right_grows p p' _ _ _ _ up h.right }
+outcome_grows p p' down more up port id (Failed reason) h = tt
 
-up_body_grows : (p p' : Past) (down more : List Letter) → Grown p p' → (m : Body) → UpBody p down m → UpBody p' (down ++ more) m
-up_body_grows p p' down more up (Reply id o) h = outcome_grows p p' down more up id o h
-up_body_grows p p' down more up _ h = tt
+pub up_body_grows : (p p' : Past) (down more : List Letter) → Grown p p' → (port : Port) (m : Body) → UpBody p down port m → UpBody p' (down ++ more) port m
+up_body_grows p p' down more up port (Reply id o) h = outcome_grows p p' down more up port id o h
+up_body_grows p p' down more up port _ h = tt
 
 pub up_grows : (p p' : Past) (down more : List Letter) → Grown p p' → (m : Letter) → UpFits p down m → UpFits p' (down ++ more) m
-up_grows p p' down more up m h = up_body_grows p p' down more up m.body h
+up_grows p p' down more up m h = up_body_grows p p' down more up m.port m.body h
 
 -- what the invariant reads of a table
 pub record Core : Type 0 where
@@ -135,7 +136,7 @@ pub record QuestionFits (ss : Streams) (down : List Letter) (q : Question) : Typ
   pub file : Stream
   pub here : stream_at q.stream ss ≡ Some file
   pub present : q.generation ≡ stream_generation (stream_at q.stream ss)
-  pub told : asked down q.id ≡ Some (about One q.stream q.generation (length (stream_bytes (stream_at q.stream ss))))
+  pub told : asked down q.id ≡ Some (about q.port q.stream q.generation (length (stream_bytes (stream_at q.stream ss))))
 
 -- ids that weren't given yet
 abbrev pub IsLater : ℕ → ℕ → MessageId → Type 0
@@ -151,6 +152,7 @@ pub record Fits (p : Past) (ss : Streams) (k : Core) (down : List Letter) : Type
   pub cache : Each (IsRightEntry p) k.cache
   pub fresh : (id : MessageId) → IsLater k.boot k.sequence id → asked down id ≡ None
   pub sent : Each (DownFits p down) down
+  pub once : ScanOnce down
 
 -- the same, with one stream left out: it has no question, and its context doesn't count
 pub record FitsAway (s : ℕ) (p : Past) (ss : Streams) (k : Core) (down : List Letter) : Type 0 where
@@ -164,6 +166,7 @@ pub record FitsAway (s : ℕ) (p : Past) (ss : Streams) (k : Core) (down : List 
   pub cache : Each (IsRightEntry p) k.cache
   pub fresh : (id : MessageId) → IsLater k.boot k.sequence id → asked down id ≡ None
   pub sent : Each (DownFits p down) down
+  pub once : ScanOnce down
 
 abbrev pub core_without : MessageId → Core → Core
 core_without id k = record k { questions = without_question id k.questions }
@@ -181,6 +184,7 @@ leave test q p ss k down h f = record {
   cache = f.cache;
   fresh = f.fresh;
   sent = f.sent;
+  once = f.once;
 }
 
 pub leave_none : (s : ℕ) (p : Past) (ss : Streams) (k : Core) (down : List Letter) → question_of s k.questions ≡ None → Fits p ss k down → FitsAway s p ss k down
@@ -195,6 +199,7 @@ leave_none s p ss k down h f = record {
   cache = f.cache;
   fresh = f.fresh;
   sent = f.sent;
+  once = f.once;
 }
 
 -- which context stands after one is set
@@ -237,6 +242,7 @@ close s c p ss k down f h = record {
   cache = f.cache;
   fresh = f.fresh;
   sent = f.sent;
+  once = f.once;
 }
 
 -- messages that ask nothing are sent
@@ -251,41 +257,42 @@ tell p ss k down ms f plain each = record {
   cache = f.cache;
   fresh = λ id later. asked_new down ms id (f.fresh id later) ∙ plain id;
   sent = each-append (DownFits p (down ++ ms)) down ms (each_weaker (DownFits p down) (DownFits p (down ++ ms)) (down_grows p p down ms (same_past p)) down f.sent) each;
+  once = once-append down ms f.once (plain_once ms plain) (λ id some. plain id);
 }
 
 -- the stream that was left out is asked about
 abbrev pub given_id : Core → MessageId
 given_id k = record { boot = k.boot; seq = k.sequence + 1 }
 
-abbrev pub new_question : Core → Streams → ℕ → Question
-new_question k ss s = record { id = given_id k; port = One; stream = s; generation = stream_generation (stream_at s ss) }
+abbrev pub new_question : Core → Streams → Port → ℕ → Question
+new_question k ss port s = record { id = given_id k; port = port; stream = s; generation = stream_generation (stream_at s ss) }
 
-abbrev pub core_asked : Core → Streams → ℕ → Core
-core_asked k ss s =
+abbrev pub core_asked : Core → Streams → Port → ℕ → Core
+core_asked k ss port s =
     record {
       boot = k.boot;
       sequence = k.sequence + 1;
       contexts = set_at k.contexts s (Some (context.Scanning (given_id k)));
-      questions = k.questions ++ new_question k ss s ∷ [];
+      questions = k.questions ++ new_question k ss port s ∷ [];
       cache = k.cache;
     }
 
-abbrev pub asking : Core → Streams → ℕ → Letter
-asking k ss s = via One (Scan (given_id k) s (stream_generation (stream_at s ss)) (length (stream_bytes (stream_at s ss))))
+abbrev pub asking : Core → Streams → Port → ℕ → Letter
+asking k ss port s = via port (Scan (given_id k) s (stream_generation (stream_at s ss)) (length (stream_bytes (stream_at s ss))))
 
 -- an id after the given one is a later one, and another
 later_still : (k : Core) (id : MessageId) → IsLater k.boot (k.sequence + 1) id → IsLater k.boot k.sequence id × (same_id (given_id k) id ≡ false)
 later_still k id (inl lt) = (inl lt, and_left (k.boot == id.boot) (k.sequence + 1 == id.seq) (ne_eqb k.boot id.boot (λ e. omega arith)))
 later_still k id (inr h) = (inr (h.0, omega (arith, h.1)), and_right (k.boot == id.boot) (k.sequence + 1 == id.seq) (ne_eqb (k.sequence + 1) id.seq (λ e. omega (arith, h.1))))
 
-pub ask : (s : ℕ) (p : Past) (ss : Streams) (k : Core) (down early : List Letter) (f : Stream) → FitsAway s p ss k down → stream_at s ss ≡ Some f → IsPlain early → ((d : List Letter) → Each (DownFits p d) early)
-    → Fits p ss (core_asked k ss s) (down ++ (early ++ asking k ss s ∷ []))
-ask s p ss k down early f a here plain each =
-    let ms : List Letter = early ++ asking k ss s ∷ [] in
+pub ask : (s : ℕ) (port : Port) (p : Past) (ss : Streams) (k : Core) (down early : List Letter) (f : Stream) → FitsAway s p ss k down → stream_at s ss ≡ Some f → IsPlain early → ((d : List Letter) → Each (DownFits p d) early)
+    → Fits p ss (core_asked k ss port s) (down ++ (early ++ asking k ss port s ∷ []))
+ask s port p ss k down early f a here plain each =
+    let ms : List Letter = early ++ asking k ss port s ∷ [] in
     let all : List Letter = down ++ ms in
     let unused : asked down (given_id k) ≡ None = a.fresh (given_id k) (inr (refl, omega arith)) in
-    let told : asked all (given_id k) ≡ Some (about One s (stream_generation (stream_at s ss)) (length (stream_bytes (stream_at s ss)))) =
-    asked_new down ms (given_id k) unused ∙ asked_scan early plain (given_id k) s (stream_generation (stream_at s ss)) (length (stream_bytes (stream_at s ss))) in
+    let told : asked all (given_id k) ≡ Some (about port s (stream_generation (stream_at s ss)) (length (stream_bytes (stream_at s ss)))) =
+    asked_new down ms (given_id k) unused ∙ asked_scan early plain port (given_id k) s (stream_generation (stream_at s ss)) (length (stream_bytes (stream_at s ss))) in
     let old : (m : Letter) → DownFits p down m → DownFits p all m = down_grows p p down ms (same_past p) in
     let present = present_content p.streams ss s f a.present here in
     record {
@@ -293,20 +300,21 @@ ask s p ss k down early f a here plain each =
       rises = rises-set k.contexts s (Some (context.Scanning (given_id k))) a.rises;
       contexts = context_set (ContextFits p ss) s (Some (context.Scanning (given_id k))) k.contexts a.rises tt a.contexts;
       questions =
-          each-append (QuestionFits ss all) k.questions (new_question k ss s ∷ [])
+          each-append (QuestionFits ss all) k.questions (new_question k ss port s ∷ [])
           (each_weaker (QuestionFits ss down) (QuestionFits ss all) (λ q h. record { file = h.file; here = h.here; present = h.present; told = asked_more down ms q.id _ h.told }) k.questions a.questions)
           (record { file = f; here = here; present = refl; told = told }, tt);
-      apart = apart-push k.questions (new_question k ss s) a.apart a.away;
+      apart = apart-push k.questions (new_question k ss port s) a.apart a.away;
       scanning =
-          each-append (IsScanned (set_at k.contexts s (Some (context.Scanning (given_id k))))) k.questions (new_question k ss s ∷ []) (still_scanned s (Some (context.Scanning (given_id k))) k.contexts k.questions a.away a.scanning)
+          each-append (IsScanned (set_at k.contexts s (Some (context.Scanning (given_id k))))) k.questions (new_question k ss port s ∷ []) (still_scanned s (Some (context.Scanning (given_id k))) k.contexts k.questions a.away a.scanning)
           (at-set k.contexts s (Some (context.Scanning (given_id k))) a.rises, tt);
       cache = a.cache;
       fresh = λ id later.
           let l = later_still k id later in
-          asked_new down ms id (a.fresh id l.0) ∙ asked_scan_other early plain (given_id k) id s (stream_generation (stream_at s ss)) (length (stream_bytes (stream_at s ss))) l.1;
+          asked_new down ms id (a.fresh id l.0) ∙ asked_scan_other early plain port (given_id k) id s (stream_generation (stream_at s ss)) (length (stream_bytes (stream_at s ss))) l.1;
+      once = once-append down ms a.once (once-append early (asking k ss port s ∷ []) (plain_once early plain) (one_once (asking k ss port s)) (λ id some. absurd (some_none (asked early id) some (plain id)))) (λ id some. apart id some);
       sent =
           each-append (DownFits p all) down ms (each_weaker (DownFits p down) (DownFits p all) old down a.sent)
-          (each-append (DownFits p all) early (asking k ss s ∷ []) (each all) (
+          (each-append (DownFits p all) early (asking k ss port s ∷ []) (each all) (
             record {
               told = told;
               bytes = f.bytes;
@@ -316,6 +324,15 @@ ask s p ss k down early f a here plain each =
             tt,
           ));
     }
+  where
+    apart : (id : MessageId) → is_some (asked down id) ≡ true → asked (early ++ asking k ss port s ∷ []) id ≡ None
+    apart id some =
+        (elim (same_id (given_id k) id) as (λ b. same_id (given_id k) id ≡ b → asked (early ++ asking k ss port s ∷ []) id ≡ None) [
+          | true ↦ λ e.
+              let same : given_id k ≡ id = same_id-true (given_id k) id e in
+              absurd (some_none (asked down id) some (ap (asked down) (sym same) ∙ a.fresh (given_id k) (inr (refl, omega arith))))
+          | false ↦ λ e. asked_scan_other early plain port (given_id k) id s (stream_generation (stream_at s ss)) (length (stream_bytes (stream_at s ss))) e
+        ]) refl
 
 pub context_kept : (p p' : Past) (ss ss' : Streams) (u : ℕ) (c : Option ContextState) → Grown p p' → ((x : Stream) → stream_at u ss ≡ Some x → stream_at u ss' ≡ Some x) → ContextFits p ss u c → ContextFits p' ss' u c
 context_kept p p' ss ss' u None up same h = tt
@@ -350,7 +367,7 @@ module _ (c : Change) (p : Past) (v w : Store) (k : Core) (down : List Letter) (
     file = h.file;
     here = same ∙ h.here;
     present = h.present ∙ ap stream_generation (sym same);
-    told = h.told ∙ ap (λ o. Some (about One q.stream q.generation (length (stream_bytes o)))) (sym same);
+    told = h.told ∙ ap (λ o. Some (about q.port q.stream q.generation (length (stream_bytes o)))) (sym same);
   }
 
   -- of the stream that was left out
@@ -366,6 +383,7 @@ module _ (c : Change) (p : Past) (v w : Store) (k : Core) (down : List Letter) (
     cache = cache_kept a.cache;
     fresh = a.fresh;
     sent = sent_kept a.sent;
+    once = a.once;
   }
     where
       questions_kept : (qs : List Question) → Each (QuestionFits v.streams down) qs → Each (λ q. q.stream ≢ s) qs → Each (QuestionFits w.streams down) qs
@@ -384,4 +402,5 @@ create name p v w k down keeps done a = record {
   cache = cache_kept (Create name) p v w k down keeps done a.cache;
   fresh = a.fresh;
   sent = sent_kept (Create name) p v w k down keeps done a.sent;
+  once = a.once;
 }

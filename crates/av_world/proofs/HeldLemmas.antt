@@ -4,7 +4,6 @@ use Rattle.std.specs.List.{cons_option, filter_map, flat_map}
 use Rattle.std.specs.Option.{option_map, option_or, option_to_list}
 use Rattle.std.proofs.lemmas.List.{append_assoc, drop_all}
 use Rattle.av_base.specs.declared.message_id.MessageId.{MessageId}
-use Rattle.av_base.specs.declared.port.Port.TheVariants.{One}
 use Rattle.av_base.specs.declared.verdict.Verdict.{Verdict}
 use Rattle.av_cache.specs.declared.entry.Entry.{Entry}
 use Rattle.av_context.specs.declared.context_state.ContextState.{ContextState}
@@ -17,7 +16,7 @@ use Rattle.av_frame.specs.declared.message.Body.{Body}
 use Rattle.av_frame.specs.declared.outcome.Outcome.TheVariants as outcome
 use Rattle.av_store.specs.Rows.{Streams}
 use Rattle.av_world.specs.Held.{Asked, asked, asked_by, entry, held, held_body, held_by, held_contexts, held_in, held_reply}
-use Rattle.av_world.specs.World.{WorldState, desk_of}
+use Rattle.av_world.specs.World.{WorldState}
 
 -- ---- contexts
 
@@ -71,9 +70,9 @@ replies_hold down (m ∷ ms) = cons_reply down m _ ∙ ap (λ es. held_reply dow
 
 -- ---- all of it
 
-pub held_parts : (w : WorldState) (contexts cached kept replied : List Entry) → contexts ≡ held_contexts w.table.contexts w.volume.streams → cached ≡ w.table.cache → kept ≡ (desk_of w One).cache → replied ≡ flat_map (held_reply w.down) w.up → ((contexts ++ cached) ++ kept) ++ replied ≡ held w
+pub held_parts : (w : WorldState) (contexts cached one two replied : List Entry) → contexts ≡ held_contexts w.table.contexts w.volume.streams → cached ≡ w.table.cache → one ≡ w.one.cache → two ≡ w.two.cache → replied ≡ flat_map (held_reply w.down) w.up → (((contexts ++ cached) ++ one) ++ two) ++ replied ≡ held w
 unfolding held
-held_parts w contexts cached kept replied a b c d = simp append_assoc (cc)
+held_parts w contexts cached one two replied a b c d e = simp append_assoc (cc)
 
 -- ---- what an id was asked about
 

@@ -18,7 +18,10 @@ pub mod ObjectLemmas
 pub mod OnceLemmas
 pub mod PathLemmas
 pub mod PatternLemmas
+pub mod PlaceLemmas
 pub mod PlacedLemmas
+pub mod PortExampleLemmas
+pub mod PortScriptLemmas
 pub mod ProgressLemmas
 pub mod PublishLemmas
 pub mod ReachLemmas
@@ -33,6 +36,7 @@ pub mod SoundLemmas
 pub mod SpanLemmas
 pub mod StageLemmas
 pub mod StepLemmas
+pub mod UnionLemmas
 pub mod WholeLemmas
 pub mod WordLemmas
 pub mod WorkLemmas

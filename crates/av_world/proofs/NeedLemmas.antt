@@ -8,10 +8,10 @@ use Rattle.av_base.specs.declared.limits.LimitValues.{LimitValues}
 use Rattle.av_base.specs.declared.message_id.MessageId.{MessageId}
 use Rattle.av_base.specs.declared.mode.Mode.{Mode}
 use Rattle.av_base.specs.declared.mode.Mode.TheVariants.{FailClosed, FailOpen}
-use Rattle.av_base.specs.declared.port.Port.TheVariants.{One}
 use Rattle.av_base.specs.declared.port.Port.{Port}
 use Rattle.av_filter.proofs.EachLemmas.{each-append, each-map, each_mapped}
-use Rattle.av_filter.specs.Again.{again}
+use Rattle.av_filter.specs.Again.{again_at, ends}
+use Rattle.av_filter_table.specs.Ports.{is_open, least_port}
 use Rattle.av_filter_table.specs.Asking.{again_cause, asks, ended, is_held, is_spent}
 use Rattle.av_filter.specs.Conduct.{filter_refusal, filter_step}
 use Rattle.av_filter_table.specs.declared.pended.Pended.{Pended}
@@ -70,28 +70,33 @@ record Withholds (t : Table) (r : Reaction) : Type 0 where
 unsettled_cause : (p : Pended) → again_cause p ≢ Infected
 unsettled_cause p = (elim (is_spent p) as (λ b. (if b then Unsettled else Busy) ≢ Infected) [ true ↦ (λ e. absurd (cc (e))) | false ↦ (λ e. absurd (cc (e))) ])
 
-again_withholds : (t : Table) (v : Store) (q : Question) (early : List Letter) → Withholds t (again t v q early)
-unfolding again asks ended
-again_withholds t v q early =
+ends_withholds : (t : Table) (v : Store) (q : Question) (early : List Letter) → Withholds t (ends t v q early)
+unfolding ends ended
+ends_withholds t v q early = record { floor = omega arith; answers = each_mapped IsNoVerdict (λ (p : Pended). refused_now t v (again_cause p) p) (λ p. no_refusal t.mode (present_generation v p.held.stream) (again_cause p) p.held (unsettled_cause p)) _ }
+
+again_at_withholds : (o : Option Port) (t : Table) (v : Store) (q : Question) (early : List Letter) → Withholds t (again_at o t v q early)
+unfolding again_at asks
+again_at_withholds None t v q early = ends_withholds t v q early
+again_at_withholds (Some port) t v q early =
     cond_both (list_any (is_held q.id) t.pended && sequence_left t) _ _ (Withholds t)
     (λ e. record { floor = omega arith; answers = each_mapped IsNoVerdict (refused_now t v Unsettled) (λ p. no_refusal t.mode (present_generation v p.held.stream) Unsettled p.held (λ e. absurd (cc (e)))) _ })
-    (λ e. record { floor = omega arith; answers = each_mapped IsNoVerdict (λ (p : Pended). refused_now t v (again_cause p) p) (λ p. no_refusal t.mode (present_generation v p.held.stream) (again_cause p) p.held (unsettled_cause p)) _ })
+    (λ e. ends_withholds t v q early)
 
 silent : (t : Table) (r : Reaction) → t.floor ≤ r.table.floor → r.answers ≡ [] → Withholds t r
 silent t r floor none = record { floor = floor; answers = subst (Each IsNoVerdict) (sym none) tt }
 
 module _ (t : Table) (v : Store) where
-  greets : (number version : ℕ) → Withholds t (greeted t v number version)
+  greets : (port : Port) (number version : ℕ) → Withholds t (greeted t v port number version)
   unfolding greeted
-  greets number version =
+  greets port number version =
       cond_both (not (number == v.number)) _ _ (Withholds t) (λ e. record { floor = omega arith; answers = tt })
-      (λ e. cond_both t.connected _ _ (Withholds t) (λ e. record { floor = omega arith; answers = tt })
+      (λ e. cond_both (is_open port t.connected) _ _ (Withholds t) (λ e. record { floor = omega arith; answers = tt })
       (λ e. cond_both (nat_lt version t.floor) _ _ (Withholds t) (λ e. record { floor = omega arith; answers = tt }) (λ e. record { floor = ltb-false version t.floor e; answers = tt })))
 
-  reads_on : (id : MessageId) (offset count : ℕ) (o : Option Question) → Withholds t (reads t v id offset count o)
+  reads_on : (port : Port) (id : MessageId) (offset count : ℕ) (o : Option Question) → Withholds t (reads t v port id offset count o)
   unfolding reads
-  reads_on id offset count None = record { floor = omega arith; answers = tt }
-  reads_on id offset count (Some q) = cond_both (nat_le (length (present_bytes v q.stream)) offset) _ _ (Withholds t) (λ e. record { floor = omega arith; answers = tt }) (λ e. record { floor = omega arith; answers = tt })
+  reads_on port id offset count None = record { floor = omega arith; answers = tt }
+  reads_on port id offset count (Some q) = cond_both (nat_le (length (present_bytes v q.stream)) offset) _ _ (Withholds t) (λ e. record { floor = omega arith; answers = tt }) (λ e. record { floor = omega arith; answers = tt })
 
   -- a reply of a version below the floor
   abbrev IsBelow : Outcome → Type 0
@@ -102,7 +107,7 @@ module _ (t : Table) (v : Store) where
   unfolding replies ended
   hears outcome None h = record { floor = omega arith; answers = tt }
   hears (Failed why) (Some q) h = record { floor = omega arith; answers = each_mapped IsNoVerdict (refused_now t v ScanFailed) (λ p. no_refusal t.mode (present_generation v p.held.stream) ScanFailed p.held (λ e. absurd (cc (e)))) _ }
-  hears (Judged version r) (Some q) h = subst (Withholds t) (sym (cond-true (nat_lt version t.floor) _ _ (lt-ltb version t.floor h))) (again_withholds t v q [])
+  hears (Judged version r) (Some q) h = subst (Withholds t) (sym (cond-true (nat_lt version t.floor) _ _ (lt-ltb version t.floor h))) (again_at_withholds (least_port t.connected) t v q [])
 
   abbrev MayHear : Body → Type 0
   MayHear (Reply id outcome) = IsBelow outcome
@@ -110,10 +115,10 @@ module _ (t : Table) (v : Store) where
 
   receives_withholds : (port : Port) (m : Body) → MayHear m → Withholds t (receives_at t v port m)
   unfolding receives_at
-  receives_withholds One (Hello number version) h = greets number version
-  receives_withholds One (Updated version) h = record { floor = omega arith; answers = tt }
-  receives_withholds One (Read id offset count) h = reads_on id offset count _
-  receives_withholds One (Reply id outcome) h = hears outcome _ h
+  receives_withholds port (Hello number version) h = greets port number version
+  receives_withholds port (Updated version) h = record { floor = omega arith; answers = tt }
+  receives_withholds port (Read id offset count) h = reads_on port id offset count _
+  receives_withholds port (Reply id outcome) h = hears outcome _ h
   receives_withholds port _ h = record { floor = omega arith; answers = tt }
 
 -- ---- worlds
@@ -133,17 +138,17 @@ nothing_given w x h sets table answers = record {
 
 module _ (mode : Mode) (w : WorldState) (s : Steady mode w) (h : IsAbove w) where
   -- what was sent up tells no later version
-  may_hear : (m : Body) → UpBody (past w.history) w.down m → MayHear w.table w.volume m
-  may_hear (Reply id (Judged version r)) fits =
-      let below : version ≤ latest_as (past w.history).sets = published_below (past w.history).sets version fits.right.patterns s.sound.lawful.falling fits.right.published in
+  may_hear : (port : Port) (m : Body) → UpBody (past w.history) w.down port m → MayHear w.table w.volume m
+  may_hear port (Reply id (Judged version r)) fits =
+      let below : version ≤ latest_as (past w.history).sets = published_below (past w.history).sets version fits.right.patterns s.sound.falling fits.right.published in
       omega (arith, below, h, latest_same w.sets, ap latest_as s.sound.sets)
-  may_hear (Reply id (Failed why)) fits = tt
-  may_hear _ fits = tt
+  may_hear port (Reply id (Failed why)) fits = tt
+  may_hear port _ fits = tt
 
   comes_up : (k : ℕ) (m : Letter) → UpFits (past w.history) w.down m → Refrains w (reacted w (Up k) (filter_step w.table w.volume (filter_events.Receives m)))
   unfolding filter_step
   comes_up k m fits =
-      let r : Withholds w.table (receives w.table w.volume m) = receives_withholds w.table w.volume m.port m.body (may_hear m.body fits) in
+      let r : Withholds w.table (receives w.table w.volume m) = receives_withholds w.table w.volume m.port m.body (may_hear m.port m.body fits) in
       record {
         above = omega (arith, h, r.floor);
         gave = record {
@@ -169,23 +174,23 @@ module _ (mode : Mode) (w : WorldState) (s : Steady mode w) (h : IsAbove w) wher
 
   by_down : (k : ℕ) (o : Option Letter) → Refrains w (world_or w (down_frame w (Down k) o))
   by_down k None = nothing_given w w h refl refl refl
-  by_down k (Some m) = nothing_given w (responded w (Down k) One (service_step (desk_of w One) (service_events.Receives m))) h refl refl refl
+  by_down k (Some m) = nothing_given w (responded w (Down k) m.port (service_step (desk_of w m.port) (service_events.Receives m))) h refl refl refl
 
-  by_work : (k : ℕ) (o : Option WorkState) → Refrains w (world_or w (work_event w (Run k) k o))
+  by_work : (k : ℕ) (o : Option (Port × WorkState)) → Refrains w (world_or w (work_event w (Run k) k o))
   by_work k None = nothing_given w w h refl refl refl
-  by_work k (Some x) = nothing_given w (responded (back_at w k) (Run k) One (service_step (desk_of w One) (done (map publication_of w.sets) x))) h refl refl refl
+  by_work k (Some x) = nothing_given w (responded (back_at w k) (Run k) x.0 (service_step (desk_of w x.0) (done (map publication_of w.sets) x.1))) h refl refl refl
 
-  by_connection : (o : Option ConnectFault) → Refrains w (world_or w (connected w Connect o))
-  by_connection None = nothing_given w (responded w Connect One (service_step (desk_of w One) service_events.Connects)) h refl refl refl
-  by_connection (Some f) = nothing_given w w h refl refl refl
+  by_connection : (port : Port) (o : Option ConnectFault) → Refrains w (world_or w (connected w (Connect port) port o))
+  by_connection port None = nothing_given w (responded w (Connect port) port (service_step (desk_of w port) service_events.Connects)) h refl refl refl
+  by_connection port (Some f) = nothing_given w w h refl refl refl
 
   one_event : (e : Event) → IsCarrying e → Refrains w (after w e)
   unfolding step_of
   one_event (Down k) c = by_down k (member w.down k)
   one_event (Up k) c = by_up k (member w.up k) refl
   one_event (Run k) c = by_work k (work_at w.works k)
-  one_event Connect c = by_connection (connect_refusal (desk_of w One))
-  one_event DisconnectService c = nothing_given w (responded w DisconnectService One (service_step (desk_of w One) service_events.Disconnects)) h refl refl refl
+  one_event (Connect port) c = by_connection port (connect_refusal (desk_of w port))
+  one_event (DisconnectService port) c = nothing_given w (responded w (DisconnectService port) port (service_step (desk_of w port) service_events.Disconnects)) h refl refl refl
   one_event (Publish v ps) c = absurd c
   one_event (Create n) c = absurd c
   one_event (Write n o b) c = absurd c
@@ -194,9 +199,9 @@ module _ (mode : Mode) (w : WorldState) (s : Steady mode w) (h : IsAbove w) wher
   one_event (Open n l) c = absurd c
   one_event (Cleanup n) c = absurd c
   one_event (Timeout q) c = absurd c
-  one_event DisconnectFilter c = absurd c
+  one_event (DisconnectFilter port) c = absurd c
   one_event RestartFilter c = absurd c
-  one_event RestartService c = absurd c
+  one_event (RestartService port) c = absurd c
 
 none_given : (mode : Mode) (es : List Event) (w : WorldState) → Steady mode w → IsAbove w → Each IsCarrying es → GaveNoVerdict w (onward es w)
 unfolding onward

@@ -6,12 +6,10 @@ use Rattle.std.specs.Option.{option_or}
 use Rattle.av_base.specs.declared.message_id.MessageId.{MessageId}
 use Rattle.av_base.specs.declared.mode.Mode.{Mode}
 use Rattle.av_base.specs.MessageId.{same_id}
-use Rattle.av_base.specs.declared.port.Port.TheVariants.{One}
 use Rattle.av_base.specs.declared.port.Port.{Port}
-use Rattle.av_filter.proofs.FitLemmas.{event_fits, mounted_fits}
+use Rattle.av_world.proofs.PlaceLemmas.{AtPorts, at_keeps}
 use Rattle.av_filter.proofs.QuestionLemmas.{same_id-true}
 use Rattle.av_filter.specs.Conduct.{filter_refusal, filter_step}
-use Rattle.av_filter.specs.Fit.{Fits}
 use Rattle.av_frame.specs.Message.{Letter, via}
 use Rattle.av_frame.specs.declared.message.Body.TheVariants.{Scan}
 use Rattle.av_frame.specs.declared.message.Body.{Body}
@@ -50,7 +48,7 @@ unfolding onward
 onward-append [] ys w = refl
 onward-append (x ∷ xs) ys w = onward-append xs ys (after w x)
 
-pub down_step : (w : WorldState) (k : ℕ) (m : Letter) → member w.down k ≡ Some m → after w (Down k) ≡ responded w (Down k) One (service_step (desk_of w One) (service_events.Receives m))
+pub down_step : (w : WorldState) (k : ℕ) (m : Letter) → member w.down k ≡ Some m → after w (Down k) ≡ responded w (Down k) m.port (service_step (desk_of w m.port) (service_events.Receives m))
 unfolding step_of
 down_step w k m at = ap (λ o. world_or w (down_frame w (Down k) o)) at
 
@@ -58,32 +56,34 @@ pub up_step : (w : WorldState) (k : ℕ) (m : Letter) → member w.up k ≡ Some
 unfolding step_of filter_refusal
 up_step w k m at = ap (λ o. world_or w (up_frame w (Up k) o)) at
 
-pub run_step : (w : WorldState) (k : ℕ) (x : WorkState) → work_at w.works k ≡ Some x → after w (Run k) ≡ responded (back_at w k) (Run k) One (service_step (desk_of w One) (done (map publication_of w.sets) x))
+pub run_step : (w : WorldState) (k : ℕ) (port : Port) (x : WorkState) → work_at w.works k ≡ Some (port, x) → after w (Run k) ≡ responded (back_at w k) (Run k) port (service_step (desk_of w port) (done (map publication_of w.sets) x))
 unfolding step_of
-run_step w k x at = ap (λ o. world_or w (work_event w (Run k) k o)) at
+run_step w k port x at = ap (λ o. world_or w (work_event w (Run k) k o)) at
 
-pub connect_step : (w : WorldState) → connect_refusal (desk_of w One) ≡ None → after w Connect ≡ responded w Connect One (service_step (desk_of w One) service_events.Connects)
+pub connect_step : (w : WorldState) (port : Port) → connect_refusal (desk_of w port) ≡ None → after w (Connect port) ≡ responded w (Connect port) port (service_step (desk_of w port) service_events.Connects)
 unfolding step_of
-connect_step w at = ap (λ o. world_or w (connected w Connect o)) at
+connect_step w port at = ap (λ o. world_or w (connected w (Connect port) port o)) at
 
-pub disconnect_step : (w : WorldState) → after w DisconnectService ≡ responded w DisconnectService One (service_step (desk_of w One) service_events.Disconnects)
+pub disconnect_step : (w : WorldState) (port : Port) → after w (DisconnectService port) ≡ responded w (DisconnectService port) port (service_step (desk_of w port) service_events.Disconnects)
 unfolding step_of
-disconnect_step w = refl
+disconnect_step w port = refl
 
 -- ---- what stays
 
--- both invariants of a world that are needed here
+-- the invariants of a world that are needed here
 pub record Steady (mode : Mode) (w : WorldState) : Type 0 where
   pub sound : Sound mode w
-  pub fits : Fits w.table w.volume
+  pub placed : AtPorts w
 
 steady_keeps : (mode : Mode) (w : WorldState) → Steady mode w → Preserves (λ e. Steady mode) w
-steady_keeps mode w s = record {
-  filter = λ e f is ok. record { sound = sound_filter mode w s.sound e f is ok; fits = event_fits w.table w.volume f s.fits ok };
-  service = λ e port x is. record { sound = sound_service mode w s.sound e port x is; fits = s.fits };
-  publish = λ v ps set ok. record { sound = sound_publish mode w s.sound v ps set ok; fits = s.fits };
-  work = λ k x at. record { sound = sound_work mode w s.sound k x at; fits = s.fits };
-}
+steady_keeps mode w s =
+    let at : Preserves (λ e. AtPorts) w = at_keeps w s.placed in
+    record {
+      filter = λ e f is ok. record { sound = sound_filter mode w s.sound e f is ok; placed = at.filter e f is ok };
+      service = λ e port x is. record { sound = sound_service mode w s.sound e port x is; placed = at.service e port x is };
+      publish = λ v ps set ok. record { sound = sound_publish mode w s.sound v ps set ok; placed = at.publish v ps set ok };
+      work = λ k x found. record { sound = sound_work mode w s.sound k x found; placed = at.work k x found };
+    }
 
 pub steady_onward : (mode : Mode) (es : List Event) (w : WorldState) → Steady mode w → Steady mode (onward es w)
 unfolding onward
@@ -91,15 +91,15 @@ steady_onward mode [] w s = s
 steady_onward mode (e ∷ es) w s = steady_onward mode es (after w e) (step_keeps (λ e. Steady mode) w (λ e. s) (steady_keeps mode w s) e)
 
 pub steady : (number : ℕ) (mode : Mode) (limits : _) (es : List Event) → Steady mode (world_of (start number mode limits) es)
-steady number mode limits es = history_keeps (Steady mode) (steady_keeps mode) (start number mode limits) (record { sound = sound_start number mode limits; fits = mounted_fits mode limits (start number mode limits).volume }) es
+steady number mode limits es = history_keeps (Steady mode) (steady_keeps mode) (start number mode limits) (record { sound = sound_start number mode limits; placed = record { one = refl; two = refl } }) es
 
 past_still : (e : Event) (h : List Event) → IsCarrying e → past (e ∷ h) ≡ past h
 unfolding past
 past_still (Down k) h c = refl
 past_still (Up k) h c = refl
 past_still (Run k) h c = refl
-past_still Connect h c = refl
-past_still DisconnectService h c = refl
+past_still (Connect port) h c = refl
+past_still (DisconnectService port) h c = refl
 past_still (Publish v ps) h c = absurd c
 past_still (Create n) h c = absurd c
 past_still (Write n o b) h c = absurd c
@@ -108,9 +108,9 @@ past_still (Remove n) h c = absurd c
 past_still (Open n l) h c = absurd c
 past_still (Cleanup n) h c = absurd c
 past_still (Timeout q) h c = absurd c
-past_still DisconnectFilter h c = absurd c
+past_still (DisconnectFilter port) h c = absurd c
 past_still RestartFilter h c = absurd c
-past_still RestartService h c = absurd c
+past_still (RestartService port) h c = absurd c
 
 pub past_kept : (es h : List Event) → Each IsCarrying es → past (reverse es ++ h) ≡ past h
 past_kept [] h all = refl
@@ -118,30 +118,27 @@ past_kept (e ∷ es) h all = ap past (back_onto (e ∷ []) es h) ∙ (past_kept 
 
 -- ---- where the scan of a question stands
 
-abbrev asked_with : Port → ℕ → ℕ → ℕ → Asked
-asked_with port s g l = record { port = port; stream = s; generation = g; length = l }
+abbrev pub the_asked : Port → ℕ → ℕ → ℕ → Asked
+the_asked port s g l = record { port = port; stream = s; generation = g; length = l }
 
-abbrev pub the_asked : ℕ → ℕ → ℕ → Asked
-the_asked s g l = asked_with One s g l
-
-pub scan_there : (ms : List Letter) (id : MessageId) (s g l : ℕ) → asked ms id ≡ Some (the_asked s g l) → slice_get ms (before_scan id ms) ≡ Some (via One (Scan id s g l))
+pub scan_there : (ms : List Letter) (id : MessageId) (port : Port) (s g l : ℕ) → asked ms id ≡ Some (the_asked port s g l) → slice_get ms (before_scan id ms) ≡ Some (via port (Scan id s g l))
 unfolding asked before_scan
-scan_there [] id s g l h = absurd (cc (h))
-scan_there (m ∷ ms) id s g l h = here (scan_there ms id s g l) m.port m.body h
+scan_there [] id port s g l h = absurd (cc (h))
+scan_there (m ∷ ms) id port s g l h = here (scan_there ms id port s g l) m.port m.body h
   where
-    here : (asked ms id ≡ Some (the_asked s g l) → slice_get ms (before_scan id ms) ≡ Some (via One (Scan id s g l))) → (port : Port) (b : Body) → option_or (asked_at id port b) (asked ms id) ≡ Some (the_asked s g l)
-        → slice_get (via port b ∷ ms) (if is_some (asked_at id port b) then 0 else suc (before_scan id ms)) ≡ Some (via One (Scan id s g l))
-    here later port (Scan i s' g' l') h =
-        let go : (b : Bool) → same_id i id ≡ b → option_or (if b then Some (asked_with port s' g' l') else None) (asked ms id) ≡ Some (the_asked s g l)
-        → slice_get (via port (Scan i s' g' l') ∷ ms) (if is_some (if b then Some (asked_with port s' g' l') else None) then 0 else suc (before_scan id ms)) ≡ Some (via One (Scan id s g l)) = elim [
+    here : (asked ms id ≡ Some (the_asked port s g l) → slice_get ms (before_scan id ms) ≡ Some (via port (Scan id s g l))) → (at : Port) (b : Body) → option_or (asked_at id at b) (asked ms id) ≡ Some (the_asked port s g l)
+        → slice_get (via at b ∷ ms) (if is_some (asked_at id at b) then 0 else suc (before_scan id ms)) ≡ Some (via port (Scan id s g l))
+    here later at (Scan i s' g' l') h =
+        let go : (b : Bool) → same_id i id ≡ b → option_or (if b then Some (the_asked at s' g' l') else None) (asked ms id) ≡ Some (the_asked port s g l)
+        → slice_get (via at (Scan i s' g' l') ∷ ms) (if is_some (if b then Some (the_asked at s' g' l') else None) then 0 else suc (before_scan id ms)) ≡ Some (via port (Scan id s g l)) = elim [
           | true ↦ λ e k.
-              let same : asked_with port s' g' l' ≡ the_asked s g l = cc (k) in
+              let same : the_asked at s' g' l' ≡ the_asked port s g l = cc (k) in
               let it : i ≡ id = same_id-true i id e in
               λ n. Some (via ((same n).port) (Scan (it n) ((same n).stream) ((same n).generation) ((same n).length)))
           | false ↦ λ e k. later k
         ] in
         go (same_id i id) refl h
-    here later port _ h = later h
+    here later at _ h = later h
 
 -- events in order make the history longer by themselves
 pub onward_is : (w : WorldState) (es h : List Event) → onward es (world_of w h) ≡ world_of w (reverse es ++ h)

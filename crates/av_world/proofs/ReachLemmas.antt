@@ -1,22 +1,26 @@
 -- From every world that can be reached, what waits can be finished.
-use Rattle.std.proofs.Common.{◌*◌, ◌≡◌, ℕ, zero, suc, ◌+◌, ◌≤◌, false, not, ◌&&◌, List, [], ◌∷◌, ◌++◌, length, map, reverse, Option, Some, None, ◌==◌, min, refl, sym, ap, ◌∙◌, subst, arith, eq-eqb, append-nil}
-use Rattle.std.proofs.lemmas.Bool.{and_parts, cond_both, cond-true, cond-false, true≢false, ne_eqb}
+use Rattle.std.proofs.Common.{◌*◌, ◌≡◌, ℕ, zero, suc, ◌+◌, ◌≤◌, nat_lt, Bool, true, false, not, ◌&&◌, List, [], ◌∷◌, ◌++◌, length, map, reverse, Option, Some, None, ◌==◌, min, refl, sym, ap, ◌∙◌, subst, arith, eq-eqb, append-nil}
+use Rattle.std.proofs.lemmas.Bool.{cond_both, cond-true, cond-false, ne_eqb}
 use Rattle.std.specs.List.{AllByRecursion as Each}
 use Rattle.av_base.specs.declared.limits.LimitValues.{LimitValues}
 use Rattle.av_base.specs.declared.mode.Mode.{Mode}
 use Rattle.av_base.specs.declared.port.Port.{Port}
-use Rattle.av_base.specs.declared.port.Port.TheVariants.{One}
+use Rattle.av_base.specs.declared.port.Port.TheVariants.{One, Two}
+use Rattle.av_filter.proofs.FitLemmas.{keeps_fit}
+use Rattle.av_filter.specs.Fit.{Fits}
+use Rattle.av_filter_table.specs.Ports.{least_port, none_open}
+use Rattle.av_world.proofs.SceneLemmas.{heard_desks}
 use Rattle.av_base.specs.declared.verdict.Verdict.{Verdict}
 use Rattle.av_cache.specs.declared.entry.Entry.{Entry}
 use Rattle.av_filter.proofs.EachLemmas.{each_weaker}
-use Rattle.av_filter.specs.Changing.{changes, cleaned, removed, rewritten}
-use Rattle.av_filter.specs.Conduct.{FilterEvent, Opens, Changes, CleansUp, Receives, TimesOut, Disconnects, Restarts, disconnects, filter_step, restarts, times_out}
+use Rattle.av_filter.specs.Changing.{changes, cleaned, cleaned_at, removed, rewritten}
+use Rattle.av_filter.specs.Conduct.{FilterEvent, Opens, Changes, CleansUp, Receives, TimesOut, Disconnects, Restarts, disconnects, disconnects_to, filter_step, loses_all, restarts, times_out}
 use Rattle.av_filter_table.specs.declared.pended.Pended.{Pended}
 use Rattle.av_filter_table.specs.declared.question.Question.{Question}
-use Rattle.av_filter.specs.Opening.{open_asked, open_cached, open_found, open_judged, opened, taken}
+use Rattle.av_filter.specs.Opening.{open_asked, open_cached, open_found, open_judged, open_new, opened, taken}
 use Rattle.av_filter.specs.Reaction.{Reaction}
 use Rattle.av_filter_table.specs.Answering.{judged, present_generation}
-use Rattle.av_filter_table.specs.Table.{Table, can_ask, context_of, has_room, is_modified, raised}
+use Rattle.av_filter_table.specs.Table.{Table, asking, context_of, has_room, is_modified, on_port, raised, sequence_left}
 use Rattle.av_frame.specs.Message.{Letter}
 use Rattle.av_service.proofs.LendLemmas.{lends}
 use Rattle.av_service.specs.Conduct.{ServiceEvent, Connects, Publishes, connect_refusal, service_step}
@@ -31,7 +35,7 @@ use Rattle.av_sigset.specs.Catalogue.{latest}
 use Rattle.av_store.specs.declared.stream.Stream.{Stream}
 use Rattle.av_store.specs.Files.{Create, Write, Cut, Remove}
 use Rattle.av_store.specs.Store.{Store}
-use Rattle.av_world.proofs.FinishLemmas.{AllSettled, Idle, all_settled, none_waits}
+use Rattle.av_world.proofs.FinishLemmas.{AllSettled, HaveLeases, Idle, all_chunks_same, all_settled, none_waits}
 use Rattle.av_world.proofs.LeaveLemmas.{filter_leaves, service_leaves}
 use Rattle.av_world.proofs.ProgressLemmas.{Steady, back_onto, connect_step, disconnect_step, onward-append, past_kept, steady, steady_onward}
 use Rattle.av_world.proofs.PublishLemmas.{is_new, made_of}
@@ -45,16 +49,16 @@ use Rattle.av_world.specs.Progress.{CanFinish, Finishes, GetsVerdict, IsCarrying
 use Rattle.av_sigset.specs.Publication.{Publication, publication_of}
 use Rattle.av_world.specs.Safety.{Among}
 use Rattle.av_service.specs.Audit.{IsNew}
-use Rattle.av_world.specs.World.{WorldState, after, back_at, desk_of, done, given_at, member, responded, start, world_of}
+use Rattle.av_world.specs.World.{WorldState, after, all_told, at_port, back_at, desk_of, done, given_at, member, responded, start, with_set, world_of}
 
 -- ---- before anything was published
 
 -- a filter that isn't connected and has no question
 abbrev unused : Table → Table
-unused t = record t { connected = false; questions = [] }
+unused t = record t { connected = none_open; questions = [] }
 
 abbrev IsUnused : Reaction → Type 0
-IsUnused r = (r.table.connected ≡ false) × (r.table.questions ≡ [])
+IsUnused r = (r.table.connected ≡ none_open) × (r.table.questions ≡ [])
 
 -- what is not a message
 abbrev IsNoMessage : FilterEvent → Type 0
@@ -63,7 +67,7 @@ IsNoMessage _ = Unit {0}
 
 module _ (t : Table) (v : Store) where
   cached_unused : (s least : ℕ) (x : Stream) (o : Option Entry) → IsUnused (open_cached (unused t) v s least x o)
-  unfolding open_cached
+  unfolding open_cached open_new
   cached_unused s least x (Some e) = (refl, refl)
   cached_unused s least x None = cond_both (not (has_room (unused t))) _ _ IsUnused (λ e. (refl, refl)) (λ e. (refl, refl))
 
@@ -77,16 +81,28 @@ module _ (t : Table) (v : Store) where
   found_unused s least None = (refl, refl)
   found_unused s least (Some x) = judged_unused s least x _
 
+  cleaned_at_unused : (s : ℕ) (b : Bool) → IsUnused (cleaned_at (unused t) v s b (asking (unused t)))
+  unfolding cleaned_at
+  cleaned_at_unused s b =
+      let none : asking (unused t) ≡ None = cond_both (nat_lt 0 t.limits.questions && sequence_left t) (least_port none_open) None (λ o. o ≡ None) (λ e. refl) (λ e. refl) in
+      subst (λ o. IsUnused (cleaned_at (unused t) v s b o)) (sym none) (nothing_asked b)
+    where
+      nothing_asked : (b : Bool) → IsUnused (cleaned_at (unused t) v s b None)
+      nothing_asked true = (refl, refl)
+      nothing_asked false = (refl, refl)
+
   cleaned_unused : (s : ℕ) (o : Option Stream) → IsUnused (cleaned (unused t) v s o)
   unfolding cleaned
   cleaned_unused s None = (refl, refl)
-  cleaned_unused s (Some x) =
-      cond_both (is_modified (context_of t.contexts s) && can_ask (unused t)) _ _ IsUnused
-      (λ e. absurd (true≢false (sym (and_parts (is_modified (context_of t.contexts s)) (can_ask (unused t)) e).1)))
-      (λ e. (refl, refl))
+  cleaned_unused s (Some x) = cleaned_at_unused s (is_modified (context_of t.contexts s))
+
+  lost_unused : (port : Port) → IsUnused (disconnects (unused t) v port)
+  unfolding disconnects disconnects_to loses_all
+  lost_unused One = (refl, refl)
+  lost_unused Two = (refl, refl)
 
 step_unused : (t : Table) (v : Store) (f : FilterEvent) → IsNoMessage f → IsUnused (filter_step (unused t) v f)
-unfolding filter_step opened changes rewritten removed times_out disconnects restarts
+unfolding filter_step opened changes rewritten removed times_out restarts
 step_unused t v (Opens s least) h = found_unused (raised least t) (taken v) s least _
 step_unused t v (Changes (Create n)) h = (refl, refl)
 step_unused t v (Changes (Write s o b)) h = (refl, refl)
@@ -95,10 +111,10 @@ step_unused t v (Changes (Remove s)) h = (refl, refl)
 step_unused t v (CleansUp s) h = cleaned_unused t v s _
 step_unused t v (Receives m) h = absurd h
 step_unused t v (TimesOut q) h = (refl, refl)
-step_unused t v Disconnects h = (refl, refl)
+step_unused t v (Disconnects port) h = lost_unused t v port
 step_unused t v Restarts h = (refl, refl)
 
-filter_unused : (t : Table) (v : Store) (f : FilterEvent) → IsNoMessage f → t.connected ≡ false → t.questions ≡ [] → IsUnused (filter_step t v f)
+filter_unused : (t : Table) (v : Store) (f : FilterEvent) → IsNoMessage f → t.connected ≡ none_open → t.questions ≡ [] → IsUnused (filter_step t v f)
 filter_unused t v f h off none =
     let same : unused t ≡ t = λ i. record t { connected = (sym off) i; questions = (sym none) i } in
     subst (λ k. IsUnused (filter_step k v f)) same (step_unused t v f h)
@@ -129,19 +145,20 @@ service_resting d e h off none =
 
 -- ---- what is so in every world
 
--- nothing was sent up, and neither side is connected
+-- nothing was sent up, and no side is connected
 record IsUntouched (w : WorldState) : Type 0 where
   pub up : w.up ≡ []
-  pub service : (desk_of w One).connected ≡ false
-  pub jobs : (desk_of w One).jobs ≡ []
-  pub filter : w.table.connected ≡ false
+  pub services : (port : Port) → (desk_of w port).connected ≡ false
+  pub jobs : (port : Port) → (desk_of w port).jobs ≡ []
+  pub filter : w.table.connected ≡ none_open
   pub questions : w.table.questions ≡ []
 
--- both sides have the world's limits, the service has the latest version, and nothing begins before one is published
+-- all sides have the world's limits, both services have the latest version, and nothing begins before one is published
 record Standing (limits : LimitValues) (w : WorldState) : Type 0 where
+  pub fits : Fits w.table w.volume
   pub table : w.table.limits ≡ limits
-  pub desk : (desk_of w One).limits ≡ limits
-  pub version : (desk_of w One).version ≡ latest w.sets
+  pub desk : (port : Port) → (desk_of w port).limits ≡ limits
+  pub version : (port : Port) → (desk_of w port).version ≡ latest w.sets
   pub before : latest w.sets ≡ 0 → IsUntouched w
 
 no_message : (w : WorldState) (e : Event) (f : FilterEvent) → IsFilterEvent w e f → w.up ≡ [] → IsNoMessage f
@@ -154,7 +171,7 @@ no_message w _ _ is none = (elim is as (λ e f i. IsNoMessage f) [
   | IsFilterEvent.cleans name s n ↦ tt
   | IsFilterEvent.comes_up k m h ↦ no_member k m (subst (λ (ms : List Letter). member ms k ≡ Some m) none h)
   | IsFilterEvent.times_out seq ↦ tt
-  | IsFilterEvent.disconnects ↦ tt
+  | IsFilterEvent.disconnects port ↦ tt
   | IsFilterEvent.restarts ↦ tt
 ])
   where
@@ -163,96 +180,144 @@ no_message w _ _ is none = (elim is as (λ e f i. IsNoMessage f) [
     no_member (suc k) m h = absurd (cc (h))
 
 version_kept : (w : WorldState) (e : Event) (port : Port) (x : ServiceEvent) → IsServiceEvent w e port x → (desk_of w port).version ≡ latest w.sets → version_after (desk_of w port).version x ≡ latest w.sets
-version_kept w _ _ _ is h = elim is as (λ e p x i. version_after (desk_of w p).version x ≡ latest w.sets) [
-  | IsServiceEvent.connects ok ↦ h
-  | IsServiceEvent.comes_down k m at ↦ h
-  | IsServiceEvent.disconnects ↦ h
-  | IsServiceEvent.restarts ↦ refl
+version_kept w _ _ _ is = elim is as (λ e p x i. (desk_of w p).version ≡ latest w.sets → version_after (desk_of w p).version x ≡ latest w.sets) [
+  | IsServiceEvent.connects port ok ↦ λ h. h
+  | IsServiceEvent.comes_down k m at ↦ λ h. h
+  | IsServiceEvent.disconnects port ↦ λ h. h
+  | IsServiceEvent.restarts port ↦ λ h. refl
 ]
 
 -- without a version there is no connection
 no_connection : (w : WorldState) (e : Event) (port : Port) (x : ServiceEvent) → IsServiceEvent w e port x → (desk_of w port).version ≡ 0 → x ≡ Connects → ⊥
-no_connection w _ _ _ is none = elim is as (λ e p x i. x ≡ Connects → ⊥) [
-  | IsServiceEvent.connects ok ↦ λ same.
-      let refused : connect_refusal (desk_of w One) ≡ Some NoSignatures = cond-true ((desk_of w One).version == 0) _ _ (eq-eqb (desk_of w One).version 0 none) in
+no_connection w _ _ _ is = elim is as (λ e p x i. (desk_of w p).version ≡ 0 → x ≡ Connects → ⊥) [
+  | IsServiceEvent.connects port ok ↦ λ none same.
+      let refused : connect_refusal (desk_of w port) ≡ Some NoSignatures = cond-true ((desk_of w port).version == 0) _ _ (eq-eqb (desk_of w port).version 0 none) in
       let both : Some NoSignatures ≡ None = sym refused ∙ ok in
       absurd (cc (both))
-  | IsServiceEvent.comes_down k m at ↦ λ same. absurd (cc (same))
-  | IsServiceEvent.disconnects ↦ λ same. absurd (cc (same))
-  | IsServiceEvent.restarts ↦ λ same. absurd (cc (same))
+  | IsServiceEvent.comes_down k m at ↦ λ none same. absurd (cc (same))
+  | IsServiceEvent.disconnects port ↦ λ none same. absurd (cc (same))
+  | IsServiceEvent.restarts port ↦ λ none same. absurd (cc (same))
 ]
 
 rests : (w : WorldState) (r : Response) (e : Event) (port : Port) → IsUntouched w → IsAtRest r → IsUntouched (responded w e port r)
-rests w r e port u h = record { up = (λ i. u.up i ++ h.silent i); service = h.off; jobs = h.jobs; filter = u.filter; questions = u.questions }
+rests w r e port u h = record {
+  up = (λ i. u.up i ++ h.silent i);
+  services = heard_desks (λ at d. d.connected ≡ false) w port r h.off u.services;
+  jobs = heard_desks (λ at d. d.jobs ≡ []) w port r h.jobs u.jobs;
+  filter = u.filter;
+  questions = u.questions;
+}
+
+-- what a publication leaves each service as
+both_told : (P : Desk → Type 0) (w : WorldState) (v : ℕ) → ((d : Desk) → P (service_step d (Publishes v)).desk) → (port : Port) → P (desk_of (all_told w v) port)
+both_told P w v told One = told w.one
+both_told P w v told Two = told w.two
 
 standing_keeps : (limits : LimitValues) (w : WorldState) → Standing limits w → Preserves (λ e. Standing limits) w
 standing_keeps limits w s = record {
   filter = λ e f is ok. record {
-    table = (filter_leaves w.table w.volume f).0 ∙ s.table;
+    fits = keeps_fit.events w.table w.volume f s.fits ok;
+    table = (filter_leaves w.table w.volume f s.fits.order).0 ∙ s.table;
     desk = s.desk;
     version = s.version;
     before = λ none.
         let u : IsUntouched w = s.before none in
         let after : IsUnused (filter_step w.table w.volume f) = filter_unused w.table w.volume f (no_message w e f is u.up) u.filter u.questions in
-        record { up = u.up; service = u.service; jobs = u.jobs; filter = after.0; questions = after.1 };
+        record { up = u.up; services = u.services; jobs = u.jobs; filter = after.0; questions = after.1 };
   };
-  service = λ e port x is. record {
-    table = s.table;
-    desk = (service_leaves (desk_of w port) x).0 ∙ s.desk;
-    version = lends.version (desk_of w port) x ∙ version_kept w e port x is s.version;
-    before = λ none.
-        let u : IsUntouched w = s.before none in
-        rests w (service_step (desk_of w port) x) e port u (service_resting (desk_of w port) x (no_connection w e port x is (s.version ∙ none)) u.service u.jobs);
-  };
+  service = λ e port x is.
+      let r : Response = service_step (desk_of w port) x in
+      record {
+        fits = s.fits;
+        table = s.table;
+        desk = heard_desks (λ at d. d.limits ≡ limits) w port r ((service_leaves (desk_of w port) x).0 ∙ s.desk port) s.desk;
+        version = heard_desks (λ at d. d.version ≡ latest w.sets) w port r (lends.version (desk_of w port) x ∙ version_kept w e port x is (s.version port)) s.version;
+        before = λ none.
+            let u : IsUntouched w = s.before none in
+            rests w r e port u (service_resting (desk_of w port) x (no_connection w e port x is (s.version port ∙ none)) (u.services port) (u.jobs port));
+      };
   publish = λ v ps set ok. record {
+    fits = s.fits;
     table = s.table;
-    desk = (service_leaves (desk_of w One) (Publishes set.version)).0 ∙ s.desk;
-    version = lends.version (desk_of w One) (Publishes set.version);
+    desk = published_limits w s set.version;
+    version = both_told (λ d. d.version ≡ set.version) (with_set w set) set.version (λ d. lends.version d (Publishes set.version));
     before = λ none.
         let new : IsNew (map publication_of w.sets) v ps = is_new w (map publication_of w.sets) v ps set ok refl in
         let version : set.version ≡ v = ap (λ (x : Publication). x.version) (made_of v ps set ok.made) in
         absurd (omega (arith, new.later, version, none));
   };
-  work = λ k x at. record {
-    table = s.table;
-    desk = (service_leaves (desk_of w One) (done (map publication_of w.sets) x)).0 ∙ s.desk;
-    version = lends.version (desk_of w One) (done (map publication_of w.sets) x) ∙ s.version;
-    before = λ none.
-        let u : IsUntouched w = s.before none in
-        rests (back_at w k) (service_step (desk_of w One) (done (map publication_of w.sets) x)) (Run k) One (record { up = u.up; service = u.service; jobs = u.jobs; filter = u.filter; questions = u.questions })
-        (service_resting (desk_of w One) (done (map publication_of w.sets) x) (λ same. absurd (cc (same))) u.service u.jobs);
-  };
+  work = λ k x at.
+      let event : ServiceEvent = done (map publication_of w.sets) x.1 in
+      let r : Response = service_step (desk_of w x.0) event in
+      record {
+        fits = s.fits;
+        table = s.table;
+        desk = heard_desks (λ at d. d.limits ≡ limits) (back_at w k) x.0 r ((service_leaves (desk_of w x.0) event).0 ∙ s.desk x.0) s.desk;
+        version = heard_desks (λ at d. d.version ≡ latest w.sets) (back_at w k) x.0 r (lends.version (desk_of w x.0) event ∙ s.version x.0) s.version;
+        before = λ none.
+            let u : IsUntouched w = s.before none in
+            rests (back_at w k) r (Run k) x.0 (record { up = u.up; services = u.services; jobs = u.jobs; filter = u.filter; questions = u.questions })
+            (service_resting (desk_of w x.0) event (λ same. absurd (cc (same))) (u.services x.0) (u.jobs x.0));
+      };
 }
+  where
+    published_limits : (w : WorldState) → Standing limits w → (v : ℕ) (port : Port) → (at_port port (service_step w.one (Publishes v)).desk (service_step w.two (Publishes v)).desk).limits ≡ limits
+    published_limits w s v One = (service_leaves w.one (Publishes v)).0 ∙ s.desk One
+    published_limits w s v Two = (service_leaves w.two (Publishes v)).0 ∙ s.desk Two
 
 standing : (number : ℕ) (mode : Mode) (limits : LimitValues) (es : List Event) → Standing limits (world_of (start number mode limits) es)
 standing number mode limits es =
-    history_keeps (Standing limits) (standing_keeps limits) (start number mode limits)
-    (record { table = refl; desk = refl; version = refl; before = λ none. record { up = refl; service = refl; jobs = refl; filter = refl; questions = refl } }) es
+    let w : WorldState = start number mode limits in
+    history_keeps (Standing limits) (standing_keeps limits) w
+    (record {
+      fits = keeps_fit.mounts mode limits w.volume;
+      table = refl;
+      desk = both (λ port. (desk_of w port).limits ≡ limits) refl refl;
+      version = both (λ port. (desk_of w port).version ≡ 0) refl refl;
+      before = λ none. record { up = refl; services = both (λ port. (desk_of w port).connected ≡ false) refl refl; jobs = both (λ port. (desk_of w port).jobs ≡ []) refl refl; filter = refl; questions = refl };
+    }) es
+  where
+    both : (P : Port → Type 0) → P One → P Two → (port : Port) → P port
+    both P one two One = one
+    both P one two Two = two
 
 -- ---- the whole
 
--- the service connects anew
-abbrev cut_off : WorldState → WorldState
-cut_off w = responded w DisconnectService One (service_step (desk_of w One) service_events.Disconnects)
+-- the service of a port connects anew
+abbrev cut_off : WorldState → Port → WorldState
+cut_off w port = responded w (DisconnectService port) port (service_step (desk_of w port) service_events.Disconnects)
 
-abbrev back_on : WorldState → WorldState
-back_on w = responded (cut_off w) Connect One (service_step (desk_of (cut_off w) One) Connects)
+abbrev back_on : WorldState → Port → WorldState
+back_on w port = responded (cut_off w port) (Connect port) port (service_step (desk_of (cut_off w port) port) Connects)
 
-reconnected : (w : WorldState) → ((desk_of w One).version ≡ 0 → ⊥) → onward reconnecting w ≡ back_on w
-unfolding onward service_step
-reconnected w some =
-    let may : connect_refusal (desk_of (cut_off w) One) ≡ None = cond-false ((desk_of w One).version == 0) _ _ (ne_eqb (desk_of w One).version 0 some) in
-    ap (λ x. after x Connect) (disconnect_step w) ∙ connect_step (cut_off w) may
+one_anew : (w : WorldState) (port : Port) → ((desk_of w port).version ≡ 0 → ⊥) → after (after w (DisconnectService port)) (Connect port) ≡ back_on w port
+unfolding service_step
+one_anew w port some = ap (λ x. after x (Connect port)) (disconnect_step w port) ∙ connect_step (cut_off w port) port (may w port some)
+  where
+    may : (w : WorldState) (port : Port) → ((desk_of w port).version ≡ 0 → ⊥) → connect_refusal (desk_of (cut_off w port) port) ≡ None
+    may w One some = cond-false (w.one.version == 0) _ _ (ne_eqb w.one.version 0 some)
+    may w Two some = cond-false (w.two.version == 0) _ _ (ne_eqb w.two.version 0 some)
+
+-- so do both
+abbrev both_back : WorldState → WorldState
+both_back w = back_on (back_on w One) Two
+
+reconnected : (w : WorldState) → ((port : Port) → (desk_of w port).version ≡ 0 → ⊥) → onward reconnecting w ≡ both_back w
+unfolding onward
+reconnected w some = ap (λ x. after (after x (DisconnectService Two)) (Connect Two)) (one_anew w One (some One)) ∙ one_anew (back_on w One) Two (some Two)
 
 module _ (mode : Mode) (limits : LimitValues) (w : WorldState) (steady : Steady mode w) (stands : Standing limits w) (jobs : 1 ≤ limits.jobs) (chunk : 1 ≤ limits.chunk) where
-  some_chunk : 1 ≤ min (desk_of w One).limits.chunk w.table.limits.chunk
-  some_chunk = omega (arith, ap (λ (l : LimitValues). l.chunk) stands.desk, ap (λ (l : LimitValues). l.chunk) stands.table, chunk)
+  some_chunk : (port : Port) → 1 ≤ min (desk_of w port).limits.chunk w.table.limits.chunk
+  some_chunk port = omega (arith, ap (λ (l : LimitValues). l.chunk) (stands.desk port), ap (λ (l : LimitValues). l.chunk) stands.table, chunk)
+
+  some_room : (port : Port) → 1 ≤ (desk_of w port).limits.jobs
+  some_room port = omega (arith, ap (λ (l : LimitValues). l.jobs) (stands.desk port), jobs)
 
   -- of the events, and the world that they lead to
   record FinishesBy (es : List Event) (x : WorldState) : Type 0 where
     happens : x.history ≡ reverse es ++ w.history
     carries : Each IsCarrying es
-    short : length es ≤ 2 + 2 * length w.table.questions + 3 * all_chunks w w.table.questions
+    short : length es ≤ 4 + 2 * length w.table.questions + 3 * all_chunks w w.table.questions
     waits : x.table.pended ≡ []
     volume : x.volume ≡ w.volume
     sets : x.sets ≡ w.sets
@@ -267,17 +332,43 @@ module _ (mode : Mode) (limits : LimitValues) (w : WorldState) (steady : Steady 
       record { happens = f.happens; carries = f.carries; short = f.short; waits = f.waits; volume = f.volume; sets = f.sets; answers = f.answers; given = f.given; answered = f.answered; count = f.count }
 
   module _ (can : CanFinish w) (p : Pended) (ps : List Pended) (pend : w.table.pended ≡ p ∷ ps) (q : Question) (qs : List Question) (are : w.table.questions ≡ q ∷ qs) where
-    some_version : (desk_of w One).version ≡ 0 → ⊥
-    some_version none =
-        let u : IsUntouched w = stands.before (sym stands.version ∙ none) in
+    some_version : (port : Port) → (desk_of w port).version ≡ 0 → ⊥
+    some_version port none =
+        let u : IsUntouched w = stands.before (sym (stands.version port) ∙ none) in
         let both : [] ≡ q ∷ qs = sym u.questions ∙ are in
         absurd (cc (both))
 
     abbrev anew : WorldState
     anew = onward reconnecting w
 
-    is : anew ≡ back_on w
+    is : anew ≡ both_back w
     is = reconnected w some_version
+
+    -- what both are then
+    anew_on : (port : Port) → (desk_of (both_back w) port).connected ≡ true
+    unfolding service_step
+    anew_on One = refl
+    anew_on Two = refl
+
+    anew_idle : (port : Port) → (desk_of (both_back w) port).jobs ≡ []
+    unfolding service_step
+    anew_idle One = refl
+    anew_idle Two = refl
+
+    anew_version : (port : Port) → (desk_of (both_back w) port).version ≡ (desk_of w port).version
+    unfolding service_step
+    anew_version One = refl
+    anew_version Two = refl
+
+    anew_limits : (port : Port) → (desk_of (both_back w) port).limits ≡ (desk_of w port).limits
+    unfolding service_step
+    anew_limits One = refl
+    anew_limits Two = refl
+
+    anew_lease : (port : Port) → (desk_of (both_back w) port).last_lease ≡ (desk_of w port).last_lease
+    unfolding service_step
+    anew_lease One = refl
+    anew_lease Two = refl
 
     idle_anew : Idle mode anew
     unfolding service_step
@@ -285,27 +376,29 @@ module _ (mode : Mode) (limits : LimitValues) (w : WorldState) (steady : Steady 
         let still : Steady mode anew = steady_onward mode reconnecting w steady in
         subst (Idle mode) (sym is) (record {
           steady = subst (Steady mode) is still;
-          version = stands.version;
-          on = refl;
-          idle = refl;
-          reached = omega (arith, can.reached, stands.version);
-          room = omega (arith, ap (λ (l : LimitValues). l.jobs) stands.desk, jobs);
-          chunk = some_chunk;
+          version = λ port. anew_version port ∙ stands.version port;
+          on = anew_on;
+          idle = anew_idle;
+          reached = can.reached;
+          room = λ port. subst (λ (l : LimitValues). 1 ≤ l.jobs) (sym (anew_limits port)) (some_room port);
+          chunk = λ port. subst (λ (l : LimitValues). 1 ≤ min l.chunk w.table.limits.chunk) (sym (anew_limits port)) (some_chunk port);
         })
 
-    anew_leases : (desk_of anew One).last_lease + all_chunks anew (q ∷ qs) ≤ most_leases
+    same_chunks : (ks : List Question) → all_chunks (both_back w) ks ≡ all_chunks w ks
     unfolding service_step
+    same_chunks ks = all_chunks_same w (both_back w) ks refl anew_limits refl
+
+    anew_leases : HaveLeases anew (q ∷ qs)
     anew_leases =
-        subst (λ x. (desk_of x One).last_lease + all_chunks x (q ∷ qs) ≤ most_leases) (sym is)
-        (subst (λ ks. (desk_of w One).last_lease + all_chunks w ks ≤ most_leases) are can.leases)
+        subst (λ x. HaveLeases x (q ∷ qs)) (sym is)
+        (λ port. omega (arith, anew_lease port, same_chunks (on_port port (q ∷ qs)), subst (λ ks. (desk_of w port).last_lease + all_chunks w (on_port port ks) ≤ most_leases) are (can.leases port)))
 
     anew_questions : anew.table.questions ≡ q ∷ qs
     unfolding service_step
     anew_questions = ap (λ (x : WorldState). x.table.questions) is ∙ are
 
     anew_chunks : all_chunks anew (q ∷ qs) ≡ all_chunks w (q ∷ qs)
-    unfolding service_step
-    anew_chunks = ap (λ (x : WorldState). all_chunks x (q ∷ qs)) is
+    anew_chunks = ap (λ (x : WorldState). all_chunks x (q ∷ qs)) is ∙ same_chunks (q ∷ qs)
 
     all : AllSettled anew (onward (settling_all (q ∷ qs) anew) anew) (settling_all (q ∷ qs) anew)
     all = all_settled mode (q ∷ qs) anew idle_anew anew_questions anew_leases
@@ -328,7 +421,7 @@ module _ (mode : Mode) (limits : LimitValues) (w : WorldState) (steady : Steady 
     same_history = ap (λ (x : WorldState). x.history) is
 
     same_past : past anew.history ≡ past w.history
-    same_past = ap past same_history ∙ past_kept reconnecting w.history (tt, (tt, tt))
+    same_past = ap past same_history ∙ past_kept reconnecting w.history (tt, (tt, (tt, (tt, tt))))
 
     same_volume : anew.volume ≡ w.volume
     unfolding service_step
@@ -361,9 +454,9 @@ module _ (mode : Mode) (limits : LimitValues) (w : WorldState) (steady : Steady 
     by_events =
         subst (FinishesBy events) there (record {
           happens = all.happened ∙ (ap (λ h. reverse (settling_all (q ∷ qs) anew) ++ h) same_history ∙ sym (back_onto reconnecting (settling_all (q ∷ qs) anew) w.history));
-          carries = (tt, (tt, all.carries));
+          carries = (tt, (tt, (tt, (tt, all.carries))));
           short = omega (arith, all.short, ap length anew_questions, ap (all_chunks anew) anew_questions, anew_chunks, ap length are, ap (all_chunks w) are);
-          waits = none_waits _ _ all.runs (steady_onward mode (settling_all (q ∷ qs) anew) anew idle_anew.steady).fits.asked;
+          waits = none_waits _ _ all.runs (steady_onward mode (settling_all (q ∷ qs) anew) anew idle_anew.steady).sound.lawful.fits.asked;
           volume = all.volume ∙ same_volume;
           sets = all.same_sets ∙ same_sets;
           answers = all.given;
@@ -392,7 +485,7 @@ module _ (mode : Mode) (limits : LimitValues) (w : WorldState) (steady : Steady 
       })
 
   by_questions : CanFinish w → (p : Pended) (ps : List Pended) → w.table.pended ≡ p ∷ ps → (qs : List Question) → w.table.questions ≡ qs → Finishes w
-  by_questions can p ps pend [] are = finishes_none (none_waits w.table.questions w.table.pended are steady.fits.asked)
+  by_questions can p ps pend [] are = finishes_none (none_waits w.table.questions w.table.pended are steady.sound.lawful.fits.asked)
   by_questions can p ps pend (q ∷ qs) are = finishes_some can p ps pend q qs are
 
   by_opens : (IsWaiting w → CanFinish w) → (ps : List Pended) → w.table.pended ≡ ps → Finishes w

@@ -5,7 +5,6 @@ use Rattle.std.specs.List.{AllByRecursion}
 use Rattle.std.specs.Option.{option_map}
 use Rattle.std.specs.Prelude.{IsOk}
 use Rattle.av_base.specs.declared.port.Port.{Port}
-use Rattle.av_base.specs.declared.port.Port.TheVariants.{One}
 use Rattle.av_filter.specs.Conduct.{FilterEvent, filter_refusal}
 use Rattle.av_filter.specs.Conduct as filter
 use Rattle.av_filter.specs.declared.fault.FilterFault.{FilterFault}
@@ -44,12 +43,12 @@ use Rattle.av_world.specs.declared.report.Line.TheVariants.{Silent}
 use Rattle.av_world.specs.declared.report.Report.{Report}
 use Rattle.av_world.specs.declared.world.request.Request.{Request}
 
-connects_as : (w : WorldState) (o : Option ConnectFault) → connected w Connect o ≡ unless (option_map fault.Connect o) (service_outcome w Connect One Silent (service_step (desk_of w One) Connects))
-connects_as w None = refl
-connects_as w (Some f) = refl
+connects_as : (w : WorldState) (port : Port) (o : Option ConnectFault) → connected w (Connect port) port o ≡ unless (option_map fault.Connect o) (service_outcome w (Connect port) port Silent (service_step (desk_of w port) Connects))
+connects_as w port None = refl
+connects_as w port (Some f) = refl
 
-pub connects : (w : WorldState) → connected w Connect (connect_refusal (desk_of w One)) ≡ served w Connect One Connects
-connects w = connects_as w (connect_refusal (desk_of w One))
+pub connects : (w : WorldState) (port : Port) → connected w (Connect port) port (connect_refusal (desk_of w port)) ≡ served w (Connect port) port Connects
+connects w port = connects_as w port (connect_refusal (desk_of w port))
 
 -- ---- refusals
 
@@ -105,7 +104,7 @@ unfolding filter_refusal
 refused_up w e None = refl
 refused_up w e (Some m) = refl
 
-pub refused_work : (w : WorldState) (e : Event) (k : ℕ) (o : Option WorkState) → IsFaultOf (work_event w e k o) (work_fault o)
+pub refused_work : (w : WorldState) (e : Event) (k : ℕ) (o : Option (Port × WorkState)) → IsFaultOf (work_event w e k o) (work_fault o)
 refused_work w e k None = refl
 refused_work w e k (Some x) = refl
 
@@ -129,7 +128,7 @@ can_be_published w e version ps =
     ]
 
 -- a request that takes what the event takes
-pub delivers_down : (r : Option Report) (old new : WorldState) (h : List Event) (e : Event) (k : ℕ) (m : Letter) → member old.down k ≡ Some m → TakesServed old new h e One (service.Receives m) r → Takes old new h e (down_frame (at_history h old) e (member old.down k)) r
+pub delivers_down : (r : Option Report) (old new : WorldState) (h : List Event) (e : Event) (k : ℕ) (m : Letter) → member old.down k ≡ Some m → TakesServed old new h e m.port (service.Receives m) r → Takes old new h e (down_frame (at_history h old) e (member old.down k)) r
 delivers_down None old new h e k m there is = is
 delivers_down (Some report) old new h e k m there is = ap (down_frame (at_history h old) e) there ∙ is.1
 
@@ -170,9 +169,9 @@ published_below (s ∷ sets) version x falls found =
       | false ↦ λ is g. below_latest s sets version x falls.0 g
     ]) refl found
 
-pub not_above : (w : WorldState) → IsWhole w → IsFalling w.sets → (desk_of w One).version ≤ latest w.sets
-not_above w whole falls =
-    (elim ((desk_of w One).version == 0) as (λ b. ((desk_of w One).version == 0) ≡ b → (desk_of w One).version ≤ latest w.sets) [
-      | true ↦ λ is. let zero = eqb-true (desk_of w One).version 0 is in omega (arith, zero)
-      | false ↦ λ is. let there = whole.present (eqb-false (desk_of w One).version 0 is) in published_below w.sets (desk_of w One).version there.0 falls there.1
+pub not_above : (w : WorldState) → IsWhole w → IsFalling w.sets → (port : Port) → (desk_of w port).version ≤ latest w.sets
+not_above w whole falls port =
+    (elim ((desk_of w port).version == 0) as (λ b. ((desk_of w port).version == 0) ≡ b → (desk_of w port).version ≤ latest w.sets) [
+      | true ↦ λ is. let zero = eqb-true (desk_of w port).version 0 is in omega (arith, zero)
+      | false ↦ λ is. let there = whole.present port (eqb-false (desk_of w port).version 0 is) in published_below w.sets (desk_of w port).version there.0 falls there.1
     ]) refl

@@ -1,5 +1,5 @@
 -- What calls of the service answer is what an event asks of it, and is little.
-use Rattle.std.proofs.Common.{ℕ, ◌≡◌, ◌+◌, ◌≤◌, ◌==◌, not, nat_le, nat_lt, Bool, true, false, cond, List, length, map, Option, Some, None, Result, Ok, Err, arith, sym, subst}
+use Rattle.std.proofs.Common.{ℕ, ◌≡◌, ◌+◌, ◌≤◌, ◌==◌, not, nat_le, nat_lt, Bool, true, false, cond, List, [], length, map, Option, Some, None, Result, Ok, Err, arith, refl, sym, subst}
 use Rattle.std.proofs.lemmas.List.{length-map}
 use Rattle.std.specs.Prelude.{◌-◌, ◌&&◌, IfOk, IfSome}
 use Rattle.std.specs.Result.{result_ok}
@@ -102,3 +102,15 @@ small_if None d d' s is = tt
 pub small_finish : {E : Type 0} (r : Result ServiceOut E) (d d' : Desk) (s : ServiceEvent) → IfOk r (λ out. Responds out d' (service_step d s)) → IfOk r (IsSmallResponse (length d.jobs))
 small_finish (Ok out) d d' s is = subst (λ ms. length ms ≤ length d.jobs + 1) (sym is.messages) (small_response d s)
 small_finish (Err e) d d' s is = tt
+
+-- a publication sends few messages, and lends nothing
+pub few_told : (d : Desk) (version : ℕ) → length (service_step d (Publishes version)).messages ≤ length d.jobs + 1
+few_told d version = small_response d (Publishes version)
+
+lent_neither : (b : Bool) (x y : Response) → x.works ≡ [] → y.works ≡ [] → (cond b x y).works ≡ []
+lent_neither true x y p q = p
+lent_neither false x y p q = q
+
+pub none_lent : (d : Desk) (version : ℕ) → (service_step d (Publishes version)).works ≡ []
+unfolding service_step
+none_lent d version = lent_neither d.connected _ _ refl refl

@@ -1,47 +1,83 @@
 -- A history that is not too long leaves leases enough to finish.
-use Rattle.std.proofs.Common.{true, cond, ◌^◌, ◌*◌, ◌≡◌, ℕ, ◌+◌, ◌≤◌, false, List, [], ◌∷◌, length, map, Some, min, refl, arith}
+use Rattle.std.proofs.Common.{true, suc, cond, ◌^◌, ◌*◌, ◌≡◌, ℕ, ◌+◌, ◌≤◌, false, List, [], ◌∷◌, length, map, Some, min, refl, arith}
 use Rattle.std.proofs.Math.Nat.{div-le_self}
 use Rattle.std.specs.List.{AllByRecursion as Each}
 use Rattle.av_base.specs.declared.limits.LimitValues.{LimitValues}
 use Rattle.av_base.specs.declared.mode.Mode.{Mode}
-use Rattle.av_base.specs.declared.port.Port.TheVariants.{One}
+use Rattle.av_base.specs.Port.{same_port}
+use Rattle.av_base.specs.declared.port.Port.{Port}
+use Rattle.av_base.specs.declared.port.Port.TheVariants.{One, Two}
+use Rattle.av_filter.proofs.FitLemmas.{keeps_fit}
+use Rattle.av_filter.specs.Fit.{Fits}
+use Rattle.av_filter_table.specs.Table.{on_port}
+use Rattle.av_service.specs.Response.{Response}
+use Rattle.av_world.proofs.FinishLemmas.{HaveLeases}
+use Rattle.av_world.proofs.SceneLemmas.{heard_desks}
 use Rattle.av_base.proofs.LimitLemmas.{chunk_in, jobs_in, length_in}
 use Rattle.av_base.specs.Limits.{AreInRange}
 use Rattle.av_filter.proofs.BoundLemmas.{keeps_bounds}
 use Rattle.av_filter_table.specs.declared.question.Question.{Question}
 use Rattle.av_filter_table.specs.Answering.{present_bytes, stream_bytes}
-use Rattle.av_service.specs.Conduct.{Publishes}
+use Rattle.av_service.specs.Conduct.{Publishes, ServiceEvent, service_step}
 use Rattle.av_service.specs.Scanning.{most_leases}
 use Rattle.av_sigset.specs.Catalogue.{latest}
 use Rattle.av_store.specs.Bounds.{AreInBounds, IsInBounds}
 use Rattle.av_store.specs.Rows.{Streams, is_number, stream_at}
-use Rattle.av_world.proofs.LeaveLemmas.{filter_leaves, service_leaves}
+use Rattle.av_world.proofs.LeaveLemmas.{fewer, filter_leaves, service_leaves}
 use Rattle.av_world.proofs.ReachLemmas.{can_always_finish}
 use Rattle.av_world.proofs.StepLemmas.{Preserves, history_keeps, step_keeps}
 use Rattle.av_world.specs.declared.event.Event.{Event}
 use Rattle.av_world.specs.Progress.{Finishes, IsWaiting, all_chunks, chunks}
 use Rattle.av_sigset.specs.Publication.{publication_of}
-use Rattle.av_world.specs.World.{WorldState, after, desk_of, done, start, world_of}
+use Rattle.av_world.specs.World.{WorldState, after, at_port, back_at, desk_of, done, heard, start, world_of}
 
 -- ---- what a history can have used
 
 record Spent (w : WorldState) : Type 0 where
-  leases : (desk_of w One).last_lease ≤ length w.history
+  leases : (port : Port) → (desk_of w port).last_lease ≤ length w.history
   questions : length w.table.questions ≤ length w.history
+  fits : Fits w.table w.volume
   bounds : AreInBounds w.volume
+
+-- one event more, at which a service lends under one lease more at most
+heard_few : (w : WorldState) (n : ℕ) → ((port : Port) → (desk_of w port).last_lease ≤ n) → (at : Port) (r : Response) → r.desk.last_lease ≤ n + 1 → (port : Port) → (desk_of (heard w at r) port).last_lease ≤ n + 1
+heard_few w n before at r now = heard_desks (λ port d. d.last_lease ≤ n + 1) w at r now (λ port. omega (arith, before port))
 
 spent_keeps : (w : WorldState) → Spent w → Preserves (λ e. Spent) w
 spent_keeps w s = record {
-  filter = λ e f is ok. record { leases = omega (arith, s.leases); questions = omega (arith, s.questions, (filter_leaves w.table w.volume f).1); bounds = keeps_bounds.events w.table w.volume f s.bounds ok };
-  service = λ e port x is. record { leases = omega (arith, s.leases, (service_leaves (desk_of w port) x).1); questions = omega (arith, s.questions); bounds = s.bounds };
-  publish = λ v ps set ok. record { leases = omega (arith, s.leases, (service_leaves (desk_of w One) (Publishes set.version)).1); questions = omega (arith, s.questions); bounds = s.bounds };
-  work = λ k x at. record { leases = omega (arith, s.leases, (service_leaves (desk_of w One) (done (map publication_of w.sets) x)).1); questions = omega (arith, s.questions); bounds = s.bounds };
+  filter = λ e f is ok. record { leases = λ port. omega (arith, s.leases port); questions = omega (arith, s.questions, (filter_leaves w.table w.volume f s.fits.order).1); fits = keeps_fit.events w.table w.volume f s.fits ok; bounds = keeps_bounds.events w.table w.volume f s.bounds ok };
+  service = λ e port x is. record {
+    leases = λ at. omega (arith, heard_few w (length w.history) s.leases port (service_step (desk_of w port) x) (omega (arith, s.leases port, (service_leaves (desk_of w port) x).1)) at);
+    questions = omega (arith, s.questions);
+    fits = s.fits;
+    bounds = s.bounds;
+  };
+  publish = λ v ps set ok. record {
+    leases = both_few w s (Publishes set.version);
+    questions = omega (arith, s.questions);
+    fits = s.fits;
+    bounds = s.bounds;
+  };
+  work = λ k x at. record {
+    leases = λ port. omega (arith, heard_few (back_at w k) (length w.history) s.leases x.0 (service_step (desk_of w x.0) (done (map publication_of w.sets) x.1)) (omega (arith, s.leases x.0, (service_leaves (desk_of w x.0) (done (map publication_of w.sets) x.1)).1)) port);
+    questions = omega (arith, s.questions);
+    fits = s.fits;
+    bounds = s.bounds;
+  };
 }
+  where
+    both_few : (w : WorldState) → Spent w → (x : ServiceEvent) (port : Port) → (at_port port (service_step w.one x).desk (service_step w.two x).desk).last_lease ≤ suc (length w.history)
+    both_few w s x One = omega (arith, s.leases One, (service_leaves w.one x).1)
+    both_few w s x Two = omega (arith, s.leases Two, (service_leaves w.two x).1)
 
 spent : (number : ℕ) (mode : Mode) (limits : LimitValues) (es : List Event) → AreInRange limits → Spent (world_of (start number mode limits) es)
 spent number mode limits es ok =
     let b = keeps_bounds.starts number limits ok in
-    history_keeps Spent spent_keeps (start number mode limits) (record { leases = omega arith; questions = omega arith; bounds = record { limits = b.limits; streams = b.streams } }) es
+    history_keeps Spent spent_keeps (start number mode limits) (record { leases = starts_without; questions = omega arith; fits = keeps_fit.mounts mode limits (start number mode limits).volume; bounds = record { limits = b.limits; streams = b.streams } }) es
+  where
+    starts_without : (port : Port) → (desk_of (start number mode limits) port).last_lease ≤ 0
+    starts_without One = omega arith
+    starts_without Two = omega arith
 
 -- a history has the events that were accepted
 abbrev GrewByOne : WorldState → Event → WorldState → Type 0
@@ -64,7 +100,7 @@ stream_small limits (r ∷ ss) s all =
 chunks_few : (w : WorldState) → AreInBounds w.volume → (q : Question) → chunks w q ≤ 1048577
 chunks_few w b q =
     let n : ℕ = length (present_bytes w.volume q.stream) in
-    let c : ℕ = min (desk_of w One).limits.chunk w.table.limits.chunk in
+    let c : ℕ = min (desk_of w q.port).limits.chunk w.table.limits.chunk in
     let small : n ≤ w.volume.limits.length = stream_small w.volume.limits w.volume.streams q.stream b.streams in
     omega (arith, small, (length_in w.volume.limits b.limits).1, div-le_self n c)
 
@@ -83,5 +119,6 @@ can_finish_soon number mode limits history ok short reached =
     let s : Spent w = spent number mode limits history ok in
     let size : 2 ^ 43 ≡ 8796093022208 = refl in
     let long : length w.history ≤ length history = omega (arith, accepted_few (start number mode limits) history) in
-    let leases : (desk_of w One).last_lease + all_chunks w w.table.questions ≤ most_leases = omega (arith, s.leases, s.questions, all_chunks_few w s.bounds w.table.questions, long, short, size, most) in
+    let leases : HaveLeases w w.table.questions =
+    λ port. omega (arith, s.leases port, s.questions, all_chunks_few w s.bounds (on_port port w.table.questions), fewer (λ (q : Question). same_port q.port port) w.table.questions, long, short, size, most) in
     can_always_finish number mode limits history (chunk_in limits ok).0 (jobs_in limits ok).0 (λ waiting. record { reached = reached waiting; leases = leases })

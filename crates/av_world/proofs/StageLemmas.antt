@@ -3,6 +3,7 @@ use Rattle.std.proofs.Common.{[], ap, ◌≡◌, ◌==◌, ℕ, true, false, if�
 use Rattle.std.specs.Option.{option_map}
 use Rattle.std.specs.Result.{result_ok, result_err}
 use Rattle.std.specs.Prelude.{IfOk, OnErr}
+use Rattle.av_base.specs.declared.port.Port.{Port}
 use Rattle.av_base.specs.declared.refusal.Refusal.{Refusal}
 use Rattle.av_base.specs.declared.refusal.Refusal.TheVariants.{Fault, NoMemory}
 use Rattle.av_filter.specs.Call.{Meets, MeetsAlways, Reacts}
@@ -43,9 +44,9 @@ pub timed_out : {E : Type 0} (r : Result Out E) (t : Table) (v : Store) (t' : Ta
 unfolding filter_refusal
 timed_out r t v t' seq h = meets_always r t v t' (TimesOut seq) refl h
 
-pub disconnected : {E : Type 0} (r : Result Out E) (t : Table) (v : Store) (t' : Table) → MeetsAlways t v t' v r (disconnects t v) → Calls t v t' v Disconnects (result_ok r)
+pub disconnected : {E : Type 0} (r : Result Out E) (t : Table) (v : Store) (t' : Table) (port : Port) → MeetsAlways t v t' v r (disconnects t v port) → Calls t v t' v (Disconnects port) (result_ok r)
 unfolding filter_step filter_refusal
-disconnected r t v t' h = meets_always r t v t' Disconnects refl h
+disconnected r t v t' port h = meets_always r t v t' (Disconnects port) refl h
 
 -- a stream was created, and the filter has nothing to do
 pub created : (out : Out) (t : Table) (v v' : Store) (name : List ℕ) (s : ℕ) → create_of v name ≡ Ok (s, v') → out.answers.items ≡ [] → out.messages.items ≡ [] → out.note ≡ Quiet

@@ -1,12 +1,11 @@
 -- What each event of the filter, each of the service, each publication and each work keeps, every run keeps.
 use Rattle.std.proofs.Common.{◌≡◌, ℕ, List, [], ◌∷◌, map, Option, Some, None, Result, Ok, Err, refl}
 use Rattle.std.specs.Option.{option_map}
-use Rattle.av_base.specs.declared.port.Port.{Port}
-use Rattle.av_base.specs.declared.port.Port.TheVariants.{One}
 use Rattle.av_filter.specs.Conduct.{FilterEvent, Changes, CleansUp, filter_refusal, filter_step}
 use Rattle.av_filter.specs.Conduct as filter_events
 use Rattle.av_filter.specs.declared.fault.FilterFault.{FilterFault}
 use Rattle.av_frame.specs.Message.{Letter}
+use Rattle.av_base.specs.declared.port.Port.{Port}
 use Rattle.av_service.specs.Conduct.{ServiceEvent, connect_refusal, service_step}
 use Rattle.av_service.specs.Conduct as service_events
 use Rattle.av_service.specs.declared.fault.ConnectFault.{ConnectFault}
@@ -23,7 +22,7 @@ use Rattle.av_store.specs.Rows.{number_named}
 use Rattle.av_store.specs.Store.{Store}
 use Rattle.av_world.specs.Cores.{IsFilterEvent, IsServiceEvent, Names}
 use Rattle.av_world.specs.Cores as cores
-use Rattle.av_world.specs.World.{WorldState, added, after, back_at, changed_line, connected, desk_of, done, down_frame, filter_event, member, named_event, no_line, published, reacted, responded, step_fault, step_of, up_frame, with_set, work_at, work_event, world_of, world_or}
+use Rattle.av_world.specs.World.{WorldState, added, after, after_set, back_at, changed_line, connected, desk_of, done, down_frame, filter_event, member, named_event, no_line, published, reacted, responded, step_fault, step_of, up_frame, work_at, work_event, world_of, world_or}
 use Rattle.av_base.specs.Refused.{unless}
 use Rattle.av_world.specs.declared.event.Event.{Event}
 use Rattle.av_world.specs.declared.event.Event.TheVariants.{Publish, Create, Write, Cut, Remove, Open, Cleanup, Down, Up, Run, Timeout, Connect, DisconnectFilter, DisconnectService, RestartFilter, RestartService}
@@ -46,8 +45,8 @@ pub record IsPublished (w : WorldState) (v : ℕ) (ps : List Pattern) (s : Numbe
 pub record Preserves (P : Event → WorldState → Type 0) (w : WorldState) : Type 0 where
   pub filter : (e : Event) (f : FilterEvent) → IsFilterEvent w e f → filter_refusal w.table w.volume f ≡ None → P e (after_filter w e f)
   pub service : (e : Event) (port : Port) (s : ServiceEvent) → IsServiceEvent w e port s → P e (after_service w e port s)
-  pub publish : (v : ℕ) (ps : List Pattern) (s : NumberedSet) → IsPublished w v ps s → P (Publish v ps) (after_service (with_set w s) (Publish v ps) One (service_events.Publishes s.version))
-  pub work : (k : ℕ) (x : WorkState) → work_at w.works k ≡ Some x → P (Run k) (after_service (back_at w k) (Run k) One (done (map publication_of w.sets) x))
+  pub publish : (v : ℕ) (ps : List Pattern) (s : NumberedSet) → IsPublished w v ps s → P (Publish v ps) (after_set w (Publish v ps) s)
+  pub work : (k : ℕ) (x : Port × WorkState) → work_at w.works k ≡ Some x → P (Run k) (after_service (back_at w k) (Run k) x.0 (done (map publication_of w.sets) x.1))
 
 module _ (P : Event → WorldState → Type 0) (w : WorldState) (before : (e : Event) → P e w) where
   unrefused : (e : Event) (o : Option FilterFault) (x : Report × WorldState) → (o ≡ None → P e x.1) → P e (world_or w (unless (option_map step_fault o) x))
@@ -63,13 +62,13 @@ module _ (P : Event → WorldState → Type 0) (w : WorldState) (before : (e : E
 
   by_down : Preserves P w → (k : ℕ) (o : Option Letter) → member w.down k ≡ o → P (Down k) (world_or w (down_frame w (Down k) o))
   by_down keeps k None is = before (Down k)
-  by_down keeps k (Some m) is = keeps.service (Down k) One (service_events.Receives m) (cores.comes_down k m is)
+  by_down keeps k (Some m) is = keeps.service (Down k) m.port (service_events.Receives m) (cores.comes_down k m is)
 
   by_up : Preserves P w → (k : ℕ) (o : Option Letter) → member w.up k ≡ o → P (Up k) (world_or w (up_frame w (Up k) o))
   by_up keeps k None is = before (Up k)
   by_up keeps k (Some m) is = by_filter keeps (Up k) no_line (filter_events.Receives m) (cores.comes_up k m is)
 
-  by_work : Preserves P w → (k : ℕ) (o : Option WorkState) → work_at w.works k ≡ o → P (Run k) (world_or w (work_event w (Run k) k o))
+  by_work : Preserves P w → (k : ℕ) (o : Option (Port × WorkState)) → work_at w.works k ≡ o → P (Run k) (world_or w (work_event w (Run k) k o))
   by_work keeps k None is = before (Run k)
   by_work keeps k (Some x) is = keeps.work k x is
 
@@ -82,9 +81,9 @@ module _ (P : Event → WorldState → Type 0) (w : WorldState) (before : (e : E
   by_set keeps v ps (Ok s) is = by_catalogue keeps v ps s is (may_publish w.sets s.version) refl
   by_set keeps v ps (Err f) is = before (Publish v ps)
 
-  by_connection : Preserves P w → (o : Option ConnectFault) → connect_refusal (desk_of w One) ≡ o → P Connect (world_or w (connected w Connect o))
-  by_connection keeps None is = keeps.service Connect One service_events.Connects (cores.connects is)
-  by_connection keeps (Some f) is = before Connect
+  by_connection : Preserves P w → (port : Port) (o : Option ConnectFault) → connect_refusal (desk_of w port) ≡ o → P (Connect port) (world_or w (connected w (Connect port) port o))
+  by_connection keeps port None is = keeps.service (Connect port) port service_events.Connects (cores.connects port is)
+  by_connection keeps port (Some f) is = before (Connect port)
 
   pub step_keeps : Preserves P w → (e : Event) → P e (after w e)
   unfolding step_of
@@ -99,11 +98,11 @@ module _ (P : Event → WorldState → Type 0) (w : WorldState) (before : (e : E
   step_keeps k (Up n) = by_up k n (member w.up n) refl
   step_keeps k (Run n) = by_work k n (work_at w.works n) refl
   step_keeps k (Timeout seq) = by_filter k _ no_line _ (cores.times_out seq)
-  step_keeps k Connect = by_connection k (connect_refusal (desk_of w One)) refl
-  step_keeps k DisconnectFilter = by_filter k _ no_line _ cores.IsFilterEvent.disconnects
-  step_keeps k DisconnectService = k.service DisconnectService One service_events.Disconnects cores.IsServiceEvent.disconnects
+  step_keeps k (Connect port) = by_connection k port (connect_refusal (desk_of w port)) refl
+  step_keeps k (DisconnectFilter port) = by_filter k _ no_line _ (cores.IsFilterEvent.disconnects port)
+  step_keeps k (DisconnectService port) = k.service (DisconnectService port) port service_events.Disconnects (cores.IsServiceEvent.disconnects port)
   step_keeps k RestartFilter = by_filter k _ (λ v. Booted v.boot) _ cores.IsFilterEvent.restarts
-  step_keeps k RestartService = k.service RestartService One (service_events.Restarts (latest w.sets)) cores.IsServiceEvent.restarts
+  step_keeps k (RestartService port) = k.service (RestartService port) port (service_events.Restarts (latest w.sets)) (cores.IsServiceEvent.restarts port)
 
 -- what every event keeps, every history keeps
 pub history_keeps : (P : WorldState → Type 0) → ((w : WorldState) → P w → Preserves (λ e. P) w) → (w : WorldState) → P w → (es : List Event) → P (world_of w es)

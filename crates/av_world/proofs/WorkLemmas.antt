@@ -4,7 +4,8 @@ use Rattle.std.proofs.lemmas.List.{length-set}
 use Rattle.std.proofs.lemmas.Option.{none-some, same_Some}
 use Rattle.std.specs.Option.{option_to_list}
 use Rattle.std.specs.Result.{result_ok}
-use Rattle.av_base.specs.declared.port.Port.TheVariants.{One}
+use Rattle.av_base.specs.declared.port.Port.{Port}
+use Rattle.av_base.specs.declared.port.Port.TheVariants.{One, Two}
 use Rattle.av_frame.specs.Message.{Letter}
 use Rattle.av_match.specs.Scanning.{Compiled, ScanState, fitting, if_found, run}
 use Rattle.av_service.specs.Call.{Responds}
@@ -17,11 +18,13 @@ use Rattle.av_sigset.specs.Publication.{publication_of, published_as}
 use Rattle.av_sigset.specs.Set.{NumberedSet, patterns_of}
 use Rattle.av_world.proofs.PublishLemmas.{found_published}
 use Rattle.av_world.specs.Prepared.{Compiles}
+use Rattle.av_world.specs.Serving.{Works}
 use Rattle.av_world.specs.Stage.{at_history}
-use Rattle.av_world.specs.World.{WorldState, back_at, desk_of, done, or_none, places_of, responded, service_outcome, with_desk, work_at, work_event}
+use Rattle.av_world.specs.World.{WorldState, at_port, back_at, desk_of, done, lent_at, or_none, places_of, responded, service_outcome, work_at, work_event}
 use Rattle.av_world.specs.declared.event.Event.{Event}
 use Rattle.av_world.specs.declared.report.Line.TheVariants.{Silent}
 use Rattle.av_world.specs.declared.report.Note.TheVariants as note
+use Rattle.av_world.specs.declared.report.Report.{Report}
 
 -- the automaton that was built of the set of a version is of that version
 pub compiled_for : (sets : List NumberedSet) (version : ℕ) (s : NumberedSet) (a : Compiled) → set_at sets version ≡ Some s → a ≡ record { version = s.version; patterns = patterns_of s.signatures } → Compiles (set_at sets version) a
@@ -56,42 +59,57 @@ done_as sets x a lease scan of same is =
     let ran : run (or_none (published_as (map publication_of sets) x.version)) x.scan (fitting x.scan x.chunk) ≡ scan = ap (λ ps. run ps x.scan (fitting x.scan x.chunk)) (patterns_run sets x a (set_at sets x.version) refl of) ∙ sym is in
     ap (λ s. Finishes x.lease s (if_found s)) ran ∙ ap (λ l. Finishes l scan (if_found scan)) (sym same)
 
--- a world with another service, and what it sent and lent
-abbrev pub worked_on : WorldState → Desk → List Letter → List (Option WorkState) → WorldState
-worked_on w d up works = record (with_desk w One d) { up = up; works = works }
+-- the service that a work came back to has changed, the other one has not
+one_put : (port : Port) (one one' two' : Desk) → one' ≡ at_port port one' one → at_port port (at_port port one' two') one ≡ one'
+one_put One one one' two' is = refl
+one_put Two one one' two' is = sym is
+
+two_put : (port : Port) (two one' two' : Desk) → two' ≡ at_port port two two' → at_port port two (at_port port one' two') ≡ two'
+two_put One two one' two' is = sym is
+two_put Two two one' two' is = refl
+
+-- a world with other services, and what they sent and lent
+abbrev pub worked_on : WorldState → Desk → Desk → List Letter → Works → WorldState
+worked_on w one two up works = record w { one = one; two = two; up = up; works = works }
 
 -- the world that is left
-abbrev pub left : WorldState → Event → Desk → List Letter → List (Option WorkState) → WorldState
-left w e d up works = at_history (e ∷ w.history) (worked_on w d up works)
+abbrev pub left : WorldState → Event → Desk → Desk → List Letter → Works → WorldState
+left w e one two up works = at_history (e ∷ w.history) (worked_on w one two up works)
 
-worked_at : (w : WorldState) (e : Event) (index : ℕ) (x : WorkState) (a : Compiled) (lease : ℕ) (scan : ScanState) (out : ServiceOut) (d : Desk) (up : List Letter) (works : List (Option WorkState)) → slice_get w.works index ≡ Some (Some x)
-    → Compiles (set_at w.sets x.version) a → lease ≡ x.lease → scan ≡ run a.patterns x.scan (fitting x.scan x.chunk) → Responds out d (service_step (desk_of w One) (Finishes lease scan (if_found scan))) → up ≡ w.up ++ out.messages.items
-    → works ≡ slice_set w.works index None ++ map Some (option_to_list out.work)
-    → work_event w e (suc index) (work_at w.works (suc index)) ≡ Ok (record { line = Silent; before = places_of (back_at w (suc index)); after = places_of (left w e d up works); note = note.Service out.note }, left w e d up works)
-worked_at w e index x a lease scan out d up works there of same ran is ups more =
+-- what is told of it
+abbrev pub told : WorldState → WorldState → ServiceOut → Report
+told w next out = record { line = Silent; before = places_of w; after = places_of next; note = note.Service out.note }
+
+worked_at : (w : WorldState) (e : Event) (index : ℕ) (port : Port) (x : WorkState) (a : Compiled) (lease : ℕ) (scan : ScanState) (out : ServiceOut) (one two : Desk) (up : List Letter) (works : Works) → slice_get w.works index ≡ Some (Some (port, x))
+    → Compiles (set_at w.sets x.version) a → lease ≡ x.lease → scan ≡ run a.patterns x.scan (fitting x.scan x.chunk) → Responds out (at_port port one two) (service_step (desk_of w port) (Finishes lease scan (if_found scan)))
+    → one ≡ at_port port one w.one → two ≡ at_port port w.two two → up ≡ w.up ++ out.messages.items → works ≡ slice_set w.works index None ++ map (lent_at port) (option_to_list out.work)
+    → work_event w e (suc index) (work_at w.works (suc index)) ≡ Ok (told (back_at w (suc index)) (left w e one two up works) out, left w e one two up works)
+worked_at w e index port x a lease scan out one two up works there of same ran is ones twos ups more =
     let f : ServiceEvent = Finishes lease scan (if_found scan) in
-    let r = service_step (desk_of w One) f in
+    let r = service_step (desk_of w port) f in
     let event : done (map publication_of w.sets) x ≡ f = done_as w.sets x a lease scan of same ran in
-    let start : work_event w e (suc index) (work_at w.works (suc index)) ≡ Ok (service_outcome (back_at w (suc index)) e One Silent r) = rw there (ap (λ g. Ok (service_outcome (back_at w (suc index)) e One Silent (service_step (desk_of w One) g))) event) in
+    let start : work_event w e (suc index) (work_at w.works (suc index)) ≡ Ok (service_outcome (back_at w (suc index)) e port Silent r) = rw there (ap (λ g. Ok (service_outcome (back_at w (suc index)) e port Silent (service_step (desk_of w port) g))) event) in
     let ups_is : w.up ++ r.messages ≡ up = ap (λ ms. w.up ++ ms) (sym is.messages) ∙ sym ups in
-    let works_is : slice_set w.works index None ++ map Some r.works ≡ works = ap (λ ks. slice_set w.works index None ++ map Some ks) (sym is.works) ∙ sym more in
-    let next : responded (back_at w (suc index)) e One r ≡ left w e d up works =
-    ap (λ us. left w e r.desk us (slice_set w.works index None ++ map Some r.works)) ups_is
-    ∙ ap (left w e r.desk up) works_is
-    ∙ ap (λ (dd : Desk). left w e dd up works) (sym is.desk) in
+    let works_is : slice_set w.works index None ++ map (lent_at port) r.works ≡ works = ap (λ ks. slice_set w.works index None ++ map (lent_at port) ks) (sym is.works) ∙ sym more in
+    let next : responded (back_at w (suc index)) e port r ≡ left w e one two up works =
+    ap (λ us. left w e (at_port port r.desk w.one) (at_port port w.two r.desk) us (slice_set w.works index None ++ map (lent_at port) r.works)) ups_is
+    ∙ ap (left w e (at_port port r.desk w.one) (at_port port w.two r.desk) up) works_is
+    ∙ ap (λ (d : Desk). left w e (at_port port d w.one) (at_port port w.two d) up works) (sym is.desk)
+    ∙ ap (λ (d : Desk). left w e d (at_port port w.two (at_port port one two)) up works) (one_put port w.one one two ones)
+    ∙ ap (λ (d : Desk). left w e one d up works) (two_put port w.two one two twos) in
     start
     ∙ ap (λ (u : WorldState). Ok (record { line = Silent; before = places_of (back_at w (suc index)); after = places_of u; note = note.Service r.note }, u)) next
-    ∙ ap (λ n. Ok (record { line = Silent; before = places_of (back_at w (suc index)); after = places_of (left w e d up works); note = note.Service n }, left w e d up works)) (sym is.note)
+    ∙ ap (λ n. Ok (record { line = Silent; before = places_of (back_at w (suc index)); after = places_of (left w e one two up works); note = note.Service n }, left w e one two up works)) (sym is.note)
 
-pub worked : (w : WorldState) (e : Event) (k index : ℕ) (x : WorkState) (a : Compiled) (lease : ℕ) (scan : ScanState) (out : ServiceOut) (d : Desk) (up : List Letter) (works : List (Option WorkState)) → k ≡ suc index → slice_get w.works index ≡ Some (Some x)
-    → Compiles (set_at w.sets x.version) a → lease ≡ x.lease → scan ≡ run a.patterns x.scan (fitting x.scan x.chunk) → Responds out d (service_step (desk_of w One) (Finishes lease scan (if_found scan))) → up ≡ w.up ++ out.messages.items
-    → works ≡ slice_set w.works index None ++ map Some (option_to_list out.work)
-    → work_event w e k (work_at w.works k) ≡ Ok (record { line = Silent; before = places_of w; after = places_of (left w e d up works); note = note.Service out.note }, left w e d up works)
-worked w e k index x a lease scan out d up works place there of same ran is ups more =
+pub worked : (w : WorldState) (e : Event) (k index : ℕ) (port : Port) (x : WorkState) (a : Compiled) (lease : ℕ) (scan : ScanState) (out : ServiceOut) (one two : Desk) (up : List Letter) (works : Works) → k ≡ suc index → slice_get w.works index ≡ Some (Some (port, x))
+    → Compiles (set_at w.sets x.version) a → lease ≡ x.lease → scan ≡ run a.patterns x.scan (fitting x.scan x.chunk) → Responds out (at_port port one two) (service_step (desk_of w port) (Finishes lease scan (if_found scan)))
+    → one ≡ at_port port one w.one → two ≡ at_port port w.two two → up ≡ w.up ++ out.messages.items → works ≡ slice_set w.works index None ++ map (lent_at port) (option_to_list out.work)
+    → work_event w e k (work_at w.works k) ≡ Ok (told w (left w e one two up works) out, left w e one two up works)
+worked w e k index port x a lease scan out one two up works place there of same ran is ones twos ups more =
     let kept : length (slice_set w.works index None) ≡ length w.works = length-set w.works index None in
-    subst (λ j. work_event w e j (work_at w.works j) ≡ Ok (record { line = Silent; before = places_of w; after = places_of (left w e d up works); note = note.Service out.note }, left w e d up works)) (sym place)
-    (worked_at w e index x a lease scan out d up works there of same ran is ups more
-    ∙ ap (λ n. Ok (record { line = Silent; before = record { answers = length w.answers; down = length w.down; up = length w.up; works = n }; after = places_of (left w e d up works); note = note.Service out.note }, left w e d up works)) kept)
+    subst (λ j. work_event w e j (work_at w.works j) ≡ Ok (told w (left w e one two up works) out, left w e one two up works)) (sym place)
+    (worked_at w e index port x a lease scan out one two up works there of same ran is ones twos ups more
+    ∙ ap (λ n. Ok (record { line = Silent; before = record { answers = length w.answers; down = length w.down; up = length w.up; works = n }; after = places_of (left w e one two up works); note = note.Service out.note }, left w e one two up works)) kept)
 
 -- the world that another one is said to be
 abbrev pub first_of : (w now : WorldState) → w ≡ now → WorldState

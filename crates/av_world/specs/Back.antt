@@ -43,17 +43,17 @@ behind (word ∷ words) = 32 ∷ (word ++ behind words)
 abbrev pub id_behind : List ℕ → List ℕ → List (List ℕ) → List ℕ
 id_behind boot seq words = 32 ∷ (boot ++ 46 ∷ (seq ++ behind words))
 
--- the words of a verdict, behind its name
+-- the words of a verdict, behind its name, and what follows them
 abbrev pub verdict_words : List (List ℕ) → List (List ℕ)
 verdict_words words =
-    if bytes_eq (at 1 words) (codes "infected") then at 1 words ∷ at 3 words ∷ at 4 words ∷ at 5 words ∷ []
-    else at 1 words ∷ []
+    if bytes_eq (at 1 words) (codes "infected") then at 1 words ∷ at 3 words ∷ at 4 words ∷ at 5 words ∷ drop 6 words
+    else at 1 words ∷ drop 2 words
 
 -- how a question ended
 abbrev pub outcome_words : List (List ℕ) → List (List ℕ)
 outcome_words words =
     if bytes_eq (at 0 words) (codes "version") then at 0 words ∷ at 1 words ∷ verdict_words (drop 2 words)
-    else at 1 words ∷ at 3 words ∷ []
+    else at 1 words ∷ at 3 words ∷ drop 4 words
 
 -- a message with an id: its place, its kind, and words behind its id
 abbrev pub message_back : List (List ℕ) → List (List ℕ) → List ℕ
@@ -73,7 +73,7 @@ line_by kind words =
     else if bytes_eq kind (codes "work") then
     codes "work" ++ 32 ∷ (at 3 words ++ 32 ∷ (codes "lent" ++ id_behind (at 5 words) (at 7 words) (drop 8 words)))
     else if bytes_eq kind (codes "hello") then at 2 words ++ behind (at 3 words ∷ kind ∷ drop 4 words)
-    else if bytes_eq kind (codes "updated") then at 2 words ++ behind (at 3 words ∷ kind ∷ at 5 words ∷ [])
+    else if bytes_eq kind (codes "updated") then at 2 words ++ behind (at 3 words ∷ kind ∷ drop 5 words)
     else if bytes_eq kind (codes "reply") then message_back words (outcome_words (drop 8 words))
     else if bytes_eq kind (codes "scan") || bytes_eq kind (codes "chunk") || bytes_eq kind (codes "nochunk")
     || bytes_eq kind (codes "abort") || bytes_eq kind (codes "read") then message_back words (drop 8 words)

@@ -7,6 +7,7 @@ use Rattle.av_base.specs.declared.limits.LimitValues.{LimitValues}
 use Rattle.av_base.specs.declared.message_id.MessageId.{MessageId}
 use Rattle.av_base.specs.declared.mode.Mode.{Mode}
 use Rattle.av_base.specs.declared.mode.Mode.TheVariants.{FailClosed, FailOpen}
+use Rattle.av_base.specs.declared.port.Port.{Port}
 use Rattle.av_base.specs.declared.port.Port.TheVariants.{One}
 use Rattle.av_base.specs.declared.verdict.Verdict.TheVariants.{Clean, Infected}
 use Rattle.av_cache.specs.declared.entry.Entry.{Entry}
@@ -22,6 +23,7 @@ use Rattle.av_pend.specs.declared.answer.Answer.{Answer}
 use Rattle.av_pend.specs.declared.answer.Answer.TheVariants.{Granted, Unscanned, Denied}
 use Rattle.av_service.specs.Audit as audit
 use Rattle.av_service.specs.declared.note.Note.TheVariants as service_note
+use Rattle.av_sigset.specs.Publication.{Publication}
 use Rattle.av_sigset.specs.Set.{widest}
 use Rattle.av_sigset.specs.declared.signature.Pattern.{Pattern}
 use Rattle.av_filter.specs.Conduct.{FilterEvent}
@@ -36,6 +38,7 @@ use Rattle.av_store.specs.Store.{Store}
 use Rattle.av_world.specs.Audits.{AreLegal, OfFilter, OfService, SideEntry}
 use Rattle.av_world.specs.Held.{held}
 use Rattle.av_world.specs.Path.{IsReady}
+use Rattle.av_world.specs.Scene.{Started}
 use Rattle.av_world.specs.World.{WorldState, step_of, after, start}
 use Rattle.av_world.specs.World as world
 use Rattle.av_world.specs.declared.event.Event.{Event}
@@ -114,7 +117,7 @@ xx = pattern_of (0x58 ∷ 0x58 ∷ []) ∷ []
 
 -- a stream of three bytes, a set that isn't in it, and a service that said hello
 abbrev pub prepared : List Event
-prepared = Publish 1 xx ∷ Create a ∷ Write a 0 abc ∷ Connect ∷ Up 1 ∷ []
+prepared = Publish 1 xx ∷ Create a ∷ Write a 0 abc ∷ Connect One ∷ Up 1 ∷ []
 
 -- and an open, up to the reply, which hasn't come
 abbrev pub scanned : List Event
@@ -186,7 +189,7 @@ TimedOutOpen =
 -- the filter restarts: a reply to the old boot finds no waiter
 abbrev pub Restarted : Type 0
 Restarted =
-    saying scanned FailClosed (RestartFilter ∷ DisconnectService ∷ Connect ∷ Up 4 ∷ Open a 0 ∷ Up 3 ∷ Down 3 ∷ Up 5 ∷ [])
+    saying scanned FailClosed (RestartFilter ∷ DisconnectService One ∷ Connect One ∷ Up 4 ∷ Open a 0 ∷ Up 3 ∷ Down 3 ∷ Up 5 ∷ [])
     ≡ Told (Denied 1 FilterRestart ∷ []) [] [] Quiet
     ∷ quiet
     ∷ Told [] [] (Hello 1 1 ∷ []) Quiet
@@ -255,7 +258,7 @@ Overtaken =
     ∷ Not NoSuchFrame
     ∷ []
 
--- after the grant one verdict stands in the context, both caches and the reply
+-- after the grant one verdict stands in the context, the filter's cache, that of service One and the reply
 abbrev pub HeldAfter : Type 0
 HeldAfter =
     let e : Entry = record { stream = 1; generation = 2; version = 1; verdict = Clean } in
@@ -273,7 +276,7 @@ RepliedTwice = saying scanned FailClosed (Up 3 ∷ Up 3 ∷ []) ≡ Told (Grante
 abbrev pub ByteByByte : Type 0
 ByteByByte =
     saying_with (record greatest_values { chunk = 1 })
-    (Publish 1 (pattern_of abc ∷ []) ∷ Create a ∷ Write a 0 abc ∷ Connect ∷ Up 1 ∷ [])
+    (Publish 1 (pattern_of abc ∷ []) ∷ Create a ∷ Write a 0 abc ∷ Connect One ∷ Up 1 ∷ [])
     (Open a 0 ∷ Down 1 ∷ Up 2 ∷ Down 2 ∷ Run 1 ∷ Up 3 ∷ Down 3 ∷ Run 2 ∷ Up 4 ∷ Down 4 ∷ Run 3 ∷ Up 5 ∷ [])
     ≡ Told [] (Scan (id 1 1) 1 2 3 ∷ []) [] (Submitted 1)
     ∷ Told [] [] (Read (id 1 1) 0 1 ∷ []) Quiet
@@ -297,7 +300,7 @@ ab_from low high = record { bytes = 0x41 ∷ 0x42 ∷ []; span = record { low = 
 abbrev pub ended_under : Pattern → List Said
 ended_under p =
     saying_with (record greatest_values { chunk = 1 })
-    (Publish 1 (p ∷ []) ∷ Create a ∷ Write a 0 (0x41 ∷ 0x42 ∷ 0x41 ∷ 0x42 ∷ []) ∷ Connect ∷ Up 1 ∷ Open a 0
+    (Publish 1 (p ∷ []) ∷ Create a ∷ Write a 0 (0x41 ∷ 0x42 ∷ 0x41 ∷ 0x42 ∷ []) ∷ Connect One ∷ Up 1 ∷ Open a 0
     ∷ Down 1 ∷ Up 2 ∷ Down 2 ∷ Run 1 ∷ Up 3 ∷ Down 3 ∷ Run 2 ∷ Up 4 ∷ Down 4 ∷ Run 3 ∷ Up 5 ∷ Down 5 ∷ [])
     (Run 4 ∷ Up 6 ∷ [])
 
@@ -317,7 +320,7 @@ FoundInRange =
 abbrev pub ScannedAfresh : Type 0
 ScannedAfresh =
     saying_with (record greatest_values { chunk = 1 })
-    (Publish 1 xx ∷ Create a ∷ Write a 0 abc ∷ Connect ∷ Up 1 ∷ Open a 0 ∷ Down 1 ∷ Up 2 ∷ Down 2 ∷ Run 1 ∷ [])
+    (Publish 1 xx ∷ Create a ∷ Write a 0 abc ∷ Connect One ∷ Up 1 ∷ Open a 0 ∷ Down 1 ∷ Up 2 ∷ Down 2 ∷ Run 1 ∷ [])
     (Publish 2 (pattern_of (0x41 ∷ 0x42 ∷ []) ∷ []) ∷ Up 5 ∷ Down 3 ∷ Run 2 ∷ Up 6 ∷ Down 4 ∷ Run 3 ∷ Up 7 ∷ [])
     ≡ Told [] [] (Updated 2 ∷ Read (id 1 1) 0 1 ∷ []) Quiet
     ∷ Told [] (Chunk (id 1 1) 0 (0x41 ∷ []) ∷ []) [] Quiet
@@ -344,7 +347,7 @@ SpentByWrites =
 -- the port is lost
 abbrev pub PortLost : Type 0
 PortLost =
-    saying (prepared ++ Open a 0 ∷ []) FailClosed (DisconnectFilter ∷ Open a 0 ∷ Open b 0 ∷ Write b 0 (0x41 ∷ []) ∷ [])
+    saying (prepared ++ Open a 0 ∷ []) FailClosed (DisconnectFilter One ∷ Open a 0 ∷ Open b 0 ∷ Write b 0 (0x41 ∷ []) ∷ [])
     ≡ Told (Denied 1 PortDisconnected ∷ []) [] [] Quiet
     ∷ Told (Denied 2 NotConnected ∷ []) [] [] (Submitted 2)
     ∷ Told (Denied 3 NoStream ∷ []) [] [] (Submitted 3) ∷ Not NoSuchName ∷ []
@@ -391,17 +394,17 @@ NewContent =
 
 -- a Hello under an older version than the floor does not connect
 abbrev pub LateHello : Type 0
-LateHello = saying (prepared ++ Publish 2 xx ∷ Up 2 ∷ DisconnectFilter ∷ []) FailClosed (Up 1 ∷ []) ≡ notes StaleVersion ∷ []
+LateHello = saying (prepared ++ Publish 2 xx ∷ Up 2 ∷ DisconnectFilter One ∷ []) FailClosed (Up 1 ∷ []) ≡ notes StaleVersion ∷ []
 
 -- three opens on two streams are answered in the order of submission
 abbrev pub InOrder : Type 0
 InOrder =
-    saying (prepared ++ Create b ∷ Open a 0 ∷ Open b 0 ∷ Open a 0 ∷ []) FailClosed (DisconnectFilter ∷ [])
+    saying (prepared ++ Create b ∷ Open a 0 ∷ Open b 0 ∷ Open a 0 ∷ []) FailClosed (DisconnectFilter One ∷ [])
     ≡ Told (Denied 1 PortDisconnected ∷ Denied 2 PortDisconnected ∷ Denied 3 PortDisconnected ∷ []) [] [] Quiet ∷ []
 
 -- the service restarts and says hello again
 abbrev pub ServiceRestarted : Type 0
-ServiceRestarted = saying scanned FailClosed (RestartService ∷ Connect ∷ []) ≡ quiet ∷ Told [] [] (Hello 1 1 ∷ []) Quiet ∷ []
+ServiceRestarted = saying scanned FailClosed (RestartService One ∷ Connect One ∷ []) ≡ quiet ∷ Told [] [] (Hello 1 1 ∷ []) Quiet ∷ []
 
 -- what each of these further runs says
 abbrev pub MoreScripts : Type 0
@@ -451,9 +454,9 @@ volume_of_abc =
 abbrev pub reply : FilterEvent → List Answer → List Body → filter_notes.Note → SideEntry
 reply f given ms n = OfFilter (record { event = f; answers = given; messages = map (via One) ms; note = n })
 
--- an entry of the service
+-- an entry of the service of port One
 abbrev pub response : ServiceEvent → List Body → List WorkState → SideEntry
-response e ms ks = OfService (record { call = audit.By e; messages = map (via One) ms; works = ks; note = service_note.Quiet })
+response e ms ks = OfService One (record { call = audit.By e; messages = map (via One) ms; works = ks; note = service_note.Quiet })
 
 -- a lent work that was begun and not run
 abbrev pub some_work : WorkState
@@ -462,7 +465,7 @@ some_work = record { lease = 1; id = id 1 1; version = 3; scan = begin 3 3; chun
 -- two audits, put together: version 3 is published, open 8 asks, its scan is judged, and it is granted
 abbrev pub some_audits : List SideEntry
 some_audits =
-    OfService (record { call = audit.Publishes 3 xx; messages = []; works = []; note = service_note.Quiet })
+    OfService One (record { call = audit.Publishes 3 xx; messages = []; works = []; note = service_note.Quiet })
     ∷ response service.Connects (Hello 1 3 ∷ []) []
     ∷ reply (filter.Receives (via One (Hello 1 3))) [] [] filter_note.Welcome
     ∷ reply (filter.Opens 1 0) [] (Scan (id 1 1) 1 5 3 ∷ []) (filter_note.Submitted 8)
@@ -474,9 +477,17 @@ some_audits =
     ∷ reply (filter.Receives (via One (Reply (id 1 1) (clean 3)))) (Granted 8 0 1 5 3 ∷ []) [] filter_note.Quiet
     ∷ []
 
+-- both services are of this volume
+abbrev pub told : Port → Started
+told port = record { number = 1; limits = greatest_values }
+
+-- both catalogues are empty at first
+abbrev pub no_sets : Port → List Publication
+no_sets port = []
+
 -- there are legal audits
 abbrev pub CanBeLegal : Type 0
-CanBeLegal = AreLegal FailClosed greatest_values 1 One greatest_values (file_of_abc ∷ []) volume_of_abc [] some_audits
+CanBeLegal = AreLegal FailClosed greatest_values told (file_of_abc ∷ []) volume_of_abc no_sets some_audits
 
 -- every script above, and both premises
 pub record ComeTrue : Type 0 where

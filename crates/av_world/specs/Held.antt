@@ -4,7 +4,6 @@ use Rattle.std.specs.Option.{option_or}
 use Rattle.av_base.specs.MessageId.{same_id}
 use Rattle.av_base.specs.declared.message_id.MessageId.{MessageId}
 use Rattle.av_base.specs.declared.port.Port.{Port}
-use Rattle.av_base.specs.declared.port.Port.TheVariants.{One}
 use Rattle.av_base.specs.declared.verdict.Verdict.{Verdict}
 use Rattle.av_cache.specs.declared.entry.Entry.{Entry}
 use Rattle.av_context.specs.declared.context_state.ContextState.{ContextState}
@@ -18,7 +17,7 @@ use Rattle.av_service.specs.Desk.{Desk}
 use Rattle.av_store.specs.Rows.{Streams}
 use Rattle.av_world.specs.declared.event.Event.{Event}
 use Rattle.av_world.specs.declared.event.Event.TheVariants.{Open}
-use Rattle.av_world.specs.World.{WorldState, desk_of}
+use Rattle.av_world.specs.World.{WorldState}
 use Rattle.av_context.specs.declared.context_state.ContextState.TheVariants as context
 
 -- where and about what the scan of an id was asked
@@ -43,7 +42,7 @@ unfoldable pub asked : List Letter → MessageId → Option Asked
 asked [] id = None
 asked (m ∷ ms) id = option_or (asked_by id m) (asked ms id)
 
--- ---- verdicts: in the contexts, both caches, and the replies that were sent
+-- ---- verdicts: in the contexts, the three caches, and the replies that were sent
 
 -- a verdict of a content under a version
 abbrev pub entry : ℕ → ℕ → ℕ → Verdict → Entry
@@ -80,12 +79,13 @@ abbrev pub held_reply : List Letter → Letter → List Entry
 held_reply down m = held_body down m.body
 
 -- every verdict that stands in contexts, caches and replies
-abbrev pub held_among : Table → Streams → Desk → List Letter → List Letter → List Entry
-held_among t streams d down up = held_contexts t.contexts streams ++ t.cache ++ d.cache ++ flat_map (held_reply down) up
+abbrev pub held_among : Table → Streams → Desk → Desk → List Letter → List Letter → List Entry
+held_among t streams one two down up =
+    held_contexts t.contexts streams ++ t.cache ++ one.cache ++ two.cache ++ flat_map (held_reply down) up
 
 -- every verdict that stands in a world
 unfoldable pub held : WorldState → List Entry
-held w = held_among w.table w.volume.streams (desk_of w One) w.down w.up
+held w = held_among w.table w.volume.streams w.one w.two w.down w.up
 
 -- ---- opens
 

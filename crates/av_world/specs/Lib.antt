@@ -9,6 +9,8 @@ pub mod Objects
 pub mod Output
 pub mod Past
 pub mod Path
+pub mod PortExamples
+pub mod PortScripts
 pub mod Prepared
 pub mod Progress
 pub mod ProgressExamples

@@ -6,6 +6,7 @@ use Rattle.std.specs.Prelude.{ℕ, ◌+◌, List, [], ◌∷◌, ◌++◌, Optio
 use Rattle.std.specs.List.{between}
 use Rattle.json.specs.Token.{Token, begin_object, end_object, begin_array, end_array, key}
 use Rattle.av_base.specs.Line.{lines_of}
+use Rattle.av_base.specs.declared.port.Port.{Port}
 use Rattle.av_frame.specs.Message.{Letter}
 use Rattle.av_json.specs.Line.{object_line}
 use Rattle.av_json.specs.Member.{joined, named_tokens, number_tokens, text_tokens}
@@ -37,7 +38,7 @@ opens_tokens r answers =
     let given = between r.before.answers r.after.answers answers in answers_tokens given ++ pended_tokens r.note given
 
 -- what was sent and lent in a step, each by its place
-abbrev pub sent_tokens : Report → List Letter → List Letter → List (Option WorkState) → List Token
+abbrev pub sent_tokens : Report → List Letter → List Letter → List (Option (Port × WorkState)) → List Token
 sent_tokens r down up works =
     joined
     (
@@ -47,7 +48,7 @@ sent_tokens r down up works =
     )
 
 -- the objects of a step, by the world's lists after it: its own line, opens, messages, work, and its note
-abbrev pub told_tokens : Report → List Given → List Letter → List Letter → List (Option WorkState) → List Token
+abbrev pub told_tokens : Report → List Given → List Letter → List Letter → List (Option (Port × WorkState)) → List Token
 told_tokens r answers down up works =
     joined (line_tokens r.line ∷ opens_tokens r answers ∷ sent_tokens r down up works ∷ note_tokens r.note ∷ [])
 

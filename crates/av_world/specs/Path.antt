@@ -1,12 +1,12 @@
--- The whole path of one question: its scan comes, and then each read, chunk and work in turn, with no other event between.
+-- The whole path of one question, on its port: its scan comes, and then each read, chunk and work in turn, with no other event
+-- between.
 use Rattle.std.specs.Prelude.{◌≡◌, ℕ, zero, suc, ◌+◌, ◌*◌, ◌<◌, ◌≤◌, true, min, List, [], ◌∷◌, length, map, Some, None}
-use Rattle.av_base.specs.declared.port.Port.TheVariants.{One}
 use Rattle.av_filter.specs.Conduct.{filter_step}
 use Rattle.av_filter.specs.Conduct as filter_events
 use Rattle.av_filter_table.specs.Answering.{present_bytes}
-use Rattle.av_filter_table.specs.Table.{Table, question_at}
-use Rattle.av_filter_table.specs.declared.question.Question.{Question}
+use Rattle.av_filter_table.specs.Table.{Table, question_on}
 use Rattle.av_frame.specs.Message.{Letter, via}
+use Rattle.av_filter_table.specs.declared.question.Question.{Question}
 use Rattle.av_frame.specs.declared.message.Body.TheVariants.{Scan, Reply}
 use Rattle.av_frame.specs.declared.outcome.Outcome.TheVariants.{Judged}
 use Rattle.av_match.specs.Match.{verdict}
@@ -44,29 +44,33 @@ unfoldable pub rounds : Table → Store → List Publication → ℕ → Respons
 rounds t v sets zero r = r
 rounds t v sets (suc n) r = rounds t v sets n (carry_up t v sets r.desk r.messages)
 
--- the question runs, both sides are connected, and the service has room for its scan and n leases left
+-- the question runs, the service of its port is connected, and has room for its scan and n leases left
 pub record IsReady (w : WorldState) (q : Question) (n : ℕ) : Type 0 where
-  pub runs : question_at q.id w.table.questions ≡ Some q
-  pub connected : (desk_of w One).connected ≡ true
-  pub no_job : job_at q.id (desk_of w One).jobs ≡ None
-  pub room : length (desk_of w One).jobs < (desk_of w One).limits.jobs
-  pub chunk : 1 ≤ min (desk_of w One).limits.chunk w.table.limits.chunk
-  pub enough : length (present_bytes w.volume q.stream) ≤ n * min (desk_of w One).limits.chunk w.table.limits.chunk
-  pub leases : (desk_of w One).last_lease + n ≤ most_leases
+  pub runs : question_on q.port q.id w.table.questions ≡ Some q
+  pub connected : (desk_of w q.port).connected ≡ true
+  pub no_job : job_at q.id (desk_of w q.port).jobs ≡ None
+  pub room : length (desk_of w q.port).jobs < (desk_of w q.port).limits.jobs
+  pub chunk : 1 ≤ min (desk_of w q.port).limits.chunk w.table.limits.chunk
+  pub enough : length (present_bytes w.volume q.stream) ≤ n * min (desk_of w q.port).limits.chunk w.table.limits.chunk
+  pub leases : (desk_of w q.port).last_lease + n ≤ most_leases
 
 -- the Scan message of a question
 abbrev pub scan_for : WorldState → Question → Letter
-scan_for w q = via One (Scan q.id q.stream q.generation (length (present_bytes w.volume q.stream)))
+scan_for w q = via q.port (Scan q.id q.stream q.generation (length (present_bytes w.volume q.stream)))
+
+-- what the service of its port responds to that, so many rounds later
+abbrev pub path_of : WorldState → Question → ℕ → Response
+path_of w q count =
+    rounds w.table w.volume (map publication_of w.sets) count
+    (service_step (desk_of w q.port) (service_events.Receives (scan_for w q)))
 
 -- after at most n rounds the last message up is the reply: the verdict of what was asked about, under the service's version
 pub record EndsWithVerdict (w : WorldState) (q : Question) (n : ℕ) : Type 0 where
   pub bytes : List ℕ
   pub held : content (past w.history).streams q.stream q.generation ≡ Some bytes
   pub patterns : List Pattern
-  pub published : published_as (map publication_of w.sets) (desk_of w One).version ≡ Some patterns
+  pub published : published_as (map publication_of w.sets) (desk_of w q.port).version ≡ Some patterns
   pub count : ℕ
   pub within : count ≤ n
   pub replied :
-      (rounds w.table w.volume (map publication_of w.sets) count
-      (service_step (desk_of w One) (service_events.Receives (scan_for w q)))).messages
-      ≡ via One (Reply q.id (Judged (desk_of w One).version (verdict patterns bytes))) ∷ []
+      (path_of w q count).messages ≡ via q.port (Reply q.id (Judged (desk_of w q.port).version (verdict patterns bytes))) ∷ []

@@ -4,9 +4,11 @@ use Rattle.std.specs.Int.{div_ceil}
 use Rattle.std.specs.List.{AllByRecursion}
 use Rattle.av_base.specs.declared.cause.Cause.TheVariants.{Infected}
 use Rattle.av_base.specs.declared.message_id.MessageId.{MessageId}
-use Rattle.av_base.specs.declared.port.Port.TheVariants.{One}
+use Rattle.av_base.specs.declared.port.Port.{Port}
+use Rattle.av_base.specs.declared.port.Port.TheVariants.{One, Two}
 use Rattle.av_base.specs.declared.verdict.Verdict.{Verdict}
 use Rattle.av_filter_table.specs.Answering.{judged, present_bytes, present_generation}
+use Rattle.av_filter_table.specs.Table.{on_port}
 use Rattle.av_filter_table.specs.declared.pended.Pended.{Pended}
 use Rattle.av_filter_table.specs.declared.question.Question.{Question}
 use Rattle.av_frame.specs.Message.{Letter}
@@ -59,7 +61,7 @@ to_reply (suc n) w = if is_reply (member w.up (length w.up)) then last_up w ∷ 
 
 -- how many chunks the content is that a question is about
 abbrev pub chunks : WorldState → Question → ℕ
-chunks w q = div_ceil (length (present_bytes w.volume q.stream)) (min (desk_of w One).limits.chunk w.table.limits.chunk)
+chunks w q = div_ceil (length (present_bytes w.volume q.stream)) (min (desk_of w q.port).limits.chunk w.table.limits.chunk)
 
 -- one question: its scan comes, and each read, chunk and work that follows, and the reply
 abbrev pub scan_comes : WorldState → Question → Event
@@ -74,11 +76,11 @@ unfoldable pub settling_all : List Question → WorldState → List Event
 settling_all [] w = []
 settling_all (q ∷ qs) w = settling w q ++ settling_all qs (onward (settling w q) w)
 
--- the service connects anew, which drops its jobs
+-- both services connect anew, which drops their jobs
 abbrev pub reconnecting : List Event
-reconnecting = DisconnectService ∷ Connect ∷ []
+reconnecting = DisconnectService One ∷ Connect One ∷ DisconnectService Two ∷ Connect Two ∷ []
 
--- where an open waits, the service connects anew, and each question is settled in the order of their numbers
+-- where an open waits, both services connect anew, and each question is settled in the order of their numbers
 abbrev pub finishing_of : WorldState → List Pended → List Event
 finishing_of w [] = []
 finishing_of w (p ∷ ps) = reconnecting ++ settling_all w.table.questions (onward reconnecting w)
@@ -102,21 +104,22 @@ all_chunks w (q ∷ qs) = chunks w q + all_chunks w qs
 abbrev pub IsWaiting : WorldState → Type 0
 IsWaiting w = w.table.pended ≢ []
 
--- a version was published that an open may be granted under, and a lease is left for each chunk
+-- a version was published that an open may be granted under, and each service has a lease left for each chunk that it is asked
+-- about
 pub record CanFinish (w : WorldState) : Type 0 where
   pub reached : w.table.floor ≤ latest w.sets
-  pub leases : (desk_of w One).last_lease + all_chunks w w.table.questions ≤ most_leases
+  pub leases : (port : Port) → (desk_of w port).last_lease + all_chunks w (on_port port w.table.questions) ≤ most_leases
 
 -- ---- what holds after it
 
--- a message comes, a work is run, or the service connects anew: no timeout, no disconnection of the filter, no restart, no
+-- a message comes, a work is run, or a service connects anew: no timeout, no disconnection of the filter, no restart, no
 -- change of a file
 abbrev pub IsCarrying : Event → Type 0
 IsCarrying (Down place) = Unit {0}
 IsCarrying (Up place) = Unit {0}
 IsCarrying (Run place) = Unit {0}
-IsCarrying Connect = Unit {0}
-IsCarrying DisconnectService = Unit {0}
+IsCarrying (Connect port) = Unit {0}
+IsCarrying (DisconnectService port) = Unit {0}
 IsCarrying _ = ⊥
 
 -- an open is among the answers with the verdict of the present content of its stream under the latest set: granted, or denied
@@ -127,13 +130,13 @@ pub record GetsVerdict (w : WorldState) (answers : List Given) (p : Pended) : Ty
   pub event : ℕ
   pub given : Among (given_at event (judged verdict (present_generation w.volume p.held.stream) (latest w.sets) p.held)) answers
 
--- Each of the events happens, and carries; they are two, two a question, and three a chunk, at most. Then no open waits, the
+-- Each of the events happens, and carries; they are four, two a question, and three a chunk, at most. Then no open waits, the
 -- volume and the sets are what they were, each open that waited got the verdict of its stream's content, and no other answer
 -- was given.
 pub record Finishes (w : WorldState) : Type 0 where
   pub happens : (at_last w).history ≡ reverse (finishing w) ++ w.history
   pub carries : AllByRecursion IsCarrying (finishing w)
-  pub short : length (finishing w) ≤ 2 + 2 * length w.table.questions + 3 * all_chunks w w.table.questions
+  pub short : length (finishing w) ≤ 4 + 2 * length w.table.questions + 3 * all_chunks w w.table.questions
   pub waits : (at_last w).table.pended ≡ []
   pub volume : (at_last w).volume ≡ w.volume
   pub sets : (at_last w).sets ≡ w.sets

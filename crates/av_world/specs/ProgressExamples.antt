@@ -4,7 +4,7 @@ use Rattle.av_base.specs.Limits.{greatest_values}
 use Rattle.av_base.specs.declared.cause.Cause.TheVariants.{Infected, ScanFailed}
 use Rattle.av_base.specs.declared.limits.LimitValues.{LimitValues}
 use Rattle.av_base.specs.declared.mode.Mode.TheVariants.{FailClosed}
-use Rattle.av_base.specs.declared.port.Port.TheVariants.{One}
+use Rattle.av_base.specs.declared.port.Port.TheVariants.{One, Two}
 use Rattle.av_pend.specs.declared.answer.Answer.{Answer}
 use Rattle.av_pend.specs.declared.answer.Answer.TheVariants.{Granted, Denied}
 use Rattle.av_service.specs.Scanning.{most_leases}
@@ -40,21 +40,23 @@ two_scans =
 abbrev pub TwoScans : Type 0
 TwoScans =
     finishing two_scans
-    ≡ DisconnectService
-    ∷ Connect
+    ≡ DisconnectService One
+    ∷ Connect One
+    ∷ DisconnectService Two
+    ∷ Connect Two
     ∷ Down 1
-    ∷ Up 5
+    ∷ Up 6
     ∷ Down 4
     ∷ Run 2
-    ∷ Up 6
+    ∷ Up 7
     ∷ Down 5
     ∷ Run 3
-    ∷ Up 7
-    ∷ Down 2
     ∷ Up 8
+    ∷ Down 2
+    ∷ Up 9
     ∷ Down 6
     ∷ Run 4
-    ∷ Up 9
+    ∷ Up 10
     ∷ []
 
 -- both opens are answered by the verdicts
@@ -65,11 +67,11 @@ TwoAnswers = answers_then two_scans ≡ Granted 1 0 1 2 1 ∷ Denied 2 Infected 
 
 -- the service restarted in the midst of a scan
 abbrev pub restarted : WorldState
-restarted = led greatest_values (scanned ++ RestartService ∷ [])
+restarted = led greatest_values (scanned ++ RestartService One ∷ [])
 
 -- what finishes it
 abbrev pub AfterRestart : Type 0
-AfterRestart = finishing restarted ≡ DisconnectService ∷ Connect ∷ Down 1 ∷ Up 5 ∷ Down 3 ∷ Run 2 ∷ Up 6 ∷ []
+AfterRestart = finishing restarted ≡ DisconnectService One ∷ Connect One ∷ DisconnectService Two ∷ Connect Two ∷ Down 1 ∷ Up 6 ∷ Down 3 ∷ Run 2 ∷ Up 7 ∷ []
 
 -- the open is granted
 abbrev pub RestartAnswers : Type 0
@@ -78,7 +80,7 @@ RestartAnswers = answers_then restarted ≡ Granted 1 0 1 2 1 ∷ []
 -- the service had judged the content, and lost the connection alone: its cache answers
 abbrev pub AfterDisconnection : Type 0
 AfterDisconnection =
-    finishing (led greatest_values (scanned ++ DisconnectService ∷ [])) ≡ DisconnectService ∷ Connect ∷ Down 1 ∷ Up 5 ∷ []
+    finishing (led greatest_values (scanned ++ DisconnectService One ∷ [])) ≡ DisconnectService One ∷ Connect One ∷ DisconnectService Two ∷ Connect Two ∷ Down 1 ∷ Up 6 ∷ []
 
 -- the content was written while its open waited, and was asked about again: the answer is about the content as it is now
 abbrev pub written_meanwhile : WorldState
@@ -86,7 +88,7 @@ written_meanwhile = led greatest_values (prepared ++ Open a 0 ∷ Write a 0 (0x5
 
 -- what finishes a scan whose content was written meanwhile
 abbrev pub AfterWrite : Type 0
-AfterWrite = finishing written_meanwhile ≡ DisconnectService ∷ Connect ∷ Down 3 ∷ Up 3 ∷ Down 4 ∷ Run 1 ∷ Up 4 ∷ []
+AfterWrite = finishing written_meanwhile ≡ DisconnectService One ∷ Connect One ∷ DisconnectService Two ∷ Connect Two ∷ Down 3 ∷ Up 4 ∷ Down 4 ∷ Run 1 ∷ Up 5 ∷ []
 
 -- the open is denied for what the content is now
 abbrev pub WriteAnswers : Type 0
@@ -94,7 +96,7 @@ WriteAnswers = answers_then written_meanwhile ≡ Denied 1 Infected ∷ []
 
 -- where the filter isn't connected no open waits, and nothing is to do
 abbrev pub NothingToDo : Type 0
-NothingToDo = finishing (led greatest_values (scanned ++ DisconnectFilter ∷ [])) ≡ []
+NothingToDo = finishing (led greatest_values (scanned ++ DisconnectFilter One ∷ [])) ≡ []
 
 -- ---- without each premise
 

@@ -2,13 +2,12 @@
 use Rattle.std.specs.Prelude.{ℕ, ◌≡◌, List, Option, None, Some, Result, Ok, Err}
 use Rattle.std.specs.Option.{option_map}
 use Rattle.av_base.specs.declared.port.Port.{Port}
-use Rattle.av_base.specs.declared.port.Port.TheVariants.{One}
 use Rattle.av_frame.specs.Message.{Letter}
 use Rattle.av_service.specs.Work.{WorkState}
 use Rattle.av_service.specs.Conduct.{ServiceEvent, service_step}
 use Rattle.av_sigset.specs.Made.{set_made}
 use Rattle.av_store.specs.Rows.{Streams, number_named}
-use Rattle.av_world.specs.Serving.{MayCall, service_refusal}
+use Rattle.av_world.specs.Serving.{service_refusal}
 use Rattle.av_world.specs.Stage.{at_history, line_after}
 use Rattle.av_world.specs.World.{Outcome, WorldState, down_frame, filter_event, member, published, service_outcome, step_of, up_frame, work_at, work_event, desk_of}
 use Rattle.av_base.specs.Refused.{unless}
@@ -31,7 +30,7 @@ served w e port s =
 abbrev pub outcome_of : WorldState → Event → Request → Outcome
 outcome_of w e (request.Publish version patterns) = published w e (set_made version patterns.now)
 outcome_of w e (request.Filter call) = filter_event w e (line_after call) (stage.event_called call)
-outcome_of w e (request.Service call) = served w e One (serving.event_called w.sets call)
+outcome_of w e (request.Service port call) = served w e port (serving.event_called w.sets call)
 outcome_of w e (request.Down k) = down_frame w e (member w.down k)
 outcome_of w e (request.Up k) = up_frame w e (member w.up k)
 outcome_of w e (request.Run k) = work_event w e k (work_at w.works k)
@@ -46,21 +45,12 @@ abbrev pub Names : Streams → List ℕ → Result ℕ StepFault → Type 0
 Names streams name (Ok s) = number_named name streams ≡ Some s
 Names streams name (Err f) = (number_named name streams ≡ None) × (f ≡ fault.NoSuchName)
 
--- the service may be asked it
-abbrev pub MayAsk : ℕ → Request → Type 0
-MayAsk version (request.Publish v patterns) = Unit {0}
-MayAsk version (request.Filter call) = Unit {0}
-MayAsk version (request.Service call) = MayCall version call
-MayAsk version (request.Down k) = Unit {0}
-MayAsk version (request.Up k) = Unit {0}
-MayAsk version (request.Run k) = Unit {0}
-
 -- why a message is not delivered, and a work not run
 abbrev pub frame_fault : Option Letter → Option StepFault
 frame_fault None = Some fault.NoSuchFrame
 frame_fault (Some m) = None
 
 -- why a work cannot be run
-abbrev pub work_fault : Option WorkState → Option StepFault
+abbrev pub work_fault : Option (Port × WorkState) → Option StepFault
 work_fault None = Some fault.NoSuchWork
 work_fault (Some x) = None

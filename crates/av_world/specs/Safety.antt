@@ -1,17 +1,18 @@
 -- The protocol's safety, beyond the headline: what jobs judge, at which floor opens are granted, and why others are not.
-use Rattle.std.specs.Prelude.{◌≡◌, ◌≢◌, ℕ, ◌+◌, ◌==◌, ◌<◌, ◌≤◌, ◌⊎◌, false, List, [], ◌∷◌, ◌++◌, length, drop, Option, Some, None, All, if◌then◌else◌}
+use Rattle.std.specs.Prelude.{◌≡◌, ◌≢◌, ℕ, ◌+◌, ◌==◌, ◌<◌, ◌≤◌, ◌⊎◌, List, [], ◌∷◌, ◌++◌, length, drop, Option, Some, None, All, if◌then◌else◌}
 use Rattle.std.specs.Option.{option_map}
 use Rattle.std.specs.List.{AllByRecursion}
 use Rattle.av_base.specs.declared.cause.Cause.{Cause}
 use Rattle.av_base.specs.declared.cause.Cause.TheVariants.{NoStream, NotConnected, Busy, TimedOut, PortDisconnected, ScanFailed, Unsettled, StreamRemoved, FilterRestart}
 use Rattle.av_base.specs.declared.cause.Cause.TheVariants as cause
 use Rattle.av_base.specs.declared.message_id.MessageId.{MessageId}
+use Rattle.av_base.specs.Port.{same_port}
 use Rattle.av_base.specs.declared.port.Port.{Port}
-use Rattle.av_base.specs.declared.port.Port.TheVariants.{One}
 use Rattle.av_base.specs.declared.verdict.Verdict.{Verdict}
 use Rattle.av_base.specs.declared.verdict.Verdict.TheVariants.{Infected}
-use Rattle.av_filter.specs.Conduct.{FilterEvent, Opens, Changes, Receives, TimesOut, Disconnects, Restarts}
-use Rattle.av_filter_table.specs.Table.{Table, question_at, question_of}
+use Rattle.av_filter.specs.Conduct.{FilterEvent, Opens, Changes, Receives, TimesOut, Disconnects, Restarts, again_each}
+use Rattle.av_filter_table.specs.Ports.{least_port, without_port}
+use Rattle.av_filter_table.specs.Table.{Table, on_port, question_of, question_on}
 use Rattle.av_filter_table.specs.declared.pended.Pended.{Pended}
 use Rattle.av_filter_table.specs.declared.question.Question.{Question}
 use Rattle.av_frame.specs.declared.cause.FailCause.{FailCause}
@@ -54,14 +55,20 @@ LoanFits works last version scan rest None = Unit {0}
 LoanFits works last version scan rest (Some l) =
     (l.lease ≤ last) × (l.count ≤ length rest) × AllByRecursion (IsWorkOf version scan rest l) works
 
--- the works that did not come back
-abbrev pub works_of : List (Option WorkState) → List WorkState
-works_of [] = []
-works_of (None ∷ works) = works_of works
-works_of (Some k ∷ works) = k ∷ works_of works
+-- the works that did not come back, each with the port that lent it
+abbrev pub works_out : List (Option (Port × WorkState)) → List (Port × WorkState)
+works_out [] = []
+works_out (None ∷ works) = works_out works
+works_out (Some k ∷ works) = k ∷ works_out works
 
--- a job has judged a beginning of the content that its scan was asked about at this port, as many bytes as its offset, and keeps
--- their scan under the set of this version; what is lent goes on from there
+-- those that the service of a port lent
+abbrev pub works_of : Port → List (Option (Port × WorkState)) → List WorkState
+works_of port [] = []
+works_of port (None ∷ works) = works_of port works
+works_of port (Some k ∷ works) = if same_port k.0 port then k.1 ∷ works_of port works else works_of port works
+
+-- a job has judged a beginning of the content that its scan was asked about on its own port, as many bytes as its offset, and
+-- keeps their scan under the set of this version; what is lent goes on from there
 pub record JudgesItsContent (p : Past) (down : List Letter) (port : Port) (works : List WorkState) (last version : ℕ)
     (j : Job) : Type 0 where
   pub told : asked down j.id ≡ Some (record { port = port; stream = j.stream; generation = j.generation; length = j.length })
@@ -77,14 +84,14 @@ pub record JudgesItsContent (p : Past) (down : List Letter) (port : Port) (works
   pub scanned : j.scan ≡ scan_of scanner version j.length patterns judged
   pub loan : LoanFits works last version j.scan rest j.loan
 
--- a job of the service judges the content that it was asked about
-abbrev pub JudgesRightly : WorldState → Job → Type 0
-JudgesRightly w j =
-    JudgesItsContent (past w.history) w.down One (works_of w.works) (desk_of w One).last_lease (desk_of w One).version j
+-- a job of the service of a port judges the content that it was asked about
+abbrev pub JudgesRightly : WorldState → Port → Job → Type 0
+JudgesRightly w port j =
+    let d = desk_of w port in JudgesItsContent (past w.history) w.down port (works_of port w.works) d.last_lease d.version j
 
--- all jobs do
+-- all jobs of both do
 abbrev pub JobsJudgeRightly : WorldState → Type 0
-JobsJudgeRightly w = All (JudgesRightly w) (desk_of w One).jobs
+JobsJudgeRightly w = (port : Port) → All (JudgesRightly w port) (desk_of w port).jobs
 
 -- x is a member
 abbrev pub Among : {A : Type 0} → A → List A → Type 0
@@ -109,6 +116,14 @@ Rewrites s (change.Write t o b) = s ≡ t
 Rewrites s (change.Cut t l) = s ≡ t
 Rewrites s (change.Remove t) = ⊥
 
+-- a table without a port, and that a port is left then
+abbrev pub without : Table → Port → Table
+without t port = record t { connected = without_port port t.connected }
+
+-- a lost port's questions go to another
+abbrev pub Moves : Table → Port → Type 0
+Moves t port = (other : Port) × (least_port (without_port port t.connected) ≡ Some other)
+
 -- why an event at this table and volume leaves an open denied or unscanned: at an open the one that it submits, else one
 -- that waits; p: the past after the event
 pub data Explains (p : Past) (t : Table) (v : Store) : FilterEvent → ℕ → Cause → Type 0 where
@@ -116,26 +131,35 @@ pub data Explains (p : Past) (t : Table) (v : Store) : FilterEvent → ℕ → C
   judged_now : (s least version index end_at : ℕ) → least ≤ version
       → IsVerdictOf p s (generation_of p.streams s) version (Infected index end_at)
       → Explains p t v (Opens s least) (next_open v) cause.Infected
-  judged_late : (id : MessageId) (o : Outcome) (q : Question) (n version index end_at : ℕ) → question_at id t.questions ≡ Some q
+  judged_late : (port : Port) (id : MessageId) (o : Outcome) (q : Question) (n version index end_at : ℕ)
+      → question_on port id t.questions ≡ Some q
       → (w : Waits t q.id n) → w.waiting.held.least ≤ version
       → IsVerdictOf p q.stream (generation_of p.streams q.stream) version (Infected index end_at)
-      → Explains p t v (Receives (via One (Reply id o))) n cause.Infected
-  not_connected : (s least : ℕ) → t.connected ≡ false → Explains p t v (Opens s least) (next_open v) NotConnected
+      → Explains p t v (Receives (via port (Reply id o))) n cause.Infected
+  not_connected : (s least : ℕ) → least_port t.connected ≡ None → Explains p t v (Opens s least) (next_open v) NotConnected
   opens_full : (s least : ℕ) → t.limits.pended ≤ length t.pended → Explains p t v (Opens s least) (next_open v) Busy
   questions_full : (s least : ℕ) → t.limits.questions ≤ length t.questions → Explains p t v (Opens s least) (next_open v) Busy
   no_number : (s least : ℕ) → greatest ≤ t.sequence → Explains p t v (Opens s least) (next_open v) Busy
   no_number_changed : (c : Change) (s : ℕ) (q : Question) (n : ℕ) → Rewrites s c → question_of s t.questions ≡ Some q
       → Waits t q.id n → greatest ≤ t.sequence → Explains p t v (Changes c) n Busy
-  no_number_stale : (id : MessageId) (version : ℕ) (r : Verdict) (n : ℕ) → version < t.floor → Waits t id n
-      → greatest ≤ t.sequence → Explains p t v (Receives (via One (Reply id (Judged version r)))) n Busy
+  no_number_stale : (port : Port) (id : MessageId) (q : Question) (version : ℕ) (r : Verdict) (n : ℕ)
+      → question_on port id t.questions ≡ Some q → version < t.floor → Waits t q.id n → greatest ≤ t.sequence
+      → Explains p t v (Receives (via port (Reply id (Judged version r)))) n Busy
+  no_number_lost : (port : Port) (front back : List Question) (q : Question) (n : ℕ) → Moves t port
+      → on_port port t.questions ≡ front ++ q ∷ back → Waits t q.id n
+      → greatest ≤ (again_each (without t port) v front).table.sequence → Explains p t v (Disconnects port) n Busy
   timed_out : (seq n : ℕ) → Waits t (record { boot = t.boot; seq = seq }) n → Explains p t v (TimesOut seq) n TimedOut
-  disconnected : (id : MessageId) (n : ℕ) → Waits t id n → Explains p t v Disconnects n PortDisconnected
-  failed : (id : MessageId) (why : FailCause) (n : ℕ) → Waits t id n
-      → Explains p t v (Receives (via One (Reply id (Failed why)))) n ScanFailed
+  disconnected : (port : Port) (id : MessageId) (n : ℕ) → least_port (without_port port t.connected) ≡ None → Waits t id n
+      → Explains p t v (Disconnects port) n PortDisconnected
+  failed : (port : Port) (id : MessageId) (q : Question) (why : FailCause) (n : ℕ) → question_on port id t.questions ≡ Some q
+      → Waits t q.id n → Explains p t v (Receives (via port (Reply id (Failed why)))) n ScanFailed
   unsettled_changed : (c : Change) (s : ℕ) (q : Question) (n : ℕ) → Rewrites s c → question_of s t.questions ≡ Some q
       → (w : Waits t q.id n) → 8 ≤ w.waiting.held.rescans → Explains p t v (Changes c) n Unsettled
-  unsettled_stale : (id : MessageId) (version : ℕ) (r : Verdict) (n : ℕ) → version < t.floor → (w : Waits t id n)
-      → 8 ≤ w.waiting.held.rescans → Explains p t v (Receives (via One (Reply id (Judged version r)))) n Unsettled
+  unsettled_stale : (port : Port) (id : MessageId) (q : Question) (version : ℕ) (r : Verdict) (n : ℕ)
+      → question_on port id t.questions ≡ Some q → version < t.floor → (w : Waits t q.id n) → 8 ≤ w.waiting.held.rescans
+      → Explains p t v (Receives (via port (Reply id (Judged version r)))) n Unsettled
+  unsettled_lost : (port : Port) (q : Question) (n : ℕ) → Moves t port → Among q (on_port port t.questions)
+      → (w : Waits t q.id n) → 8 ≤ w.waiting.held.rescans → Explains p t v (Disconnects port) n Unsettled
   removed : (s : ℕ) (q : Question) (n : ℕ) → question_of s t.questions ≡ Some q → Waits t q.id n
       → Explains p t v (Changes (change.Remove s)) n StreamRemoved
   restarted : (id : MessageId) (n : ℕ) → Waits t id n → Explains p t v Restarts n FilterRestart

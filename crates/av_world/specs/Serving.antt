@@ -1,5 +1,5 @@
 -- What a world asks of its service.
-use Rattle.std.specs.Prelude.{ℕ, ◌≡◌, ◌<◌, ◌≤◌, ◌+◌, ◌∷◌, ◌++◌, length, map, List, Option, None, Some, Ok}
+use Rattle.std.specs.Prelude.{ℕ, ◌≡◌, ◌≤◌, ◌+◌, ◌∷◌, ◌++◌, length, map, List, Option, None, Some, Ok}
 use Rattle.av_base.specs.declared.port.Port.{Port}
 use Rattle.av_service.specs.Call.{Responds}
 use Rattle.av_service.specs.Conduct.{ServiceEvent, Connects, Disconnects, Finishes, Publishes, Receives, Restarts, connect_refusal, service_step}
@@ -11,7 +11,7 @@ use Rattle.av_service.specs.declared.out.ServiceOut.{ServiceOut}
 use Rattle.av_sigset.specs.Catalogue.{latest}
 use Rattle.av_sigset.specs.Set.{NumberedSet}
 use Rattle.av_world.specs.Stage.{at_history}
-use Rattle.av_world.specs.World.{WorldState, desk_of, service_event}
+use Rattle.av_world.specs.World.{WorldState, desk_of, lent_at, service_event}
 use Rattle.av_world.specs.declared.event.Event.{Event}
 use Rattle.av_world.specs.declared.report.Line.TheVariants.{Silent}
 use Rattle.av_world.specs.declared.report.Note.{Note}
@@ -24,17 +24,8 @@ use Rattle.av_world.specs.declared.world.serving.ServiceCall.TheVariants as call
 abbrev pub event_called : List NumberedSet → ServiceCall → ServiceEvent
 event_called sets call.Connect = Connects
 event_called sets (call.Receive m) = Receives m.now
-event_called sets (call.Publish version) = Publishes version
 event_called sets call.Disconnect = Disconnects
 event_called sets call.Restart = Restarts (latest sets)
-
--- a publication is of a newer version
-abbrev pub MayCall : ℕ → ServiceCall → Type 0
-MayCall present call.Connect = Unit {0}
-MayCall present (call.Receive m) = Unit {0}
-MayCall present (call.Publish version) = present < version
-MayCall present call.Disconnect = Unit {0}
-MayCall present call.Restart = Unit {0}
 
 -- why the service refuses an event
 abbrev pub service_refusal : Desk → ServiceEvent → Option ConnectFault
@@ -45,7 +36,7 @@ service_refusal d (Finishes lease scan hit) = None
 service_refusal d (Publishes version) = None
 service_refusal d (Restarts version) = None
 
--- the service responded as it One is to, or nothing has changed
+-- the service responded as it is to, or nothing has changed
 abbrev pub Serves : Desk → Desk → ServiceEvent → Option ServiceOut → Type 0
 Serves d d' s None = d' ≡ d
 Serves d d' s (Some out) = (service_refusal d s ≡ None) × Responds out d' (service_step d s)
@@ -54,13 +45,16 @@ Serves d d' s (Some out) = (service_refusal d s ≡ None) × Responds out d' (se
 abbrev pub IsSmallResponse : ℕ → ServiceOut → Type 0
 IsSmallResponse n out = length out.messages.items ≤ n + 1
 
--- the service's event has happened, and what it gave out stands behind what was there; or nothing has changed
-abbrev pub Served : Desk → List Letter → List (Option WorkState) → Desk → List Letter → List (Option WorkState) → ServiceEvent
-    → Option Note → Type 0
-Served d up works d' up' works' s None = (d' ≡ d) × (up' ≡ up) × (works' ≡ works)
-Served d up works d' up' works' s (Some n) =
+-- works, each with the port that lent it, or none where it came back
+abbrev pub Works : Type 0
+Works = List (Option (Port × WorkState))
+
+-- the event of the service of a port has happened, and what it gave out stands behind what was there; or nothing has changed
+abbrev pub Served : Port → Desk → List Letter → Works → Desk → List Letter → Works → ServiceEvent → Option Note → Type 0
+Served port d up works d' up' works' s None = (d' ≡ d) × (up' ≡ up) × (works' ≡ works)
+Served port d up works d' up' works' s (Some n) =
     (service_refusal d s ≡ None) × (d' ≡ (service_step d s).desk) × (up' ≡ up ++ (service_step d s).messages)
-    × (works' ≡ works ++ map Some (service_step d s).works) × (n ≡ note.Service (service_step d s).note)
+    × (works' ≡ works ++ map (lent_at port) (service_step d s).works) × (n ≡ note.Service (service_step d s).note)
 
 -- where a report is given the event of the service of a port has happened, behind this history; else nothing has changed
 abbrev pub TakesServed : WorldState → WorldState → List Event → Event → Port → ServiceEvent → Option Report → Type 0

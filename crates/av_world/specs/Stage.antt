@@ -39,7 +39,7 @@ event_called (call.Open s least) = Opens s least
 event_called (call.CleanUp s) = CleansUp s
 event_called (call.Receive m) = Receives m.now
 event_called (call.TimeOut seq) = TimesOut seq
-event_called call.Disconnect = Disconnects
+event_called (call.Disconnect port) = Disconnects port
 event_called call.Restart = Restarts
 
 -- what is told of the volume after it
@@ -52,7 +52,7 @@ line_after (call.Open s least) v = Silent
 line_after (call.CleanUp s) v = Silent
 line_after (call.Receive m) v = Silent
 line_after (call.TimeOut seq) v = Silent
-line_after call.Disconnect v = Silent
+line_after (call.Disconnect port) v = Silent
 line_after call.Restart v = Booted v.boot
 
 -- the filter reacted as it is to, or nothing has changed
@@ -60,7 +60,7 @@ abbrev pub Calls : Table → Store → Table → Store → FilterEvent → Optio
 Calls t v t' v' f None = (t' ≡ t) × (v' ≡ v)
 Calls t v t' v' f (Some out) = (filter_refusal t v f ≡ None) × Reacts out t' v' (filter_step t v f)
 
--- two messages at most, and no more than one answer beside those to the n opens that wait
-pub record IsSmallOut (n : ℕ) (out : Out) : Type 0 where
-  pub messages : length out.messages.items ≤ 2
+-- so many messages at most, and no more than one answer beside those to the n opens that wait
+pub record IsSmallOut (most : ℕ) (n : ℕ) (out : Out) : Type 0 where
+  pub messages : length out.messages.items ≤ most
   pub answers : length out.answers.items ≤ n + 1

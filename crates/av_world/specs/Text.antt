@@ -7,6 +7,7 @@ pub mod Refusals
 use Rattle.std.specs.Prelude.{ℕ, ◌+◌, List, [], ◌∷◌, ◌++◌, Option, Result, Ok, Err, codes}
 use Rattle.std.specs.List.{between}
 use Rattle.av_base.specs.Part.{spelt}
+use Rattle.av_base.specs.declared.port.Port.{Port}
 use Rattle.av_frame.specs.Message.{Letter}
 use Rattle.av_service.specs.Work.{WorkState}
 use Rattle.av_world.specs.declared.fault.JudgeFault.{JudgeFault}
@@ -32,7 +33,7 @@ opens_text r answers =
     let given = between r.before.answers r.after.answers answers in answers_text given ++ pended_text r.note given
 
 -- what was sent and lent in a step, each by its place
-abbrev pub sent_text : Report → List Letter → List Letter → List (Option WorkState) → List ℕ
+abbrev pub sent_text : Report → List Letter → List Letter → List (Option (Port × WorkState)) → List ℕ
 sent_text r down up works =
     spelt
     (
@@ -42,7 +43,7 @@ sent_text r down up works =
     )
 
 -- the lines of a step, by the world's lists after it: its own line, opens, messages, work, and its note
-abbrev pub told_text : Report → List Given → List Letter → List Letter → List (Option WorkState) → List ℕ
+abbrev pub told_text : Report → List Given → List Letter → List Letter → List (Option (Port × WorkState)) → List ℕ
 told_text r answers down up works =
     spelt (line_text r.line ∷ opens_text r answers ∷ sent_text r down up works ∷ note_text r.note ∷ [])
 

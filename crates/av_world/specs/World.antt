@@ -1,10 +1,11 @@
--- A world: its history, one volume, the published sets, a filter, a service, and each message that they ever sent.
+-- A world: its history, one volume, the published sets, a filter, a service on each of its ports, and each message that they
+-- ever sent.
 use Rattle.std.specs.Prelude.{ℕ, zero, suc, pred, ◌≡◌, ◌⊎◌, List, [], ◌∷◌, ◌++◌, length, map, slice_get, slice_set, Option, None, Some, unwrap_or, Result, Ok, Err, IsOk}
 use Rattle.std.specs.Option.{option_map}
 use Rattle.av_base.specs.declared.limits.LimitValues.{LimitValues}
 use Rattle.av_base.specs.declared.mode.Mode.{Mode}
 use Rattle.av_base.specs.declared.port.Port.{Port}
-use Rattle.av_base.specs.declared.port.Port.TheVariants.{One}
+use Rattle.av_base.specs.declared.port.Port.TheVariants.{One, Two}
 use Rattle.av_base.specs.declared.refusal.Refused.{Refused}
 use Rattle.av_filter.specs.Conduct.{FilterEvent, Opens, Changes, CleansUp, TimesOut, filter_refusal, filter_step}
 use Rattle.av_filter.specs.Conduct as filter
@@ -21,6 +22,7 @@ use Rattle.av_service.specs.Desk.{Desk, just_started}
 use Rattle.av_service.specs.Response.{Response}
 use Rattle.av_service.specs.declared.fault.ConnectFault.{ConnectFault}
 use Rattle.av_service.specs.Work.{WorkState}
+use Rattle.av_service.specs.declared.note.Note.TheVariants.{Quiet}
 use Rattle.av_sigset.specs.Catalogue.{latest, may_publish}
 use Rattle.av_sigset.specs.Made.{set_made}
 use Rattle.av_sigset.specs.Publication.{Publication, publication_of, published_as}
@@ -45,27 +47,33 @@ use Rattle.av_world.specs.declared.report.Places.{Places}
 use Rattle.av_world.specs.declared.report.Report.{Report}
 use Rattle.av_base.specs.Refused.{unless, IsRefusal}
 
--- a world: both cores, the messages under way, the works that are lent, the answers, and the events that led here
+-- one of two, by the port
+abbrev pub at_port : {A : Type 0} → Port → A → A → A
+at_port One one two = one
+at_port Two one two = two
+
+-- a world: the three cores, the messages under way, the works that are lent, the answers, and the events that led here
 pub record WorldState : Type 0 where
   pub history : List Event  -- the accepted events, the newest first
   pub volume : Store
   pub sets : List NumberedSet  -- the published sets, the newest first
   pub table : Table
-  pub desk : Desk
-  pub down : List Letter  -- each message that was ever sent to the service, the oldest first
+  pub one : Desk  -- the service of port One
+  pub two : Desk  -- and of port Two
+  pub down : List Letter  -- each message that was ever sent to a service, the oldest first
   pub up : List Letter  -- and to the filter
-  pub works : List (Option WorkState)  -- each piece of work that was lent, the oldest first, or none where it came back
+  pub works : List (Option (Port × WorkState))  -- each piece of work with the port that lent it, or none where it came back
   pub answers : List Given
 
--- the service of a port: there is one, whatever port is asked for
+-- the service of a port
 abbrev pub desk_of : WorldState → Port → Desk
-desk_of w port = w.desk
+desk_of w port = at_port port w.one w.two
 
 -- another in its place
 abbrev pub with_desk : WorldState → Port → Desk → WorldState
-with_desk w port d = record w { desk = d }
+with_desk w port d = record w { one = at_port port d w.one; two = at_port port w.two d }
 
--- at the start the volume is empty, and a filter was mounted on it; the service was started at the first port, with no set
+-- at the start the volume is empty, and a filter was mounted on it; both services were started, with no set
 abbrev pub start : ℕ → Mode → LimitValues → WorldState
 start number mode limits =
     record {
@@ -73,7 +81,8 @@ start number mode limits =
       volume = record (empty_store number limits) { boot = 1 };
       sets = [];
       table = mounted mode limits 1;
-      desk = just_started number One limits 0;
+      one = just_started number One limits 0;
+      two = just_started number Two limits 0;
       down = [];
       up = [];
       works = [];
@@ -112,10 +121,19 @@ reacted w e r =
       answers = w.answers ++ map (given_at (suc (length w.history))) r.answers;
     }
 
+-- a piece of work that the service of a port lent
+abbrev pub lent_at : Port → WorkState → Option (Port × WorkState)
+lent_at port k = Some (port, k)
+
+-- what the service of a port gave out
+abbrev pub heard : WorldState → Port → Response → WorldState
+heard w port r =
+    let next = with_desk w port r.desk in
+    record next { up = w.up ++ r.messages; works = w.works ++ map (lent_at port) r.works }
+
 -- a world after a response of the service of a port
 abbrev pub responded : WorldState → Event → Port → Response → WorldState
-responded w e port r =
-    record (with_desk w port r.desk) { history = e ∷ w.history; up = w.up ++ r.messages; works = w.works ++ map Some r.works }
+responded w e port r = let next = heard w port r in record next { history = e ∷ w.history }
 
 -- an answer of a step: its report, and the world after it
 abbrev pub Outcome : Type 0
@@ -167,12 +185,12 @@ abbrev pub member : {A : Type 0} → List A → ℕ → Option A
 member xs zero = None
 member xs (suc k) = slice_get xs k
 
--- a message from the filter comes to the service, if there is one
+-- a message from the filter comes to the service of its port, if there is one
 abbrev pub down_frame : WorldState → Event → Option Letter → Outcome
 down_frame w e None = Err fault.NoSuchFrame
-down_frame w e (Some m) = service_event w e One Silent (service.Receives m)
+down_frame w e (Some m) = service_event w e m.port Silent (service.Receives m)
 
--- a message from the service comes to the filter, if there is one
+-- a message from a service comes to the filter, if there is one
 abbrev pub up_frame : WorldState → Event → Option Letter → Outcome
 up_frame w e None = Err fault.NoSuchFrame
 up_frame w e (Some m) = filter_event w e no_line (filter.Receives m)
@@ -183,7 +201,7 @@ if_there None = None
 if_there (Some o) = o
 
 -- the work at a place, where it did not come back
-abbrev pub work_at : List (Option WorkState) → ℕ → Option WorkState
+abbrev pub work_at : List (Option (Port × WorkState)) → ℕ → Option (Port × WorkState)
 work_at works k = if_there (member works k)
 
 -- these patterns, or none
@@ -203,10 +221,10 @@ done sets k = Finishes k.lease (scan_after sets k) (scanner.hit (scan_after sets
 abbrev pub back_at : WorldState → ℕ → WorldState
 back_at w k = record w { works = slice_set w.works (pred k) None }
 
--- a work is run, if it is there
-abbrev pub work_event : WorldState → Event → ℕ → Option WorkState → Outcome
+-- a work is run, if it is there, and comes back to the service that lent it
+abbrev pub work_event : WorldState → Event → ℕ → Option (Port × WorkState) → Outcome
 work_event w e k None = Err fault.NoSuchWork
-work_event w e k (Some x) = service_event (back_at w k) e One Silent (done (map publication_of w.sets) x)
+work_event w e k (Some x) = service_event (back_at w k) e x.0 Silent (done (map publication_of w.sets) x.1)
 
 -- ---- publications and connections
 
@@ -214,9 +232,19 @@ work_event w e k (Some x) = service_event (back_at w k) e One Silent (done (map 
 abbrev pub with_set : WorldState → NumberedSet → WorldState
 with_set w s = record w { sets = s ∷ w.sets }
 
--- a set joins the catalogue, and the service hears of its version
+-- both services hear of a version, the one of port One first
+abbrev pub all_told : WorldState → ℕ → WorldState
+all_told w version =
+    heard (heard w One (service_step w.one (service.Publishes version))) Two (service_step w.two (service.Publishes version))
+
+-- a world after a publication
+abbrev pub after_set : WorldState → Event → NumberedSet → WorldState
+after_set w e s = let next = all_told (with_set w s) s.version in record next { history = e ∷ w.history }
+
+-- a set joins the catalogue, and both services hear of its version
 abbrev pub added : WorldState → Event → NumberedSet → Result (Unit {0}) CatalogueFault → Outcome
-added w e s (Ok free) = service_event (with_set w s) e One (Published s.version (length s.signatures)) (service.Publishes s.version)
+added w e s (Ok free) =
+    Ok (report_of w (after_set w e s) (Published s.version (length s.signatures)) (note.Service Quiet), after_set w e s)
 added w e s (Err f) = Err (fault.Catalogue f)
 
 -- a set is judged by itself before its version is
@@ -224,10 +252,10 @@ abbrev pub published : WorldState → Event → Result NumberedSet SetFault → 
 published w e (Ok s) = added w e s (may_publish w.sets s.version)
 published w e (Err f) = Err fault.BadSet
 
--- the service connects, unless it may not
-abbrev pub connected : WorldState → Event → Option ConnectFault → Outcome
-connected w e None = service_event w e One Silent service.Connects
-connected w e (Some f) = Err (fault.Connect f)
+-- the service of a port connects, unless it may not
+abbrev pub connected : WorldState → Event → Port → Option ConnectFault → Outcome
+connected w e port None = service_event w e port Silent service.Connects
+connected w e port (Some f) = Err (fault.Connect f)
 
 -- ---- steps
 
@@ -249,11 +277,11 @@ step_of w (Down k) = down_frame w (Down k) (member w.down k)
 step_of w (Up k) = up_frame w (Up k) (member w.up k)
 step_of w (Run k) = work_event w (Run k) k (work_at w.works k)
 step_of w (Timeout seq) = filter_event w (Timeout seq) no_line (TimesOut seq)
-step_of w Connect = connected w Connect (connect_refusal (desk_of w One))
-step_of w DisconnectFilter = filter_event w DisconnectFilter no_line filter.Disconnects
-step_of w DisconnectService = service_event w DisconnectService One Silent service.Disconnects
+step_of w (Connect port) = connected w (Connect port) port (connect_refusal (desk_of w port))
+step_of w (DisconnectFilter port) = filter_event w (DisconnectFilter port) no_line (filter.Disconnects port)
+step_of w (DisconnectService port) = service_event w (DisconnectService port) port Silent service.Disconnects
 step_of w RestartFilter = filter_event w RestartFilter (λ v. Booted v.boot) filter.Restarts
-step_of w RestartService = service_event w RestartService One Silent (service.Restarts (latest w.sets))
+step_of w (RestartService port) = service_event w (RestartService port) port Silent (service.Restarts (latest w.sets))
 
 -- an accepted event joins the history; a refused one changes nothing
 abbrev pub world_or : WorldState → Outcome → WorldState

@@ -9,8 +9,7 @@ ghost use Rattle.av_filter.specs.Audit.{FilterEntry, IsFilterAudit};
 ghost use Rattle.av_filter.specs.Once.{AuditAnswersOnce};
 ghost use Rattle.av_filter_table.specs.Table.{mounted};
 ghost use Rattle.av_filter_table.specs.declared.question.Question.{Question};
-ghost use Rattle.av_service.specs.Desk.{just_started};
-ghost use Rattle.av_sigset.specs.Publication.{Publication, latest_as};
+ghost use Rattle.av_sigset.specs.Publication.{Publication};
 ghost use Rattle.av_sigset.specs.Catalogue.{latest};
 ghost use Rattle.av_store.specs.Files.{File};
 ghost use Rattle.av_store.specs.Store.{Store};
@@ -20,9 +19,12 @@ ghost use Rattle.av_world.specs.Examples.{ComeTrue};
 ghost use Rattle.av_world.specs.Headline.{AnswersOnce, GrantsOnlyClean, HoldsOneVerdict, NeverDiffers};
 ghost use Rattle.av_world.specs.Path.{EndsWithVerdict, IsReady};
 ghost use Rattle.av_world.specs.Progress.{CanFinish, Finishes, GaveNoVerdict, IsCarrying, IsWaiting, onward};
+ghost use Rattle.av_world.specs.PortExamples.{AreExamples};
+ghost use Rattle.av_world.specs.PortScripts.{AreWorked as ArePrinted};
 ghost use Rattle.av_world.specs.ProgressExamples.{AreWorked};
 ghost use Rattle.av_world.specs.Safety.{AnswersExplained, JobsJudgeRightly};
-ghost use Rattle.av_world.specs.Whole.{StaysWhole};
+ghost use Rattle.av_world.specs.Scene.{Started};
+ghost use Rattle.av_world.specs.Whole.{IsAskedThere, ScanOnce, StaysWhole};
 ghost use Rattle.av_world.specs.World.{WorldState, after, start, world_of};
 ghost use Rattle.av_world.specs.declared.event.Event.{Event};
 
@@ -40,7 +42,16 @@ pub fn headline()
         → AnswersOnce (world_of (start number mode limits) history) }
 {}
 
-/// Over every list of events: a running job has judged the beginning of the content that it was asked about, and keeps
+/// Over every list of events: no id is asked twice, and where a verdict comes up at a port its scan was asked there.
+pub fn asked_at_one_port()
+    ensures once { (number : ℕ) (mode : Mode) (limits : LimitValues) (history : List Event)
+        → ScanOnce (world_of (start number mode limits) history).down }
+    ensures there { (number : ℕ) (mode : Mode) (limits : LimitValues) (history : List Event)
+        → AllByRecursion (IsAskedThere (world_of (start number mode limits) history).down)
+        (world_of (start number mode limits) history).up }
+{}
+
+/// Over every list of events: a running job has judged the beginning of the content that it was asked about on its own port, and keeps
 /// the scan of that under the present version, from which its work goes on; each grant is at the floor, of the stream that its
 /// open asked for and not below the least version that it asked for; and every other answer is explained by the event that
 /// gives it, of the open that it submits or of one that waits.
@@ -52,7 +63,7 @@ pub fn protocol_safety()
         (after (world_of (start number mode limits) history) event) }
 {}
 
-/// Where a question runs, both sides are connected and the service has room, its scan and then each read, chunk and work
+/// Where a question runs, the service of its port is connected and has room, its scan and then each read, chunk and work
 /// in turn end, after at most as many rounds as the content has chunks, with the reply of its verdict.
 pub fn whole_path()
     ensures { (number : ℕ) (mode : Mode) (limits : LimitValues) (history : List Event) (q : Question) (n : ℕ)
@@ -60,22 +71,19 @@ pub fn whole_path()
         → EndsWithVerdict (world_of (start number mode limits) history) q n }
 {}
 
-/// The headline of two audits, each legal by itself, put together in any order in which each message that came had been
-/// sent by the other side before: from whatever volume and catalogue, each part of the headline holds, and each job keeps the
-/// scan of what it has judged of the content that it was asked about. The third part is the filter's alone; open numbers are
-/// counted from the opening volume's last.
+/// The headline of the audits of a filter and of the service of each port, each legal by itself, put together in any order in
+/// which each message that came had been sent by the other side before: from whatever volume and catalogues in which a version
+/// names one set, each part of the headline holds, and each job keeps the scan of what it has judged of the content that it was
+/// asked about. The third part is the filter's alone; open numbers are counted from the opening volume's last.
 pub fn audits()
-    ensures one_verdict { (mode : Mode) (limits : LimitValues) (number : ℕ) (port : Port) (service_limits : LimitValues)
-        (files : List File) (v : Store) (sets : List Publication) (es : List SideEntry)
-        → AreLegal mode limits number port service_limits files v sets es
-        → AuditsHoldOneVerdict files (mounted mode limits v.boot) v sets (just_started number port service_limits (latest_as sets)) es }
-    ensures judged_bytes { (mode : Mode) (limits : LimitValues) (number : ℕ) (port : Port) (service_limits : LimitValues)
-        (files : List File) (v : Store) (sets : List Publication) (es : List SideEntry)
-        → AreLegal mode limits number port service_limits files v sets es
-        → AuditsJudgeRightly files sets (just_started number port service_limits (latest_as sets)) es }
-    ensures only_clean { (mode : Mode) (limits : LimitValues) (number : ℕ) (port : Port) (service_limits : LimitValues)
-        (files : List File) (v : Store) (sets : List Publication) (es : List SideEntry)
-        → AreLegal mode limits number port service_limits files v sets es
+    ensures one_verdict { (mode : Mode) (limits : LimitValues) (told : Port → Started) (files : List File) (v : Store)
+        (sets : Port → List Publication) (es : List SideEntry) → AreLegal mode limits told files v sets es
+        → AuditsHoldOneVerdict files (mounted mode limits v.boot) v told sets es }
+    ensures judged_bytes { (mode : Mode) (limits : LimitValues) (told : Port → Started) (files : List File) (v : Store)
+        (sets : Port → List Publication) (es : List SideEntry) → AreLegal mode limits told files v sets es
+        → AuditsJudgeRightly files told sets es }
+    ensures only_clean { (mode : Mode) (limits : LimitValues) (told : Port → Started) (files : List File) (v : Store)
+        (sets : Port → List Publication) (es : List SideEntry) → AreLegal mode limits told files v sets es
         → AuditsGrantOnlyClean mode files sets es }
     ensures answers_once { (v : Store) (mode : Mode) (limits : LimitValues) (xs : List FilterEntry)
         → IsFilterAudit (mounted mode limits v.boot) v xs → AuditAnswersOnce (mounted mode limits v.boot) v xs }
@@ -86,16 +94,23 @@ pub fn worked_scripts()
     ensures { ComeTrue }
 {}
 
-/// At the start and after each step a world's volume and sets are those that its history tells, its filter fits the volume,
-/// and the volume's streams are in their ranges.
+/// What worked scripts print where a spare is connected, from their text to each line; what is held and asked behind them, what
+/// finishes them, and that the audits of three sides can be legal.
+pub fn worked_ports()
+    ensures printed { ArePrinted }
+    ensures held { AreExamples }
+{}
+
+/// At the start and after each step a world's volume and sets are those that its history tells, its filter fits the volume, its
+/// questions run on connected ports, each service is on its own port, and the volume's streams are in their ranges.
 pub fn worlds_stay_whole()
     ensures { StaysWhole }
 {}
 
 /// The protocol can always finish. Nobody promises that messages come; but from every world in which a version is
-/// published that the filter may grant under, and a lease is left for each chunk, a stated list of events leads to a world in
+/// published that the filter may grant under, and each service has a lease left for each chunk of its questions, a stated list of events leads to a world in
 /// which no open waits and each that waited was answered by the verdict of its stream's content. All of them happen: messages
-/// that were sent come, works that were lent are run, and the service connects anew; no timeout, no disconnection of the
+/// that were sent come, works that were lent are run, and both services connect anew; no timeout, no disconnection of the
 /// filter, no restart and no change of a file. Leases are left where the history isn't too long; and without such a version
 /// no such event brings a verdict. The worked examples say what stands in the way without each premise.
 pub fn progress()

@@ -20,7 +20,7 @@ use crate::output::message::{Way, print_messages};
 use crate::output::note::print_note;
 use crate::output::work::print_works;
 use crate::report::Report;
-use av_base::WriteFault;
+use av_base::{Port, WriteFault};
 use av_frame::Message;
 use av_service::Work;
 use std::io::Write;
@@ -31,7 +31,7 @@ pub fn print_report<W: Write>(
     answers: &[Given],
     down: &[Message],
     up: &[Message],
-    works: &[Option<Work>],
+    works: &[Option<(Port, Work)>],
     writer: &mut W,
 ) -> Result<(), WriteFault>
     ensures ok { OnOk result
@@ -65,7 +65,7 @@ fn print_sent<W: Write>(
     report: &Report,
     down: &[Message],
     up: &[Message],
-    works: &[Option<Work>],
+    works: &[Option<(Port, Work)>],
     writer: &mut W,
 ) -> Result<(), WriteFault>
     ensures ok { OnOk result

@@ -1,3 +1,5 @@
+mod port_rows;
+mod ports;
 mod refused;
 mod rows;
 mod scripts;

@@ -2,7 +2,6 @@ ghost use Rattle.std.specs.Prelude.{◌≡◌, ◌∷◌, length, reverse, IfOk,
 ghost use Rattle.std.specs.Io.KnownBytes.{Appends};
 ghost use Rattle.std.specs.Option.{option_copied};
 ghost use Rattle.av_base.specs.Device.{AppendsPrefix};
-ghost use Rattle.av_base.specs.declared.port.Port.TheVariants.{One};
 ghost use Rattle.av_json.specs.Member.{Puts};
 ghost use Rattle.av_sigset.specs.Catalogue.{newest};
 ghost use Rattle.av_store.specs.Rows.{number_named};
@@ -31,7 +30,7 @@ use crate::given::Given;
 use crate::output::objects::put_report;
 use crate::output::print_report;
 use crate::report::{Judged, Report};
-use av_base::{Limits, Mode, Refused, StreamId, Version, WriteFault};
+use av_base::{Limits, Mode, Port, Refused, StreamId, Version, WriteFault};
 use av_frame::Message;
 use av_match::plain::plain_verdict;
 use av_sigset::{Catalogue, SignatureSet};
@@ -41,7 +40,7 @@ use std::alloc::{AllocError, Global};
 use std::io::Write;
 use std::marker::Model;
 
-/// One volume, the signature sets that were published, a filter and a scanning service, with the history of all that happened
+/// One volume, the signature sets that were published, a filter, and a scanning service on each of its ports, with the history of all that happened
 /// to them, each message that they ever sent, each piece of work, and each answer. A world holds opens that are owed an
 /// answer, so it can't be let go: `close` ends it.
 pub struct World {
@@ -63,7 +62,7 @@ impl Model for World {
 }
 
 impl World {
-    /// A world with an empty volume of this number, a filter mounted on it once, and a service that is not connected.
+    /// A world with an empty volume of this number, a filter mounted on it once, and two services that are not connected.
     pub fn new(alloc: Global, number: u64, mode: Mode, limits: Limits) -> Result<World, AllocError>
         ensures { IfOk result (λ w. w ≡ start number mode limits) }
     {
@@ -198,7 +197,7 @@ impl World {
         self.stage.answers.as_slice()
     }
 
-    /// Each message that was ever sent to the service, the oldest first.
+    /// Each message that was ever sent to a service, the oldest first.
     pub fn down(&self) -> &[Message]
         ensures { result.now ≡ self.now.down }
     {
@@ -226,11 +225,11 @@ impl World {
         self.stage.filter.question_count()
     }
 
-    /// Whether the service is connected.
-    pub fn connected(&self) -> bool
-        ensures { result ≡ (desk_of self.now One).connected }
+    /// Whether the service of a port is connected.
+    pub fn connected(&self, port: Port) -> bool
+        ensures { result ≡ (desk_of self.now port).connected }
     {
-        self.stage.service.connected()
+        self.stage.service(port).connected()
     }
 
     /// The version of the set that was published last, if one was.

@@ -29,19 +29,19 @@ line_tokens (Changed stream generation size) =
 line_tokens (Removed stream) = object_tokens (is (codes "removed") ∷ number_tokens (codes "stream") stream ∷ [])
 line_tokens (Booted boot) = object_tokens (is (codes "boot") ∷ number_tokens (codes "boot") boot ∷ [])
 
--- the last members of an object: clean, or which signature ends where first
-abbrev pub verdict_members : Verdict → List (List Token)
-verdict_members Clean = text_tokens (codes "verdict") (codes "clean") ∷ []
-verdict_members (Infected index end_at) =
+-- clean, or which signature ends where first, and what follows it
+abbrev pub verdict_members : Verdict → List (List Token) → List (List Token)
+verdict_members Clean last = text_tokens (codes "verdict") (codes "clean") ∷ last
+verdict_members (Infected index end_at) last =
     text_tokens (codes "verdict") (codes "infected")
-    ∷ number_tokens (codes "index") index ∷ number_tokens (codes "end") end_at ∷ []
+    ∷ number_tokens (codes "index") index ∷ number_tokens (codes "end") end_at ∷ last
 
 -- the object of a verdict that was asked for
 abbrev pub judged_tokens : Judged → List Token
 judged_tokens j =
     object_tokens
     (is (codes "judge") ∷ number_tokens (codes "stream") j.stream ∷ number_tokens (codes "generation") j.generation
-    ∷ number_tokens (codes "version") j.version ∷ verdict_members j.verdict)
+    ∷ number_tokens (codes "version") j.version ∷ verdict_members j.verdict [])
 
 -- the object of this word, if there is one
 abbrev pub noted_tokens : Option (List ℕ) → List Token

@@ -9,6 +9,8 @@ use Rattle.av_base.specs.declared.limits.LimitField.{LimitField}
 use Rattle.av_base.specs.declared.limits.LimitField.TheVariants.{Streams, Length, Generation, Questions, Pended, Jobs, Cache, Chunk, Audit}
 use Rattle.av_base.specs.declared.mode.Mode.{Mode}
 use Rattle.av_base.specs.declared.mode.Mode.TheVariants.{FailClosed, FailOpen}
+use Rattle.av_base.specs.declared.port.Port.{Port}
+use Rattle.av_base.specs.declared.port.Port.TheVariants.{One, Two}
 use Rattle.av_base.specs.Decimal.{decimal_of}
 use Rattle.av_sigset.specs.Set.{widest}
 use Rattle.av_sigset.specs.declared.signature.Span.{Span}
@@ -129,12 +131,22 @@ abbrev pub number_line : (ℕ → Command) → Option (List ℕ) → Option Line
 number_line command None = None
 number_line command (Some number) = option_map (λ n. Says (command n)) (decimal_of number)
 
--- a side: the filter or the service
-abbrev pub side_line : Command → Command → Option (List ℕ) → Option Line
-side_line filter service None = None
-side_line filter service (Some side) =
-    if bytes_eq side (codes "filter") then Some (Says filter)
-    else if bytes_eq side (codes "service") then Some (Says service)
+-- the port that the last words name: port One where they are none
+abbrev pub port_said : List (List ℕ) → Option Port
+port_said [] = Some One
+port_said (word ∷ []) = if bytes_eq word (codes "2") then Some Two else None
+port_said (word ∷ next ∷ words) = None
+
+-- a port, or none
+abbrev pub port_line : (Port → Command) → List (List ℕ) → Option Line
+port_line command words = option_map (λ port. Says (command port)) (port_said words)
+
+-- a side, the filter or the service, and what follows it
+abbrev pub side_line : (List (List ℕ) → Option Line) → (List (List ℕ) → Option Line) → List (List ℕ) → Option Line
+side_line filter service [] = None
+side_line filter service (side ∷ rest) =
+    if bytes_eq side (codes "filter") then filter rest
+    else if bytes_eq side (codes "service") then service rest
     else None
 
 -- a name and a number
@@ -226,13 +238,15 @@ line_of_words (verb ∷ words) =
     else if bytes_eq verb (codes "judge") then name_line (λ name. Judge name) (one_word words)
     else if bytes_eq verb (codes "open") then open_line words
     else if bytes_eq verb (codes "cleanup") then name_line (λ name. Step (Cleanup name)) (one_word words)
-    else if bytes_eq verb (codes "connect") then bare_line (Step Connect) words
+    else if bytes_eq verb (codes "connect") then port_line (λ port. Step (Connect port)) words
     else if bytes_eq verb (codes "down") then number_line (λ place. Step (Down place)) (one_word words)
     else if bytes_eq verb (codes "up") then number_line (λ place. Step (Up place)) (one_word words)
     else if bytes_eq verb (codes "work") then number_line (λ place. Step (Run place)) (one_word words)
     else if bytes_eq verb (codes "timeout") then number_line (λ seq. Step (Timeout seq)) (one_word words)
-    else if bytes_eq verb (codes "disconnect") then side_line (Step DisconnectFilter) (Step DisconnectService) (one_word words)
-    else if bytes_eq verb (codes "restart") then side_line (Step RestartFilter) (Step RestartService) (one_word words)
+    else if bytes_eq verb (codes "disconnect") then
+    side_line (port_line (λ port. Step (DisconnectFilter port))) (port_line (λ port. Step (DisconnectService port))) words
+    else if bytes_eq verb (codes "restart") then
+    side_line (bare_line (Step RestartFilter)) (port_line (λ port. Step (RestartService port))) words
     else setting_line verb words
 
 -- an empty line and one that begins with # say nothing

@@ -34,15 +34,15 @@ numbered_event number_verb.Timeout seq = Timeout seq
 abbrev pub numbered_step : NumberVerb → ℕ → Command
 numbered_step verb number = Step (numbered_event verb number)
 
--- the event of a verb alone, or with its side
+-- the event of a verb alone, or with its side and port
 abbrev pub bare_event : BareVerb → Event
-bare_event bare_verb.Connect = Connect
-bare_event bare_verb.DisconnectFilter = DisconnectFilter
-bare_event bare_verb.DisconnectService = DisconnectService
+bare_event (bare_verb.Connect port) = Connect port
+bare_event (bare_verb.DisconnectFilter port) = DisconnectFilter port
+bare_event (bare_verb.DisconnectService port) = DisconnectService port
 bare_event bare_verb.RestartFilter = RestartFilter
-bare_event bare_verb.RestartService = RestartService
+bare_event (bare_verb.RestartService port) = RestartService port
 
--- the command of a verb alone
+-- the command of such a verb
 abbrev pub bare_step : BareVerb → Command
 bare_step verb = Step (bare_event verb)
 

@@ -23,13 +23,13 @@ line_parts (Booted boot) = codes "boot " ∷ decimal boot ∷ codes "\n" ∷ []
 abbrev pub line_text : Line → List ℕ
 line_text line = spelt (line_parts line)
 
--- the last words of a line: clean, or which signature ends where first
-abbrev pub verdict_parts : Verdict → List (List ℕ)
-verdict_parts Clean = codes " clean\n" ∷ []
-verdict_parts (Infected index end_at) = codes " infected " ∷ decimal index ∷ codes " end " ∷ decimal end_at ∷ codes "\n" ∷ []
+-- the last words of a line, before its end: clean, or which signature ends where first
+abbrev pub verdict_parts : Verdict → List ℕ → List (List ℕ)
+verdict_parts Clean end = codes " clean" ∷ end ∷ []
+verdict_parts (Infected index end_at) end = codes " infected " ∷ decimal index ∷ codes " end " ∷ decimal end_at ∷ end ∷ []
 
 -- the line of a verdict that was asked for
 abbrev pub judged_text : Judged → List ℕ
 judged_text j =
     spelt (codes "judge " ∷ decimal j.stream ∷ codes " generation " ∷ decimal j.generation
-    ∷ codes " version " ∷ decimal j.version ∷ verdict_parts j.verdict)
+    ∷ codes " version " ∷ decimal j.version ∷ verdict_parts j.verdict (codes "\n"))

@@ -5,11 +5,11 @@ ghost use Rattle.av_base.specs.Device.{AppendsPrefix};
 ghost use Rattle.av_base.specs.declared.verdict.Verdict.TheVariants.{Clean, Infected};
 ghost use Rattle.av_frame.specs.declared.message.Body.TheVariants.{Scan, Chunk, NoChunk, Abort, Hello, Read, Reply, Updated};
 ghost use Rattle.av_frame.specs.declared.outcome.Outcome.TheVariants.{Failed, Judged};
-ghost use Rattle.av_world.specs.Text.Messages.{body_text, message_text, placed, way_word};
+ghost use Rattle.av_world.specs.Text.Messages.{body_text, line_end, message_text, placed, way_word};
 
 use crate::output::part;
 use av_base::parts::write_parts;
-use av_base::{Generation, MessageId, Part, StreamId, Verdict, Version, WriteFault};
+use av_base::{Generation, MessageId, Part, Port, StreamId, Verdict, Version, WriteFault};
 use av_frame::{Body, FailCause, Message, NoChunkCause, Outcome};
 use std::io::Write;
 
@@ -31,11 +31,22 @@ impl Way {
     }
 }
 
-/// Where a message stands, counted from 1.
+/// Where a message stands, counted from 1, and the port that it goes over.
 #[derive(Clone, Copy)]
 pub struct Place {
     pub way: Way,
     pub number: u64,
+    pub port: Port,
+}
+
+/// The end of a line: of port Two it names the port.
+pub fn line_end(port: Port) -> &'static [u8]
+    ensures { result.now ≡ line_end port }
+{
+    match port {
+        Port::One => b"\n".as_slice(),
+        Port::Two => b" port 2\n".as_slice(),
+    }
 }
 
 /// Writes the lines of messages from one place of their list up to another, both counted from 0.
@@ -53,21 +64,24 @@ pub fn print_messages<W: Write>(
 {
     for (index, message) in part(messages, from, to).iter().enumerate() {
         let number = from + index as u64 + 1;
-        print_message(Place { way, number }, message, writer)?;
+        print_message(way, number, message, writer)?;
     }
     Ok(())
 }
 
 fn print_message<W: Write>(
-    place: Place,
+    way: Way,
+    number: u64,
     message: &Message,
     writer: &mut W,
 ) -> Result<(), WriteFault>
     ensures ok { OnOk result
-        (Appends (W.contents writer.old) (W.contents writer.new) (message_text place.way place.number message.now)) }
+        (Appends (W.contents writer.old) (W.contents writer.new) (message_text way number message.now)) }
     ensures err { OnErr result
-        (AppendsPrefix (W.contents writer.old) (W.contents writer.new) (message_text place.way place.number message.now)) }
+        (AppendsPrefix (W.contents writer.old) (W.contents writer.new) (message_text way number message.now)) }
 {
+    let port = message.port();
+    let place = Place { way, number, port };
     match message.body() {
         Body::Scan {
             id,
@@ -100,9 +114,9 @@ fn print_scan<W: Write>(
     writer: &mut W,
 ) -> Result<(), WriteFault>
     ensures ok { OnOk result (Appends (W.contents writer.old) (W.contents writer.new)
-        (body_text place.way place.number (Scan id stream generation length))) }
+        (body_text place.way place.number place.port (Scan id stream generation length))) }
     ensures err { OnErr result (AppendsPrefix (W.contents writer.old) (W.contents writer.new)
-        (body_text place.way place.number (Scan id stream generation length))) }
+        (body_text place.way place.number place.port (Scan id stream generation length))) }
 {
     write_parts(
         writer,
@@ -119,7 +133,7 @@ fn print_scan<W: Write>(
             Part::Number(generation.get()),
             Part::Text(b" length "),
             Part::Number(length),
-            Part::Text(b"\n"),
+            Part::Text(line_end(place.port)),
         ],
     )
 }
@@ -132,9 +146,9 @@ fn print_chunk<W: Write>(
     writer: &mut W,
 ) -> Result<(), WriteFault>
     ensures ok { OnOk result (Appends (W.contents writer.old) (W.contents writer.new)
-        (body_text place.way place.number (Chunk id offset bytes.now))) }
+        (body_text place.way place.number place.port (Chunk id offset bytes.now))) }
     ensures err { OnErr result (AppendsPrefix (W.contents writer.old) (W.contents writer.new)
-        (body_text place.way place.number (Chunk id offset bytes.now))) }
+        (body_text place.way place.number place.port (Chunk id offset bytes.now))) }
 {
     write_parts(
         writer,
@@ -149,7 +163,7 @@ fn print_chunk<W: Write>(
             Part::Number(offset),
             Part::Text(b" bytes "),
             Part::Hexadecimal(bytes),
-            Part::Text(b"\n"),
+            Part::Text(line_end(place.port)),
         ],
     )
 }
@@ -162,9 +176,9 @@ fn print_no_chunk<W: Write>(
     writer: &mut W,
 ) -> Result<(), WriteFault>
     ensures ok { OnOk result (Appends (W.contents writer.old) (W.contents writer.new)
-        (body_text place.way place.number (NoChunk id offset cause))) }
+        (body_text place.way place.number place.port (NoChunk id offset cause))) }
     ensures err { OnErr result (AppendsPrefix (W.contents writer.old) (W.contents writer.new)
-        (body_text place.way place.number (NoChunk id offset cause))) }
+        (body_text place.way place.number place.port (NoChunk id offset cause))) }
 {
     write_parts(
         writer,
@@ -179,16 +193,16 @@ fn print_no_chunk<W: Write>(
             Part::Number(offset),
             Part::Text(b" cause "),
             Part::Number(u64::from(cause.number())),
-            Part::Text(b"\n"),
+            Part::Text(line_end(place.port)),
         ],
     )
 }
 
 fn print_abort<W: Write>(place: Place, id: MessageId, writer: &mut W) -> Result<(), WriteFault>
     ensures ok { OnOk result
-        (Appends (W.contents writer.old) (W.contents writer.new) (body_text place.way place.number (Abort id))) }
+        (Appends (W.contents writer.old) (W.contents writer.new) (body_text place.way place.number place.port (Abort id))) }
     ensures err { OnErr result
-        (AppendsPrefix (W.contents writer.old) (W.contents writer.new) (body_text place.way place.number (Abort id))) }
+        (AppendsPrefix (W.contents writer.old) (W.contents writer.new) (body_text place.way place.number place.port (Abort id))) }
 {
     write_parts(
         writer,
@@ -199,7 +213,7 @@ fn print_abort<W: Write>(place: Place, id: MessageId, writer: &mut W) -> Result<
             Part::Number(id.boot),
             Part::Text(b"."),
             Part::Number(id.seq),
-            Part::Text(b"\n"),
+            Part::Text(line_end(place.port)),
         ],
     )
 }
@@ -211,9 +225,9 @@ fn print_hello<W: Write>(
     writer: &mut W,
 ) -> Result<(), WriteFault>
     ensures ok { OnOk result
-        (Appends (W.contents writer.old) (W.contents writer.new) (body_text place.way place.number (Hello volume version))) }
+        (Appends (W.contents writer.old) (W.contents writer.new) (body_text place.way place.number place.port (Hello volume version))) }
     ensures err { OnErr result (AppendsPrefix (W.contents writer.old) (W.contents writer.new)
-        (body_text place.way place.number (Hello volume version))) }
+        (body_text place.way place.number place.port (Hello volume version))) }
 {
     write_parts(
         writer,
@@ -224,7 +238,7 @@ fn print_hello<W: Write>(
             Part::Number(volume),
             Part::Text(b" version "),
             Part::Number(version.get()),
-            Part::Text(b"\n"),
+            Part::Text(line_end(place.port)),
         ],
     )
 }
@@ -237,9 +251,9 @@ fn print_read<W: Write>(
     writer: &mut W,
 ) -> Result<(), WriteFault>
     ensures ok { OnOk result
-        (Appends (W.contents writer.old) (W.contents writer.new) (body_text place.way place.number (Read id offset count))) }
+        (Appends (W.contents writer.old) (W.contents writer.new) (body_text place.way place.number place.port (Read id offset count))) }
     ensures err { OnErr result (AppendsPrefix (W.contents writer.old) (W.contents writer.new)
-        (body_text place.way place.number (Read id offset count))) }
+        (body_text place.way place.number place.port (Read id offset count))) }
 {
     write_parts(
         writer,
@@ -254,16 +268,16 @@ fn print_read<W: Write>(
             Part::Number(offset),
             Part::Text(b" count "),
             Part::Number(u64::from(count)),
-            Part::Text(b"\n"),
+            Part::Text(line_end(place.port)),
         ],
     )
 }
 
 fn print_updated<W: Write>(place: Place, version: Version, writer: &mut W) -> Result<(), WriteFault>
     ensures ok { OnOk result
-        (Appends (W.contents writer.old) (W.contents writer.new) (body_text place.way place.number (Updated version))) }
+        (Appends (W.contents writer.old) (W.contents writer.new) (body_text place.way place.number place.port (Updated version))) }
     ensures err { OnErr result (AppendsPrefix (W.contents writer.old) (W.contents writer.new)
-        (body_text place.way place.number (Updated version))) }
+        (body_text place.way place.number place.port (Updated version))) }
 {
     write_parts(
         writer,
@@ -272,7 +286,7 @@ fn print_updated<W: Write>(place: Place, version: Version, writer: &mut W) -> Re
             Part::Number(place.number),
             Part::Text(b" updated "),
             Part::Number(version.get()),
-            Part::Text(b"\n"),
+            Part::Text(line_end(place.port)),
         ],
     )
 }
@@ -284,9 +298,9 @@ fn print_reply<W: Write>(
     writer: &mut W,
 ) -> Result<(), WriteFault>
     ensures ok { OnOk result
-        (Appends (W.contents writer.old) (W.contents writer.new) (body_text place.way place.number (Reply id outcome))) }
+        (Appends (W.contents writer.old) (W.contents writer.new) (body_text place.way place.number place.port (Reply id outcome))) }
     ensures err { OnErr result (AppendsPrefix (W.contents writer.old) (W.contents writer.new)
-        (body_text place.way place.number (Reply id outcome))) }
+        (body_text place.way place.number place.port (Reply id outcome))) }
 {
     match outcome {
         Outcome::Judged { version, verdict } => match verdict {
@@ -306,9 +320,9 @@ fn print_clean<W: Write>(
     writer: &mut W,
 ) -> Result<(), WriteFault>
     ensures ok { OnOk result (Appends (W.contents writer.old) (W.contents writer.new)
-        (body_text place.way place.number (Reply id (Judged version Clean)))) }
+        (body_text place.way place.number place.port (Reply id (Judged version Clean)))) }
     ensures err { OnErr result (AppendsPrefix (W.contents writer.old) (W.contents writer.new)
-        (body_text place.way place.number (Reply id (Judged version Clean)))) }
+        (body_text place.way place.number place.port (Reply id (Judged version Clean)))) }
 {
     write_parts(
         writer,
@@ -321,7 +335,8 @@ fn print_clean<W: Write>(
             Part::Number(id.seq),
             Part::Text(b" version "),
             Part::Number(version.get()),
-            Part::Text(b" clean\n"),
+            Part::Text(b" clean"),
+            Part::Text(line_end(place.port)),
         ],
     )
 }
@@ -335,9 +350,9 @@ fn print_infected<W: Write>(
     writer: &mut W,
 ) -> Result<(), WriteFault>
     ensures ok { OnOk result (Appends (W.contents writer.old) (W.contents writer.new)
-        (body_text place.way place.number (Reply id (Judged version (Infected index end_at))))) }
+        (body_text place.way place.number place.port (Reply id (Judged version (Infected index end_at))))) }
     ensures err { OnErr result (AppendsPrefix (W.contents writer.old) (W.contents writer.new)
-        (body_text place.way place.number (Reply id (Judged version (Infected index end_at))))) }
+        (body_text place.way place.number place.port (Reply id (Judged version (Infected index end_at))))) }
 {
     write_parts(
         writer,
@@ -354,7 +369,7 @@ fn print_infected<W: Write>(
             Part::Number(u64::from(index)),
             Part::Text(b" end "),
             Part::Number(end_at),
-            Part::Text(b"\n"),
+            Part::Text(line_end(place.port)),
         ],
     )
 }
@@ -366,9 +381,9 @@ fn print_failed<W: Write>(
     writer: &mut W,
 ) -> Result<(), WriteFault>
     ensures ok { OnOk result (Appends (W.contents writer.old) (W.contents writer.new)
-        (body_text place.way place.number (Reply id (Failed cause)))) }
+        (body_text place.way place.number place.port (Reply id (Failed cause)))) }
     ensures err { OnErr result (AppendsPrefix (W.contents writer.old) (W.contents writer.new)
-        (body_text place.way place.number (Reply id (Failed cause)))) }
+        (body_text place.way place.number place.port (Reply id (Failed cause)))) }
 {
     write_parts(
         writer,
@@ -381,7 +396,7 @@ fn print_failed<W: Write>(
             Part::Number(id.seq),
             Part::Text(b" failed "),
             Part::Number(u64::from(cause.number())),
-            Part::Text(b"\n"),
+            Part::Text(line_end(place.port)),
         ],
     )
 }

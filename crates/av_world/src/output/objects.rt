@@ -18,6 +18,7 @@ use crate::output::objects::note::put_note;
 use crate::output::objects::work::put_works;
 use crate::output::part;
 use crate::report::Report;
+use av_base::Port;
 use av_frame::Message;
 use av_service::Work;
 use json::Writer;
@@ -30,7 +31,7 @@ pub fn put_report(
     answers: &[Given],
     down: &[Message],
     up: &[Message],
-    works: &[Option<Work>],
+    works: &[Option<(Port, Work)>],
     line: &mut Writer,
 ) -> Result<(), AllocError>
     ensures { Puts result line.old line.new (told_tokens report.now answers.now down.now up.now works.now) }
@@ -56,7 +57,7 @@ fn put_sent(
     report: &Report,
     down: &[Message],
     up: &[Message],
-    works: &[Option<Work>],
+    works: &[Option<(Port, Work)>],
     line: &mut Writer,
 ) -> Result<(), AllocError>
     ensures { Puts result line.old line.new (sent_tokens report.now down.now up.now works.now) }

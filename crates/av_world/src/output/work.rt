@@ -4,16 +4,17 @@ ghost use Rattle.std.specs.List.{between};
 ghost use Rattle.av_base.specs.Device.{AppendsPrefix};
 ghost use Rattle.av_world.specs.Text.Messages.{placed, work_text};
 
+use crate::output::message::line_end;
 use crate::output::part;
 use av_base::parts::write_parts;
-use av_base::{Part, WriteFault};
+use av_base::{Part, Port, WriteFault};
 use av_service::Work;
 use std::io::Write;
 
 /// Writes the lines of lent work from one place of its list up to another, both counted from 0. Work that came back has
 /// no line.
 pub fn print_works<W: Write>(
-    works: &[Option<Work>],
+    works: &[Option<(Port, Work)>],
     from: u64,
     to: u64,
     writer: &mut W,
@@ -30,11 +31,15 @@ pub fn print_works<W: Write>(
     Ok(())
 }
 
-fn print_work<W: Write>(number: u64, work: &Option<Work>, writer: &mut W) -> Result<(), WriteFault>
+fn print_work<W: Write>(
+    number: u64,
+    work: &Option<(Port, Work)>,
+    writer: &mut W,
+) -> Result<(), WriteFault>
     ensures ok { OnOk result (Appends (W.contents writer.old) (W.contents writer.new) (work_text number work.now)) }
     ensures err { OnErr result (AppendsPrefix (W.contents writer.old) (W.contents writer.new) (work_text number work.now)) }
 {
-    let Some(work) = work else {
+    let Some((port, work)) = work else {
         return Ok(());
     };
     let id = work.id();
@@ -51,7 +56,7 @@ fn print_work<W: Write>(number: u64, work: &Option<Work>, writer: &mut W) -> Res
             Part::Number(work.offset()),
             Part::Text(b" length "),
             Part::Number(work.length()),
-            Part::Text(b"\n"),
+            Part::Text(line_end(*port)),
         ],
     )
 }

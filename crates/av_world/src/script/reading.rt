@@ -1,15 +1,18 @@
 ghost use Rattle.std.specs.Prelude.{◌≡◌, ◌∷◌, None, Some};
 ghost use Rattle.std.specs.Option.{option_copied};
 ghost use Rattle.av_base.specs.Line.{rest_of};
-ghost use Rattle.av_world.specs.Script.Grammar.{bare_line, cut_line, least_of, line_of, line_of_words, name_line, number_line, open_line, publish_line, side_line, write_line};
-ghost use Rattle.av_world.specs.Script.Statement.{Reads, bare_step, named_command, numbered_step};
+ghost use Rattle.av_world.specs.Script.Grammar.{bare_line, cut_line, least_of, line_of, line_of_words, name_line, number_line, open_line, port_line, port_said, publish_line, side_line, write_line};
+ghost use Rattle.av_world.specs.Script.Statement.{Reads, named_command, numbered_step};
 ghost use Rattle.av_world.specs.Script.Words.{one_word, two_words, three_words};
+ghost use Rattle.av_world.specs.declared.event.Event.TheVariants.{Connect, DisconnectFilter, DisconnectService, RestartFilter, RestartService};
+ghost use Rattle.av_world.specs.declared.script.command.Command.TheVariants.{Step};
 
 use crate::script::hexadecimal::{are_patterns, is_content};
 use crate::script::setting::read_setting;
 use crate::script::statement::Statement;
 use crate::script::verb::{BareVerb, NameVerb, NumberVerb};
 use crate::script::words::{one_word, three_words, two_words};
+use av_base::Port;
 use av_base::decimal::decimal;
 use av_base::line::first_piece;
 
@@ -45,7 +48,7 @@ fn read_words<'a>(verb: &[u8], words: Option<&'a [u8]>) -> Option<Statement<'a>>
     } else if verb == b"cleanup".as_slice() {
         named(NameVerb::Cleanup, words)
     } else if verb == b"connect".as_slice() {
-        bare(BareVerb::Connect, words)
+        connect(words)
     } else if verb == b"down".as_slice() {
         numbered(NumberVerb::Down, words)
     } else if verb == b"up".as_slice() {
@@ -55,13 +58,9 @@ fn read_words<'a>(verb: &[u8], words: Option<&'a [u8]>) -> Option<Statement<'a>>
     } else if verb == b"timeout".as_slice() {
         numbered(NumberVerb::Timeout, words)
     } else if verb == b"disconnect".as_slice() {
-        sided(
-            BareVerb::DisconnectFilter,
-            BareVerb::DisconnectService,
-            words,
-        )
+        disconnect(words)
     } else if verb == b"restart".as_slice() {
-        sided(BareVerb::RestartFilter, BareVerb::RestartService, words)
+        restart(words)
     } else {
         read_setting(verb, words)
     }
@@ -148,27 +147,68 @@ fn numbered(verb: NumberVerb, words: Option<&[u8]>) -> Option<Statement<'_>>
     Some(Statement::Numbered { verb, number })
 }
 
-// A verb behind which no word stands.
-#[tactic(auto, using(crate::proofs::WordLemmas::not_bare))]
-fn bare(verb: BareVerb, words: Option<&[u8]>) -> Option<Statement<'_>>
-    ensures { Reads result (bare_line (bare_step verb) (rest_of 32 (option_copied words.entry))) }
+// The port that the words behind a verb name: port One where there are none.
+#[tactic(auto, using(crate::proofs::WordLemmas::port_word))]
+fn port_said(words: Option<&[u8]>) -> Option<Port>
+    ensures { result ≡ port_said (rest_of 32 (option_copied words.entry)) }
 {
-    match words {
-        None => Some(Statement::Bare { verb }),
-        Some(_) => None,
+    let Some(_) = words else {
+        return Some(Port::One);
+    };
+    let word = one_word(words)?;
+    if word == b"2".as_slice() {
+        Some(Port::Two)
+    } else {
+        None
     }
 }
 
-// A verb behind which a side stands, by what it is for each.
-fn sided(filter: BareVerb, service: BareVerb, words: Option<&[u8]>) -> Option<Statement<'_>>
-    ensures { Reads result
-        (side_line (bare_step filter) (bare_step service) (one_word (rest_of 32 (option_copied words.entry)))) }
+fn connect(words: Option<&[u8]>) -> Option<Statement<'_>>
+    ensures { Reads result (port_line (λ port. Step (Connect port)) (rest_of 32 (option_copied words.entry))) }
 {
-    let side = one_word(words)?;
+    let port = port_said(words)?;
+    Some(Statement::Bare {
+        verb: BareVerb::Connect { port },
+    })
+}
+
+fn disconnect(words: Option<&[u8]>) -> Option<Statement<'_>>
+    ensures { Reads result (side_line (port_line (λ port. Step (DisconnectFilter port)))
+        (port_line (λ port. Step (DisconnectService port))) (rest_of 32 (option_copied words.entry))) }
+{
+    let (side, rest) = first_piece(words?, b' ');
+    let port = port_said(rest);
     if side == b"filter".as_slice() {
-        Some(Statement::Bare { verb: filter })
+        Some(Statement::Bare {
+            verb: BareVerb::DisconnectFilter { port: port? },
+        })
     } else if side == b"service".as_slice() {
-        Some(Statement::Bare { verb: service })
+        Some(Statement::Bare {
+            verb: BareVerb::DisconnectService { port: port? },
+        })
+    } else {
+        None
+    }
+}
+
+#[tactic(auto, using(crate::proofs::WordLemmas::not_bare))]
+fn restart(words: Option<&[u8]>) -> Option<Statement<'_>>
+    ensures { Reads result (side_line (bare_line (Step RestartFilter)) (port_line (λ port. Step (RestartService port)))
+        (rest_of 32 (option_copied words.entry))) }
+{
+    let (side, rest) = first_piece(words?, b' ');
+    if side == b"filter".as_slice() {
+        match rest {
+            None => Some(Statement::Bare {
+                verb: BareVerb::RestartFilter,
+            }),
+            Some(_) => None,
+        }
+    } else if side == b"service".as_slice() {
+        let port = port_said(rest)?;
+        Some(Statement::Bare {
+            verb: BareVerb::RestartService { port },
+        })
     } else {
         None
     }

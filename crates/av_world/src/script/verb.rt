@@ -3,7 +3,7 @@ ghost use Rattle.av_world.specs.Script.Statement.{bare_event, named_command, num
 
 use crate::event::Event;
 use crate::script::command::Command;
-use av_base::ByteList;
+use av_base::{ByteList, Port};
 
 /// A verb that a name follows, and nothing else.
 #[derive(Clone, Copy)]
@@ -51,14 +51,14 @@ impl NumberVerb {
     }
 }
 
-/// A verb with the side that it names, if it does.
+/// A verb with the side and the port that it names, if it does.
 #[derive(Clone, Copy)]
 pub enum BareVerb {
-    Connect,
-    DisconnectFilter,
-    DisconnectService,
+    Connect { port: Port },
+    DisconnectFilter { port: Port },
+    DisconnectService { port: Port },
     RestartFilter,
-    RestartService,
+    RestartService { port: Port },
 }
 
 impl BareVerb {
@@ -67,11 +67,11 @@ impl BareVerb {
         ensures { result ≡ bare_event self }
     {
         match self {
-            BareVerb::Connect => Event::Connect,
-            BareVerb::DisconnectFilter => Event::DisconnectFilter,
-            BareVerb::DisconnectService => Event::DisconnectService,
+            BareVerb::Connect { port } => Event::Connect { port },
+            BareVerb::DisconnectFilter { port } => Event::DisconnectFilter { port },
+            BareVerb::DisconnectService { port } => Event::DisconnectService { port },
             BareVerb::RestartFilter => Event::RestartFilter,
-            BareVerb::RestartService => Event::RestartService,
+            BareVerb::RestartService { port } => Event::RestartService { port },
         }
     }
 }

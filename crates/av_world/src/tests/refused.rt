@@ -4,9 +4,10 @@ use crate::output::refusal::print_refused;
 use crate::report::Judged;
 use crate::script::command::Command;
 use crate::script::{Script, parse_script};
-use crate::tests::rows::{CONNECTED, CONNECTED_LINES, Head, ROWS, SCANNED, SCANNED_LINES};
+use crate::tests::port_rows::PORT_ROWS;
+use crate::tests::rows::{CONNECTED, CONNECTED_LINES, Head, ROWS, Row, SCANNED, SCANNED_LINES};
 use crate::world::World;
-use av_base::Refusal;
+use av_base::{Port, Refusal};
 use av_fakes::{may_refuse, refuse_no_more};
 use std::alloc::Global;
 use std::collections::VecDeque;
@@ -17,14 +18,25 @@ use std::test::Fail;
 /// the row's lines.
 #[test]
 fn refused_or_not_a_step_is_as_if_it_was_never_tried(rt: HostRuntime) -> Result<(), Fail> {
-    for row in &ROWS {
-        let alloc = rt.alloc();
+    try_rows(&rt, rt.alloc(), ROWS.as_slice())
+}
+
+/// The same over two ports: the loss of a port where questions move, and a publication that both services are told.
+#[test]
+fn refused_or_not_a_step_over_two_ports_is_as_if_it_was_never_tried(
+    rt: HostRuntime,
+) -> Result<(), Fail> {
+    try_rows(&rt, rt.alloc(), PORT_ROWS.as_slice())
+}
+
+fn try_rows<R: Abort>(rt: &R, alloc: Global, rows: &[Row]) -> Result<(), Fail> {
+    for row in rows {
         let text = with_head(alloc, row.head, CONNECTED, SCANNED, row.commands)?;
         let lines = with_head(alloc, row.head, CONNECTED_LINES, SCANNED_LINES, row.lines)?;
         let Ok(script) = parse_script(alloc, text.as_slice()) else {
             panic!(rt; "{} is no script", row.name);
         };
-        let printed = printed_by(&rt, alloc, script)?;
+        let printed = printed_by(rt, alloc, script)?;
         assert_eq!(rt; printed.as_slice(), lines.as_slice(), "{}", row.name);
     }
     Ok(())
@@ -141,12 +153,16 @@ fn judgements(world: &World) -> [Option<Judged>; 2] {
     [world.judge(b"a").ok(), world.judge(b"b").ok()]
 }
 
-// How much a world has kept: events, answers and messages each way.
-fn sizes(world: &World) -> [usize; 4] {
-    [
+// How much a world has kept: events, answers, messages each way, works and questions; and whether each service is connected.
+fn sizes(world: &World) -> ([usize; 6], [bool; 2]) {
+    let kept = [
         world.history().len(),
         world.answers().len(),
         world.down().len(),
         world.up().len(),
-    ]
+        world.work_count(),
+        world.question_count(),
+    ];
+    let connected = [world.connected(Port::One), world.connected(Port::Two)];
+    (kept, connected)
 }

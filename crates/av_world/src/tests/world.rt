@@ -32,8 +32,51 @@ const GRANTED: &[u8] = b"\
 fn refused_or_not_a_granted_content_is_held_clean_in_each_place(
     rt: HostRuntime,
 ) -> Result<(), Fail> {
-    let alloc = rt.alloc();
-    let world = granted(&rt, alloc)?;
+    let world = world_after(&rt, rt.alloc(), GRANTED)?;
+    assert_held(&rt, rt.alloc(), world, &[clean(); 4])
+}
+
+// A second content, which the service of port Two finds infected.
+const INFECTED: &[u8] = b"\
+    create b\n\
+    write b 0 4158\n\
+    connect 2\n\
+    up 4\n\
+    disconnect filter\n\
+    open b\n\
+    down 3\n\
+    up 5\n\
+    down 4\n\
+    work 2\n\
+    up 6\n";
+
+#[test]
+fn refused_or_not_the_verdicts_of_both_services_are_held(rt: HostRuntime) -> Result<(), Fail> {
+    let mut text = Vec::new(rt.alloc());
+    text.extend_from_slice(GRANTED)?;
+    text.extend_from_slice(INFECTED)?;
+    let world = world_after(&rt, rt.alloc(), text.as_slice())?;
+    // Of the contexts, the filter's cache, the caches of both services, and the replies.
+    let wanted = [
+        clean(),
+        infected(),
+        infected(),
+        clean(),
+        clean(),
+        infected(),
+        clean(),
+        infected(),
+    ];
+    assert_held(&rt, rt.alloc(), world, wanted.as_slice())
+}
+
+// What a world holds, also where memory was refused at first. The world ends.
+fn assert_held<R: Abort>(
+    rt: &R,
+    alloc: Global,
+    world: World,
+    wanted: &[Entry],
+) -> Result<(), Fail> {
     may_refuse(alloc);
     let first = world.held(alloc);
     refuse_no_more(alloc);
@@ -42,8 +85,20 @@ fn refused_or_not_a_granted_content_is_held_clean_in_each_place(
         Err(_) => world.held(alloc),
     };
     world.close();
-    assert_eq!(rt; held?.as_slice(), [clean(); 4].as_slice());
+    assert_eq!(rt; held?.as_slice(), wanted);
     Ok(())
+}
+
+fn infected() -> Entry {
+    Entry {
+        stream: StreamId::new(2),
+        generation: Generation::new(2),
+        version: Version::new(1),
+        verdict: Verdict::Infected {
+            index: 0,
+            end_at: 2,
+        },
+    }
 }
 
 fn clean() -> Entry {
@@ -57,7 +112,7 @@ fn clean() -> Entry {
 
 #[test]
 fn a_world_tells_what_was_sent_and_answered(rt: HostRuntime) -> Result<(), Fail> {
-    let world = granted(&rt, rt.alloc())?;
+    let world = world_after(&rt, rt.alloc(), GRANTED)?;
     let sent = [world.history().len(), world.down().len(), world.up().len()];
     let answered = world.answers() == [granted_answer()].as_slice();
     let mount = (world.mode(), world.limits());
@@ -71,7 +126,7 @@ fn a_world_tells_what_was_sent_and_answered(rt: HostRuntime) -> Result<(), Fail>
 // No clause can say that memory was refused in truth: a run that lets nothing happen is proved too.
 #[test]
 fn a_run_that_is_not_refused_memory_lets_each_event_happen(rt: HostRuntime) -> Result<(), Fail> {
-    let world = granted(&rt, rt.alloc())?;
+    let world = world_after(&rt, rt.alloc(), GRANTED)?;
     let history = world.history();
     let happened = history.len();
     let first = matches!(history.first(), Some(Event::Publish { .. }));
@@ -95,9 +150,9 @@ fn granted_answer() -> Given {
     }
 }
 
-// The world after a script that grants an open.
-fn granted<R: Abort>(rt: &R, alloc: Global) -> Result<World, Fail> {
-    let Ok(script) = parse_script(alloc, GRANTED) else {
+/// The world after a script.
+pub fn world_after<R: Abort>(rt: &R, alloc: Global, text: &[u8]) -> Result<World, Fail> {
+    let Ok(script) = parse_script(alloc, text) else {
         panic!(rt; "it is no script");
     };
     let (number, mode, limits) = (script.number(), script.mode(), script.limits());

@@ -1,6 +1,7 @@
 ghost use Rattle.std.specs.Prelude.{◌≡◌, ◌≤◌, ◌+◌, ◌++◌, [], map, length, reverse, vec_len, IfSome};
 ghost use Rattle.std.specs.Vec.{vec_capacity};
 ghost use Rattle.av_filter.specs.Fit.{Fits};
+ghost use Rattle.av_filter.specs.Room.{most_messages};
 ghost use Rattle.av_filter.specs.declared.note.Note.TheVariants.{Quiet};
 ghost use Rattle.av_store.specs.Rows.{stream_at};
 ghost use Rattle.av_world.specs.Stage.{Calls, IsSmallOut, Takes, at_history, event_called, line_after};
@@ -11,7 +12,7 @@ use super::stage::Stage;
 use crate::event::Event;
 use crate::given::Given;
 use crate::report::{Line, Note, Report};
-use av_base::{Generation, StreamId, Version};
+use av_base::{Generation, Port, StreamId, Version};
 use av_filter::note::Note as FilterNote;
 use av_filter::{Filter, Out};
 use av_frame::Message;
@@ -50,7 +51,9 @@ pub enum FilterCall<'a> {
     TimeOut {
         seq: u64,
     },
-    Disconnect,
+    Disconnect {
+        port: Port,
+    },
     Restart,
 }
 
@@ -64,9 +67,19 @@ fn ask(
 ) -> Option<Out>
     requires fits { Fits filter.old volume.old }
     ensures reacts { Calls filter.old volume.old filter.new volume.new (event_called call.now) result }
-    ensures few { IfSome result (IsSmallOut (length filter.old.pended)) }
+    ensures few { IfSome result (IsSmallOut (most_messages filter.old (event_called call.now)) (length filter.old.pended)) }
 {
     answer(filter, volume, alloc, call)
+}
+
+// How many messages it gives out at most.
+fn most_messages(filter: &Filter, call: &FilterCall<'_>) -> usize
+    ensures { result ≡ most_messages filter.now (event_called call.now) }
+{
+    match *call {
+        FilterCall::Disconnect { .. } => filter.question_count(),
+        _ => 2,
+    }
 }
 
 // What it answers.
@@ -96,7 +109,7 @@ fn answer(
         FilterCall::CleanUp { stream } => filter.cleanup(alloc, volume, stream).ok(),
         FilterCall::Receive { message } => filter.message(alloc, volume, message).ok(),
         FilterCall::TimeOut { seq } => filter.timeout(alloc, volume, seq).ok(),
-        FilterCall::Disconnect => filter.disconnect(alloc, volume).ok(),
+        FilterCall::Disconnect { port } => filter.disconnect(alloc, volume, port).ok(),
         FilterCall::Restart => {
             if volume.boot() == u64::MAX {
                 return None;
@@ -149,7 +162,7 @@ impl Stage {
         let event = (history.len() as u64).checked_add(1)?;
         let most = self.filter.pended_count().checked_add(1)?;
         self.answers.reserve(most).ok()?;
-        self.down.reserve(2).ok()?;
+        self.down.reserve(most_messages(&self.filter, call)).ok()?;
         let mut out = ask(&mut self.filter, &mut self.volume, alloc, call)?;
         give(&mut self.answers, event, out.answers.as_slice());
         self.down.append(&mut out.messages).unwrap();

@@ -1,9 +1,9 @@
 ghost use Rattle.std.specs.Prelude.{◌≤◌, List, reverse};
-ghost use Rattle.av_base.specs.declared.port.Port.TheVariants.{One};
+ghost use Rattle.av_base.specs.declared.port.Port.{Port};
 ghost use Rattle.av_filter.specs.Fit.{Fits};
 ghost use Rattle.av_sigset.specs.Catalogue.{latest};
-ghost use Rattle.av_world.specs.Request.{MayAsk, outcome_of, served};
-ghost use Rattle.av_world.specs.Serving.{MayCall, event_called};
+ghost use Rattle.av_world.specs.Request.{outcome_of, served};
+ghost use Rattle.av_world.specs.Serving.{event_called};
 ghost use Rattle.av_world.specs.Stage.{Happens, Takes, at_history};
 ghost use Rattle.av_world.specs.Whole.{IsWhole};
 ghost use Rattle.av_world.specs.World.{desk_of, down_frame, member, up_frame};
@@ -16,6 +16,7 @@ use super::serving::ServiceCall;
 use super::stage::Stage;
 use crate::event::Event;
 use crate::report::Report;
+use av_base::Port;
 use std::alloc::Global;
 
 impl Stage {
@@ -36,8 +37,7 @@ impl Stage {
     // Does what an event asks for.
     fn answer(&mut self, alloc: Global, history: &[Event], request: &Request<'_>) -> Option<Report>
         requires fits { Fits self.old.table self.old.volume }
-        requires version { (desk_of self.old One).version ≤ latest self.old.sets }
-        requires may { MayAsk (desk_of self.old One).version request.now }
+        requires versions { (port : Port) → (desk_of self.old port).version ≤ latest self.old.sets }
         ensures { (e : Event)
             → Takes self.old self.new (reverse history.now) e
             (outcome_of (at_history (reverse history.now) self.old) e request.now) result }
@@ -45,29 +45,29 @@ impl Stage {
         match *request {
             Request::Publish { version, patterns } => self.publish(alloc, version, patterns),
             Request::Filter { ref call } => self.filter_event(alloc, history, call),
-            Request::Service { ref call } => self.serve_event(alloc, call),
+            Request::Service { port, ref call } => self.serve_event(alloc, port, call),
             Request::Down { place } => self.deliver_down(alloc, place),
             Request::Up { place } => self.deliver_up(alloc, history, place),
             Request::Run { place } => self.run_work(alloc, place),
         }
     }
 
-    // Lets the service do what it is asked.
-    fn serve_event(&mut self, alloc: Global, call: &ServiceCall<'_>) -> Option<Report>
-        requires { MayCall (desk_of self.old One).version call.now }
+    // Lets the service of a port do what it is asked.
+    fn serve_event(&mut self, alloc: Global, port: Port, call: &ServiceCall<'_>) -> Option<Report>
         ensures { (h : List Event) (e : Event)
-            → Takes self.old self.new h e (served (at_history h self.old) e One (event_called self.old.sets call.now)) result }
+            → Takes self.old self.new h e (served (at_history h self.old) e port (event_called self.old.sets call.now)) result }
     {
-        self.service_event(alloc, call)
+        self.service_event(alloc, port, call)
     }
 
-    // Delivers a message to the service.
+    // Delivers a message to the service of its port.
     fn deliver_down(&mut self, alloc: Global, place: u64) -> Option<Report>
         ensures { (h : List Event) (e : Event)
             → Takes self.old self.new h e (down_frame (at_history h self.old) e (member self.old.down place)) result }
     {
         let message = delivered(alloc, &self.down, place)?;
-        self.service_event(alloc, &ServiceCall::Receive { message: &message })
+        let port = message.port();
+        self.service_event(alloc, port, &ServiceCall::Receive { message: &message })
     }
 
     // Delivers a message to the filter.

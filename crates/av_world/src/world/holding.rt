@@ -13,7 +13,7 @@ use av_store::Volume;
 use std::alloc::{AllocError, Global};
 
 impl World {
-    /// Every verdict that stands: those of the contexts by stream, those that the filter and then the service keep, most
+    /// Every verdict that stands: those of the contexts by stream, those that the filter and then the services keep, most
     /// recent first, and those of all replies, each of the content that its id was first asked about. It looks for that
     /// among all messages down, so it costs replies times messages down.
     pub fn held(&self, alloc: Global) -> Result<Vec<Entry>, AllocError>
@@ -23,7 +23,9 @@ impl World {
         let mut entries = in_contexts(alloc, filter, &self.stage.volume)?;
         let cached = filter.cache().entries(alloc)?;
         entries.extend_from_slice(cached.as_slice())?;
-        let cached = self.stage.service.cache().entries(alloc)?;
+        let cached = self.stage.one.cache().entries(alloc)?;
+        entries.extend_from_slice(cached.as_slice())?;
+        let cached = self.stage.two.cache().entries(alloc)?;
         entries.extend_from_slice(cached.as_slice())?;
         let replied = in_replies(alloc, self.down(), self.up())?;
         entries.extend_from_slice(replied.as_slice())?;

@@ -1,6 +1,5 @@
 ghost use Rattle.std.specs.Prelude.{◌≡◌, List, Some, None, is_some};
 ghost use Rattle.std.specs.Option.{option_map};
-ghost use Rattle.av_base.specs.declared.port.Port.TheVariants.{One};
 ghost use Rattle.av_filter.specs.Conduct.{filter_refusal};
 ghost use Rattle.av_sigset.specs.Made.{set_made};
 ghost use Rattle.av_world.specs.Request.{frame_fault, outcome_of, work_fault};
@@ -19,7 +18,7 @@ use super::stage::Stage;
 use crate::event::Event;
 use crate::fault::StepFault;
 use crate::pattern::Patterns;
-use av_base::{Refusal, Version};
+use av_base::{Port, Refusal, Version};
 use av_frame::Message;
 use av_service::{ConnectFault, Work};
 use av_sigset::SignatureSet;
@@ -56,7 +55,7 @@ impl Stage {
         match *request {
             Request::Publish { version, patterns } => self.publish_refusal(version, patterns),
             Request::Filter { ref call } => self.filter_refusal(call),
-            Request::Service { ref call } => self.service_refusal(call),
+            Request::Service { port, ref call } => self.service_refusal(port, call),
             Request::Down { place } => frame_refusal(&self.down, place),
             Request::Up { place } => frame_refusal(&self.up, place),
             Request::Run { place } => work_refusal(&self.works, place),
@@ -112,18 +111,19 @@ impl Stage {
         }
     }
 
-    // The fault of the service.
-    fn service_refusal(&self, call: &ServiceCall<'_>) -> Option<StepFault>
+    // The fault of the service of a port.
+    fn service_refusal(&self, port: Port, call: &ServiceCall<'_>) -> Option<StepFault>
         ensures { result
-            ≡ option_map fault.Connect (service_refusal (desk_of self.now One) (serving.event_called self.now.sets call.now)) }
+            ≡ option_map fault.Connect (service_refusal (desk_of self.now port) (serving.event_called self.now.sets call.now)) }
     {
         let ServiceCall::Connect = *call else {
             return None;
         };
-        if self.service.version().is_none() {
+        let service = self.service(port);
+        if service.version().is_none() {
             return Some(StepFault::Connect(ConnectFault::NoSignatures));
         }
-        if self.service.connected() {
+        if service.connected() {
             return Some(StepFault::Connect(ConnectFault::AlreadyConnected));
         }
         None
@@ -152,7 +152,7 @@ fn frame_refusal(frames: &Vec<Message>, place: u64) -> Option<StepFault>
 }
 
 // NoSuchWork, where no work stands at the place, or it came back.
-fn work_refusal(works: &Vec<Option<Work>>, place: u64) -> Option<StepFault>
+fn work_refusal(works: &Vec<Option<(Port, Work)>>, place: u64) -> Option<StepFault>
     ensures { result ≡ work_fault (work_at works.now.items place) }
 {
     if place == 0 {

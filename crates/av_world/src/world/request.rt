@@ -1,7 +1,5 @@
-ghost use Rattle.std.specs.Prelude.{IfOk, List};
-ghost use Rattle.av_base.specs.declared.port.Port.TheVariants.{One};
-ghost use Rattle.av_world.specs.Request.{Asks, MayAsk, Names};
-ghost use Rattle.av_world.specs.World.{desk_of};
+ghost use Rattle.std.specs.Prelude.{List};
+ghost use Rattle.av_world.specs.Request.{Asks, Names};
 ghost use Rattle.av_world.specs.declared.event.Event.{Event};
 
 use super::filtering::FilterCall;
@@ -10,7 +8,7 @@ use super::stage::Stage;
 use crate::event::Event;
 use crate::fault::StepFault;
 use crate::pattern::Patterns;
-use av_base::{StreamId, Version};
+use av_base::{Port, StreamId, Version};
 
 /// What an event asks for, its name looked up.
 #[derive(Clone, Copy)]
@@ -23,6 +21,7 @@ pub enum Request<'a> {
         call: FilterCall<'a>,
     },
     Service {
+        port: Port,
         call: ServiceCall<'a>,
     },
     /// Places are counted from 1.
@@ -51,8 +50,7 @@ impl Stage {
     /// What an event asks for: NoSuchName. It costs the logarithm of the count of streams.
     #[tactic(auto, using(crate::proofs::RequestLemmas::connects), unfolding(crate::specs::World::step_of))]
     pub fn request<'a>(&self, event: &'a Event) -> Result<Request<'a>, StepFault>
-        ensures asks { (h : List Event) → Asks h self.now event.now result }
-        ensures may { IfOk result (MayAsk (desk_of self.now One).version) }
+        ensures { (h : List Event) → Asks h self.now event.now result }
     {
         let call = match event {
             Event::Publish { version, patterns } => {
@@ -64,13 +62,16 @@ impl Stage {
             Event::Down { place } => return Ok(Request::Down { place: *place }),
             Event::Up { place } => return Ok(Request::Up { place: *place }),
             Event::Run { place } => return Ok(Request::Run { place: *place }),
-            Event::Connect => return Ok(Request::Service {
+            Event::Connect { port } => return Ok(Request::Service {
+                port: *port,
                 call: ServiceCall::Connect,
             }),
-            Event::DisconnectService => return Ok(Request::Service {
+            Event::DisconnectService { port } => return Ok(Request::Service {
+                port: *port,
                 call: ServiceCall::Disconnect,
             }),
-            Event::RestartService => return Ok(Request::Service {
+            Event::RestartService { port } => return Ok(Request::Service {
+                port: *port,
                 call: ServiceCall::Restart,
             }),
             Event::Create { name } => FilterCall::Create {
@@ -103,7 +104,7 @@ impl Stage {
                 stream: self.named(name.as_slice())?,
             },
             Event::Timeout { seq } => FilterCall::TimeOut { seq: *seq },
-            Event::DisconnectFilter => FilterCall::Disconnect,
+            Event::DisconnectFilter { port } => FilterCall::Disconnect { port: *port },
             Event::RestartFilter => FilterCall::Restart,
         };
         Ok(Request::Filter { call })

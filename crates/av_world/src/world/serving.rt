@@ -1,26 +1,24 @@
-ghost use Rattle.std.specs.Prelude.{◌≡◌, ◌≤◌, ◌+◌, ◌++◌, List, length, map, Some, IfSome, vec_len};
+ghost use Rattle.std.specs.Prelude.{◌≡◌, ◌≤◌, ◌+◌, ◌++◌, List, length, map, IfSome, vec_len};
 ghost use Rattle.std.specs.Option.{option_to_list};
 ghost use Rattle.std.specs.Vec.{vec_capacity};
-ghost use Rattle.av_base.specs.declared.port.Port.TheVariants.{One};
-ghost use Rattle.av_world.specs.Serving.{IsSmallResponse, MayCall, Served, Serves, TakesServed, event_called};
-ghost use Rattle.av_world.specs.World.{desk_of};
+ghost use Rattle.av_world.specs.Serving.{IsSmallResponse, Served, Serves, TakesServed, event_called};
+ghost use Rattle.av_world.specs.World.{desk_of, lent_at};
 ghost use Rattle.av_world.specs.declared.event.Event.{Event};
 ghost use Rattle.av_world.specs.declared.report.Note.TheVariants as note;
 
 use super::stage::Stage;
 use crate::report::{Line, Note, Report};
-use av_base::Version;
+use av_base::Port;
 use av_frame::Message;
 use av_service::{Service, ServiceOut, Work};
 use av_sigset::Catalogue;
 use std::alloc::Global;
 
-/// What is asked of the service.
+/// What is asked of a service.
 #[derive(Clone, Copy)]
 pub enum ServiceCall<'a> {
     Connect,
     Receive { message: &'a Message },
-    Publish { version: Version },
     Disconnect,
     Restart,
 }
@@ -33,7 +31,6 @@ fn ask(
     alloc: Global,
     call: &ServiceCall<'_>,
 ) -> Option<ServiceOut>
-    requires { MayCall service.old.desk.version call.now }
     ensures responds { Serves service.old.desk service.new.desk (event_called catalogue.now.sets call.now) result }
     ensures few { IfSome result (IsSmallResponse (length service.old.desk.jobs)) }
 {
@@ -48,24 +45,27 @@ fn answer(
     alloc: Global,
     call: &ServiceCall<'_>,
 ) -> Option<ServiceOut>
-    requires { MayCall service.old.desk.version call.now }
     ensures { Serves service.old.desk service.new.desk (event_called catalogue.now.sets call.now) result }
 {
     match *call {
         ServiceCall::Connect => service.connect(alloc).ok(),
         ServiceCall::Receive { message } => service.message(alloc, message).ok(),
-        ServiceCall::Publish { version } => service.publish(alloc, version).ok(),
         ServiceCall::Disconnect => Some(service.disconnect(alloc)),
         ServiceCall::Restart => Some(service.restart(alloc, catalogue)),
     }
 }
 
-/// Puts what the service gave out behind what it gave before.
-pub(super) fn record(up: &mut Vec<Message>, works: &mut Vec<Option<Work>>, out: ServiceOut) -> Note
+/// Puts what the service of a port gave out behind what was given before.
+pub(super) fn record(
+    up: &mut Vec<Message>,
+    works: &mut Vec<Option<(Port, Work)>>,
+    port: Port,
+    out: ServiceOut,
+) -> Note
     requires up { vec_len up.old + length out.messages.items ≤ vec_capacity up.old }
     requires works { vec_len works.old + 1 ≤ vec_capacity works.old }
     ensures up { up.new.items ≡ up.old.items ++ out.messages.items }
-    ensures works { works.new.items ≡ works.old.items ++ map Some (option_to_list out.work) }
+    ensures works { works.new.items ≡ works.old.items ++ map (lent_at port) (option_to_list out.work) }
     ensures note { result ≡ note.Service out.note }
 {
     let ServiceOut {
@@ -75,49 +75,57 @@ pub(super) fn record(up: &mut Vec<Message>, works: &mut Vec<Option<Work>>, out: 
     } = out;
     up.append(&mut messages).unwrap();
     match work {
-        Some(work) => works.push_reserved(Some(work)),
+        Some(work) => works.push_reserved(Some((port, work))),
         None => {}
     }
     Note::Service(note)
 }
 
-/// Lets the service do what it is asked, and puts what it gives out behind what it gave before. None where that is refused:
-/// nothing has changed.
-pub(super) fn serve(
+// Lets the service of a port do what it is asked, and puts what it gives out behind what was given before. None where that
+// is refused: nothing has changed.
+fn serve(
     service: &mut Service,
     catalogue: &Catalogue,
     up: &mut Vec<Message>,
-    works: &mut Vec<Option<Work>>,
+    works: &mut Vec<Option<(Port, Work)>>,
     alloc: Global,
+    port: Port,
     call: &ServiceCall<'_>,
 ) -> Option<Note>
-    requires { MayCall service.old.desk.version call.now }
-    ensures { Served service.old.desk up.old.items works.old.items service.new.desk up.new.items works.new.items
+    ensures { Served port service.old.desk up.old.items works.old.items service.new.desk up.new.items works.new.items
         (event_called catalogue.now.sets call.now) result }
 {
     let most = service.job_count().checked_add(1)?;
     up.reserve(most).ok()?;
     works.reserve(1).ok()?;
     let out = ask(service, catalogue, alloc, call)?;
-    Some(record(up, works, out))
+    Some(record(up, works, port, out))
 }
 
 impl Stage {
-    /// Lets the service do what it is asked, as the event behind any history. None where that is refused: nothing has
-    /// changed.
-    pub fn service_event(&mut self, alloc: Global, call: &ServiceCall<'_>) -> Option<Report>
-        requires { MayCall (desk_of self.old One).version call.now }
-        ensures { (h : List Event) (e : Event) → TakesServed self.old self.new h e One (event_called self.old.sets call.now) result }
+    /// Lets the service of a port do what it is asked, as the event behind any history. None where that is refused: nothing
+    /// has changed.
+    pub fn service_event(
+        &mut self,
+        alloc: Global,
+        port: Port,
+        call: &ServiceCall<'_>,
+    ) -> Option<Report>
+        ensures { (h : List Event) (e : Event) → TakesServed self.old self.new h e port (event_called self.old.sets call.now) result }
     {
         let before = self.places();
-        let note = serve(
-            &mut self.service,
-            &self.catalogue,
-            &mut self.up,
-            &mut self.works,
-            alloc,
-            call,
-        )?;
+        let Stage {
+            one,
+            two,
+            catalogue,
+            up,
+            works,
+            ..
+        } = self;
+        let note = match port {
+            Port::One => serve(one, catalogue, up, works, alloc, port, call),
+            Port::Two => serve(two, catalogue, up, works, alloc, port, call),
+        }?;
         Some(Report {
             line: Line::Silent,
             before,

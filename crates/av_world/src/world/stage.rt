@@ -1,5 +1,5 @@
 ghost use Rattle.std.specs.Prelude.{◌≡◌, IfOk};
-ghost use Rattle.av_world.specs.World.{places_of, start};
+ghost use Rattle.av_world.specs.World.{desk_of, places_of, start};
 
 use crate::given::Given;
 use crate::report::Places;
@@ -13,17 +13,20 @@ use av_store::Volume;
 use std::alloc::{AllocError, Global};
 use std::marker::Model;
 
-/// All of a world but its history: the volume, the published sets, both cores, and what they ever sent, lent and answered.
+/// All of a world but its history: the volume, the published sets, the cores, and what they ever sent, lent and answered.
 pub struct Stage {
     pub(super) volume: Volume,
     pub(super) catalogue: Catalogue,
     pub(super) filter: Filter,
-    pub(super) service: Service,
+    // The service of port One, and that of port Two.
+    pub(super) one: Service,
+    pub(super) two: Service,
     // The automaton that was run last.
     pub(super) automaton: Option<Automaton>,
     pub(super) down: Vec<Message>,
     pub(super) up: Vec<Message>,
-    pub(super) works: Vec<Option<Work>>,
+    // Each piece of work with the port that lent it.
+    pub(super) works: Vec<Option<(Port, Work)>>,
     pub(super) answers: Vec<Given>,
 }
 
@@ -39,7 +42,8 @@ impl Model for Stage {
       volume = s.volume;
       sets = s.catalogue.sets;
       table = s.filter;
-      desk = s.service.desk;
+      one = s.one.desk;
+      two = s.two.desk;
       down = s.down.items;
       up = s.up.items;
       works = s.works.items;
@@ -50,13 +54,14 @@ impl Model for Stage {
 }
 
 impl Stage {
-    /// An empty volume of this number, a filter mounted on it, and a service with no set.
+    /// An empty volume of this number, a filter mounted on it, and two services with no set.
     pub fn new(alloc: Global, number: u64, mode: Mode, limits: Limits) -> Result<Stage, AllocError>
         ensures { IfOk result (λ s. s ≡ start number mode limits) }
     {
         let mut volume = Volume::new(alloc, number, limits);
         let catalogue = Catalogue::new(alloc);
-        let service = Service::start(alloc, number, Port::One, &catalogue, limits)?;
+        let one = Service::start(alloc, number, Port::One, &catalogue, limits)?;
+        let two = Service::start(alloc, number, Port::Two, &catalogue, limits)?;
         let Ok(filter) = Filter::mount(alloc, &mut volume, mode, limits) else {
             return Err(AllocError);
         };
@@ -64,13 +69,24 @@ impl Stage {
             volume,
             catalogue,
             filter,
-            service,
+            one,
+            two,
             automaton: None,
             down: Vec::new(alloc),
             up: Vec::new(alloc),
             works: Vec::new(alloc),
             answers: Vec::new(alloc),
         })
+    }
+
+    /// The service of a port.
+    pub(super) fn service(&self, port: Port) -> &Service
+        ensures { result.now.desk ≡ desk_of self.now port }
+    {
+        match port {
+            Port::One => &self.one,
+            Port::Two => &self.two,
+        }
     }
 
     /// How long its lists are.
@@ -91,7 +107,8 @@ impl Stage {
             volume: _,
             catalogue: _,
             filter,
-            service: _,
+            one: _,
+            two: _,
             automaton: _,
             down: _,
             up: _,
@@ -104,10 +121,10 @@ impl Stage {
 }
 
 // Lets works go.
-fn discard(mut works: Vec<Option<Work>>) {
+fn discard(mut works: Vec<Option<(Port, Work)>>) {
     'works: while let Some(work) = works.pop() {
         match work {
-            Some(work) => work.discard(),
+            Some((_port, work)) => work.discard(),
             None => {}
         }
     }

@@ -7,14 +7,14 @@ ghost use Rattle.av_world.specs.Serving.{IsSmallResponse};
 ghost use Rattle.av_world.specs.Prepared.{IsPrepared, IsPreparedFor};
 ghost use Rattle.av_sigset.specs.Catalogue.{set_at};
 ghost use Rattle.av_world.specs.Stage.{Takes, at_history};
-ghost use Rattle.av_world.specs.Working.{IsVersionOf, Lends};
-ghost use Rattle.av_world.specs.World.{work_at, work_event};
+ghost use Rattle.av_world.specs.Working.{IsOf, Lends};
+ghost use Rattle.av_world.specs.World.{at_port, work_at, work_event};
 ghost use Rattle.av_world.specs.declared.event.Event.{Event};
 
 use super::serving::record;
 use super::stage::Stage;
 use crate::report::{Line, Report};
-use av_base::Version;
+use av_base::{Port, Version};
 use av_match::Automaton;
 use av_service::{Done, Service, ServiceOut, Work};
 use av_sigset::Catalogue;
@@ -22,7 +22,7 @@ use std::alloc::{AllocFailed, Global};
 use std::mem;
 
 impl Stage {
-    /// Runs the work at a place, counted from 1, and takes it back to the service, as the event behind any history. None
+    /// Runs the work at a place, counted from 1, and takes it back to the service that lent it, as the event behind any history. None
     /// where that is refused: nothing has changed, and the work is there to be run.
     pub fn run_work(&mut self, alloc: Global, place: u64) -> Option<Report>
         ensures { (h : List Event) (e : Event)
@@ -30,16 +30,22 @@ impl Stage {
     {
         let before = self.places();
         let index = place.checked_sub(1)? as usize;
-        let version = version_at(&self.works, index)?;
-        prepare(alloc, &mut self.automaton, &self.catalogue, version)?;
-        let automaton = self.automaton.as_ref()?;
-        let most = self.service.job_count().checked_add(1)?;
+        let (port, version) = about(&self.works, index)?;
+        let most = self.service(port).job_count().checked_add(1)?;
         self.up.reserve(most).ok()?;
         self.works.reserve(1).ok()?;
-        let work = take(&mut self.works, index)?;
-        match finish(&mut self.service, alloc, work.run(automaton)) {
+        prepare(alloc, &mut self.automaton, &self.catalogue, version)?;
+        let automaton = self.automaton.as_ref()?;
+        let (port, work) = take(&mut self.works, index)?;
+        match finish(
+            &mut self.one,
+            &mut self.two,
+            alloc,
+            port,
+            work.run(automaton),
+        ) {
             Ok(out) => {
-                let note = record(&mut self.up, &mut self.works, out);
+                let note = record(&mut self.up, &mut self.works, port, out);
                 Some(Report {
                     line: Line::Silent,
                     before,
@@ -48,22 +54,33 @@ impl Stage {
                 })
             }
             Err(failed) => {
-                put_back(&mut self.works, index, failed.value.undo());
+                put_back(&mut self.works, index, port, failed.value.undo());
                 None
             }
         }
     }
 }
 
-// Takes a work back to the service.
+// Takes a work back to the service of a port.
 #[tactic(auto, using(crate::proofs::ServingLemmas::small_finish))]
-fn finish(service: &mut Service, alloc: Global, done: Done) -> Result<ServiceOut, AllocFailed<Done>>
-    ensures ok { IfOk result
-        (λ out. Responds out service.new.desk (service_step service.old.desk (Finishes done.lease done.scan (if_found done.scan)))) }
-    ensures few { IfOk result (IsSmallResponse (length service.old.desk.jobs)) }
-    ensures err { IfErr result (λ e. (e.value ≡ done) × (service.new.desk ≡ service.old.desk)) }
+fn finish(
+    one: &mut Service,
+    two: &mut Service,
+    alloc: Global,
+    port: Port,
+    done: Done,
+) -> Result<ServiceOut, AllocFailed<Done>>
+    ensures ok { IfOk result (λ out. Responds out (at_port port one.new.desk two.new.desk)
+        (service_step (at_port port one.old.desk two.old.desk) (Finishes done.lease done.scan (if_found done.scan)))) }
+    ensures few { IfOk result (IsSmallResponse (length (at_port port one.old.desk two.old.desk).jobs)) }
+    ensures one { one.new.desk ≡ at_port port one.new.desk one.old.desk }
+    ensures two { two.new.desk ≡ at_port port two.old.desk two.new.desk }
+    ensures err { IfErr result (λ e. (e.value ≡ done) × (one.new.desk ≡ one.old.desk) × (two.new.desk ≡ two.old.desk)) }
 {
-    service.finish(alloc, done)
+    match port {
+        Port::One => one.finish(alloc, done),
+        Port::Two => two.finish(alloc, done),
+    }
 }
 
 // Sees that the automaton of the set of a version is kept: it is built where another is, or none.
@@ -88,16 +105,16 @@ fn prepare(
     Some(())
 }
 
-// The version of the work at a place.
-fn version_at(works: &Vec<Option<Work>>, index: usize) -> Option<Version>
-    ensures { IfSome result (IsVersionOf (slice_get works.now.items index)) }
+// The port that lent the work at a place, and the version under which it was lent.
+fn about(works: &Vec<Option<(Port, Work)>>, index: usize) -> Option<(Port, Version)>
+    ensures { IfSome result (IsOf (slice_get works.now.items index)) }
 {
-    let work = works.get(index)?.as_ref()?;
-    Some(work.version())
+    let (port, work) = works.get(index)?.as_ref()?;
+    Some((*port, work.version()))
 }
 
 // Takes the work at a place.
-fn take(works: &mut Vec<Option<Work>>, index: usize) -> Option<Work>
+fn take(works: &mut Vec<Option<(Port, Work)>>, index: usize) -> Option<(Port, Work)>
     ensures work { Lends (slice_get works.old.items index) result }
     ensures left { MatchOption result (works.new.items ≡ works.old.items)
         (λ work. works.new.items ≡ slice_set works.old.items index None) }
@@ -109,14 +126,14 @@ fn take(works: &mut Vec<Option<Work>>, index: usize) -> Option<Work>
 }
 
 // Puts a work back where none is.
-fn put_back(works: &mut Vec<Option<Work>>, index: usize, work: Work)
+fn put_back(works: &mut Vec<Option<(Port, Work)>>, index: usize, port: Port, work: Work)
     requires { slice_get works.old.items index ≡ Some None }
-    ensures { works.new.items ≡ slice_set works.old.items index (Some work) }
+    ensures { works.new.items ≡ slice_set works.old.items index (Some (port, work)) }
 {
     let Some(place) = works.get_mut(index) else {
         unreachable!()
     };
-    match mem::replace(place, Some(work)) {
+    match mem::replace(place, Some((port, work))) {
         None => {}
         Some(_) => unreachable!(),
     }

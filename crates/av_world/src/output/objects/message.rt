@@ -1,17 +1,17 @@
-ghost use Rattle.std.specs.Prelude.{◌≡◌, ◌+◌};
+ghost use Rattle.std.specs.Prelude.{◌≡◌, ◌+◌, ◌++◌, map};
 ghost use Rattle.std.specs.List.{between};
 ghost use Rattle.av_base.specs.declared.verdict.Verdict.TheVariants.{Clean, Infected};
 ghost use Rattle.av_frame.specs.declared.message.Body.TheVariants.{Scan, Chunk, NoChunk, Abort, Hello, Read, Reply, Updated};
 ghost use Rattle.av_frame.specs.declared.outcome.Outcome.TheVariants.{Failed, Judged};
-ghost use Rattle.av_json.specs.Member.{Puts};
-ghost use Rattle.av_world.specs.Objects.Messages.{body_tokens, message_tokens, way_name};
+ghost use Rattle.av_json.specs.Member.{Puts, joined, member_tokens, object_tokens};
+ghost use Rattle.av_world.specs.Objects.Messages.{body_tokens, message_tokens, port_members, way_name};
 ghost use Rattle.av_world.specs.Text.Messages.{placed};
 
 use crate::output::message::{Place, Way};
 use crate::output::part;
-use av_base::{Generation, MessageId, StreamId, Verdict, Version};
+use av_base::{Generation, MessageId, Port, StreamId, Verdict, Version};
 use av_frame::{Body, FailCause, Message, NoChunkCause, Outcome};
-use av_json::{Member, put_object};
+use av_json::{Member, put_members};
 use json::Writer;
 use std::alloc::{AllocError, Global};
 
@@ -24,6 +24,27 @@ impl Place {
             Way::Down => "down",
             Way::Up => "up",
         }
+    }
+}
+
+/// Puts an object of these members; of port Two it names the port, behind them.
+#[tactic(auto, using(crate::proofs::ObjectLemmas::behind))]
+pub fn put_behind(line: &mut Writer, members: &[Member<'_>], port: Port) -> Result<(), AllocError>
+    ensures { Puts result line.old line.new (object_tokens (map member_tokens members.now ++ port_members port)) }
+{
+    line.begin_object()?;
+    put_members(line, members)?;
+    put_port(line, port)?;
+    line.end_object()
+}
+
+// Puts the member that names a port, of port Two.
+fn put_port(line: &mut Writer, port: Port) -> Result<(), AllocError>
+    ensures { Puts result line.old line.new (joined (port_members port)) }
+{
+    match port {
+        Port::One => put_members(line, &[]),
+        Port::Two => put_members(line, &[Member::Number("port", 2)]),
     }
 }
 
@@ -41,19 +62,22 @@ pub fn put_messages(
 {
     for (index, message) in part(messages, from, to).iter().enumerate() {
         let number = from + index as u64 + 1;
-        put_message(alloc, Place { way, number }, message, line)?;
+        put_message(alloc, way, number, message, line)?;
     }
     Ok(())
 }
 
 fn put_message(
     alloc: Global,
-    place: Place,
+    way: Way,
+    number: u64,
     message: &Message,
     line: &mut Writer,
 ) -> Result<(), AllocError>
-    ensures { Puts result line.old line.new (message_tokens place.way place.number message.now) }
+    ensures { Puts result line.old line.new (message_tokens way number message.now) }
 {
+    let port = message.port();
+    let place = Place { way, number, port };
     match message.body() {
         Body::Scan {
             id,
@@ -81,9 +105,9 @@ fn put_scan(
     length: u64,
     line: &mut Writer,
 ) -> Result<(), AllocError>
-    ensures { Puts result line.old line.new (body_tokens place.way place.number (Scan id stream generation length)) }
+    ensures { Puts result line.old line.new (body_tokens place.way place.number place.port (Scan id stream generation length)) }
 {
-    put_object(
+    put_behind(
         line,
         &[
             Member::Text("is", "scan"),
@@ -94,6 +118,7 @@ fn put_scan(
             Member::Number("generation", generation.get()),
             Member::Number("length", length),
         ],
+        place.port,
     )
 }
 
@@ -105,10 +130,10 @@ fn put_chunk(
     bytes: &[u8],
     line: &mut Writer,
 ) -> Result<(), AllocError>
-    ensures { Puts result line.old line.new (body_tokens place.way place.number (Chunk id offset bytes.now)) }
+    ensures { Puts result line.old line.new (body_tokens place.way place.number place.port (Chunk id offset bytes.now)) }
 {
     let digits = hex::encode(alloc, bytes)?;
-    put_object(
+    put_behind(
         line,
         &[
             Member::Text("is", "chunk"),
@@ -118,6 +143,7 @@ fn put_chunk(
             Member::Number("offset", offset),
             Member::Text("bytes", &digits),
         ],
+        place.port,
     )
 }
 
@@ -128,9 +154,9 @@ fn put_no_chunk(
     cause: NoChunkCause,
     line: &mut Writer,
 ) -> Result<(), AllocError>
-    ensures { Puts result line.old line.new (body_tokens place.way place.number (NoChunk id offset cause)) }
+    ensures { Puts result line.old line.new (body_tokens place.way place.number place.port (NoChunk id offset cause)) }
 {
-    put_object(
+    put_behind(
         line,
         &[
             Member::Text("is", "nochunk"),
@@ -140,13 +166,14 @@ fn put_no_chunk(
             Member::Number("offset", offset),
             Member::Number("cause", u64::from(cause.number())),
         ],
+        place.port,
     )
 }
 
 fn put_abort(place: Place, id: MessageId, line: &mut Writer) -> Result<(), AllocError>
-    ensures { Puts result line.old line.new (body_tokens place.way place.number (Abort id)) }
+    ensures { Puts result line.old line.new (body_tokens place.way place.number place.port (Abort id)) }
 {
-    put_object(
+    put_behind(
         line,
         &[
             Member::Text("is", "abort"),
@@ -154,6 +181,7 @@ fn put_abort(place: Place, id: MessageId, line: &mut Writer) -> Result<(), Alloc
             Member::Number("boot", id.boot),
             Member::Number("seq", id.seq),
         ],
+        place.port,
     )
 }
 
@@ -163,9 +191,9 @@ fn put_hello(
     version: Version,
     line: &mut Writer,
 ) -> Result<(), AllocError>
-    ensures { Puts result line.old line.new (body_tokens place.way place.number (Hello volume version)) }
+    ensures { Puts result line.old line.new (body_tokens place.way place.number place.port (Hello volume version)) }
 {
-    put_object(
+    put_behind(
         line,
         &[
             Member::Text("is", "hello"),
@@ -173,6 +201,7 @@ fn put_hello(
             Member::Number("volume", volume),
             Member::Number("version", version.get()),
         ],
+        place.port,
     )
 }
 
@@ -183,9 +212,9 @@ fn put_read(
     count: u32,
     line: &mut Writer,
 ) -> Result<(), AllocError>
-    ensures { Puts result line.old line.new (body_tokens place.way place.number (Read id offset count)) }
+    ensures { Puts result line.old line.new (body_tokens place.way place.number place.port (Read id offset count)) }
 {
-    put_object(
+    put_behind(
         line,
         &[
             Member::Text("is", "read"),
@@ -195,19 +224,21 @@ fn put_read(
             Member::Number("offset", offset),
             Member::Number("count", u64::from(count)),
         ],
+        place.port,
     )
 }
 
 fn put_updated(place: Place, version: Version, line: &mut Writer) -> Result<(), AllocError>
-    ensures { Puts result line.old line.new (body_tokens place.way place.number (Updated version)) }
+    ensures { Puts result line.old line.new (body_tokens place.way place.number place.port (Updated version)) }
 {
-    put_object(
+    put_behind(
         line,
         &[
             Member::Text("is", "updated"),
             Member::Number(place.name(), place.number),
             Member::Number("version", version.get()),
         ],
+        place.port,
     )
 }
 
@@ -217,7 +248,7 @@ fn put_reply(
     outcome: Outcome,
     line: &mut Writer,
 ) -> Result<(), AllocError>
-    ensures { Puts result line.old line.new (body_tokens place.way place.number (Reply id outcome)) }
+    ensures { Puts result line.old line.new (body_tokens place.way place.number place.port (Reply id outcome)) }
 {
     match outcome {
         Outcome::Judged { version, verdict } => match verdict {
@@ -236,9 +267,9 @@ fn put_clean(
     version: Version,
     line: &mut Writer,
 ) -> Result<(), AllocError>
-    ensures { Puts result line.old line.new (body_tokens place.way place.number (Reply id (Judged version Clean))) }
+    ensures { Puts result line.old line.new (body_tokens place.way place.number place.port (Reply id (Judged version Clean))) }
 {
-    put_object(
+    put_behind(
         line,
         &[
             Member::Text("is", "reply"),
@@ -248,6 +279,7 @@ fn put_clean(
             Member::Number("version", version.get()),
             Member::Text("verdict", "clean"),
         ],
+        place.port,
     )
 }
 
@@ -260,9 +292,9 @@ fn put_infected(
     line: &mut Writer,
 ) -> Result<(), AllocError>
     ensures { Puts result line.old line.new
-        (body_tokens place.way place.number (Reply id (Judged version (Infected index end_at)))) }
+        (body_tokens place.way place.number place.port (Reply id (Judged version (Infected index end_at)))) }
 {
-    put_object(
+    put_behind(
         line,
         &[
             Member::Text("is", "reply"),
@@ -274,6 +306,7 @@ fn put_infected(
             Member::Number("index", u64::from(index)),
             Member::Number("end", end_at),
         ],
+        place.port,
     )
 }
 
@@ -283,9 +316,9 @@ fn put_failed(
     cause: FailCause,
     line: &mut Writer,
 ) -> Result<(), AllocError>
-    ensures { Puts result line.old line.new (body_tokens place.way place.number (Reply id (Failed cause))) }
+    ensures { Puts result line.old line.new (body_tokens place.way place.number place.port (Reply id (Failed cause))) }
 {
-    put_object(
+    put_behind(
         line,
         &[
             Member::Text("is", "reply"),
@@ -295,5 +328,6 @@ fn put_failed(
             Member::Text("verdict", "failed"),
             Member::Number("cause", u64::from(cause.number())),
         ],
+        place.port,
     )
 }

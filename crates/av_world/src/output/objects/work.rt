@@ -4,8 +4,10 @@ ghost use Rattle.av_json.specs.Member.{Puts};
 ghost use Rattle.av_world.specs.Objects.Messages.{work_tokens};
 ghost use Rattle.av_world.specs.Text.Messages.{placed};
 
+use crate::output::objects::message::put_behind;
 use crate::output::part;
-use av_json::{Member, put_object};
+use av_base::Port;
+use av_json::Member;
 use av_service::Work;
 use json::Writer;
 use std::alloc::AllocError;
@@ -13,7 +15,7 @@ use std::alloc::AllocError;
 /// Puts the objects of lent work from one place of its list up to another, both counted from 0. Work that came back has
 /// none.
 pub fn put_works(
-    works: &[Option<Work>],
+    works: &[Option<(Port, Work)>],
     from: u64,
     to: u64,
     line: &mut Writer,
@@ -27,14 +29,14 @@ pub fn put_works(
     Ok(())
 }
 
-fn put_work(number: u64, work: &Option<Work>, line: &mut Writer) -> Result<(), AllocError>
+fn put_work(number: u64, work: &Option<(Port, Work)>, line: &mut Writer) -> Result<(), AllocError>
     ensures { Puts result line.old line.new (work_tokens number work.now) }
 {
-    let Some(work) = work else {
+    let Some((port, work)) = work else {
         return Ok(());
     };
     let id = work.id();
-    put_object(
+    put_behind(
         line,
         &[
             Member::Text("is", "work"),
@@ -44,5 +46,6 @@ fn put_work(number: u64, work: &Option<Work>, line: &mut Writer) -> Result<(), A
             Member::Number("offset", work.offset()),
             Member::Number("length", work.length()),
         ],
+        *port,
     )
 }
