@@ -1,7 +1,9 @@
 -- That nothing came over makes one history.
-use Rattle.std.proofs.Common.{◌≡◌, Bool, true, false, ◌&&◌, List, [], ◌∷◌, ◌++◌, map, refl, sym, ap, subst}
+use Rattle.std.proofs.Common.{◌≡◌, Bool, true, false, ◌&&◌, List, [], ◌∷◌, ◌++◌, map, Option, refl, sym, ap, ◌∙◌, subst}
 use Rattle.std.proofs.lemmas.Bool.{true≢false}
 use Rattle.std.specs.List.{AllByRecursion as Each, list_all}
+use Rattle.av_base.specs.declared.port.Port.{Port}
+use Rattle.av_base.specs.declared.port.Port.TheVariants.{One, Two}
 use Rattle.av_desk.specs.Audit.{opened_by}
 use Rattle.av_desk.specs.declared.audit.Audit.{Audit as DeskAudit}
 use Rattle.av_filter.specs.Audit.{FilterEntry}
@@ -13,9 +15,9 @@ use Rattle.av_service.specs.Audit.{By, Call, Publishes, ServiceEntry, sets_after
 use Rattle.av_service.specs.Conduct as service
 use Rattle.av_service.specs.Work.{WorkState}
 use Rattle.av_shared.specs.Apart.{are_apart, hears_nothing, one_by_one, takes_nothing}
-use Rattle.av_shared.specs.History.{AreOneHistory}
+use Rattle.av_shared.specs.History.{AreOneHistory, events_of, opened_as, sets_at}
 use Rattle.av_sigset.specs.Publication.{Publication}
-use Rattle.av_world.specs.Audits.{CameDown, CameUp, FinishesItsWorks, IsDelivered, IsOfWorks, OfFilter, OfService, filter_side, service_side}
+use Rattle.av_world.specs.Audits.{CameDown, CameUp, FinishesItsWorks, IsDelivered, IsOfWorks, OfFilter, OfService, SideEntry, filter_side, service_side}
 
 -- an event that brings the filter no message, whatever was sent up
 abbrev HearsNothing : FilterEvent → Type 0
@@ -27,7 +29,7 @@ hears (filter.Opens s least) h = λ up. tt
 hears (filter.Changes c) h = λ up. tt
 hears (filter.CleansUp s) h = λ up. tt
 hears (filter.TimesOut seq) h = λ up. tt
-hears filter.Disconnects h = λ up. tt
+hears (filter.Disconnects port) h = λ up. tt
 hears filter.Restarts h = λ up. tt
 
 -- a call that brings the service no message and no work
@@ -53,42 +55,72 @@ each_by P test f (x ∷ xs) h =
       | false ↦ λ is g. absurd (true≢false (sym g))
     ]) refl h
 
-no_filter : (ys : List ServiceEntry) → filter_side (map OfService ys) ≡ []
-no_filter [] = refl
-no_filter (y ∷ ys) = no_filter ys
+no_filter : (port : Port) (ys : List ServiceEntry) (es : List SideEntry) → filter_side (map (OfService port) ys ++ es) ≡ filter_side es
+no_filter port [] es = refl
+no_filter port (y ∷ ys) es = no_filter port ys es
 
-of_filter : (xs : List FilterEntry) (ys : List ServiceEntry) → filter_side (map OfFilter xs ++ map OfService ys) ≡ xs
-of_filter [] ys = no_filter ys
-of_filter (x ∷ xs) ys = ap (λ zs. x ∷ zs) (of_filter xs ys)
+no_more : (port : Port) (ys : List ServiceEntry) → filter_side (map (OfService port) ys) ≡ []
+no_more port [] = refl
+no_more port (y ∷ ys) = no_more port ys
 
-of_service : (xs : List FilterEntry) (ys : List ServiceEntry) → service_side (map OfFilter xs ++ map OfService ys) ≡ ys
-of_service [] [] = refl
-of_service [] (y ∷ ys) = ap (λ zs. y ∷ zs) (of_service [] ys)
-of_service (x ∷ xs) ys = of_service xs ys
+of_filter : (xs : List FilterEntry) (ys zs : List ServiceEntry) → filter_side (map OfFilter xs ++ (map (OfService One) ys ++ map (OfService Two) zs)) ≡ xs
+of_filter [] ys zs = no_filter One ys _ ∙ no_more Two zs
+of_filter (x ∷ xs) ys zs = ap (λ es. x ∷ es) (of_filter xs ys zs)
 
-delivered : (xs : List FilterEntry) (ys : List ServiceEntry) (down up : List Letter) → Each (λ (x : FilterEntry). HearsNothing x.event) xs → Each (λ (y : ServiceEntry). TakesNothing y.call) ys
-    → IsDelivered down up (map OfFilter xs ++ map OfService ys)
-delivered [] [] down up hear take = tt
-delivered [] (y ∷ ys) down up hear take = (take.0.0 down, delivered [] ys down (up ++ y.messages) hear take.1)
-delivered (x ∷ xs) ys down up hear take = (hear.0 up, delivered xs ys (down ++ x.messages) up hear.1 take)
+-- what one service's entries are among those of both
+at_one : (ys zs : List ServiceEntry) → service_side One (map (OfService One) ys ++ map (OfService Two) zs) ≡ ys
+at_one [] [] = refl
+at_one [] (z ∷ zs) = at_one [] zs
+at_one (y ∷ ys) zs = ap (λ es. y ∷ es) (at_one ys zs)
+
+at_two : (ys zs : List ServiceEntry) → service_side Two (map (OfService One) ys ++ map (OfService Two) zs) ≡ zs
+at_two [] [] = refl
+at_two [] (z ∷ zs) = ap (λ es. z ∷ es) (at_two [] zs)
+at_two (y ∷ ys) zs = at_two ys zs
+
+of_service : (port : Port) (xs : List FilterEntry) (es : List SideEntry) → service_side port (map OfFilter xs ++ es) ≡ service_side port es
+of_service port [] es = refl
+of_service port (x ∷ xs) es = of_service port xs es
+
+delivered_one : (port : Port) (ys : List ServiceEntry) (es : List SideEntry) (down up : List Letter) → Each (λ (y : ServiceEntry). TakesNothing y.call) ys → ((up : List Letter) → IsDelivered down up es) → IsDelivered down up (map (OfService port) ys ++ es)
+delivered_one port [] es down up take rest = rest up
+delivered_one port (y ∷ ys) es down up take rest = (take.0.0 down, delivered_one port ys es down (up ++ y.messages) take.1 rest)
+
+delivered_last : (port : Port) (ys : List ServiceEntry) (down up : List Letter) → Each (λ (y : ServiceEntry). TakesNothing y.call) ys → IsDelivered down up (map (OfService port) ys)
+delivered_last port [] down up take = tt
+delivered_last port (y ∷ ys) down up take = (take.0.0 down, delivered_last port ys down (up ++ y.messages) take.1)
+
+delivered : (xs : List FilterEntry) (ys zs : List ServiceEntry) (down up : List Letter) → Each (λ (x : FilterEntry). HearsNothing x.event) xs → Each (λ (y : ServiceEntry). TakesNothing y.call) ys
+    → Each (λ (y : ServiceEntry). TakesNothing y.call) zs → IsDelivered down up (map OfFilter xs ++ (map (OfService One) ys ++ map (OfService Two) zs))
+delivered [] ys zs down up hear take last = delivered_one One ys (map (OfService Two) zs) down up take (λ more. delivered_last Two zs down more last)
+delivered (x ∷ xs) ys zs down up hear take last = (hear.0 up, delivered xs ys zs (down ++ x.messages) up hear.1 take last)
 
 finishes : (ys : List ServiceEntry) (sets : List Publication) (works : List WorkState) → Each (λ (y : ServiceEntry). TakesNothing y.call) ys → FinishesItsWorks sets works ys
 finishes [] sets works take = tt
 finishes (y ∷ ys) sets works take = (take.0.1 sets works, finishes ys (sets_after sets y.call) (works ++ y.works) take.1)
 
-pub one_history : (gate : GateAudit) (desk : DeskAudit) → are_apart gate desk ≡ true → AreOneHistory gate desk (one_by_one gate desk)
-one_history gate desk apart =
+pub one_history : (gate : GateAudit) (desk : DeskAudit) (spare : Option DeskAudit) → are_apart gate desk spare ≡ true → AreOneHistory gate desk spare (one_by_one gate desk spare)
+one_history gate desk spare apart =
     let xs : List FilterEntry = gate.events.items in
     let ys : List ServiceEntry = desk.events.items in
-    let service = of_service xs ys in
-    let both = and_both (list_all (λ (x : FilterEntry). hears_nothing x.event) xs) _ apart in
-    let hear = each_by (λ (x : FilterEntry). HearsNothing x.event) (λ x. hears_nothing x.event) (λ x h. hears x.event h) xs both.0 in
-    let take = each_by (λ (y : ServiceEntry). TakesNothing y.call) (λ y. takes_nothing y.call) (λ y h. takes y.call h) ys both.1 in
+    let zs : List ServiceEntry = events_of spare in
+    let one : service_side One (one_by_one gate desk spare) ≡ ys = of_service One xs _ ∙ at_one ys zs in
+    let two : service_side Two (one_by_one gate desk spare) ≡ zs = of_service Two xs _ ∙ at_two ys zs in
+    let all = and_both (list_all (λ (x : FilterEntry). hears_nothing x.event) xs) _ apart in
+    let both = and_both (list_all (λ (y : ServiceEntry). takes_nothing y.call) ys) _ all.1 in
+    let hear = each_by (λ (x : FilterEntry). HearsNothing x.event) (λ x. hears_nothing x.event) (λ x h. hears x.event h) xs all.0 in
+    let take = each_by (λ (y : ServiceEntry). TakesNothing y.call) (λ y. takes_nothing y.call) (λ y h. takes y.call h) ys both.0 in
+    let last = each_by (λ (y : ServiceEntry). TakesNothing y.call) (λ y. takes_nothing y.call) (λ y h. takes y.call h) zs both.1 in
     record {
-      filter = of_filter xs ys;
-      service = service;
-      delivered = delivered xs ys [] [] hear take;
-      works = subst (FinishesItsWorks (opened_by desk) []) (sym service) (finishes ys (opened_by desk) [] take);
+      filter = of_filter xs ys zs;
+      service = one;
+      other = two;
+      delivered = delivered xs ys zs [] [] hear take last;
+      works =
+          λ port. elim port as (λ port. FinishesItsWorks (sets_at desk spare port) [] (service_side port (one_by_one gate desk spare))) [
+            | One ↦ subst (FinishesItsWorks (opened_by desk) []) (sym one) (finishes ys (opened_by desk) [] take)
+            | Two ↦ subst (FinishesItsWorks (opened_as spare) []) (sym two) (finishes zs (opened_as spare) [] last)
+          ];
     }
   where
     and_both : (a b : Bool) → (a && b) ≡ true → (a ≡ true) × (b ≡ true)

@@ -1,7 +1,7 @@
--- A gate and a desk between which nothing came over.
-use Rattle.std.specs.Prelude.{Bool, true, false, ◌&&◌, List, map, ◌++◌}
+-- A gate, a desk and a spare, if there is one, between which nothing came over.
+use Rattle.std.specs.Prelude.{Bool, true, false, ◌&&◌, List, map, ◌++◌, Option}
 use Rattle.std.specs.List.{list_all}
-use Rattle.av_desk.specs.Audit.{opened_by, started_by}
+use Rattle.av_base.specs.declared.port.Port.TheVariants.{One, Two}
 use Rattle.av_desk.specs.declared.audit.Audit.{Audit as DeskAudit}
 use Rattle.av_filter.specs.Conduct.{FilterEvent}
 use Rattle.av_filter.specs.Conduct as filter
@@ -9,6 +9,7 @@ use Rattle.av_gate.specs.Claims.{table_of}
 use Rattle.av_gate.specs.declared.audit.Audit.{Audit as GateAudit}
 use Rattle.av_service.specs.Audit.{By, Call}
 use Rattle.av_service.specs.Conduct.{Finishes, Receives}
+use Rattle.av_shared.specs.History.{events_of, sets_at, told_at}
 use Rattle.av_store.specs.Files.{File}
 use Rattle.av_store.specs.Seen.{Keeps}
 use Rattle.av_world.specs.Audits.{AuditsGrantOnlyClean, AuditsHoldOneVerdict, OfFilter, OfService, SideEntry}
@@ -24,19 +25,22 @@ takes_nothing (By (Receives m)) = false
 takes_nothing (By (Finishes lease scan hit)) = false
 takes_nothing _ = true
 
--- no event of either brings anything from the other
-abbrev pub are_apart : GateAudit → DeskAudit → Bool
-are_apart gate desk =
-    list_all (λ x. hears_nothing x.event) gate.events.items && list_all (λ x. takes_nothing x.call) desk.events.items
+-- no event of any brings anything from another
+abbrev pub are_apart : GateAudit → DeskAudit → Option DeskAudit → Bool
+are_apart gate desk spare =
+    list_all (λ x. hears_nothing x.event) gate.events.items
+    && (list_all (λ x. takes_nothing x.call) desk.events.items && list_all (λ x. takes_nothing x.call) (events_of spare))
 
--- all events of the gate, and behind them all of the desk
-abbrev pub one_by_one : GateAudit → DeskAudit → List SideEntry
-one_by_one gate desk = map OfFilter gate.events.items ++ map OfService desk.events.items
+-- all events of the gate, behind them all of the desk, and behind them all of the spare
+abbrev pub one_by_one : GateAudit → DeskAudit → Option DeskAudit → List SideEntry
+one_by_one gate desk spare =
+    map OfFilter gate.events.items ++ (map (OfService One) desk.events.items ++ map (OfService Two) (events_of spare))
 
--- the headline of such two, of the files that the gate's volume kept at first
-pub record HoldsApart (gate : GateAudit) (desk : DeskAudit) : Type 0 where
+-- the headline of these, of the files that the gate's volume kept at first
+pub record HoldsApart (gate : GateAudit) (desk : DeskAudit) (spare : Option DeskAudit) : Type 0 where
   pub files : List File
   pub kept : Keeps gate.volume files
   pub one_verdict :
-      AuditsHoldOneVerdict files (table_of gate) gate.volume (opened_by desk) (started_by desk) (one_by_one gate desk)
-  pub only_clean : AuditsGrantOnlyClean gate.mode files (opened_by desk) (one_by_one gate desk)
+      AuditsHoldOneVerdict files (table_of gate) gate.volume (told_at desk spare) (sets_at desk spare)
+      (one_by_one gate desk spare)
+  pub only_clean : AuditsGrantOnlyClean gate.mode files (sets_at desk spare) (one_by_one gate desk spare)

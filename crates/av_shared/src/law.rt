@@ -1,9 +1,9 @@
 ghost use Rattle.std.specs.Prelude.{List};
-ghost use Rattle.av_desk.specs.Audit.{opened_by, started_by};
+ghost use Rattle.std.specs.Option.{option_copied};
+ghost use Rattle.av_base.specs.declared.port.Port.TheVariants.{One};
 ghost use Rattle.av_filter.specs.Once.{AuditAnswersOnce};
 ghost use Rattle.av_gate.specs.Claims.{IsLegal, table_of};
-ghost use Rattle.av_service.specs.Audit.{IsCatalogue, IsServiceAudit};
-ghost use Rattle.av_shared.specs.History.{AreOneHistory};
+ghost use Rattle.av_shared.specs.History.{AreOneHistory, HaveOneSets, IsOfPort, IsSpare, sets_at, told_at};
 ghost use Rattle.av_store.specs.Files.{File};
 ghost use Rattle.av_store.specs.Seen.{Keeps};
 ghost use Rattle.av_store.specs.Sound.{IsOfFiles};
@@ -11,22 +11,29 @@ ghost use Rattle.av_world.specs.Audits.{AuditsGrantOnlyClean, AuditsHoldOneVerdi
 
 use av_world::laws::audits;
 
-/// The headline of running threads. A gate and a desk were closed, and gave these audits. Put together in any order in which
-/// each message that came had been sent by the other side before, and where each work that came back to the desk is one that
-/// it lent: no two verdicts stand for one stream, generation and version; each grant of a fail-closed gate names the present
-/// generation of a content that holds no signature of its version; and each open is pended or answered, once. What is asked
-/// of each audit is what `close` says of it; and the gate's volume, as every volume, keeps what some files say.
-pub fn headline_of_audits(gate: &av_gate::Audit, desk: &av_desk::Audit)
+/// The headline of running threads. A gate, the desk of its port One and the desk of port Two, if there is one, were closed, and
+/// gave these audits. Put together in any order in which each message that came had been sent by the other side before, and
+/// where each work that came back to a desk is one that it lent: no two verdicts stand for one stream, generation and version;
+/// each grant of a fail-closed gate names the present generation of a content that holds no signature of its version; and each
+/// open is pended or answered, once. What is asked of each audit is what `close` says of it; a version names one set, whichever
+/// desk it was published to; and the gate's volume, as every volume, keeps what some files say.
+pub fn headline_of_audits(
+    gate: &av_gate::Audit,
+    desk: &av_desk::Audit,
+    spare: Option<&av_desk::Audit>,
+)
     requires gate { IsLegal gate.now }
-    requires desk { IsServiceAudit (opened_by desk.now) (started_by desk.now) desk.now.events.items }
-    requires catalogue { IsCatalogue (opened_by desk.now) }
+    requires desk { IsOfPort One desk.now }
+    requires spare { IsSpare (option_copied spare) }
+    requires one_sets { HaveOneSets desk.now (option_copied spare) }
     ensures files { IsOfFiles gate.now.volume }
     ensures one_verdict { (files : List File) (history : List SideEntry) → Keeps gate.now.volume files
-        → AreOneHistory gate.now desk.now history
-        → AuditsHoldOneVerdict files (table_of gate.now) gate.now.volume (opened_by desk.now) (started_by desk.now) history }
+        → AreOneHistory gate.now desk.now (option_copied spare.entry) history
+        → AuditsHoldOneVerdict files (table_of gate.now) gate.now.volume (told_at desk.now (option_copied spare.entry))
+        (sets_at desk.now (option_copied spare.entry)) history }
     ensures only_clean { (files : List File) (history : List SideEntry) → Keeps gate.now.volume files
-        → AreOneHistory gate.now desk.now history
-        → AuditsGrantOnlyClean gate.now.mode files (opened_by desk.now) history }
+        → AreOneHistory gate.now desk.now (option_copied spare.entry) history
+        → AuditsGrantOnlyClean gate.now.mode files (sets_at desk.now (option_copied spare.entry)) history }
     ensures answers_once { AuditAnswersOnce (table_of gate.now) gate.now.volume gate.now.events.items }
 {
     let _of_files = gate.volume.last_created();

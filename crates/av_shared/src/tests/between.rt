@@ -1,8 +1,8 @@
-// What lies between a gate and a desk: each message goes over as a frame, when a step says so, and each work is run then.
+// What lies between a gate and its desks: each message goes over as a frame, when a step says so, and each work is run then.
 ghost use Rattle.av_gate.specs.Seats.{IsSeatOf};
 
 use crate::tests::frames::over_a_frame;
-use av_base::Version;
+use av_base::{Port, Version};
 use av_desk::{Desk, Lent, Taken};
 use av_ends::Ticket;
 use av_filter::Note as FilterNote;
@@ -23,14 +23,33 @@ pub enum Step<'a> {
     // name, offset, bytes
     Write(&'a [u8], u64, &'a [u8]),
     Open(&'a [u8]),
-    Connect,
+    Connect(Port),
     Up(usize),
     Down(usize),
-    // The work that is out is of this lease, and comes back.
-    Work(u64),
+    // The work that is out is of this lease, and comes back to the desk of this port.
+    Work(Port, u64),
     // version, pattern
-    Publish(u64, &'a [u8]),
-    Disconnect,
+    Publish(Port, u64, &'a [u8]),
+    Disconnect(Port),
+}
+
+// The desks of a gate, that of port One and a spare, if there is one.
+#[derive(Clone, Copy)]
+pub struct Desks<'a> {
+    pub one: &'a Desk,
+    pub two: Option<&'a Desk>,
+}
+
+impl<'a> Desks<'a> {
+    fn at(self, port: Port) -> Result<&'a Desk, Fail> {
+        match port {
+            Port::One => Ok(self.one),
+            Port::Two => match self.two {
+                Some(desk) => Ok(desk),
+                None => Err(Fail::new("there is no spare")),
+            },
+        }
+    }
 }
 
 // All that was sent and answered, and the work that is out.
@@ -78,7 +97,7 @@ impl Between {
         rt: &R,
         alloc: Global,
         gate: &Gate,
-        desk: &Desk,
+        desks: Desks<'_>,
         seat: &mut Seat,
         step: Step<'_>,
     ) -> Result<Vec<u8>, Fail>
@@ -86,9 +105,14 @@ impl Between {
         ensures { IsSeatOf gate.now seat.new }
     {
         let before = self.places();
-        let note = self.happen(rt, alloc, gate, desk, seat, step)?;
-        add_all(&mut self.down, gate.take_outgoing(rt, alloc)?)?;
-        add_all(&mut self.up, desk.take_outgoing(rt, alloc)?)?;
+        let note = self.happen(rt, alloc, gate, desks, seat, step)?;
+        for port in [Port::One, Port::Two] {
+            add_all(&mut self.down, gate.take_outgoing(rt, alloc, port)?)?;
+        }
+        add_all(&mut self.up, desks.one.take_outgoing(rt, alloc)?)?;
+        if let Some(desk) = desks.two {
+            add_all(&mut self.up, desk.take_outgoing(rt, alloc)?)?;
+        }
         self.look_at_tickets()?;
         let report = Report {
             line: Line::Silent,
@@ -104,7 +128,7 @@ impl Between {
         rt: &R,
         alloc: Global,
         gate: &Gate,
-        desk: &Desk,
+        desks: Desks<'_>,
         seat: &mut Seat,
         step: Step<'_>,
     ) -> Result<Note, Fail>
@@ -125,14 +149,20 @@ impl Between {
                 let message = carried(alloc, &mut self.to_gate, self.up.as_slice(), number)?;
                 Note::Filter(gate.message(rt, alloc, seat, &message)?)
             }
-            Step::Disconnect => Note::Filter(gate.disconnect(rt, alloc, seat)?),
-            Step::Connect => Note::Service(desk.connect(rt, alloc)?),
+            Step::Disconnect(port) => Note::Filter(gate.disconnect(rt, alloc, seat, port)?),
+            Step::Connect(port) => Note::Service(desks.at(port)?.connect(rt, alloc)?),
             Step::Down(number) => {
                 let message = carried(alloc, &mut self.to_desk, self.down.as_slice(), number)?;
+                let desk = desks.at(message.port())?;
                 self.receive(rt, alloc, desk, message)?
             }
-            Step::Work(lease) => finish(rt, alloc, desk, self.done(lease)?)?,
-            Step::Publish(version, pattern) => publish(rt, alloc, desk, version, pattern)?,
+            Step::Work(port, lease) => {
+                let desk = desks.at(port)?;
+                finish(rt, alloc, desk, self.done(lease)?)?
+            }
+            Step::Publish(port, version, pattern) => {
+                publish(rt, alloc, desks.at(port)?, version, pattern)?
+            }
         };
         Ok(note)
     }

@@ -1,4 +1,4 @@
-// The audits of a gate and a desk put together: again and again the next event of either side that is no message, or whose
+// The audits of a gate and its desks put together: again and again the next event of any side that is no message, or whose
 // message the other side has sent by then.
 use av_base::StreamId;
 use av_desk::{Audit as DeskAudit, Event as DeskEvent};
@@ -9,13 +9,18 @@ use av_pend::Answer;
 use std::alloc::Global;
 use std::test::Fail;
 
-// How far both are taken, and the frames of what each side sent up to there.
+// A desk's audit, if there is a desk, and how far it is taken.
+#[derive(Drop)]
+struct Part<'a> {
+    audit: Option<&'a DeskAudit>,
+    by: usize,
+}
+
+// How far all are taken, and the frames of what each side sent up to there.
 #[derive(Drop)]
 struct Joining<'a> {
     gate: &'a GateAudit,
-    desk: &'a DeskAudit,
     by_gate: usize,
-    by_desk: usize,
     down: Vec<Vec<u8>>,
     up: Vec<Vec<u8>>,
 }
@@ -36,9 +41,12 @@ impl Joining<'_> {
         Ok(true)
     }
 
-    // The same of the desk's.
-    fn take_of_desk(&mut self, alloc: Global) -> Result<bool, Fail> {
-        let Some(entry) = self.desk.events.get(self.by_desk) else {
+    // The same of a desk's.
+    fn take_of_desk(&mut self, alloc: Global, part: &mut Part<'_>) -> Result<bool, Fail> {
+        let Some(audit) = part.audit else {
+            return Ok(false);
+        };
+        let Some(entry) = audit.events.get(part.by) else {
             return Ok(false);
         };
         if let DeskEvent::Receive { message } = entry.event() {
@@ -47,27 +55,46 @@ impl Joining<'_> {
             }
         }
         add_frames(alloc, &mut self.up, entry.messages())?;
-        self.by_desk = self.by_desk.saturating_add(1);
+        part.by = part.by.saturating_add(1);
         Ok(true)
     }
 }
 
-// How many events of the gate's audit and of the desk's are used up.
-pub fn joined(alloc: Global, gate: &GateAudit, desk: &DeskAudit) -> Result<(usize, usize), Fail> {
+// How many events of the gate's audit, of the desk's and of the spare's are used up.
+pub fn joined(
+    alloc: Global,
+    gate: &GateAudit,
+    desk: &DeskAudit,
+    spare: Option<&DeskAudit>,
+) -> Result<(usize, usize, usize), Fail> {
     let mut joining = Joining {
         gate,
-        desk,
         by_gate: 0,
-        by_desk: 0,
         down: Vec::new(alloc),
         up: Vec::new(alloc),
     };
-    for _ in 0..gate.events.len().saturating_add(desk.events.len()) {
-        if !joining.take_of_gate(alloc)? && !joining.take_of_desk(alloc)? {
+    let mut one = Part {
+        audit: Some(desk),
+        by: 0,
+    };
+    let mut two = Part {
+        audit: spare,
+        by: 0,
+    };
+    let others = match spare {
+        None => 0,
+        Some(audit) => audit.events.len(),
+    };
+    let desks = desk.events.len().saturating_add(others);
+    for _ in 0..gate.events.len().saturating_add(desks) {
+        if !joining.take_of_gate(alloc)?
+            && !joining.take_of_desk(alloc, &mut one)?
+            && !joining.take_of_desk(alloc, &mut two)?
+        {
             break;
         }
     }
-    Ok((joining.by_gate, joining.by_desk))
+    Ok((joining.by_gate, one.by, two.by))
 }
 
 fn frame_of(alloc: Global, message: &Message) -> Result<Vec<u8>, Fail> {

@@ -5,7 +5,7 @@ ghost use Rattle.av_gate.specs.Seats.{IsSeatOf};
 use crate::tests::frames::over_a_frame;
 use crate::tests::joined::{joined, present_grants};
 use crate::tests::{closed, desk_of, gate_of_two, receipts_of};
-use av_base::StreamId;
+use av_base::{Port, StreamId};
 use av_desk::{Desk, Taken};
 use av_ends::{Receipt, Ticket};
 use av_frame::{Feed, Message};
@@ -54,7 +54,7 @@ fn keeps<R: Wait>(rt: &R, alloc: Global, gate: &Gate, desk: &Desk, mut seat: Sea
     requires { IsSeatOf gate.now seat }
 {
     for _ in 0..3u64 {
-        gate.disconnect(rt, alloc, &mut seat).ok()?;
+        gate.disconnect(rt, alloc, &mut seat, Port::One).ok()?;
         desk.restart(rt, alloc).ok()?;
         thread::yield_now();
         desk.connect(rt, alloc).ok()?;
@@ -67,7 +67,7 @@ fn keeps<R: Wait>(rt: &R, alloc: Global, gate: &Gate, desk: &Desk, mut seat: Sea
 fn carries_down<R: Wait>(rt: &R, alloc: Global, gate: &Gate, desk: &Desk) -> Option<()> {
     let mut feed = Feed::new(alloc);
     for _ in rt.forever() {
-        let Some(messages) = gate.wait_outgoing(rt, alloc).ok()? else {
+        let Some(messages) = gate.wait_outgoing(rt, alloc, Port::One).ok()? else {
             return Some(());
         };
         for message in &messages {
@@ -292,7 +292,7 @@ fn run<R: Threads + Wait + Sync>(
             requires { IsSeatOf gate.now carrier }
         { carried(rt, alloc, gate, desk, carrier) },
     );
-    gate.disconnect(rt, alloc, &mut seat)?;
+    gate.disconnect(rt, alloc, &mut seat, Port::One)?;
     let (Some((mut seats, tickets)), Some(carrier)) = (calls, carries) else {
         return Err(Fail::new("a call was refused"));
     };
@@ -317,7 +317,7 @@ fn calls_made(seats: &[Seat]) -> usize {
 }
 
 fn run_closed<R: Threads + Wait + Abort + Sync>(rt: &R, alloc: Global) -> Result<(), Fail> {
-    let desk = desk_of(alloc, b"XX")?;
+    let desk = desk_of(alloc, Port::One, b"XX")?;
     let (gate, seat) = gate_of_two(alloc)?;
     let (seats, receipts) = match run(rt, alloc, &gate, &desk, seat) {
         Ok(left) => left,
@@ -328,13 +328,11 @@ fn run_closed<R: Threads + Wait + Abort + Sync>(rt: &R, alloc: Global) -> Result
     };
     let receipt_count = receipts.len();
     let call_count = calls_made(seats.as_slice());
-    let Ok((gate, desk)) = closed(gate, desk, seats, receipts) else {
-        return Err(Fail::new("not closed"));
-    };
+    let (gate, desk) = closed(gate, desk, seats, receipts)?;
     assert_eq!(rt; receipt_count, 40);
     assert_eq!(rt; gate.events.len(), call_count);
-    let used_up = joined(alloc, &gate, &desk)?;
-    assert_eq!(rt; used_up, (gate.events.len(), desk.events.len()));
+    let used_up = joined(alloc, &gate, &desk, None)?;
+    assert_eq!(rt; used_up, (gate.events.len(), desk.events.len(), 0));
     assert!(rt; grants_are_present(&gate));
     Ok(())
 }
