@@ -10,6 +10,8 @@ use Rattle.std.specs.Ordering.{is_eq, match_ordering, nat_cmp}
 use Rattle.std.specs.Prelude.{MatchBool, ◌||◌, nat_lt}
 use Rattle.std.specs.Set.{remove_key}
 use Rattle.std.specs.declared.cmp.Ordering.TheVariants.{Less, Equal, Greater}
+use Rattle.av_base.specs.declared.port.Port.{Port}
+use Rattle.av_base.specs.declared.port.Port.TheVariants.{One, Two}
 use Rattle.av_base.specs.declared.refusal.Refusal.TheVariants.{Fault, NoMemory}
 use Rattle.av_filter.specs.Audit.{FilterEntry}
 use Rattle.av_filter.specs.Conduct.{FilterEvent, Changes, Disconnects, Receives, TimesOut}
@@ -27,7 +29,7 @@ use Rattle.av_guard.specs.Asking as refused_so
 use Rattle.av_guard.specs.Beginning.{begun}
 use Rattle.av_guard.specs.Place.{Held, Missing, Spot, Unused}
 use Rattle.av_guard.specs.Run.{Among, Call, Client, ClientLost, Asks, NextInLine, Message, ServiceLost, TimeUp, Does, Lead, asks_in, first_table, first_volume, given_by, taken_by, told_in}
-use Rattle.av_guard.specs.State.{Gives, State, Turn, happens}
+use Rattle.av_guard.specs.State.{Gives, State, Turn, happens, hears_at, rests}
 use Rattle.av_guard.specs.Telling.{is_here}
 use Rattle.av_guard.specs.declared.ask.Ask.{Ask}
 use Rattle.av_guard.specs.declared.fault.AskFault.TheVariants.{NoClient, OpensSpent, TooLarge}
@@ -132,7 +134,7 @@ module _ (client tag : ℕ) (t0 : Table) (v0 : Store) (asks : List Ask) (told : 
     asked_behind : (new : State) (given : Given) (a : Ask) (line : List Ask) → Each (λ x. Among x asks) line → is_here old.clients a.client ≡ true → IsIn client tag (behind old line) → AskedNow (behind old line) new a.client a.tag a.content (Ok given)
         → Counts (behind old line) new (given.told.items ++ []) (one_if client tag a.client a.tag)
     asked_behind new given a line all here h_line (none, there, g) =
-        let s_line : Story t0 v0 asks told sent history (behind old line) = record { past = s.past; fits = s.fits; written = s.written; paired = s.paired; line = all; waiting = s.waiting; founded = s.founded } in
+        let s_line : Story t0 v0 asks told sent history (behind old line) = record { past = s.past; fits = s.fits; written = s.written; paired = s.paired; line = all; waiting = s.waiting; founded = s.founded; events = s.events } in
         gives (behind old line) new given (asked (behind old line) a.client a.tag a.content (place_of (behind old line) a.content)) (one_if client tag a.client a.tag) g (asked_counts (behind old line) a.client a.tag a.content s_line none there here h_line)
 
     taken : (new : State) (given : Given) (c t : ℕ) (bytes : List ℕ) → refusal_of old c bytes ≡ None → Takes old new given c t bytes → Counts old new (given.told.items ++ []) (one_if client tag c t + 0)
@@ -156,7 +158,7 @@ module _ (client tag : ℕ) (t0 : Table) (v0 : Store) (asks : List Ask) (told : 
 
     next : (new : State) (given : Given) → Nexts old new given → Counts old new (given.told.items ++ []) 0
     next new given (LetGo stream crowded free ok g) = gives old new given (happens old (Changes (Remove stream))) 0 g (happened client tag old (Changes (Remove stream)) h)
-    next new given (Ordered crowded nothing is) = gives old new given (record { state = new; told = []; messages = [] }) 0 (record { told = nothing.told; messages = nothing.messages; state = refl }) (same old new is h)
+    next new given (Ordered crowded nothing is) = gives old new given (rests new) 0 (record { told = nothing.told; messages = nothing.messages; state = refl }) (same old new is h)
     next new given (Asked a line may first so) =
         let all : Each (λ x. Among x asks) (a ∷ line) = subst (Each (λ x. Among x asks)) first (still_each (λ x. Among x asks) old.clients old.line s.line) in
         let count : asks_of client tag old.line ≡ one_if client tag a.client a.tag + asks_of client tag line = sym (still_counts client tag old.clients old.line line_here) ∙ ap (asks_of client tag) first in
@@ -190,9 +192,13 @@ module _ (client tag : ℕ) (t0 : Table) (v0 : Store) (asks : List Ask) (told : 
     step_counts (NextInLine (Err NoMemory)) new (inr held) stays =
         let done = refused (skipped old) new held.ask.content held.left passed.here in
         record { sum = omega (arith, done.sum, passed.sum); here = done.here }
-    step_counts (Message m (Ok given)) new d stays = heard new given (Receives m) d
+    step_counts (Message m (Ok given)) new d stays = came m.port refl
+      where
+        came : (port : Port) → m.port ≡ port → Counts old new (given.told.items ++ []) 0
+        came One is = heard new given (Receives m) (subst (λ p. Gives given new (hears_at p old m)) is d)
+        came Two is = gives old new given (rests old) 0 (subst (λ p. Gives given new (hears_at p old m)) is d) (same old old refl h)
     step_counts (Message m (Err e)) new d stays = same old new d h
-    step_counts (ServiceLost (Ok given)) new d stays = heard new given Disconnects d
+    step_counts (ServiceLost (Ok given)) new d stays = heard new given (Disconnects One) d
     step_counts (ServiceLost (Err e)) new d stays = same old new d h
     step_counts (TimeUp seq (Ok given)) new d stays = heard new given (TimesOut seq) d
     step_counts (TimeUp seq (Err e)) new d stays = same old new d h

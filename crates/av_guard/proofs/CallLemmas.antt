@@ -5,6 +5,8 @@ use Rattle.std.proofs.lemmas.List.Elements.{All-from_recursion}
 use Rattle.std.specs.List.{AllByRecursion as Each, flat_map}
 use Rattle.std.specs.Prelude.{MatchBool, nat_lt}
 use Rattle.av_base.specs.declared.mode.Mode.{Mode}
+use Rattle.av_base.specs.declared.port.Port.{Port}
+use Rattle.av_base.specs.declared.port.Port.TheVariants.{One, Two}
 use Rattle.av_base.specs.declared.refusal.Refusal.{Refusal}
 use Rattle.av_base.specs.declared.refusal.Refusal.TheVariants.{Fault, NoMemory}
 use Rattle.av_filter.proofs.BoundLemmas.{leads_to}
@@ -15,6 +17,7 @@ use Rattle.av_filter.specs.Conduct.{FilterEvent, Changes, Disconnects, Receives,
 use Rattle.av_filter_table.specs.Table.{Table}
 use Rattle.av_frame.specs.Message.{Letter}
 use Rattle.av_guard.proofs.AskLemmas.{asked_story, refused_story}
+use Rattle.av_guard.proofs.FirstLemmas.{IsFirst, audit_first}
 use Rattle.av_guard.proofs.PastLemmas.{among_left, among_right, entry_of}
 use Rattle.av_guard.proofs.RunLemmas.{append_none}
 use Rattle.av_guard.proofs.SoundLemmas.{written_removed, written_same}
@@ -22,7 +25,7 @@ use Rattle.av_guard.proofs.StoryLemmas.{Story, later, quiet_story}
 use Rattle.av_guard.specs.Asking.{Asked, AskedNow, GivesNothing, IsThere, LetGo, Nexts, Ordered, Refuses, Takes, ask_fault, asked, behind, in_line, must_stand, place_of, refusal_of, skipped, still_here}
 use Rattle.av_guard.specs.Beginning.{begun, limits_of}
 use Rattle.av_guard.specs.Run.{Among, Call, Client, ClientLost, Asks, NextInLine, Message, ServiceLost, TimeUp, Does, GuardsHaveHistory, IsFounded, Lead, asks_in, first_table, first_volume, given_by, sent_in, taken_by, told_in}
-use Rattle.av_guard.specs.State.{Gives, State, Turn, happens}
+use Rattle.av_guard.specs.State.{Gives, State, Turn, happens, hears_at, rests}
 use Rattle.av_guard.specs.Telling.{is_here}
 use Rattle.av_guard.specs.Written.{AreWritten}
 use Rattle.av_guard.specs.declared.ask.Ask.{Ask}
@@ -77,7 +80,7 @@ module _ (t0 : Table) (v0 : Store) (asks : List Ask) (told : List Told) (sent : 
   )
 
   nothing : (given : Given) (new : State) → GivesNothing given → Left new [] [] → Left new (given.told.items ++ []) (given.messages.items ++ [])
-  nothing given new g s = gives given new (record { state = new; told = []; messages = [] }) (record { told = g.told; messages = g.messages; state = refl }) s
+  nothing given new g s = gives given new (rests new) (record { told = g.told; messages = g.messages; state = refl }) s
 
   module _ (history : List FilterEntry) (old : State) (s : Story t0 v0 asks told sent history old) where
     same : (new : State) → new ≡ old → Left new [] []
@@ -85,7 +88,7 @@ module _ (t0 : Table) (v0 : Store) (asks : List Ask) (told : List Told) (sent : 
 
     -- others come, leave, or are passed by
     other : (clients : List ℕ) (last : ℕ) (line : List Ask) → Each (λ a. Among a asks) line → Story t0 v0 asks told sent history (record old { clients = clients; last = last; line = line })
-    other clients last line all = record { past = s.past; fits = s.fits; written = s.written; paired = s.paired; line = all; waiting = s.waiting; founded = s.founded }
+    other clients last line all = record { past = s.past; fits = s.fits; written = s.written; paired = s.paired; line = all; waiting = s.waiting; founded = s.founded; events = s.events }
 
     -- a call that is an event of the filter
     heard : (new : State) (given : Given) (e : FilterEvent) → Story t0 v0 asks (told ++ (happens old e).told) (sent ++ (happens old e).messages) (history ++ entry_of old.table old.volume e ∷ []) (happens old e).state → Gives given new (happens old e)
@@ -120,7 +123,7 @@ module _ (t0 : Table) (v0 : Store) (asks : List Ask) (told : List Told) (sent : 
 
     let_go : (stream : ℕ) → filter_refusal old.table old.volume (Changes (Remove stream)) ≡ None
         → Story t0 v0 asks (told ++ (happens old (Changes (Remove stream))).told) (sent ++ (happens old (Changes (Remove stream))).messages) (history ++ entry_of old.table old.volume (Changes (Remove stream)) ∷ []) (happens old (Changes (Remove stream))).state
-    let_go stream ok = quiet_story t0 v0 asks told sent history old (Changes (Remove stream)) s refl tt ok (written_removed old.table old.volume _ stream refl s.written)
+    let_go stream ok = quiet_story t0 v0 asks told sent history old (Changes (Remove stream)) s tt refl tt ok (written_removed old.table old.volume _ stream refl s.written)
 
     next : (new : State) (given : Given) → Nexts old new given → Left new (given.told.items ++ []) (given.messages.items ++ [])
     next new given (LetGo stream crowded free ok g) = heard new given (Changes (Remove stream)) (let_go stream ok) g
@@ -145,11 +148,16 @@ module _ (t0 : Table) (v0 : Store) (asks : List Ask) (told : List Told) (sent : 
     step (NextInLine (Err (Fault f))) new d all = idle history new (subst (Story t0 v0 asks told sent history) (sym d) passed)
     step (NextInLine (Err NoMemory)) new (inl is) all = same new is
     step (NextInLine (Err NoMemory)) new (inr held) all = idle_some new (refused_story t0 v0 asks told sent history (skipped old) new held.ask.content passed held.left)
-    step (Message m (Ok given)) new d all = heard new given (Receives m) (quiet_story t0 v0 asks told sent history old (Receives m) s refl tt refl (quiet (Receives m) (leads_to old.table old.volume (Receives m)))) d
+    step (Message m (Ok given)) new d all = came m.port refl
+      where
+        came : (port : Port) → m.port ≡ port → Left new (given.told.items ++ []) (given.messages.items ++ [])
+        came One is =
+            heard new given (Receives m) (quiet_story t0 v0 asks told sent history old (Receives m) s is refl tt refl (quiet (Receives m) (leads_to old.table old.volume (Receives m)))) (subst (λ p. Gives given new (hears_at p old m)) is d)
+        came Two is = gives given new (rests old) (subst (λ p. Gives given new (hears_at p old m)) is d) (idle history old s)
     step (Message m (Err e)) new d all = same new d
-    step (ServiceLost (Ok given)) new d all = heard new given Disconnects (quiet_story t0 v0 asks told sent history old Disconnects s refl tt refl (quiet Disconnects (leads_to old.table old.volume Disconnects))) d
+    step (ServiceLost (Ok given)) new d all = heard new given (Disconnects One) (quiet_story t0 v0 asks told sent history old (Disconnects One) s refl refl tt refl (quiet (Disconnects One) (leads_to old.table old.volume (Disconnects One)))) d
     step (ServiceLost (Err e)) new d all = same new d
-    step (TimeUp seq (Ok given)) new d all = heard new given (TimesOut seq) (quiet_story t0 v0 asks told sent history old (TimesOut seq) s refl tt refl (quiet (TimesOut seq) (leads_to old.table old.volume (TimesOut seq)))) d
+    step (TimeUp seq (Ok given)) new d all = heard new given (TimesOut seq) (quiet_story t0 v0 asks told sent history old (TimesOut seq) s tt refl tt refl (quiet (TimesOut seq) (leads_to old.table old.volume (TimesOut seq)))) d
     step (TimeUp seq (Err e)) new d all = same new d
 
 pub taken_among : (asks : List Ask) (more : List Ask) → Each (λ a. Among a (asks ++ more)) more
@@ -187,6 +195,7 @@ first_story mode keep questions = record {
   line = tt;
   waiting = tt;
   founded = tt;
+  events = tt;
 }
 
 pub guards_have_history : GuardsHaveHistory
@@ -197,6 +206,9 @@ guards_have_history mode keep questions calls g leads =
         legal = all.1.past.legal;
         leads = all.1.past.leads;
         sent = all.1.past.sends;
+        ports = All-from_recursion IsFirst (sent_in calls)
+            (subst (Each IsFirst) all.1.past.sends
+            (audit_first (first_table mode questions) (first_volume questions) [] all.0 (mounted_fits mode _ (first_volume questions)) refl tt all.1.past.legal all.1.events tt));
         founded = All-from_recursion (IsFounded (asks_in calls) all.0) (told_in calls) all.1.founded;
       },
     )

@@ -31,7 +31,6 @@ use Rattle.av_filter.specs.declared.note.Note.TheVariants.{Quiet}
 use Rattle.av_filter_table.specs.Table.{Table}
 use Rattle.av_store.specs.Content.{new_stream}
 use Rattle.av_guard.specs.Asking.{bytes_in, bytes_kept, stored}
-use Rattle.av_guard.specs.Kept as kept_so
 use Rattle.av_guard.proofs.SumLemmas.{count_more, sum_more}
 use Rattle.av_store.specs.Files.{Create, Write}
 use Rattle.av_store.specs.declared.fault.StoreFault.{StoreFault}

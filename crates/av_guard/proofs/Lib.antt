@@ -1,6 +1,8 @@
 pub mod NameLemmas
 pub mod CountLemmas
 pub mod RoomLemmas
+pub mod OnePortLemmas
+pub mod FirstLemmas
 pub mod SumLemmas
 pub mod KeepLemmas
 pub mod StateLemmas

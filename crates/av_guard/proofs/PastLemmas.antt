@@ -82,7 +82,7 @@ keeps_after t v hs (Changes c) k ok = kept_change v (changed_volume v c) hs c k 
 keeps_after t v hs (CleansUp s) k ok = k
 keeps_after t v hs (Receives m) k ok = k
 keeps_after t v hs (TimesOut seq) k ok = k
-keeps_after t v hs Disconnects k ok = k
+keeps_after t v hs (Disconnects port) k ok = k
 keeps_after t v hs Restarts k ok = record { streams = k.streams; last = k.last }
 
 -- no event takes a content away
@@ -92,7 +92,7 @@ held_stays hs (Changes ch) u g c h = remembers.stays hs ch u g c h
 held_stays hs (CleansUp s) u g c h = h
 held_stays hs (Receives m) u g c h = h
 held_stays hs (TimesOut seq) u g c h = h
-held_stays hs Disconnects u g c h = h
+held_stays hs (Disconnects port) u g c h = h
 held_stays hs Restarts u g c h = h
 
 -- where a history leads from a first table and volume, and what it sent

@@ -1,5 +1,6 @@
 -- How much an event of the filter answers: no more than opens wait, and one.
 use Rattle.std.proofs.Common.{ℕ, ◌+◌, ◌≤◌, length, arith, ap}
+use Rattle.av_base.specs.declared.port.Port.{Port}
 use Rattle.av_filter.proofs.RoomLemmas.{small_reaction}
 use Rattle.std.specs.Prelude.{Result, Ok, Err, IfOk}
 use Rattle.av_filter.specs.Call.{MeetsAlways, Reacts}
@@ -26,9 +27,9 @@ pub few_received : {E : Type 0} (r : Result Out E) (t t' : Table) (v v' : Store)
 unfolding filter_step
 few_received r t t' v v' m meets = few_given r t t' v v' (Receives m) meets
 
-pub few_disconnected : {E : Type 0} (r : Result Out E) (t t' : Table) (v v' : Store) → MeetsAlways t v t' v' r (disconnects t v) → IfOk r (λ out. length out.answers.items ≤ length t.pended + 1)
+pub few_disconnected : {E : Type 0} (r : Result Out E) (t t' : Table) (v v' : Store) (port : Port) → MeetsAlways t v t' v' r (disconnects t v port) → IfOk r (λ out. length out.answers.items ≤ length t.pended + 1)
 unfolding filter_step
-few_disconnected r t t' v v' meets = few_given r t t' v v' Disconnects meets
+few_disconnected r t t' v v' port meets = few_given r t t' v v' (Disconnects port) meets
 
 pub few_opened : (out : Out) (t t' : Table) (v v' : Store) (s least : ℕ) → Reacts out t' v' (opened t v s least) → length out.answers.items ≤ length t.pended + 1
 unfolding filter_step

@@ -13,7 +13,7 @@ use Rattle.av_guard.specs.declared.fault.AskFault.{AskFault}
 use Rattle.av_guard.specs.declared.fault.AskFault.TheVariants.{Full, NoClient, OpensSpent, TooLarge}
 use Rattle.av_guard.specs.declared.given.Given.{Given}
 use Rattle.av_guard.specs.Place.{Spot, Held, Missing, Unused, place_from}
-use Rattle.av_guard.specs.State.{Gives, State, Turn, happens}
+use Rattle.av_guard.specs.State.{Gives, State, Turn, happens, rests}
 use Rattle.av_guard.specs.Telling.{is_here}
 use Rattle.av_store.specs.Files.{Create, Remove, Write}
 use Rattle.av_store.specs.Rows.{Streams}
@@ -80,7 +80,7 @@ spent g = record g { volume = record g.volume { last = g.volume.last + 1 } }
 abbrev pub asked : State → ℕ → ℕ → List ℕ → Spot → Turn
 asked g client tag c (Held s) = opens g s client tag
 asked g client tag c (Unused name) = opens (kept g name c) (g.volume.last + 1) client tag
-asked g client tag c Missing = record { state = g; told = []; messages = [] }
+asked g client tag c Missing = rests g
 
 -- the place of a content
 abbrev pub place_of : State → List ℕ → Spot

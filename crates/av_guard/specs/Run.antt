@@ -4,15 +4,16 @@ use Rattle.std.specs.List.{flat_map}
 use Rattle.std.specs.declared.alloc.AllocError.{AllocError}
 use Rattle.av_base.specs.declared.cause.Cause.{Cause}
 use Rattle.av_base.specs.declared.mode.Mode.{Mode}
+use Rattle.av_base.specs.declared.port.Port.TheVariants.{One}
 use Rattle.av_base.specs.declared.refusal.Refusal.{Refusal}
 use Rattle.av_filter.specs.Audit.{FilterEntry, IsFilterAudit, answers_given, filter_end, sent_down}
-use Rattle.av_filter.specs.Conduct.{FilterEvent, Changes, Disconnects, Receives, TimesOut}
+use Rattle.av_filter.specs.Conduct.{FilterEvent, Changes, Disconnects, TimesOut}
 use Rattle.av_filter_table.specs.Table.{Table, mounted}
 use Rattle.av_frame.specs.Message.{Letter}
 use Rattle.av_guard.specs.Asking.{Refuses, Takes, refusal_of}
 use Rattle.av_guard.specs.Beginning.{Joins, begun, left, limits_of}
 use Rattle.av_guard.specs.Line.{NextOf}
-use Rattle.av_guard.specs.State.{State, Turns, happens}
+use Rattle.av_guard.specs.State.{State, Turns, happens, hears}
 use Rattle.av_guard.specs.declared.answered.Answered.{Answered}
 use Rattle.av_guard.specs.declared.answered.Answered.TheVariants as told
 use Rattle.av_guard.specs.declared.ask.Ask.{Ask}
@@ -40,8 +41,8 @@ Does (ClientLost client) old new = new ≡ left old client
 Does (Asks client tag c (Ok given)) old new = (refusal_of old client c ≡ None) × Takes old new given client tag c
 Does (Asks client tag c (Err why)) old new = Refuses old new client c why
 Does (NextInLine result) old new = NextOf old new result
-Does (Message m result) old new = Turns old new result (happens old (Receives m))
-Does (ServiceLost result) old new = Turns old new result (happens old Disconnects)
+Does (Message m result) old new = Turns old new result (hears old m)
+Does (ServiceLost result) old new = Turns old new result (happens old (Disconnects One))
 Does (TimeUp seq result) old new = Turns old new result (happens old (TimesOut seq))
 
 -- calls in turn lead from one state to another
@@ -125,11 +126,12 @@ abbrev pub first_volume : ℕ → Store
 first_volume questions = record (empty_store 1 (limits_of questions)) { boot = 1 }
 
 -- The history of a guard's filter since the guard was made: a legal audit that leads to its table and volume, whose messages are
--- those that the calls gave out, and on which each answer that they told rests.
+-- those that the calls gave out, each for the first port, and on which each answer that they told rests.
 pub record IsHistoryOf (mode : Mode) (questions : ℕ) (calls : List Call) (g : State) (history : List FilterEntry) : Type 0 where
   pub legal : IsFilterAudit (first_table mode questions) (first_volume questions) history
   pub leads : filter_end (first_table mode questions) (first_volume questions) history ≡ record { table = g.table; volume = g.volume }
   pub sent : sent_down [] history ≡ sent_in calls
+  pub ports : All (λ m. m.port ≡ One) (sent_in calls)
   pub founded : All (IsFounded (asks_in calls) history) (told_in calls)
 
 -- every guard has one

@@ -1,7 +1,10 @@
 -- What a guard knows, and what an event of its filter does to it.
-use Rattle.std.specs.Prelude.{◌≡◌, ℕ, List, [], Result, Ok, Err}
-use Rattle.av_filter.specs.Conduct.{FilterEvent, filter_step}
+use Rattle.std.specs.Prelude.{◌≡◌, ℕ, false, List, [], Result, Ok, Err}
+use Rattle.av_base.specs.declared.port.Port.{Port}
+use Rattle.av_base.specs.declared.port.Port.TheVariants.{One, Two}
+use Rattle.av_filter.specs.Conduct.{FilterEvent, Receives, filter_step}
 use Rattle.av_filter.specs.Reaction.{Reaction}
+use Rattle.av_filter_table.specs.Ports.{is_open}
 use Rattle.av_filter_table.specs.Table.{Table}
 use Rattle.av_frame.specs.Message.{Letter}
 use Rattle.av_guard.specs.declared.ask.Ask.{Ask}
@@ -21,6 +24,10 @@ pub record State : Type 0 where
   pub waiting : Waiters
   pub line : List Ask
 
+-- A guard has one port, the first: no service is ever connected at the other.
+abbrev pub HasOnePort : Table → Type 0
+HasOnePort t = is_open Two t.connected ≡ false
+
 -- a state, and what was given out on the way to it
 pub record Turn : Type 0 where
   pub state : State
@@ -39,6 +46,19 @@ reacted g r =
 -- an event of the filter
 abbrev pub happens : State → FilterEvent → Turn
 happens g e = reacted g (filter_step g.table g.volume e)
+
+-- nothing happens
+abbrev pub rests : State → Turn
+rests g = record { state = g; told = []; messages = [] }
+
+-- a message comes at a port: at the second it is passed over
+abbrev pub hears_at : Port → State → Letter → Turn
+hears_at One g m = happens g (Receives m)
+hears_at Two g m = rests g
+
+-- the same of a message with its port
+abbrev pub hears : State → Letter → Turn
+hears g m = hears_at m.port g m
 
 -- what was given and left is the turn's
 pub record Gives (given : Given) (new : State) (turn : Turn) : Type 0 where

@@ -1,13 +1,15 @@
 ghost use Rattle.std.specs.Prelude.{◌≡◌, ◌+◌, ◌<◌, ◌≤◌, [], None, IfOk, OnOk, length, vec_len};
 ghost use Rattle.std.specs.Vec.{vec_capacity};
+ghost use Rattle.av_base.specs.declared.port.Port.TheVariants.{One};
 ghost use Rattle.av_filter.specs.Call.{MeetsAlways};
 ghost use Rattle.av_filter.specs.Conduct.{Changes, Disconnects, Opens, Receives, TimesOut, filter_refusal, filter_step};
 ghost use Rattle.av_filter.specs.Fit.{Fits};
+ghost use Rattle.av_guard.specs.State.{HasOnePort};
 ghost use Rattle.av_store.specs.Files.{Remove};
 ghost use Rattle.av_store.specs.Store.{greatest};
 
 use crate::given::Told;
-use av_base::{Refusal, StreamId, Version};
+use av_base::{Port, Refusal, StreamId, Version};
 use av_filter::{Filter, Out};
 use av_frame::Message;
 use av_store::Volume;
@@ -24,7 +26,7 @@ pub(crate) fn room_for_answers(alloc: Global, filter: &Filter) -> Result<Vec<Tol
     }
 }
 
-/// A message comes to the filter.
+/// A message comes to the filter, at the first port.
 #[tactic(auto, unfolding(av_filter::specs::Conduct::filter_step))]
 pub(crate) fn receive(
     alloc: Global,
@@ -32,11 +34,14 @@ pub(crate) fn receive(
     filter: &mut Filter,
     message: &Message,
 ) -> Result<Out, AllocError>
+    requires first { message.now.port ≡ One }
     requires fits { Fits filter.old volume.now }
+    requires alone { HasOnePort filter.old }
     ensures event { MeetsAlways filter.old volume.now filter.new volume.now result
         (filter_step filter.old volume.now (Receives message.now)) }
     ensures few { IfOk result (λ out. length out.answers.items ≤ length filter.old.pended + 1) }
     ensures fits { Fits filter.new volume.now }
+    ensures alone { HasOnePort filter.new }
 {
     filter.message(alloc, volume, message)
 }
@@ -49,12 +54,14 @@ pub(crate) fn disconnect(
     filter: &mut Filter,
 ) -> Result<Out, AllocError>
     requires fits { Fits filter.old volume.now }
+    requires alone { HasOnePort filter.old }
     ensures event { MeetsAlways filter.old volume.now filter.new volume.now result
-        (filter_step filter.old volume.now Disconnects) }
+        (filter_step filter.old volume.now (Disconnects One)) }
     ensures few { IfOk result (λ out. length out.answers.items ≤ length filter.old.pended + 1) }
     ensures fits { Fits filter.new volume.now }
+    ensures alone { HasOnePort filter.new }
 {
-    filter.disconnect(alloc, volume)
+    filter.disconnect(alloc, volume, Port::One)
 }
 
 /// The time of a question is up.
@@ -65,10 +72,12 @@ pub(crate) fn time_out(
     seq: u64,
 ) -> Result<Out, AllocError>
     requires fits { Fits filter.old volume.now }
+    requires alone { HasOnePort filter.old }
     ensures event { MeetsAlways filter.old volume.now filter.new volume.now result
         (filter_step filter.old volume.now (TimesOut seq)) }
     ensures few { IfOk result (λ out. length out.answers.items ≤ length filter.old.pended + 1) }
     ensures fits { Fits filter.new volume.now }
+    ensures alone { HasOnePort filter.new }
 {
     filter.timeout(alloc, volume, seq)
 }
@@ -83,10 +92,12 @@ pub(crate) fn open(
 ) -> Result<Out, AllocError>
     requires left { volume.old.opens < greatest }
     requires fits { Fits filter.old volume.old }
+    requires alone { HasOnePort filter.old }
     ensures event { MeetsAlways filter.old volume.old filter.new volume.new result
         (filter_step filter.old volume.old (Opens stream 0)) }
     ensures few { IfOk result (λ out. length out.answers.items ≤ length filter.old.pended + 1) }
     ensures fits { Fits filter.new volume.new }
+    ensures alone { HasOnePort filter.new }
 {
     match filter.open(alloc, volume, stream, Version::new(0)) {
         Ok(out) => Ok(out),
@@ -104,11 +115,13 @@ pub(crate) fn remove(
     stream: StreamId,
 ) -> Result<Out, AllocError>
     requires fits { Fits filter.old volume.old }
+    requires alone { HasOnePort filter.old }
     ensures event { MeetsAlways filter.old volume.old filter.new volume.new result
         (filter_step filter.old volume.old (Changes (Remove stream))) }
     ensures taken { OnOk result (filter_refusal filter.old volume.old (Changes (Remove stream)) ≡ None) }
     ensures few { IfOk result (λ out. length out.answers.items ≤ length filter.old.pended + 1) }
     ensures fits { Fits filter.new volume.new }
+    ensures alone { HasOnePort filter.new }
 {
     match filter.remove(alloc, volume, stream) {
         Ok(out) => Ok(out),

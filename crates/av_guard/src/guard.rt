@@ -2,15 +2,17 @@ ghost use Rattle.std.specs.Prelude.{◌≡◌, ◌+◌, ◌^◌, length, None, S
 ghost use Rattle.std.specs.BTreeMap.{is_at};
 ghost use Rattle.std.specs.Set.{remove_key};
 ghost use Rattle.std.specs.Ordering.{nat_cmp};
+ghost use Rattle.av_base.specs.declared.port.Port.TheVariants.{One};
 ghost use Rattle.av_base.specs.declared.refusal.Refusal.TheVariants.{NoMemory};
 ghost use Rattle.av_filter.specs.Once.{times};
-ghost use Rattle.av_filter.specs.Conduct.{Disconnects, Receives, TimesOut};
+ghost use Rattle.av_filter.specs.Conduct.{Disconnects, TimesOut, filter_step, loses_all};
 ghost use Rattle.av_guard.specs.Asking.{AskedNow, GivesNothing, LetsGo, Refuses, Takes, bytes_kept, in_line, is_crowded, may_ask, must_stand, opens, place_of, refusal_of, skipped, still_here};
 ghost use Rattle.av_guard.specs.Line.{FirstOf, FrontOf, IsFree, NextOf};
 ghost use Rattle.av_guard.specs.Kept.{AsksNew, IsKeptBy};
 ghost use Rattle.av_guard.specs.Beginning.{Joins, NotBegun, begun};
 ghost use Rattle.av_guard.specs.Place.{Unused};
-ghost use Rattle.av_guard.specs.State.{Turns, happens};
+ghost use Rattle.av_filter_table.specs.Ports.{is_open, none_open};
+ghost use Rattle.av_guard.specs.State.{HasOnePort, Turns, happens, hears};
 ghost use Rattle.av_guard.specs.Waiting.{ArePaired};
 ghost use Rattle.av_guard.specs.Written.{AreWritten};
 ghost use Rattle.av_store.specs.Store.{greatest};
@@ -26,7 +28,8 @@ use crate::shelf::{Oldest, Shelf};
 use crate::waiter::Waiter;
 use av_base::limits::MAX_QUESTIONS;
 use av_base::{
-    ByteList, LimitField, LimitValues, Limits, Mode, OpenId, Refusal, Refused, StreamId, Version,
+    ByteList, LimitField, LimitValues, Limits, Mode, OpenId, Port, Refusal, Refused, StreamId,
+    Version,
 };
 use av_filter::{Filter, Out};
 use av_frame::Message;
@@ -205,11 +208,12 @@ impl Guard {
         self.filter.floor()
     }
 
-    /// Whether a service is connected.
+    /// Whether a service is connected, at the one port that a guard has.
     pub fn connected(&self) -> bool
-        ensures { result ≡ self.now.table.connected }
+        ensures value { result ≡ is_open One self.now.table.connected }
+        ensures alone { HasOnePort self.now.table }
     {
-        self.filter.connected()
+        self.filter.connected(Port::One)
     }
 
     /// How many questions run.
@@ -249,20 +253,27 @@ impl Guard {
         self.shelf.bytes()
     }
 
-    /// A message of the service, which it may connect. It costs a logarithm for each answer, and the bytes of the content that
-    /// it reads.
+    /// A message of the service, which it may connect. One that comes at the second port is passed over: a guard has one service,
+    /// at the first. It costs a logarithm for each answer, and the bytes of the content that it reads.
     pub fn message(&mut self, alloc: Global, message: &Message) -> Result<Given, AllocError>
-        ensures event { Turns self.old self.new result (happens self.old (Receives message.now)) }
+        ensures event { Turns self.old self.new result (hears self.old message.now) }
     {
+        match message.port() {
+            Port::One => {}
+            Port::Two => return Ok(Given::nothing(alloc)),
+        }
         let told = room_for_answers(alloc, &self.filter)?;
         let out = receive(alloc, &self.volume, &mut self.filter, message)?;
         let (clients, waiting) = (&self.clients, &mut self.waiting);
         Ok(settle(&self.filter, clients, waiting, &mut self.shelf, told, out))
     }
 
-    /// The service is lost: every question ends, and every open is answered by the mode. It costs a logarithm for each.
+    /// The service is lost, and a guard has no other: every question ends, and every open is answered by the mode. It costs a logarithm for each.
+    #[tactic(auto, using(crate::proofs::OnePortLemmas::all_lost))]
     pub fn service_lost(&mut self, alloc: Global) -> Result<Given, AllocError>
-        ensures event { Turns self.old self.new result (happens self.old Disconnects) }
+        ensures event { Turns self.old self.new result (happens self.old (Disconnects One)) }
+        ensures all { filter_step self.old.table self.old.volume (Disconnects One)
+            ≡ loses_all (record self.old.table { connected = none_open }) self.old.volume }
     {
         let told = room_for_answers(alloc, &self.filter)?;
         let out = disconnect(alloc, &self.volume, &mut self.filter)?;

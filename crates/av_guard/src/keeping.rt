@@ -5,6 +5,7 @@ ghost use Rattle.std.specs.Result.{result_err};
 ghost use Rattle.av_filter.specs.Fit.{Fits};
 ghost use Rattle.av_guard.specs.Asking.{stored};
 ghost use Rattle.av_guard.specs.Keeping.{IsStored, IsUnkept};
+ghost use Rattle.av_guard.specs.State.{HasOnePort};
 ghost use Rattle.av_store.specs.Rows.{stream_at};
 ghost use Rattle.av_store.specs.Store.{create_of, remove_of};
 
@@ -23,11 +24,13 @@ pub(crate) fn store(
     content: &[u8],
 ) -> Result<StreamId, AllocError>
     requires fits { Fits filter.old volume.old }
+    requires alone { HasOnePort filter.old }
     requires free { result_err (create_of volume.old name.now) ≡ None }
     ensures id { IfOk result (λ s. s ≡ volume.old.last + 1) }
     ensures stored { OnOk result (IsStored filter.old volume.old name.now content.now filter.new volume.new) }
     ensures err { OnErr result (IsUnkept filter.old volume.old filter.new volume.new) }
     ensures fits { Fits filter.new volume.new }
+    ensures alone { HasOnePort filter.new }
 {
     let stream = create(alloc, filter, volume, name)?;
     match write_once(alloc, filter, volume, stream, content) {
@@ -49,11 +52,13 @@ fn write_once(
     content: &[u8],
 ) -> Result<(), AllocError>
     requires fits { Fits filter.old volume.old }
+    requires alone { HasOnePort filter.old }
     ensures table { OnOk result (filter.new ≡ (filter_step filter.old volume.old (Changes (Write stream 0 content.now))).table) }
     ensures volume { OnOk result (volume.new ≡ (filter_step filter.old volume.old (Changes (Write stream 0 content.now))).volume) }
     ensures taken { OnOk result (filter_refusal filter.old volume.old (Changes (Write stream 0 content.now)) ≡ None) }
     ensures err { OnErr result ((filter.new ≡ filter.old) × (volume.new ≡ volume.old)) }
     ensures fits { OnOk result (Fits filter.new volume.new) }
+    ensures alone { HasOnePort filter.new }
 {
     match filter.write(alloc, volume, stream, 0, content) {
         Ok(_) => Ok(()),

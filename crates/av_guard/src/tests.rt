@@ -22,6 +22,8 @@ fn guard_of(alloc: Global, mode: Mode, keep: u64, questions: u64) -> Result<Guar
 // A step of a case.
 enum Step<'a> {
     Hello(u64),
+    // A greeting at the second port.
+    Other(u64),
     Updated(u64),
     // The clean reply to the question of this number, under this version, and one with the signature 0 that ends at 2.
     Clean(u64, u64),
@@ -36,6 +38,7 @@ enum Step<'a> {
 fn run(alloc: Global, guard: &mut Guard, step: &Step<'_>, said: &mut String) -> Result<(), Fail> {
     let first = match step {
         Step::Hello(version) => guard.message(alloc, &hello(*version))?,
+        Step::Other(version) => guard.message(alloc, &say::other(*version))?,
         Step::Updated(version) => guard.message(alloc, &say::updated(*version))?,
         Step::Clean(seq, version) => guard.message(alloc, &reply(*seq, *version, false))?,
         Step::Infected(seq, version) => guard.message(alloc, &reply(*seq, *version, true))?,
@@ -75,7 +78,7 @@ struct Case<'a> {
 
 const MANY: u64 = 67_108_864;
 
-const CASES: [Case<'_>; 13] = [
+const CASES: [Case<'_>; 15] = [
     Case {
         name: "a client that left is told nothing",
         mode: Mode::FailClosed,
@@ -109,6 +112,27 @@ const CASES: [Case<'_>; 13] = [
         keep: MANY,
         questions: 1_024,
         steps: &[Step::Hello(1), Step::Ask(1, 1, b"ABC"), Step::Lost],
+        said: "scan 1 1 2 3;1.1=denied 6;",
+    },
+    Case {
+        name: "a greeting at the second port is passed over",
+        mode: Mode::FailClosed,
+        keep: MANY,
+        questions: 1_024,
+        steps: &[Step::Other(1), Step::Ask(1, 1, b"ABC")],
+        said: "1.1=denied 3;",
+    },
+    Case {
+        name: "no second service takes over what a lost one leaves",
+        mode: Mode::FailClosed,
+        keep: MANY,
+        questions: 1_024,
+        steps: &[
+            Step::Hello(1),
+            Step::Other(1),
+            Step::Ask(1, 1, b"ABC"),
+            Step::Lost,
+        ],
         said: "scan 1 1 2 3;1.1=denied 6;",
     },
     Case {

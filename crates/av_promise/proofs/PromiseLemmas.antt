@@ -1,11 +1,12 @@
 -- A grant of the history, against what was published by the end.
-use Rattle.std.proofs.Common.{◌≡◌, ◌⊎◌, ℕ, List, [], ◌∷◌, ◌++◌, map, Some, refl, sym, ap, subst, ◌∙◌, arith, inl, inr, ne_eqb}
+use Rattle.std.proofs.Common.{◌≡◌, ◌⊎◌, ℕ, List, [], ◌∷◌, ◌++◌, map, Some, refl, sym, ap, subst, ◌∙◌, inl, inr}
 use Rattle.std.specs.List.{AllByRecursion as Each}
 use Rattle.std.proofs.lemmas.List.Elements.{All-from_recursion, recursion_from_All}
 use Rattle.std.specs.Prelude.{All}
 use Rattle.av_base.specs.declared.limits.LimitValues.{LimitValues}
 use Rattle.av_base.specs.declared.mode.Mode.{Mode}
 use Rattle.av_base.specs.declared.port.Port.{Port}
+use Rattle.av_base.specs.declared.port.Port.TheVariants.{One, Two}
 use Rattle.av_base.specs.declared.verdict.Verdict.TheVariants.{Clean}
 use Rattle.av_filter.specs.Audit.{FilterEntry, IsFilterAudit, answers_given}
 use Rattle.av_filter.specs.Conduct.{FilterEvent, Changes, CleansUp, Disconnects, Opens, Receives, Restarts, TimesOut}
@@ -18,46 +19,31 @@ use Rattle.av_guard.specs.declared.given.Told.{Told}
 use Rattle.av_match.specs.Match.{verdict}
 use Rattle.av_pend.specs.declared.answer.Answer.{Answer}
 use Rattle.av_pend.specs.declared.answer.Answer.TheVariants.{Granted, Unscanned}
-use Rattle.av_promise.specs.Promise.{IsJust, IsRightlyTold, IsServed, published_by}
-use Rattle.av_service.specs.Audit.{By, Call as ServiceCall, IsAccepted, IsCatalogue, IsServiceAudit, Publishes, respond, sets_after}
-use Rattle.av_service.specs.Desk.{Desk, just_started}
-use Rattle.av_sigset.specs.Publication.{Publication, latest_as, published_as}
+use Rattle.av_promise.specs.Promise.{IsJust, IsRightlyTold, IsServed, at_first, published_by}
+use Rattle.av_service.specs.Audit.{By, Call as ServiceCall, IsCatalogue, IsServiceAudit, Publishes}
+use Rattle.av_sigset.specs.Publication.{Publication, published_as}
 use Rattle.av_store.proofs.SeenLemmas.{follows}
 use Rattle.av_store.specs.History.{content}
 use Rattle.av_world.proofs.FitLemmas.{Grown, right_grows, same_past}
-use Rattle.av_world.proofs.SceneLemmas.{Falling, filter_grows, published_before, sets_same}
-use Rattle.av_world.specs.Audits.{AreLegal, AuditsGrantOnlyClean, OfFilter, OfService, SideEntry, answers_in, filter_side, past_end, service_side}
+use Rattle.av_world.proofs.SceneLemmas.{filter_grows}
+use Rattle.av_world.proofs.UnionLemmas.{joined_keeps}
+use Rattle.av_world.specs.Audits.{AreLegal, AreOneSets, AuditsGrantOnlyClean, FinishesItsWorks, OfFilter, OfService, SideEntry, answers_in, filter_side, past_end, service_side, sets_end}
 use Rattle.av_world.specs.Headline.{IsJustified}
 use Rattle.av_world.specs.Past.{IsVerdictOf, Past}
-use Rattle.av_world.specs.Scene.{Answered as AnsweredThen, opening_past, past_call, past_filter, told_at}
+use Rattle.av_world.specs.Scene.{Answered as AnsweredThen, Started, desk_at_first, opening_past, past_call, past_filter, told_at}
 
 -- a past that grew twice
 grown_on : (p q r : Past) → Grown p q → Grown q r → Grown p r
 grown_on p q r a b = record { contents = λ s g c h. b.contents s g c (a.contents s g c h); sets = λ v set h. b.sets v set (a.sets v set h) }
 
-call_grows : (p : Past) (d : Desk) (call : ServiceCall) → Falling p.sets → IsAccepted p.sets d call → Grown p (past_call p call)
-unfolding published_as
-call_grows p d (By e) fall ok = same_past p
-call_grows p d (Publishes v set) fall ok = record {
-  contents = λ s g c h. h;
-  sets = λ u x h.
-      let le = published_before p.sets u x fall h in
-      rw (ne_eqb v u (λ e. absurd (omega (arith, ok.later, le, e)))) h;
-}
+call_grows : (p : Past) (call : ServiceCall) → Grown p (past_call p call)
+call_grows p (By e) = same_past p
+call_grows p (Publishes v set) = record { contents = λ s g c h. h; sets = joined_keeps p.sets (record { version = v; patterns = set }) }
 
-call_falls : (sets : List Publication) (d : Desk) (call : ServiceCall) → Falling sets → IsAccepted sets d call → Falling (sets_after sets call)
-call_falls sets d (By e) fall ok = fall
-call_falls sets d (Publishes v set) fall ok = (ok.later, fall)
-
-all_grows : (es : List SideEntry) (p : Past) (d : Desk) → Falling p.sets → IsServiceAudit p.sets d (service_side es) → Grown p (past_end p es)
-all_grows [] p d fall legal = same_past p
-all_grows (OfFilter x ∷ es) p d fall legal =
-    let q : Past = past_filter p x.event in
-    let same : q.sets ≡ p.sets = sets_same p x.event in
-    grown_on p q (past_end q es) (filter_grows p x.event) (all_grows es q d (subst Falling (sym same) fall) (subst (λ sets. IsServiceAudit sets d (service_side es)) (sym same) legal))
-all_grows (OfService x ∷ es) p d fall legal =
-    let q : Past = past_call p x.call in
-    grown_on p q (past_end q es) (call_grows p d x.call fall legal.0) (all_grows es q (respond d x.call).desk (call_falls p.sets d x.call fall legal.0) legal.2)
+all_grows : (es : List SideEntry) (p : Past) → Grown p (past_end p es)
+all_grows [] p = same_past p
+all_grows (OfFilter x ∷ es) p = let q : Past = past_filter p x.event in grown_on p q (past_end q es) (filter_grows p x.event) (all_grows es q)
+all_grows (OfService port x ∷ es) p = let q : Past = past_call p x.call in grown_on p q (past_end q es) (call_grows p x.call) (all_grows es q)
 
 among_split : {A : Type 0} (x : A) (xs ys : List A) → Among x (xs ++ ys) → Among x xs ⊎ Among x ys
 among_split x [] ys a = inr a
@@ -80,21 +66,16 @@ pub record IsJustThen (mode : Mode) (a : Answer) (end : Past) : Type 0 where
   pub just : IsJustified mode past a
   pub grown : Grown past end
 
-just_answer : (mode : Mode) (a : Answer) (es : List SideEntry) (p : Past) (d : Desk) → Falling p.sets → IsServiceAudit p.sets d (service_side es) → Among a (answers_given (filter_side es)) → Each (λ b. IsJustified mode b.past b.answer) (answers_in p es)
-    → IsJustThen mode a (past_end p es)
-just_answer mode a [] p d fall legal among all = absurd among
-just_answer mode a (OfFilter x ∷ es) p d fall legal among all =
+just_answer : (mode : Mode) (a : Answer) (es : List SideEntry) (p : Past) → Among a (answers_given (filter_side es)) → Each (λ b. IsJustified mode b.past b.answer) (answers_in p es) → IsJustThen mode a (past_end p es)
+just_answer mode a [] p among all = absurd among
+just_answer mode a (OfFilter x ∷ es) p among all =
     let q : Past = past_filter p x.event in
-    let same : q.sets ≡ p.sets = sets_same p x.event in
-    let falls : Falling q.sets = subst Falling (sym same) fall in
-    let rest : IsServiceAudit q.sets d (service_side es) = subst (λ sets. IsServiceAudit sets d (service_side es)) (sym same) legal in
     let parts = each_parts (λ b. IsJustified mode b.past b.answer) (map (told_at q) x.answers) (answers_in q es) all in
     elim (among_split a x.answers (answers_given (filter_side es)) among) [
-      | inl here ↦ record { past = q; just = just_then mode q x.answers a here parts.0; grown = all_grows es q d falls rest }
-      | inr after ↦ just_answer mode a es q d falls rest after parts.1
+      | inl here ↦ record { past = q; just = just_then mode q x.answers a here parts.0; grown = all_grows es q }
+      | inr after ↦ just_answer mode a es q after parts.1
     ]
-just_answer mode a (OfService x ∷ es) p d fall legal among all =
-    just_answer mode a es (past_call p x.call) (respond d x.call).desk (call_falls p.sets d x.call fall legal.0) legal.2 among all
+just_answer mode a (OfService port x ∷ es) p among all = just_answer mode a es (past_call p x.call) among all
 
 -- what streams have held is the filter's alone
 held_filter : (p : Past) (e : FilterEvent) → (past_filter p e).streams ≡ held_after p.streams e
@@ -103,57 +84,77 @@ held_filter p (Changes c) = refl
 held_filter p (CleansUp s) = refl
 held_filter p (Receives m) = refl
 held_filter p (TimesOut seq) = refl
-held_filter p Disconnects = refl
+held_filter p (Disconnects port) = refl
 held_filter p Restarts = refl
+
+held_call : (p : Past) (call : ServiceCall) → (past_call p call).streams ≡ p.streams
+held_call p (By e) = refl
+held_call p (Publishes v set) = refl
 
 held_end : (es : List SideEntry) (p : Past) → (past_end p es).streams ≡ all_held p.streams (filter_side es)
 held_end [] p = refl
 held_end (OfFilter x ∷ es) p = held_end es (past_filter p x.event) ∙ ap (λ hs. all_held hs (filter_side es)) (held_filter p x.event)
-held_end (OfService x ∷ es) p = held_end es (past_call p x.call)
+held_end (OfService port x ∷ es) p = held_end es (past_call p x.call) ∙ ap (λ hs. all_held hs (filter_side es)) (held_call p x.call)
 
-catalogue_falls : (sets : List Publication) → IsCatalogue sets → Falling sets
-catalogue_falls [] h = tt
-catalogue_falls (q ∷ qs) h = (h.0, catalogue_falls qs h.2)
+-- what a service is told at its start
+abbrev pub told_so : ℕ → LimitValues → Port → Started
+told_so number limits port = record { number = number; limits = limits }
+
+catalogues : (sets : List Publication) → IsCatalogue sets → (port : Port) → IsCatalogue (at_first sets port)
+catalogues sets cat One = cat
+catalogues sets cat Two = tt
 
 -- a guard's history that was served
-module _ (mode : Mode) (questions : ℕ) (calls : List Call) (g : State) (history : List FilterEntry) (is : IsHistoryOf mode questions calls g history) (number : ℕ) (port : Port) (limits : LimitValues) (sets : List Publication) (es : List SideEntry) (served : IsServed history number port limits sets es) where
-  pub legal : AreLegal mode (limits_of questions) number port limits [] (first_volume questions) sets es
+module _ (mode : Mode) (questions : ℕ) (calls : List Call) (g : State) (history : List FilterEntry) (is : IsHistoryOf mode questions calls g history) (number : ℕ) (limits : LimitValues) (sets : List Publication) (es : List SideEntry) (served : IsServed history number limits sets es) where
+  services : (port : Port) → IsServiceAudit (at_first sets port) (desk_at_first port (told_so number limits port) (at_first sets port)) (service_side port es)
+  services One = served.service
+  services Two = subst (IsServiceAudit [] (desk_at_first Two (told_so number limits Two) [])) (sym served.alone) tt
+
+  works : (port : Port) → FinishesItsWorks (at_first sets port) [] (service_side port es)
+  works One = served.works
+  works Two = subst (FinishesItsWorks [] []) (sym served.alone) tt
+
+  one_sets : AreOneSets (sets_end sets (service_side One es)) (sets_end [] (service_side Two es))
+  unfolding published_as
+  one_sets version p q is other =
+      let nothing : published_as [] version ≡ Some q = ap (λ xs. published_as (sets_end [] xs) version) (sym served.alone) ∙ other in
+      absurd (cc (nothing))
+
+  pub legal : AreLegal mode (limits_of questions) (told_so number limits) [] (first_volume questions) (at_first sets) es
   legal = record {
     volume = record { streams = (follows.starts 1 (limits_of questions)).streams; last = (follows.starts 1 (limits_of questions)).last };
-    catalogue = served.catalogue;
+    catalogues = catalogues sets served.catalogue;
     filter = subst (IsFilterAudit _ (first_volume questions)) (sym served.filter) is.legal;
-    service = served.service;
-    works = served.works;
+    services = services;
+    works = works;
+    one_sets = one_sets;
     delivered = served.delivered;
   }
 
-  end : Past
-  end = past_end (opening_past [] sets) es
-
-  answer_just : AuditsGrantOnlyClean mode [] sets es → (a : Answer) → Among a (answers_given history) → IsJustThen mode a (past_end (opening_past [] sets) es)
+  answer_just : AuditsGrantOnlyClean mode [] (at_first sets) es → (a : Answer) → Among a (answers_given history) → IsJustThen mode a (past_end (opening_past [] (at_first sets)) es)
   answer_just clean a among =
-      just_answer mode a es (opening_past [] sets) (just_started number port limits (latest_as sets)) (catalogue_falls sets served.catalogue) served.service (subst (λ h. Among a (answers_given h)) (sym served.filter) among)
-      (recursion_from_All (λ (b : AnsweredThen). IsJustified mode b.past b.answer) (answers_in (opening_past [] sets) es) clean)
+      just_answer mode a es (opening_past [] (at_first sets)) (subst (λ h. Among a (answers_given h)) (sym served.filter) among)
+      (recursion_from_All (λ (b : AnsweredThen). IsJustified mode b.past b.answer) (answers_in (opening_past [] (at_first sets)) es) clean)
 
-  told_just : AuditsGrantOnlyClean mode [] sets es → (c : List ℕ) (a : Answered) → RestsOn history c a → IsJust mode (published_by sets es) c a
+  told_just : AuditsGrantOnlyClean mode [] (at_first sets) es → (c : List ℕ) (a : Answered) → RestsOn history c a → IsJust mode (published_by sets es) c a
   told_just clean c (told.Granted generation version) rests =
       let then = answer_just clean (Granted rests.open_id rests.least rests.stream generation version) rests.granted in
-      let right : IsVerdictOf (past_end (opening_past [] sets) es) rests.stream generation version Clean = right_grows then.past _ rests.stream generation version Clean then.grown then.just.1 in
-      let held : content (past_end (opening_past [] sets) es).streams rests.stream generation ≡ Some c =
-      ap (λ hs. content hs rests.stream generation) (held_end es (opening_past [] sets) ∙ ap (λ h. all_held [] h) served.filter) ∙ rests.bytes in
+      let right : IsVerdictOf (past_end (opening_past [] (at_first sets)) es) rests.stream generation version Clean = right_grows then.past _ rests.stream generation version Clean then.grown then.just.1 in
+      let held : content (past_end (opening_past [] (at_first sets)) es).streams rests.stream generation ≡ Some c =
+      ap (λ hs. content hs rests.stream generation) (held_end es (opening_past [] (at_first sets)) ∙ ap (λ h. all_held [] h) served.filter) ∙ rests.bytes in
       let same : right.bytes ≡ c = cc (held, right.held) in
       (right.patterns, right.published, ap (λ b. verdict right.patterns b) (sym same) ∙ sym right.right)
   told_just clean c (told.Unscanned generation cause) rests = (answer_just clean (Unscanned rests.open_id rests.stream generation cause) rests.let_through).just
   told_just clean c (told.Infected version i e) rests = tt
   told_just clean c (told.Denied cause) rests = tt
 
-  told_rightly : AuditsGrantOnlyClean mode [] sets es → (t : Told) → IsFounded (asks_in calls) history t → IsRightlyTold mode (published_by sets es) (asks_in calls) t
+  told_rightly : AuditsGrantOnlyClean mode [] (at_first sets) es → (t : Told) → IsFounded (asks_in calls) history t → IsRightlyTold mode (published_by sets es) (asks_in calls) t
   told_rightly clean t f = record { ask = f.ask; taken = f.taken; client = f.client; tag = f.tag; just = told_just clean f.ask.content t.answer f.rests }
 
-  all_rightly : AuditsGrantOnlyClean mode [] sets es → (ts : List Told) → Each (IsFounded (asks_in calls) history) ts → Each (IsRightlyTold mode (published_by sets es) (asks_in calls)) ts
+  all_rightly : AuditsGrantOnlyClean mode [] (at_first sets) es → (ts : List Told) → Each (IsFounded (asks_in calls) history) ts → Each (IsRightlyTold mode (published_by sets es) (asks_in calls)) ts
   all_rightly clean [] all = tt
   all_rightly clean (t ∷ ts) all = (told_rightly clean t all.0, all_rightly clean ts all.1)
 
-  pub clean_grants : AuditsGrantOnlyClean mode [] sets es → All (IsRightlyTold mode (published_by sets es) (asks_in calls)) (told_in calls)
+  pub clean_grants : AuditsGrantOnlyClean mode [] (at_first sets) es → All (IsRightlyTold mode (published_by sets es) (asks_in calls)) (told_in calls)
   clean_grants clean =
       All-from_recursion (IsRightlyTold mode (published_by sets es) (asks_in calls)) (told_in calls) (all_rightly clean (told_in calls) (recursion_from_All (IsFounded (asks_in calls) history) (told_in calls) is.founded))

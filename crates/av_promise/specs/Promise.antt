@@ -1,9 +1,10 @@
--- The calls of a guard, and the audit of a service, put together.
+-- The calls of a guard, and the audit of the one service that it has, at the first port, put together.
 use Rattle.std.specs.Prelude.{◌≡◌, ◌≢◌, ℕ, List, [], All, Some}
 use Rattle.av_base.specs.declared.limits.LimitValues.{LimitValues}
 use Rattle.av_base.specs.declared.mode.Mode.{Mode}
 use Rattle.av_base.specs.declared.mode.Mode.TheVariants.{FailClosed}
 use Rattle.av_base.specs.declared.port.Port.{Port}
+use Rattle.av_base.specs.declared.port.Port.TheVariants.{One, Two}
 use Rattle.av_base.specs.declared.verdict.Verdict.TheVariants.{Clean}
 use Rattle.av_filter.specs.Audit.{FilterEntry}
 use Rattle.av_guard.specs.Beginning.{begun}
@@ -20,21 +21,27 @@ use Rattle.av_sigset.specs.Publication.{Publication, latest_as, published_as}
 use Rattle.av_sigset.specs.declared.signature.Pattern.{Pattern}
 use Rattle.av_world.specs.Audits.{FinishesItsWorks, IsDelivered, SideEntry, filter_side, past_end, service_side}
 use Rattle.av_world.specs.Scene.{opening_past}
+use Rattle.av_world.specs.World.{at_port}
 
--- The list has the events of a filter, of this history, and those of a service, each side's in its order. The service began with
--- a catalogue, and its audit is legal; each work that came back is one that it lent; and each message that came to one side had
--- been sent by the other before.
-pub record IsServed (history : List FilterEntry) (number : ℕ) (port : Port) (limits : LimitValues) (sets : List Publication)
+-- The list has the events of a filter, of this history, and those of a service at the first port, each side's in its order; at the
+-- second port there is none. The service began with a catalogue, and its audit is legal; each work that came back is one that it
+-- lent; and each message that came to one side had been sent by the other before.
+pub record IsServed (history : List FilterEntry) (number : ℕ) (limits : LimitValues) (sets : List Publication)
     (es : List SideEntry) : Type 0 where
   pub filter : filter_side es ≡ history
+  pub alone : service_side Two es ≡ []
   pub catalogue : IsCatalogue sets
-  pub service : IsServiceAudit sets (just_started number port limits (latest_as sets)) (service_side es)
-  pub works : FinishesItsWorks sets [] (service_side es)
+  pub service : IsServiceAudit sets (just_started number One limits (latest_as sets)) (service_side One es)
+  pub works : FinishesItsWorks sets [] (service_side One es)
   pub delivered : IsDelivered [] [] es
+
+-- the publications of this catalogue, and none at the second port
+abbrev pub at_first : List Publication → Port → List Publication
+at_first sets port = at_port port sets []
 
 -- what was published by the end
 abbrev pub published_by : List Publication → List SideEntry → List Publication
-published_by sets es = (past_end (opening_past [] sets) es).sets
+published_by sets es = (past_end (opening_past [] (at_first sets)) es).sets
 
 -- Where a content was granted, it is clean under the patterns that were published as the version that is named. Nothing else
 -- lets it through in fail-closed mode.
@@ -58,5 +65,5 @@ GrantsAreClean =
     (mode : Mode) (keep questions : ℕ) (calls : List Call) (g : State) → Lead calls (begun mode keep questions) g
     → (history : List FilterEntry)
     × IsHistoryOf mode questions calls g history
-    × ((number : ℕ) (port : Port) (limits : LimitValues) (sets : List Publication) (es : List SideEntry) → IsServed history number port limits sets es
+    × ((number : ℕ) (limits : LimitValues) (sets : List Publication) (es : List SideEntry) → IsServed history number limits sets es
     → All (IsRightlyTold mode (published_by sets es) (asks_in calls)) (told_in calls))

@@ -18,6 +18,11 @@ pub(crate) fn hello(version: u64) -> Message {
     Message::hello(Port::One, 1, version_of(version))
 }
 
+/// The same at the second port.
+pub(crate) fn other(version: u64) -> Message {
+    Message::hello(Port::Two, 1, version_of(version))
+}
+
 pub(crate) fn updated(version: u64) -> Message {
     Message::updated(Port::One, version_of(version))
 }

@@ -1,6 +1,12 @@
+use Rattle.av_filter.specs.Conduct.{Changes, filter_step}
+use Rattle.av_guard.proofs.OnePortLemmas.{alone_given}
 use Rattle.av_guard.proofs.RoomLemmas.{few_changed}
 use Rattle.av_store.specs.Files.{Remove}
 use Rattle.av_guard.proofs.events.remove.Goals as goal
 
 pub returns-in-Ok-clause-few : goal.returns-in-Ok-clause-few
 returns-in-Ok-clause-few c = few_changed _ _ _ _ _ (Remove c.args.stream) c.in-Ok.ensures.event.1
+
+pub returns-in-Ok-clause-alone : goal.returns-in-Ok-clause-alone
+unfolding filter_step
+returns-in-Ok-clause-alone c = alone_given c.in-Ok.out c.args.filter.now c.remove.new.self c.args.volume.now c.remove.new.volume (Changes (Remove c.args.stream)) c.requires.alone tt c.in-Ok.ensures.event.1

@@ -1,6 +1,10 @@
 use Rattle.av_filter.specs.Conduct.{TimesOut}
+use Rattle.av_guard.proofs.OnePortLemmas.{alone_after}
 use Rattle.av_guard.proofs.RoomLemmas.{few_given}
 use Rattle.av_guard.proofs.events.time_out.Goals as goal
 
 pub returns-clause-few : goal.returns-clause-few
 returns-clause-few c = few_given c.timeout.result c.args.filter.now c.timeout.new.self c.args.volume.now c.args.volume.now (TimesOut c.args.seq) c.timeout.ensures.event
+
+pub returns-clause-alone : goal.returns-clause-alone
+returns-clause-alone c = alone_after c.timeout.result c.args.filter.now c.timeout.new.self c.args.volume.now c.args.volume.now (TimesOut c.args.seq) c.requires.alone tt c.timeout.ensures.event

@@ -15,6 +15,7 @@ invariant_of-self-in-Ok-store c =
     let added = c.in-Ok.ensures.ok in
     record {
       fits = c.store.ensures.fits;
+      alone = c.store.ensures.alone;
       written = written_same _ _ stored.streams (written_more _ _ _ _ c.self.invariant.written (free_name c.args.self.now.volume c.args.content.now c.args.name.now c.requires.place));
       paired = subst (λ ps. ArePaired ps c.self.inside.waiting.entries) (sym stored.pended) c.self.invariant.paired;
       counted = λ s. ap (λ (k : Kept). waits_of k.waits s) added ∙ c.self.invariant.counted s;

@@ -12,6 +12,7 @@ invariant_of-self c =
     let gone = c.remove-in-Ok-remove.ensures in
     record {
       fits = c.remove.ensures.fits;
+      alone = c.remove.ensures.alone;
       written = written_removed _ _ _ c.args.stream c.in-Ok-remove.ensures.event.volume c.self.invariant.written;
       paired = paired_after _ _ _ _ _ _ (Changes (Remove c.args.stream)) _ c.self.invariant.fits c.self.invariant.written c.self.invariant.paired refl tt c.in-Ok-remove.ensures.event c.settle.ensures.waiting;
       counted = c.settle.ensures.counted;

@@ -6,6 +6,7 @@ use Rattle.av_guard.proofs.guard.Guard.message.Goals as goal
 pub invariant_of-self-2 : goal.invariant_of-self-2
 invariant_of-self-2 c = record {
   fits = c.receive.ensures.fits;
+  alone = c.receive.ensures.alone;
   written = c.self.invariant.written;
   paired = paired_after _ _ _ _ _ _ (Receives c.args.message.now) _ c.self.invariant.fits c.self.invariant.written c.self.invariant.paired refl tt c.in_ok-out.ensures.event c.settle.ensures.waiting;
   counted = c.settle.ensures.counted;

@@ -1,4 +1,5 @@
 use Rattle.std.proofs.Common.{refl, ◌∙◌}
+use Rattle.av_base.specs.declared.port.Port.TheVariants.{One}
 use Rattle.av_filter.specs.Conduct.{Disconnects}
 use Rattle.av_guard.proofs.SoundLemmas.{paired_after}
 use Rattle.av_guard.proofs.guard.Guard.service_lost.Goals as goal
@@ -6,8 +7,9 @@ use Rattle.av_guard.proofs.guard.Guard.service_lost.Goals as goal
 pub invariant_of-self-2 : goal.invariant_of-self-2
 invariant_of-self-2 c = record {
   fits = c.disconnect.ensures.fits;
+  alone = c.disconnect.ensures.alone;
   written = c.self.invariant.written;
-  paired = paired_after _ _ _ _ _ _ Disconnects _ c.self.invariant.fits c.self.invariant.written c.self.invariant.paired refl tt c.in_ok-out.ensures.event c.settle.ensures.waiting;
+  paired = paired_after _ _ _ _ _ _ (Disconnects One) _ c.self.invariant.fits c.self.invariant.written c.self.invariant.paired refl tt c.in_ok-out.ensures.event c.settle.ensures.waiting;
   counted = c.settle.ensures.counted;
   count = c.settle.ensures.shelf.0 ∙ c.self.invariant.count;
   bytes = c.settle.ensures.shelf.1 ∙ c.self.invariant.bytes;

@@ -20,6 +20,7 @@ invariant_of-self-in-Ok-open c =
     let streams = ap (λ (w : Store). w.streams) (event.volume ∙ leads_to c.self.inside.filter c.self.inside.volume (Opens c.args.stream 0)) in
     record {
       fits = c.open.ensures.fits;
+      alone = c.open.ensures.alone;
       written = written_same _ _ streams c.self.invariant.written;
       paired = paired_opened c.self.inside.filter _ c.self.inside.volume _ c.self.inside.waiting.entries _ (record { client = c.args.client; tag = c.args.tag; stream = c.args.stream }) _ 0 c.in-Ok-open.out (ap (λ n. n + 1) c.opens-number.ensures) c.self.invariant.fits c.self.invariant.written c.self.invariant.paired event (c.settle.ensures.waiting ∙ ap (λ m. left_by m c.in-Ok-open.out.answers.items) c.in-Ok-enter.ensures.ok);
       counted = c.settle.ensures.counted;
@@ -35,6 +36,7 @@ invariant_of-self-in-Err-open c =
     let waiting = restored _ _ _ _ _ c.leave.ensures.waiting c.in-Ok-enter.ensures.ok (free_at _ c.self.inside.volume _ _ c.self.invariant.fits c.self.invariant.paired number) in
     record {
       fits = c.open.ensures.fits;
+      alone = c.open.ensures.alone;
       written = written_same _ _ streams c.self.invariant.written;
       paired = paired_back _ _ _ _ err.0 waiting c.self.invariant.paired;
       counted = c.leave.ensures.counted;
