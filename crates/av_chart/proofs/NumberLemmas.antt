@@ -1,31 +1,31 @@
 -- What an event does to the numbers of opens: which it takes, and which wait or are answered.
-use Rattle.std.proofs.Common.{◌≡◌, ℕ, suc, ◌+◌, ◌==◌, ◌&&◌, ◌++◌, not, nat_le, nat_lt, List, [], length, map, Option, None, Some, Result, Ok, Err, if◌then◌else◌, refl, sym, ap, ◌∙◌, subst, arith}
+use Rattle.std.proofs.Common.{◌≡◌, ℕ, suc, ◌+◌, ◌==◌, ◌&&◌, ◌++◌, not, Bool, true, false, nat_le, nat_lt, List, [], ◌∷◌, length, map, Option, None, Some, Result, Ok, Err, if◌then◌else◌, refl, sym, ap, ◌∙◌, subst, arith}
 use Rattle.std.proofs.Math.Seq.{drop-append_seam}
 use Rattle.std.proofs.lemmas.Bool.{cond_both}
 use Rattle.std.proofs.lemmas.Bool.Decides.{nat_tests}
 use Rattle.std.proofs.lemmas.List.Edits.{between_none}
 use Rattle.std.proofs.lemmas.Slice.{between_to_end}
 use Rattle.std.specs.List.{between, list_any}
-use Rattle.std.specs.Option.{option_map}
+use Rattle.std.specs.Option.{is_some, option_map}
 use Rattle.av_base.specs.Refused.{unless}
 use Rattle.av_base.specs.declared.message_id.MessageId.{MessageId}
-use Rattle.av_base.specs.declared.port.Port.TheVariants.{One}
 use Rattle.av_base.specs.declared.port.Port.{Port}
 use Rattle.av_base.specs.declared.verdict.Verdict.{Verdict}
 use Rattle.av_cache.specs.declared.entry.Entry.{Entry}
 use Rattle.av_filter.proofs.CountLemmas.{Balanced, filter_balanced, opens_after}
 use Rattle.av_filter.proofs.EachLemmas.{map_same}
-use Rattle.av_filter.specs.Again.{again}
-use Rattle.av_filter.specs.Changing.{changes, cleaned, removed, rewritten}
-use Rattle.av_filter.specs.Conduct.{FilterEvent, Opens, Changes, CleansUp, Receives, TimesOut, Disconnects, Restarts, disconnects, filter_refusal, filter_step, restarts, times_out}
+use Rattle.av_filter.specs.Again.{again_at, ends}
+use Rattle.av_filter.specs.Changing.{changes, cleaned, cleaned_at, removed, rewritten}
+use Rattle.av_filter.specs.Conduct.{FilterEvent, Opens, Changes, CleansUp, Receives, TimesOut, Disconnects, Restarts, again_each, disconnects, disconnects_to, filter_refusal, filter_step, loses_all, moves, restarts, times_out}
 use Rattle.av_filter.specs.Once.{once_up_to, times}
-use Rattle.av_filter.specs.Opening.{answers_with, open_asked, open_cached, open_found, open_judged, opened, pends, taken}
+use Rattle.av_filter.specs.Opening.{answers_with, open_asked, open_cached, open_found, open_judged, open_new, opened, pends, taken}
 use Rattle.av_filter.specs.Reaction.{Reaction}
 use Rattle.av_filter.specs.Receiving.{greeted, reads, receives_at, replies}
 use Rattle.av_filter.specs.declared.fault.FilterFault.{FilterFault}
 use Rattle.av_filter_table.specs.Answering.{present_bytes}
-use Rattle.av_filter_table.specs.Asking.{asks, ended, is_held}
-use Rattle.av_filter_table.specs.Table.{Table, can_ask, context_of, has_room, is_modified, raised, sequence_left}
+use Rattle.av_filter_table.specs.Asking.{ended, is_held}
+use Rattle.av_filter_table.specs.Ports.{is_open, least_port, without_port}
+use Rattle.av_filter_table.specs.Table.{Table, asking, has_room, on_port, raised, sequence_left}
 use Rattle.av_filter_table.specs.declared.question.Question.{Question}
 use Rattle.av_frame.specs.Message.{Letter}
 use Rattle.av_frame.specs.declared.message.Body.{Body}
@@ -71,13 +71,17 @@ module _ (t : Table) (v : Store) where
   pended_note : (t : Table) (s least : ℕ) (id : MessageId) (ms : List Letter) → TellsLast (pends t v s least id ms)
   pended_note t s least id ms = record { last = refl }
 
+  new_note : (s least : ℕ) (x : Stream) (b : Bool) (o : Option Port) → TellsLast (open_new t v s least x b o)
+  unfolding open_new
+  new_note s least x false o = answered_note t _
+  new_note s least x true None = answered_note t _
+  new_note s least x true (Some port) = pended_note _ s least _ _
+
   cached_note : (s least : ℕ) (x : Stream) (o : Option Entry) → TellsLast (open_cached t v s least x o)
   unfolding open_cached
   cached_note s least x (Some e) = record { last = refl }
   cached_note s least x None =
-      cond_both (not (has_room t)) _ _ TellsLast (λ e. answered_note t _)
-      (λ e. cond_both (not t.connected) _ _ TellsLast (λ e. answered_note t _)
-      (λ e. cond_both (not (can_ask t)) _ _ TellsLast (λ e. answered_note t _) (λ e. pended_note _ s least _ _)))
+      cond_both (not (has_room t)) _ _ TellsLast (λ e. answered_note t _) (λ e. new_note s least x (is_some (least_port t.connected)) (asking t))
 
   asked_note : (s least : ℕ) (x : Stream) (o : Option Question) → TellsLast (open_asked t v s least x o)
   unfolding open_asked
@@ -94,54 +98,73 @@ module _ (t : Table) (v : Store) where
   found_note s least None = record { last = refl }
   found_note s least (Some x) = judged_note s least x _
 
-  again_note : (q : Question) (early : List Letter) → TellsNone (again t v q early)
-  unfolding again asks ended
-  again_note q early = cond_both (list_any (is_held q.id) t.pended && sequence_left t) _ _ TellsNone (λ e. record { none = refl }) (λ e. record { none = refl })
+  again_note : (q : Question) (early : List Letter) (o : Option Port) → TellsNone (again_at o t v q early)
+  unfolding again_at ends
+  again_note q early None = record { none = refl }
+  again_note q early (Some port) = cond_both (list_any (is_held q.id) t.pended && sequence_left t) _ _ TellsNone (λ e. record { none = refl }) (λ e. record { none = refl })
 
   written_note : (s : ℕ) (o : Option Question) → TellsNone (rewritten t v s o)
   unfolding rewritten
   written_note s None = record { none = refl }
-  written_note s (Some q) = again_note q _
+  written_note s (Some q) = again_note q _ (least_port t.connected)
 
   removed_note : (s : ℕ) (o : Option Question) → TellsNone (removed t v s o)
   unfolding removed ended
   removed_note s None = record { none = refl }
   removed_note s (Some q) = record { none = refl }
 
+  cleaned_at_note : (s : ℕ) (b : Bool) (o : Option Port) → TellsNone (cleaned_at t v s b o)
+  unfolding cleaned_at
+  cleaned_at_note s true (Some port) = record { none = refl }
+  cleaned_at_note s true None = record { none = refl }
+  cleaned_at_note s false (Some port) = record { none = refl }
+  cleaned_at_note s false None = record { none = refl }
+
   cleaned_note : (s : ℕ) (o : Option Stream) → TellsNone (cleaned t v s o)
-  unfolding cleaned asks
+  unfolding cleaned
   cleaned_note s None = record { none = refl }
-  cleaned_note s (Some x) = cond_both (is_modified (context_of t.contexts s) && can_ask t) _ _ TellsNone (λ e. record { none = refl }) (λ e. record { none = refl })
+  cleaned_note s (Some x) = cleaned_at_note s _ _
 
-  greeted_note : (number version : ℕ) → TellsNone (greeted t v number version)
+  greeted_note : (port : Port) (number version : ℕ) → TellsNone (greeted t v port number version)
   unfolding greeted
-  greeted_note number version =
+  greeted_note port number version =
       cond_both (not (number == v.number)) _ _ TellsNone (λ e. record { none = refl })
-      (λ e. cond_both t.connected _ _ TellsNone (λ e. record { none = refl }) (λ e. cond_both (nat_lt version t.floor) _ _ TellsNone (λ e. record { none = refl }) (λ e. record { none = refl })))
+      (λ e. cond_both (is_open port t.connected) _ _ TellsNone (λ e. record { none = refl }) (λ e. cond_both (nat_lt version t.floor) _ _ TellsNone (λ e. record { none = refl }) (λ e. record { none = refl })))
 
-  reads_note : (id : MessageId) (offset count : ℕ) (o : Option Question) → TellsNone (reads t v id offset count o)
+  reads_note : (port : Port) (id : MessageId) (offset count : ℕ) (o : Option Question) → TellsNone (reads t v port id offset count o)
   unfolding reads
-  reads_note id offset count None = record { none = refl }
-  reads_note id offset count (Some q) = cond_both (nat_le (length (present_bytes v q.stream)) offset) _ _ TellsNone (λ e. record { none = refl }) (λ e. record { none = refl })
+  reads_note port id offset count None = record { none = refl }
+  reads_note port id offset count (Some q) = cond_both (nat_le (length (present_bytes v q.stream)) offset) _ _ TellsNone (λ e. record { none = refl }) (λ e. record { none = refl })
 
   replies_note : (outcome : ReplyOutcome) (o : Option Question) → TellsNone (replies t v outcome o)
   unfolding replies ended
   replies_note outcome None = record { none = refl }
   replies_note (Failed why) (Some q) = record { none = refl }
-  replies_note (Judged version r) (Some q) = cond_both (nat_lt version t.floor) _ _ TellsNone (λ e. again_note q []) (λ e. record { none = refl })
+  replies_note (Judged version r) (Some q) = cond_both (nat_lt version t.floor) _ _ TellsNone (λ e. again_note q [] (least_port t.connected)) (λ e. record { none = refl })
 
   receives_note : (port : Port) (m : Body) → TellsNone (receives_at t v port m)
   unfolding receives_at
-  receives_note One (Hello number version) = greeted_note number version
-  receives_note One (Updated version) = record { none = refl }
-  receives_note One (Read id offset count) = reads_note id offset count _
-  receives_note One (Reply id outcome) = replies_note outcome _
+  receives_note port (Hello number version) = greeted_note port number version
+  receives_note port (Updated version) = record { none = refl }
+  receives_note port (Read id offset count) = reads_note port id offset count _
+  receives_note port (Reply id outcome) = replies_note outcome _
   receives_note port _ = record { none = refl }
 
   timed_note : (o : Option Question) → TellsNone (times_out t v o)
   unfolding times_out ended
   timed_note None = record { none = refl }
   timed_note (Some q) = record { none = refl }
+
+-- questions that are asked again one after the other
+each_note : (t : Table) (v : Store) (qs : List Question) → TellsNone (again_each t v qs)
+unfolding again_each
+each_note t v [] = record { none = refl }
+each_note t v (q ∷ qs) = record { none = refl }
+
+lost_note : (t : Table) (v : Store) (port : Port) (o : Option Port) → TellsNone (disconnects_to o t v port)
+unfolding disconnects_to loses_all moves
+lost_note t v port None = record { none = refl }
+lost_note t v port (Some least) = record { none = (each_note t v (on_port port t.questions)).none }
 
 changes_note : (t : Table) (v : Store) (c : Change) → TellsNone (changes t v c)
 unfolding changes
@@ -180,7 +203,7 @@ by_event t v (Changes c) so = quiet_takes v _ (changes_note t v c) so
 by_event t v (CleansUp s) so = quiet_takes v _ (cleaned_note t v s _) so
 by_event t v (Receives m) so = quiet_takes v _ (receives_note t v m.port m.body) so
 by_event t v (TimesOut seq) so = quiet_takes v _ (timed_note t v _) so
-by_event t v Disconnects so = quiet_takes v (disconnects t v) (record { none = refl }) so
+by_event t v (Disconnects port) so = quiet_takes v (disconnects t v port) (lost_note (record t { connected = without_port port t.connected }) v port (least_port (without_port port t.connected))) so
 by_event t v Restarts so = quiet_takes v (restarts t v) (record { none = refl }) so
 
 -- ---- the numbers that wait or are answered
@@ -216,8 +239,8 @@ filter_goes w e line f =
       moves = λ n. omega (arith, b.kept n, takes n, ap (times n) given, ap (λ k. once_up_to k n) b.opens);
     }
 
-service_goes : (w : WorldState) (e : Event) (line : Line) (s : ServiceEvent) → MayGo w.volume.opens (pended w) (service_event w e One line s)
-service_goes w e line s =
+service_goes : (w : WorldState) (e : Event) (port : Port) (line : Line) (s : ServiceEvent) → MayGo w.volume.opens (pended w) (service_event w e port line s)
+service_goes w e port line s =
     record {
       takes = none_taken w.volume.opens 0 refl;
       moves = λ n. omega (arith, ap (λ g. times n (answered_in g)) (between_none w.answers (length w.answers)));
@@ -240,27 +263,30 @@ module _ (w : WorldState) where
 
   by_down : (e : Event) (o : Option Letter) → CanGo (down_frame w e o)
   by_down e None = tt
-  by_down e (Some m) = service_goes w e _ _
+  by_down e (Some m) = service_goes w e m.port _ _
 
   by_up : (e : Event) (o : Option Letter) → CanGo (up_frame w e o)
   by_up e None = tt
   by_up e (Some m) = by_filter e no_line _
 
-  by_work : (e : Event) (k : ℕ) (o : Option WorkState) → CanGo (work_event w e k o)
+  by_work : (e : Event) (k : ℕ) (o : Option (Port × WorkState)) → CanGo (work_event w e k o)
   by_work e k None = tt
-  by_work e k (Some x) = service_goes _ e _ _
+  by_work e k (Some x) = service_goes _ e x.0 _ _
 
   by_catalogue : (e : Event) (s : NumberedSet) (r : Result (Unit {0}) CatalogueFault) → CanGo (added w e s r)
-  by_catalogue e s (Ok free) = service_goes _ e _ _
+  by_catalogue e s (Ok free) = record {
+    takes = none_taken w.volume.opens 0 refl;
+    moves = λ n. omega (arith, ap (λ g. times n (answered_in g)) (between_none w.answers (length w.answers)));
+  }
   by_catalogue e s (Err f) = tt
 
   by_set : (e : Event) (r : Result NumberedSet SetFault) → CanGo (published w e r)
   by_set e (Ok s) = by_catalogue e s (may_publish w.sets s.version)
   by_set e (Err f) = tt
 
-  by_connection : (e : Event) (o : Option ConnectFault) → CanGo (connected w e o)
-  by_connection e None = service_goes w e _ _
-  by_connection e (Some f) = tt
+  by_connection : (e : Event) (port : Port) (o : Option ConnectFault) → CanGo (connected w e port o)
+  by_connection e port None = service_goes w e port _ _
+  by_connection e port (Some f) = tt
 
   pub step_goes : (e : Event) → MayGo w.volume.opens (pended w) (step_of w e)
   unfolding step_of
@@ -275,8 +301,8 @@ module _ (w : WorldState) where
   step_goes (event.Up n) = by_up (event.Up n) (member w.up n)
   step_goes (event.Run n) = by_work (event.Run n) n (work_at w.works n)
   step_goes (event.Timeout seq) = by_filter (event.Timeout seq) no_line _
-  step_goes event.Connect = by_connection event.Connect (connect_refusal (desk_of w One))
-  step_goes event.DisconnectFilter = by_filter event.DisconnectFilter no_line _
-  step_goes event.DisconnectService = service_goes w event.DisconnectService _ _
+  step_goes (event.Connect port) = by_connection (event.Connect port) port (connect_refusal (desk_of w port))
+  step_goes (event.DisconnectFilter port) = by_filter (event.DisconnectFilter port) no_line _
+  step_goes (event.DisconnectService port) = service_goes w (event.DisconnectService port) port _ _
   step_goes event.RestartFilter = by_filter event.RestartFilter (λ v. line.Booted v.boot) _
-  step_goes event.RestartService = service_goes w event.RestartService _ _
+  step_goes (event.RestartService port) = service_goes w (event.RestartService port) port _ _

@@ -1,5 +1,5 @@
 -- Each open of a run has one bar, and at most one answer.
-use Rattle.std.proofs.Common.{ℕ, ◌≡◌, ◌≤◌, ◌+◌, ◌==◌, ◌&&◌, ◌||◌, ◌++◌, Bool, true, false, cond, List, [], ◌∷◌, length, fold, Option, None, Some, Ok, Err, is_none, refl, sym, ap, ◌∙◌, subst, arith, if◌then◌else◌}
+use Rattle.std.proofs.Common.{ℕ, ◌≡◌, ◌≤◌, ◌+◌, ◌==◌, ◌&&◌, ◌||◌, ◌++◌, Bool, true, false, cond, List, [], ◌∷◌, length, fold, Option, None, Some, Ok, Err, refl, sym, ap, ◌∙◌, subst, arith, if◌then◌else◌}
 use Rattle.std.proofs.lemmas.Bool.{cond_both}
 use Rattle.std.proofs.lemmas.Bool.Decides.{nat_tests}
 use Rattle.std.proofs.lemmas.List.Sums.{sum_by-cons, sum_by_push}
@@ -7,6 +7,7 @@ use Rattle.std.specs.List.{count_by, list_any}
 use Rattle.av_base.specs.Line.{lines_of}
 use Rattle.av_base.specs.MessageId.{same_id}
 use Rattle.av_base.specs.declared.message_id.MessageId.{MessageId}
+use Rattle.av_base.specs.declared.port.Port.TheVariants.{One}
 use Rattle.av_filter.proofs.TimesLemmas.{times_map-append}
 use Rattle.av_filter.specs.Once.{once_up_to, times}
 use Rattle.av_pend.specs.Pend.{open_of}
@@ -29,7 +30,7 @@ use Rattle.av_chart.proofs.LifeLemmas.{both, num_is, num_same}
 use Rattle.av_chart.proofs.NumberLemmas.{MayGo, Takes, answered_in, step_goes, taken_as}
 use Rattle.av_chart.proofs.StoryLemmas.{fold_append}
 use Rattle.av_chart.specs.Chart.{begun}
-use Rattle.av_chart.specs.Life.{Life, begins, ended, ends, lives_as, with_end}
+use Rattle.av_chart.specs.Life.{Life, begins, ended, ends, lives_as, lives_at, with_end}
 use Rattle.av_chart.specs.Marks.{deed_of, given_in, submitted_id}
 use Rattle.av_chart.specs.OneBar.{HaveOneBar, OpensHaveOneBar, numbers_of}
 use Rattle.av_chart.specs.Row.{asked_lines}
@@ -43,12 +44,12 @@ use Rattle.av_chart.specs.declared.life.End.{End}
 
 -- how many bars of an open have no end
 abbrev living : ℕ → List Life → ℕ
-living n lives = count_by (lives_as (number_id n)) lives
+living n lives = count_by (lives_as One (number_id n)) lives
 
-same_number : (id : MessageId) (e : End) (l : Life) → (ended id e l).id.seq ≡ l.id.seq
-same_number id e l = cond_both (lives_as id l) _ _ (λ (x : Life). x.id.seq ≡ l.id.seq) (λ h. refl) (λ h. refl)
+same_number : (id : MessageId) (e : End) (l : Life) → (ended One id e l).id.seq ≡ l.id.seq
+same_number id e l = cond_both (lives_as One id l) _ _ (λ (x : Life). x.id.seq ≡ l.id.seq) (λ h. refl) (λ h. refl)
 
-same_numbers : (id : MessageId) (e : End) (lives : List Life) → numbers_of (ends id e lives) ≡ numbers_of lives
+same_numbers : (id : MessageId) (e : End) (lives : List Life) → numbers_of (ends One id e lives) ≡ numbers_of lives
 same_numbers id e [] = refl
 same_numbers id e (l ∷ lives) = let first = same_number id e l in let rest = same_numbers id e lives in cc
 
@@ -91,28 +92,28 @@ own_lives : (n m boot seq : ℕ) (alive : Bool) → (((0 == boot) && (m == seq))
 own_lives n m boot seq alive none same = let is : m ≡ n = num_is m n same in subst (λ k. (((0 == boot) && (k == seq)) && alive) ≡ false) is none
 
 module _ (n m : ℕ) (e : End) (l : Life) where
-  by_other : (c : Bool) → (m == n) ≡ c → lives_as (number_id m) l ≡ true → once_if (lives_as (number_id n) (with_end e l)) ≡ cond c 0 (once_if (lives_as (number_id n) l))
+  by_other : (c : Bool) → (m == n) ≡ c → lives_as One (number_id m) l ≡ true → once_if (lives_as One (number_id n) (with_end e l)) ≡ cond c 0 (once_if (lives_as One (number_id n) l))
   by_other true is own = rw (and_not (same_id (number_id n) l.id)) refl
   by_other false is own =
-      let not_it : same_id (number_id n) l.id ≡ false = other_lives n m l.id.boot l.id.seq (both (same_id (number_id m) l.id) (is_none l.end) own).0 is in
+      let not_it : same_id (number_id n) l.id ≡ false = other_lives n m l.id.boot l.id.seq (both (same_id (number_id m) l.id) (lives_at One l) own).0 is in
       rw not_it refl
 
-  by_own : (c : Bool) → (m == n) ≡ c → lives_as (number_id m) l ≡ false → once_if (lives_as (number_id n) l) ≡ cond c 0 (once_if (lives_as (number_id n) l))
-  by_own true is none = let gone : lives_as (number_id n) l ≡ false = own_lives n m l.id.boot l.id.seq (is_none l.end) none is in rw gone refl
+  by_own : (c : Bool) → (m == n) ≡ c → lives_as One (number_id m) l ≡ false → once_if (lives_as One (number_id n) l) ≡ cond c 0 (once_if (lives_as One (number_id n) l))
+  by_own true is none = let gone : lives_as One (number_id n) l ≡ false = own_lives n m l.id.boot l.id.seq (lives_at One l) none is in rw gone refl
   by_own false is none = refl
 
-  one_ends : once_if (lives_as (number_id n) (ended (number_id m) e l)) ≡ cond (m == n) 0 (once_if (lives_as (number_id n) l))
+  one_ends : once_if (lives_as One (number_id n) (ended One (number_id m) e l)) ≡ cond (m == n) 0 (once_if (lives_as One (number_id n) l))
   one_ends =
-      cond_both (lives_as (number_id m) l) (with_end e l) l (λ x. once_if (lives_as (number_id n) x) ≡ cond (m == n) 0 (once_if (lives_as (number_id n) l)))
+      cond_both (lives_as One (number_id m) l) (with_end e l) l (λ x. once_if (lives_as One (number_id n) x) ≡ cond (m == n) 0 (once_if (lives_as One (number_id n) l)))
       (λ own. by_other (m == n) refl own) (λ none. by_own (m == n) refl none)
 
-living_ends : (n m : ℕ) (e : End) (lives : List Life) → living n (ends (number_id m) e lives) ≡ cond (m == n) 0 (living n lives)
+living_ends : (n m : ℕ) (e : End) (lives : List Life) → living n (ends One (number_id m) e lives) ≡ cond (m == n) 0 (living n lives)
 living_ends n m e [] = never (m == n) 0 refl
 living_ends n m e (l ∷ lives) =
-    let bar : Life → ℕ = λ x. once_if (lives_as (number_id n) x) in
-    let first : living n (l ∷ lives) ≡ once_if (lives_as (number_id n) l) + living n lives = sum_by-cons bar l lives in
-    let all : living n (ends (number_id m) e (l ∷ lives)) ≡ once_if (lives_as (number_id n) (ended (number_id m) e l)) + living n (ends (number_id m) e lives) = sum_by-cons bar (ended (number_id m) e l) (ends (number_id m) e lives) in
-    all ∙ omega (arith, one_ends n m e l, living_ends n m e lives, ap (λ x. cond (m == n) 0 x) first, together (m == n) (once_if (lives_as (number_id n) l)) (living n lives))
+    let bar : Life → ℕ = λ x. once_if (lives_as One (number_id n) x) in
+    let first : living n (l ∷ lives) ≡ once_if (lives_as One (number_id n) l) + living n lives = sum_by-cons bar l lives in
+    let all : living n (ends One (number_id m) e (l ∷ lives)) ≡ once_if (lives_as One (number_id n) (ended One (number_id m) e l)) + living n (ends One (number_id m) e lives) = sum_by-cons bar (ended One (number_id m) e l) (ends One (number_id m) e lives) in
+    all ∙ omega (arith, one_ends n m e l, living_ends n m e lives, ap (λ x. cond (m == n) 0 x) first, together (m == n) (once_if (lives_as One (number_id n) l)) (living n lives))
 
 living_turned : (n step k : ℕ) (given : List Given) (lives : List Life) → living n (in_turn (answered step) k given lives) ≡ cond (is_answered n given) 0 (living n lives)
 living_turned n step k [] lives = refl
@@ -161,12 +162,12 @@ module _ (k id next step line : ℕ) (name : List ℕ) (given : List Given) (liv
   left = in_turn (answered step) line given lives
 
   abbrev new : Life
-  new = life (number_id id) name 0 (moment step 0)
+  new = life One (number_id id) name 0 (moment step 0)
 
   more_bars : (n : ℕ) → times n (numbers_of (begins new left)) ≤ times n (numbers_of lives) + once_if (id == n)
   more_bars n =
       let stay = ap (times n) (answers_stay step line given lives) in
-      cond_both (list_any (lives_as (number_id id)) left) left (left ++ new ∷ []) (λ ls. times n (numbers_of ls) ≤ times n (numbers_of lives) + once_if (id == n))
+      cond_both (list_any (lives_as One (number_id id)) left) left (left ++ new ∷ []) (λ ls. times n (numbers_of ls) ≤ times n (numbers_of lives) + once_if (id == n))
       (λ h. omega (arith, stay)) (λ h. omega (arith, stay, times_map-append (λ (l : Life). l.id.seq) n left (new ∷ [])))
 
   bars_after : ((n : ℕ) → times n (numbers_of lives) ≤ once_up_to k n) → (n : ℕ) → times n (numbers_of (opened step name id given left)) ≤ once_up_to next n
@@ -211,9 +212,9 @@ module _ (k id next step line : ℕ) (name : List ℕ) (given : List Given) (liv
         let own : once_if (id == id) ≡ 1 = rw (num_same id) refl in
         let none : living id left ≡ 0 =
         left_living id ∙ ap (λ a. cond a 0 (times id waiting)) parts.1 ∙ omega (arith, few id, takes id, at_most_once next id, own_taken id id parts.0, own) in
-        let begin : begins new left ≡ left ++ new ∷ [] = rw (none_passes (lives_as (number_id id)) left none) refl in
+        let begin : begins new left ≡ left ++ new ∷ [] = rw (none_passes (lives_as One (number_id id)) left none) refl in
         let more : living n (left ++ new ∷ []) ≡ living n left + once_if (id == n) =
-        sum_by_push (λ l. once_if (lives_as (number_id n) l)) left new ∙ ap (λ k. living n left + k) (one_begins n id) in
+        sum_by_push (λ l. once_if (lives_as One (number_id n) l)) left new ∙ ap (λ k. living n left + k) (one_begins n id) in
         ap (living n) begin ∙ more ∙ ap (λ k. k + once_if (id == n)) (left_living n)
         ∙ by (is_answered n given) (id == n) refl refl parts.1
         ∙ sym (wait_after n ∙ ap (λ k. cond (is_answered n given) 0 (times n waiting + k)) (own_taken id n parts.0))

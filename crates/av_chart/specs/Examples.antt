@@ -1,11 +1,13 @@
 -- Worked examples: lines of pictures, and what happened in some steps, computed by the definitions.
 use Rattle.std.specs.Prelude.{ℕ, ◌≡◌, List, [], ◌∷◌, None, Some, codes}
+use Rattle.av_base.specs.declared.port.Port.TheVariants.{One, Two}
+use Rattle.av_frame.specs.Message.{via}
 use Rattle.av_frame.specs.declared.message.Body.TheVariants.{Scan, Abort}
 use Rattle.av_chart.specs.Arrow.{near_text}
 use Rattle.av_chart.specs.Bars.{how_text}
 use Rattle.av_chart.specs.Escape.{escaped, printed, short}
 use Rattle.av_chart.specs.Lanes.{lane_text, name_text}
-use Rattle.av_chart.specs.Life.{Life, begins, ends}
+use Rattle.av_chart.specs.Life.{Life, begins, ends, ends_at}
 use Rattle.av_chart.specs.Mark.{bar_text, block_text}
 use Rattle.av_chart.specs.Picture.{answered_told, count_text, number_text, typed_text}
 use Rattle.av_chart.specs.Place.{bottom_of, top_at}
@@ -45,8 +47,9 @@ pub record AreWords : Type 0 where
   pub whole : short 9 (codes "ninebytes") ≡ codes "ninebytes"
   pub word : word_at 1 (codes "write letter 0 48") ≡ codes "letter"
   pub none : word_at 4 (codes "write letter 0 48") ≡ []
-  pub scan : message_label Down 1 (Scan (record { boot = 1; seq = 1 }) 1 2 5) ≡ codes "down 1 scan 1.1 g2"
-  pub abort : message_label Down 3 (Abort (record { boot = 1; seq = 1 })) ≡ codes "down 3 abort 1.1"
+  pub scan : message_label Down 1 (via One (Scan (record { boot = 1; seq = 1 }) 1 2 5)) ≡ codes "down 1 scan 1.1 g2"
+  pub abort : message_label Down 3 (via One (Abort (record { boot = 1; seq = 1 }))) ≡ codes "down 3 abort 1.1"
+  pub spare : message_label Down 2 (via Two (Scan (record { boot = 1; seq = 2 }) 1 2 5)) ≡ codes "down 2 scan 1.2 g2 port 2"
 
 -- rows of the heights 19, 38 and 19
 pub record AreRows : Type 0 where
@@ -60,7 +63,11 @@ abbrev pub two_posts : List Post
 two_posts = arrived 9 2 (arrived 6 2 (posted 4 0 2))
 
 abbrev pub question : ℕ → Life
-question n = life (record { boot = 1; seq = n }) (codes "letter") 2 (moment 4 n)
+question n = life One (record { boot = 1; seq = n }) (codes "letter") 2 (moment 4 n)
+
+-- the same at the other port
+abbrev pub on_spare : ℕ → Life
+on_spare n = record (question n) { port = Two }
 
 abbrev pub aborted : End
 aborted = record { at = moment 7 1; how = Aborted }
@@ -68,9 +75,10 @@ aborted = record { at = moment 7 1; how = Aborted }
 -- the three lives of opens from steps 1, 2 and 5 on, the first of which ended in step 4
 abbrev pub three_opens : List Life
 three_opens =
-    ends (number_id 1) (record { at = moment 4 0; how = Denied })
+    ends One (number_id 1) (record { at = moment 4 0; how = Denied })
     (
-    life (number_id 1) [] 0 (moment 1 0) ∷ life (number_id 2) [] 0 (moment 2 0) ∷ life (number_id 3) [] 0 (moment 5 0) ∷ []
+    life One (number_id 1) [] 0 (moment 1 0) ∷ life One (number_id 2) [] 0 (moment 2 0)
+    ∷ life One (number_id 3) [] 0 (moment 5 0) ∷ []
     )
 
 -- what happens
@@ -80,9 +88,11 @@ pub record AreDeeds : Type 0 where
   pub nowhere : arrived 6 3 (posted 4 0 2) ≡ posted 4 0 2
   pub begun : begins (question 2) (question 1 ∷ []) ≡ question 1 ∷ question 2 ∷ []
   pub once : begins (question 1) (question 1 ∷ []) ≡ question 1 ∷ []
-  pub by_scan : asked_by (codes "letter" ∷ []) 4 1 (Scan (record { boot = 1; seq = 1 }) 1 2 5) [] ≡ question 1 ∷ []
-  pub by_abort : asked_by [] 7 1 (Abort (record { boot = 1; seq = 1 })) (question 1 ∷ question 2 ∷ [])
+  pub by_scan : asked_by (codes "letter" ∷ []) 4 1 One (Scan (record { boot = 1; seq = 1 }) 1 2 5) [] ≡ question 1 ∷ []
+  pub by_abort : asked_by [] 7 1 One (Abort (record { boot = 1; seq = 1 })) (question 1 ∷ question 2 ∷ [])
       ≡ record (question 1) { «end» = Some aborted } ∷ question 2 ∷ []
+  pub apart : asked_by [] 7 1 Two (Abort (record { boot = 1; seq = 1 })) (question 1 ∷ []) ≡ question 1 ∷ []
+  pub lost : ends_at One aborted (question 1 ∷ on_spare 2 ∷ []) ≡ record (question 1) { «end» = Some aborted } ∷ on_spare 2 ∷ []
   pub places : slots (moment 9 0) free_places three_opens ≡ 0 ∷ 1 ∷ 0 ∷ []
 
 pub record WorkedExamples : Type 0 where

@@ -14,7 +14,7 @@ use Rattle.av_chart.specs.Mark.{words_text}
 use Rattle.av_chart.specs.Place.{y_of}
 use Rattle.av_chart.specs.Row.{asked_lines, is_noted, note_of, spanned}
 use Rattle.av_chart.specs.Spot.{above, below, left_of, right_of, spot, within}
-use Rattle.av_chart.specs.Words.{answer_label, told_note, verdict_word, word_at}
+use Rattle.av_chart.specs.Words.{answer_label, port_end, told_note, verdict_word, word_at}
 use Rattle.av_chart.specs.declared.happened.Asks.{Asks}
 use Rattle.av_chart.specs.declared.happened.Asks.TheVariants.{Open, Cleanup}
 use Rattle.av_chart.specs.declared.happened.FilterMark.{FilterMark}
@@ -99,7 +99,7 @@ answers_text p step line (g ∷ gs) = answer_text g.answer (height_at p step lin
 unfoldable pub filter_label : FilterMark → List ℕ → List ℕ
 filter_label (Boot boot) seq = spelt (codes "boot " ∷ decimal boot ∷ [])
 filter_label Timeout seq = spelt (codes "timeout " ∷ seq ∷ [])
-filter_label ServiceLost seq = codes "service is lost"
+filter_label (ServiceLost port) seq = spelt (codes "service is lost" ∷ port_end port ∷ [])
 
 unfoldable pub filter_pill : List ℕ → ℕ → List ℕ
 filter_pill words y = pill_text (left_of (spot 712 y) (wide words / 2)) words

@@ -8,6 +8,7 @@ pub mod Lanes
 pub mod Left
 pub mod Legend
 pub mod Life
+pub mod Living
 pub mod Mark
 pub mod Marks
 pub mod Messages

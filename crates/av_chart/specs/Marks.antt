@@ -43,11 +43,11 @@ deed_of (event.Down place) = deed.Deliver Down place
 deed_of (event.Up place) = deed.Deliver Up place
 deed_of (event.Run place) = deed.Run place
 deed_of (event.Timeout seq) = deed.Timeout
-deed_of event.Connect = deed.Other
-deed_of event.DisconnectFilter = deed.DisconnectFilter
-deed_of event.DisconnectService = deed.DisconnectService
+deed_of (event.Connect port) = deed.Other
+deed_of (event.DisconnectFilter port) = deed.DisconnectFilter port
+deed_of (event.DisconnectService port) = deed.DisconnectService port
 deed_of event.RestartFilter = deed.RestartFilter
-deed_of event.RestartService = deed.RestartService
+deed_of (event.RestartService port) = deed.RestartService port
 
 -- the word of a note, if it has one
 abbrev pub said_by_filter : FilterNote → Said
@@ -105,7 +105,7 @@ asks_of _ given note = None
 -- what befalls the filter
 abbrev pub filter_deed : Deed → Option FilterMark
 filter_deed deed.Timeout = Some on_filter.Timeout
-filter_deed deed.DisconnectFilter = Some on_filter.ServiceLost
+filter_deed (deed.DisconnectFilter port) = Some (on_filter.ServiceLost port)
 filter_deed _ = None
 
 abbrev pub filter_mark : Deed → Line → Option FilterMark
@@ -114,8 +114,8 @@ filter_mark what _ = filter_deed what
 
 -- what befalls the service
 abbrev pub service_deed : Deed → Option ServiceMark
-service_deed deed.DisconnectService = Some on_service.FilterLost
-service_deed deed.RestartService = Some on_service.Restart
+service_deed (deed.DisconnectService port) = Some (on_service.FilterLost port)
+service_deed (deed.RestartService port) = Some (on_service.Restart port)
 service_deed _ = None
 
 abbrev pub service_mark : Deed → Line → Option ServiceMark

@@ -105,7 +105,7 @@ sent_text p way s words title = departure_shown p way s words title ++ arrivals_
 -- the message at a place, where the world has it
 abbrev pub message_text : Picture → Way → Sent → ℕ → Option Letter → List ℕ
 message_text p way s k None = []
-message_text p way s k (Some m) = sent_text p way s (message_label way (capped (k + 1)) m.body) (message_title p.world.now way k)
+message_text p way s k (Some m) = sent_text p way s (message_label way (capped (k + 1)) m) (message_title p.world.now way k)
 
 -- the message at a place, where it is shown
 abbrev pub message_shown : Picture → Way → ℕ → Sent → List ℕ

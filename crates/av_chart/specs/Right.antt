@@ -12,7 +12,7 @@ use Rattle.av_chart.specs.Left.{height_at}
 use Rattle.av_chart.specs.Mark.{words_text}
 use Rattle.av_chart.specs.Row.{is_noted, note_of}
 use Rattle.av_chart.specs.Spot.{below, right_of, spot, within}
-use Rattle.av_chart.specs.Words.{told_note, word_at}
+use Rattle.av_chart.specs.Words.{port_end, told_note, word_at}
 use Rattle.av_chart.specs.declared.happened.ServiceMark.{ServiceMark}
 use Rattle.av_chart.specs.declared.happened.ServiceMark.TheVariants.{FilterLost, Restart, Set}
 use Rattle.av_chart.specs.declared.happened.Step.{Step}
@@ -26,8 +26,8 @@ told_text look words y = words_text (below (spot 1126 y) 4) look words
 
 -- what befalls the service
 unfoldable pub service_label : ServiceMark → List ℕ
-service_label FilterLost = codes "filter is lost"
-service_label Restart = codes "restart"
+service_label (FilterLost port) = spelt (codes "filter is lost" ∷ port_end port ∷ [])
+service_label (Restart port) = spelt (codes "restart" ∷ port_end port ∷ [])
 service_label (Set version signatures) =
     spelt
     (

@@ -2,6 +2,8 @@
 use Rattle.std.specs.Prelude.{ℕ, zero, suc, ◌+◌, ◌-◌, ◌==◌, ◌||◌, Bool, nat_lt, List, [], ◌∷◌, ◌++◌, length, map, fold, Option, None, Some, unwrap_or, Ok, Err, codes, slice_set, if◌then◌else◌}
 use Rattle.std.specs.List.{between}
 use Rattle.av_base.specs.declared.message_id.MessageId.{MessageId}
+use Rattle.av_base.specs.declared.port.Port.{Port}
+use Rattle.av_base.specs.declared.port.Port.TheVariants.{One}
 use Rattle.av_base.specs.declared.verdict.Verdict.{Verdict}
 use Rattle.av_base.specs.declared.verdict.Verdict.TheVariants as verdict
 use Rattle.av_frame.specs.Message.{Letter}
@@ -18,7 +20,7 @@ use Rattle.av_world.specs.declared.given.Given.{Given}
 use Rattle.av_world.specs.declared.report.Line.{Line}
 use Rattle.av_world.specs.declared.report.Line.TheVariants as line
 use Rattle.av_world.specs.declared.report.Report.{Report}
-use Rattle.av_chart.specs.Life.{Life, begins, ends, ends_all, lives_of}
+use Rattle.av_chart.specs.Life.{Life, begins, ends, ends_all, ends_at, lives_of}
 use Rattle.av_chart.specs.Marks.{asks_of, deed_of, filter_mark, given_in, is_spent, judged_mark, lent_of, ran_of, said_of, service_mark, submitted_id, volume_mark}
 use Rattle.av_chart.specs.Number.{capped}
 use Rattle.av_chart.specs.Row.{asked_lines, is_noted, silent}
@@ -168,8 +170,8 @@ abbrev pub number_id : ℕ → MessageId
 number_id n = record { boot = 0; seq = n }
 
 -- a life that has no end
-abbrev pub life : MessageId → List ℕ → ℕ → Moment → Life
-life id name generation at = record { id = id; name = name; generation = generation; begin = at; «end» = None }
+abbrev pub life : Port → MessageId → List ℕ → ℕ → Moment → Life
+life port id name generation at = record { port = port; id = id; name = name; generation = generation; begin = at; «end» = None }
 
 -- an answer ends its open
 abbrev pub how_answered : Answer → How
@@ -178,27 +180,27 @@ how_answered (answer.Unscanned open_id stream generation cause) = how.Unscanned
 how_answered (answer.Denied open_id cause) = how.Denied
 
 abbrev pub answered : ℕ → ℕ → Given → List Life → List Life
-answered step line g opens = ends (number_id (open_of g.answer)) (record { at = moment step line; how = how_answered g.answer }) opens
+answered step line g opens = ends One (number_id (open_of g.answer)) (record { at = moment step line; how = how_answered g.answer }) opens
 
 -- the open that a step submits begins, where it waits
 abbrev pub opened : ℕ → List ℕ → ℕ → List Given → List Life → List Life
 opened step name id given opens =
-    if id == 0 || is_answered id given then opens else begins (life (number_id id) name 0 (moment step 0)) opens
+    if id == 0 || is_answered id given then opens else begins (life One (number_id id) name 0 (moment step 0)) opens
 
 -- the name of the stream of a number
 abbrev pub name_in : List (List ℕ) → ℕ → List ℕ
 name_in names stream = unwrap_or (member names stream) (codes "?")
 
--- a question begins by its Scan, and ends by an Abort
-abbrev pub asked_by : List (List ℕ) → ℕ → ℕ → Body → List Life → List Life
-asked_by names step line (Scan id stream generation size) questions =
-    begins (life id (name_in names stream) generation (moment step line)) questions
-asked_by names step line (Abort id) questions = ends id (record { at = moment step line; how = how.Aborted }) questions
-asked_by names step line _ questions = questions
+-- a question begins by its Scan, and ends by an Abort, at its port
+abbrev pub asked_by : List (List ℕ) → ℕ → ℕ → Port → Body → List Life → List Life
+asked_by names step line port (Scan id stream generation size) questions =
+    begins (life port id (name_in names stream) generation (moment step line)) questions
+asked_by names step line port (Abort id) questions = ends port id (record { at = moment step line; how = how.Aborted }) questions
+asked_by names step line port _ questions = questions
 
 -- the same of a message
 abbrev pub asked : List (List ℕ) → ℕ → ℕ → Letter → List Life → List Life
-asked names step line m questions = asked_by names step line m.body questions
+asked names step line m questions = asked_by names step line m.port m.body questions
 
 -- how a question ended, and a job, as a reply tells
 abbrev pub how_judged : Verdict → How
@@ -218,59 +220,59 @@ how_worked (outcome.Judged version verdict) = how_found verdict
 how_worked (outcome.Failed cause) = how.Failed
 
 -- a question ends by the reply that arrives
-abbrev pub ended_by : ℕ → Body → List Life → List Life
-ended_by step (Reply id outcome) questions = ends id (record { at = moment step 0; how = how_replied outcome }) questions
-ended_by step _ questions = questions
+abbrev pub ended_by : ℕ → Port → Body → List Life → List Life
+ended_by step port (Reply id outcome) questions = ends port id (record { at = moment step 0; how = how_replied outcome }) questions
+ended_by step port _ questions = questions
 
 -- the same of a message, if one arrives
 abbrev pub reply_ends : ℕ → Option Letter → List Life → List Life
 reply_ends step None questions = questions
-reply_ends step (Some m) questions = ended_by step m.body questions
+reply_ends step (Some m) questions = ended_by step m.port m.body questions
 
--- and all of them where the filter loses the service or is mounted anew
+-- and all of a port where the filter loses its service, those that are asked anew too; and all where it is mounted anew
 abbrev pub questions_over : WorldState → ℕ → Said → Deed → List Life → List Life
 questions_over w step note (deed.Deliver Up place) questions = if is_noted note then questions else reply_ends step (member w.up place) questions
-questions_over w step note deed.DisconnectFilter questions = ends_all (record { at = moment step 0; how = how.Ended }) questions
+questions_over w step note (deed.DisconnectFilter port) questions = ends_at port (record { at = moment step 0; how = how.Ended }) questions
 questions_over w step note deed.RestartFilter questions = ends_all (record { at = moment step 0; how = how.Ended }) questions
 questions_over w step note _ questions = questions
 
 -- a job begins by its first Read, and ends by its Reply
-abbrev pub worked_by : ℕ → ℕ → Body → List Life → List Life
-worked_by step line (Read id offset count) jobs = begins (life id [] 0 (moment step line)) jobs
-worked_by step line (Reply id outcome) jobs = ends id (record { at = moment step line; how = how_worked outcome }) jobs
-worked_by step line _ jobs = jobs
+abbrev pub worked_by : ℕ → ℕ → Port → Body → List Life → List Life
+worked_by step line port (Read id offset count) jobs = begins (life port id [] 0 (moment step line)) jobs
+worked_by step line port (Reply id outcome) jobs = ends port id (record { at = moment step line; how = how_worked outcome }) jobs
+worked_by step line port _ jobs = jobs
 
 -- the same of a message
 abbrev pub worked : ℕ → ℕ → Letter → List Life → List Life
-worked step line m jobs = worked_by step line m.body jobs
+worked step line m jobs = worked_by step line m.port m.body jobs
 
 -- it is dropped by an Abort or a NoChunk that arrives
-abbrev pub dropped_by : ℕ → Body → List Life → List Life
-dropped_by step (Abort id) jobs = ends id (record { at = moment step 0; how = how.Dropped }) jobs
-dropped_by step (NoChunk id offset cause) jobs = ends id (record { at = moment step 0; how = how.Dropped }) jobs
-dropped_by step _ jobs = jobs
+abbrev pub dropped_by : ℕ → Port → Body → List Life → List Life
+dropped_by step port (Abort id) jobs = ends port id (record { at = moment step 0; how = how.Dropped }) jobs
+dropped_by step port (NoChunk id offset cause) jobs = ends port id (record { at = moment step 0; how = how.Dropped }) jobs
+dropped_by step port _ jobs = jobs
 
 -- the same of a message, if one arrives
 abbrev pub message_drops : ℕ → Option Letter → List Life → List Life
 message_drops step None jobs = jobs
-message_drops step (Some m) jobs = dropped_by step m.body jobs
+message_drops step (Some m) jobs = dropped_by step m.port m.body jobs
 
--- and all of them where the service loses the filter or is started anew
+-- and all of a port where its service loses the filter or is started anew
 abbrev pub jobs_over : WorldState → ℕ → Said → Deed → List Life → List Life
 jobs_over w step note (deed.Deliver Down place) jobs = if is_noted note then jobs else message_drops step (member w.down place) jobs
-jobs_over w step note deed.DisconnectService jobs = ends_all (record { at = moment step 0; how = how.Dropped }) jobs
-jobs_over w step note deed.RestartService jobs = ends_all (record { at = moment step 0; how = how.Dropped }) jobs
+jobs_over w step note (deed.DisconnectService port) jobs = ends_at port (record { at = moment step 0; how = how.Dropped }) jobs
+jobs_over w step note (deed.RestartService port) jobs = ends_at port (record { at = moment step 0; how = how.Dropped }) jobs
 jobs_over w step note _ jobs = jobs
 
 -- a work ends where it is run
 abbrev pub run_ends : ℕ → Deed → List Life → List Life
-run_ends step (deed.Run place) works = ends (number_id place) (record { at = moment step 0; how = how.Run }) works
+run_ends step (deed.Run place) works = ends One (number_id place) (record { at = moment step 0; how = how.Run }) works
 run_ends step _ works = works
 
 -- works begin where they are lent, so many from a place on
 abbrev pub lent : ℕ → ℕ → ℕ → List Life → List Life
 lent step from zero works = works
-lent step from (suc n) works = begins (life (number_id (capped (from + n + 1))) [] 0 (moment step 0)) (lent step from n works)
+lent step from (suc n) works = begins (life One (number_id (capped (from + n + 1))) [] 0 (moment step 0)) (lent step from n works)
 
 -- ---- steps
 

@@ -4,12 +4,15 @@ use Rattle.av_base.specs.Cause.{number_of}
 use Rattle.av_base.specs.Line.{pieces_of}
 use Rattle.av_base.specs.Part.{spelt}
 use Rattle.av_base.specs.declared.message_id.MessageId.{MessageId}
+use Rattle.av_base.specs.declared.port.Port.{Port}
+use Rattle.av_base.specs.declared.port.Port.TheVariants.{One, Two}
 use Rattle.av_base.specs.declared.verdict.Verdict.{Verdict}
 use Rattle.av_base.specs.declared.verdict.Verdict.TheVariants.{Clean, Infected}
 use Rattle.av_filter.specs.declared.note.Note.TheVariants as filter
 use Rattle.av_frame.specs.Cause.{fail_number}
 use Rattle.av_frame.specs.declared.cause.NoChunkCause.{NoChunkCause}
 use Rattle.av_frame.specs.declared.cause.NoChunkCause.TheVariants.{NoQuestion, PastEnd}
+use Rattle.av_frame.specs.Message.{Letter}
 use Rattle.av_frame.specs.declared.message.Body.{Body}
 use Rattle.av_frame.specs.declared.message.Body.TheVariants.{Scan, Chunk, NoChunk, Abort, Hello, Read, Reply, Updated}
 use Rattle.av_frame.specs.declared.outcome.Outcome.{Outcome}
@@ -101,9 +104,14 @@ body_text (Read id offset count) = about_text (codes "read ") id ++ number_text 
 body_text (Reply id outcome) = about_text (codes "reply ") id ++ outcome_text outcome
 body_text (Updated version) = number_text (codes "updated v") version
 
+-- what ends the words about a port: nothing of the first
+abbrev pub port_end : Port → List ℕ
+port_end One = []
+port_end Two = codes " port 2"
+
 -- the words of a message on its arrow
-unfoldable pub message_label : Way → ℕ → Body → List ℕ
-message_label way number body = numbered_text way number ++ body_text body
+unfoldable pub message_label : Way → ℕ → Letter → List ℕ
+message_label way number m = (numbered_text way number ++ body_text m.body) ++ port_end m.port
 
 -- the words of an answer
 unfoldable pub answer_label : Answer → List ℕ

@@ -6,7 +6,7 @@ ghost use Rattle.av_chart.specs.Row.{asked_lines, count, is_noted, late_of, note
 ghost use Rattle.av_chart.specs.Story.{nothing, story_of, with_step};
 
 use crate::life::{Lives, Moment};
-use av_base::Verdict;
+use av_base::{Port, Verdict};
 use av_filter::Note as FilterNote;
 use av_service::Note as ServiceNote;
 use av_world::{JudgeFault, Note, StepFault};
@@ -76,14 +76,14 @@ pub enum Asks {
 pub enum FilterMark {
     Boot { boot: u64 },
     Timeout,
-    ServiceLost,
+    ServiceLost { port: Port },
 }
 
-/// What befalls the service.
+/// What befalls the service of a port, or both.
 #[derive(Clone, Copy)]
 pub enum ServiceMark {
-    FilterLost,
-    Restart,
+    FilterLost { port: Port },
+    Restart { port: Port },
     Set { version: u64, signatures: u64 },
 }
 

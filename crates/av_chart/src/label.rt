@@ -2,13 +2,13 @@
 
 ghost use Rattle.std.specs.Prelude.{◌≡◌, ◌++◌, map, IfOk, OnOk};
 ghost use Rattle.av_base.specs.Part.{part_text, spelt};
-ghost use Rattle.av_chart.specs.Words.{about_text, answer_label, body_text, message_label, message_title, nowhere, outcome_text, told_message, told_note, told_of, told_work, verdict_word, way_word};
+ghost use Rattle.av_chart.specs.Words.{about_text, answer_label, body_text, message_label, message_title, nowhere, outcome_text, told_message, told_note, port_end, told_of, told_work, verdict_word, way_word};
 
 use crate::escape::{put_parts, shorten};
 use crate::happened::Way;
-use av_base::{MessageId, Part, Verdict};
+use av_base::{MessageId, Part, Port, Verdict};
 use av_filter::Note as FilterNote;
-use av_frame::{Body, NoChunkCause, Outcome};
+use av_frame::{Body, Message, NoChunkCause, Outcome};
 use av_json::why;
 use av_pend::Answer;
 use av_world::report::Places;
@@ -157,9 +157,9 @@ pub fn message_label(
     alloc: Global,
     way: Way,
     number: u64,
-    body: &Body,
+    message: &Message,
 ) -> Result<Vec<u8>, AllocError>
-    ensures { IfOk result (λ text. text.items ≡ message_label way number body.now) }
+    ensures { IfOk result (λ text. text.items ≡ message_label way number message.now) }
 {
     let mut text = label(
         alloc,
@@ -169,8 +169,19 @@ pub fn message_label(
             Part::Text(b" "),
         ],
     )?;
-    put_body(&mut text, body)?;
+    put_body(&mut text, message.body())?;
+    text.extend_from_slice(port_end(message.port()))?;
     Ok(text)
+}
+
+/// What ends the words about a port.
+pub fn port_end(port: Port) -> &'static [u8]
+    ensures { result.now ≡ port_end port }
+{
+    match port {
+        Port::One => b"".as_slice(),
+        Port::Two => b" port 2".as_slice(),
+    }
 }
 
 #[tactic(auto, using(std::proofs::Common::append_assoc), unfolding(crate::specs::Words::body_text, crate::specs::Words::number_text))]

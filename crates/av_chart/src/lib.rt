@@ -16,6 +16,7 @@ mod happening;
 pub mod label;
 pub mod laws;
 pub mod life;
+pub mod living;
 pub mod mark;
 pub mod picture;
 pub mod place;

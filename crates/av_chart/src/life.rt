@@ -3,11 +3,11 @@
 ghost use Rattle.std.specs.Prelude.{◌≡◌, ◌<◌, [], true, is_none, length, map, slice_get, slice_set, IfSome, OnOk, None, Some};
 ghost use Rattle.std.specs.List.{list_any};
 ghost use Rattle.av_chart.specs.Slot.{first_free, free_places, hold, is_by, place_or_shared, slots, until};
-ghost use Rattle.av_chart.specs.Life.{begins, ends, ends_all, life_of, lives_as, lives_of, with_end};
+ghost use Rattle.av_chart.specs.Life.{begins, ends, ends_all, ends_at, life_of, lives_as, lives_of, with_end};
 
-use av_base::MessageId;
+use crate::living::Living;
+use av_base::{MessageId, Port};
 use std::alloc::{AllocError, Global};
-use std::collections::BTreeMap;
 use std::marker::Model;
 
 /// When something is: in a step, counted from 0, and on a line of its row, from 0.
@@ -49,9 +49,11 @@ pub struct End {
     pub how: How,
 }
 
-/// One life. What never ended has no end. An open and a work have a number alone, and 0 for a boot.
+/// One life. What never ended has no end. An open and a work have a number alone, 0 for a boot, and the first port.
 #[derive(Clone, Copy)]
 pub struct Bar<'a> {
+    /// The port at which it is asked or worked on.
+    pub port: Port,
     pub id: MessageId,
     /// The name of its stream, and the generation that a question is of.
     pub name: &'a [u8],
@@ -62,23 +64,24 @@ pub struct Bar<'a> {
     pub slot: u32,
 }
 
-/// The lives of one kind, in the order of their beginnings; each that has no end is found by its id.
+/// The lives of one kind, in the order of their beginnings; each that has no end is found by its port and id.
 #[derive(Drop)]
 pub struct Lives<'a> {
     bars: Vec<Bar<'a>>,
-    living: BTreeMap<MessageId, usize>,
+    living: Living,
 }
 
 impl<'a> Model for Lives<'a> {
     ghost use Rattle.std.specs.Prelude.{List};
-    ghost use Rattle.av_chart.specs.Life.{IsIndexed, lives_of, place_in};
+    ghost use Rattle.av_chart.specs.Life.{IsIndexed, lives_of};
+    ghost use Rattle.av_chart.specs.Living.{place_at};
     ghost use Rattle.av_chart.specs.declared.life.Bar.{Bar};
 
     ghost Value = { List Bar };
 
     ghost view = { λ l. l.bars.items };
 
-    ghost invariant = { λ l. IsIndexed (lives_of l.bars.items) (place_in l.living) };
+    ghost invariant = { λ l. IsIndexed (lives_of l.bars.items) (place_at l.living) };
 }
 
 impl<'a> Lives<'a> {
@@ -88,7 +91,7 @@ impl<'a> Lives<'a> {
     {
         Lives {
             bars: Vec::new(alloc),
-            living: BTreeMap::new(alloc),
+            living: Living::new(alloc),
         }
     }
 
@@ -99,23 +102,23 @@ impl<'a> Lives<'a> {
         self.bars.as_slice()
     }
 
-    /// Whether this one lives now.
-    pub fn lives(&self, id: MessageId) -> bool
-        ensures { result ≡ list_any (lives_as id) (lives_of self.now) }
+    /// Whether this one lives now at a port.
+    pub fn lives(&self, port: Port, id: MessageId) -> bool
+        ensures { result ≡ list_any (lives_as port id) (lives_of self.now) }
     {
-        self.living.contains_key(&id)
+        self.living.has(port, id)
     }
 
-    /// A life begins, unless one of its id lives.
+    /// A life begins, unless one of its id lives at its port.
     pub fn begin(&mut self, bar: Bar<'a>) -> Result<(), AllocError>
         requires { is_none bar.end ≡ true }
         ensures { OnOk result (lives_of self.new ≡ begins (life_of bar.entry) (lives_of self.old)) }
     {
-        if self.lives(bar.id) {
+        if self.lives(bar.port, bar.id) {
             return Ok(());
         }
         self.bars.reserve(1)?;
-        self.living.insert(bar.id, self.bars.len())?;
+        self.living.put(bar.port, bar.id, self.bars.len())?;
         self.bars.push_reserved(bar);
         Ok(())
     }
@@ -130,10 +133,19 @@ impl<'a> Lives<'a> {
     }
 
     /// A life ends, if it has begun and has not ended.
-    pub fn end(&mut self, id: MessageId, end: End)
-        ensures { lives_of self.new ≡ ends id end (lives_of self.old) }
+    pub fn end(&mut self, port: Port, id: MessageId, end: End)
+        ensures { lives_of self.new ≡ ends port id end (lives_of self.old) }
     {
-        if let Some(index) = self.living.remove(&id) {
+        if let Some(index) = self.living.take(port, id) {
+            finish(&mut self.bars, index, end);
+        }
+    }
+
+    /// All that live at a port end.
+    pub fn end_at(&mut self, port: Port, end: End)
+        ensures { lives_of self.new ≡ ends_at port end (lives_of self.old) }
+    {
+        'living: while let Some((_, index)) = self.living.take_first(port) {
             finish(&mut self.bars, index, end);
         }
     }
@@ -142,9 +154,8 @@ impl<'a> Lives<'a> {
     pub fn end_all(&mut self, end: End)
         ensures { lives_of self.new ≡ ends_all end (lives_of self.old) }
     {
-        'living: while let Some((_, index)) = self.living.pop_first() {
-            finish(&mut self.bars, index, end);
-        }
+        self.end_at(Port::One, end);
+        self.end_at(Port::Two, end);
     }
 }
 

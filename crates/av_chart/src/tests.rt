@@ -137,6 +137,44 @@ fn the_lines_that_are_asked_for_are_drawn(rt: HostRuntime) -> Result<(), Fail> {
     Ok(())
 }
 
+// An open that waits for a question of the first port, whose service is lost while that of the second is there.
+const SPARE: &[u8] =
+    b"volume 1 closed\npublish 1 58\ncreate a\nwrite a 0 414243\nconnect\nup 1\nconnect 2\nup 2\n\
+    open a\ndisconnect filter\n";
+
+// The same, and the other service is lost too.
+const BOTH_LOST: &[u8] =
+    b"volume 1 closed\npublish 1 58\ncreate a\nwrite a 0 414243\nconnect\nup 1\nconnect 2\nup 2\n\
+    open a\ndisconnect filter\ndisconnect filter 2\n";
+
+#[test]
+fn a_question_that_is_asked_anew_has_a_bar_of_its_own(rt: HostRuntime) -> Result<(), Fail> {
+    let mut out = FakeWriter::new(rt.alloc());
+    let mut reader = FakeReader::new(SPARE);
+    assert!(rt; write_chart(rt.alloc(), b"t", ALL, &mut reader, &mut out, 100).is_ok());
+    let page = out.taken();
+    assert!(rt; holds(page, b"question 1.1: a generation 2, ended"));
+    assert!(rt; holds(page, b"question 1.2: a generation 2, not ended"));
+    assert!(rt; holds(page, b"open 1 of a, not ended"));
+    assert!(rt; holds(page, b">down 1 scan 1.1 g2<"));
+    assert!(rt; holds(page, b">down 2 scan 1.2 g2 port 2<"));
+    assert!(rt; holds(page, b">service is lost<"));
+    Ok(())
+}
+
+#[test]
+fn the_service_of_the_second_port_is_told_by_its_port(rt: HostRuntime) -> Result<(), Fail> {
+    let mut out = FakeWriter::new(rt.alloc());
+    let mut reader = FakeReader::new(BOTH_LOST);
+    assert!(rt; write_chart(rt.alloc(), b"t", ALL, &mut reader, &mut out, 100).is_ok());
+    let page = out.taken();
+    assert!(rt; holds(page, b">service is lost<"));
+    assert!(rt; holds(page, b">service is lost port 2<"));
+    assert!(rt; holds(page, b"question 1.2: a generation 2, ended"));
+    assert!(rt; holds(page, b"open 1 of a, denied"));
+    Ok(())
+}
+
 // Whether a text stands in a page.
 fn holds(page: &[u8], text: &[u8]) -> bool {
     for place in 0..page.len() {

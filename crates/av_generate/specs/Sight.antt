@@ -14,7 +14,7 @@ taken w name = if is_some (number_named name w.volume.streams) then 1 else 0
 abbrev pub taken_of_all : WorldState → ℕ
 taken_of_all w = taken w (codes "a") + taken w (codes "b") + taken w (codes "c")
 
--- what there is to see of a world, where these works are lent, and this was the last question
+-- what there is to see of a world, of the service of port One alone, where these works are lent, and this was the last question
 unfoldable pub sight_of : WorldState → List ℕ → ℕ → Sight
 sight_of w lent asked =
     record {

@@ -1,6 +1,7 @@
 ghost use Rattle.std.specs.Prelude.{◌≡◌};
 ghost use Rattle.av_generate.specs.Sight.{sight_of, taken, taken_of_all};
 
+use av_base::Port;
 use av_world::World;
 
 /// What a choice sees of a world and its script.
@@ -10,7 +11,7 @@ pub struct Sight {
     pub latest: Option<u64>,
     /// How many of the script's three names have a stream.
     pub streams: u64,
-    /// Whether the service is connected.
+    /// Whether the service of the first port is connected, the only one that a script speaks of.
     pub connected: bool,
     /// Questions that are open.
     pub questions: u64,
@@ -35,7 +36,7 @@ impl Sight {
         Sight {
             latest: latest(world),
             streams: taken_of_all(world),
-            connected: world.connected(),
+            connected: world.connected(Port::One),
             questions: world.question_count() as u64,
             down: world.down().len() as u64,
             up: world.up().len() as u64,

@@ -2,19 +2,20 @@
 
 ghost use Rattle.std.specs.Prelude.{◌≡◌, ◌+◌, ◌-◌, None, Some, length, map, OnOk};
 ghost use Rattle.std.specs.Option.{option_copied};
+ghost use Rattle.av_base.specs.declared.port.Port.TheVariants.{One};
 ghost use Rattle.av_frame.specs.declared.message.Body.{Body};
 ghost use Rattle.av_world.specs.Text.Answers.{is_answered};
 ghost use Rattle.av_chart.specs.Life.{lives_of};
 ghost use Rattle.av_chart.specs.Marks.{submitted_id};
 ghost use Rattle.av_chart.specs.Row.{asked_lines, is_noted, spanned};
-ghost use Rattle.av_chart.specs.Story.{answered, asked, asked_by, how_answered, how_replied, how_worked, in_turn, jobs_over, lent, message_drops, moment, name_in, number_id, opened, questions_over, reply_ends, run_ends, worked, worked_by};
+ghost use Rattle.av_chart.specs.Story.{answered, asked, how_answered, how_replied, how_worked, in_turn, jobs_over, lent, message_drops, moment, name_in, number_id, opened, questions_over, reply_ends, run_ends, worked};
 
 use crate::happened::{Step, Way};
 use crate::happening::marks::{Deed, id_of, submitted_id};
 use crate::happening::posts::{member_of, moment};
 use crate::happening::span_of;
 use crate::life::{Bar, End, How, Lives, Moment};
-use av_base::{MessageId, Verdict};
+use av_base::{MessageId, Port, Verdict};
 use av_frame::{Body, Message, Outcome};
 use av_pend::Answer;
 use av_world::given::Given;
@@ -46,7 +47,7 @@ fn end_answered(opens: &mut Lives<'_>, at: u64, first: usize, given: &[Given])
             at: moment(at, first, index),
             how: how_answered(&one.answer),
         };
-        opens.end(number_id(id_of(&one.answer)), end);
+        opens.end(Port::One, number_id(id_of(&one.answer)), end);
     }
 }
 
@@ -74,7 +75,7 @@ fn open<'a>(
     if open_id == 0 || is_answered(open_id, given) {
         return Ok(());
     }
-    opens.begin(bar(number_id(open_id), name, 0, moment(at, 0, 0)))
+    opens.begin(bar(Port::One, number_id(open_id), name, 0, moment(at, 0, 0)))
 }
 
 // Whether the open of this number is answered by one of these.
@@ -95,7 +96,8 @@ fn number_id(number: u64) -> MessageId
 }
 
 // A life that has no end.
-fn bar(id: MessageId, name: &[u8], generation: u64, begin: Moment) -> Bar<'_>
+fn bar(port: Port, id: MessageId, name: &[u8], generation: u64, begin: Moment) -> Bar<'_>
+    ensures port { result.port ≡ port }
     ensures id { result.id ≡ id }
     ensures name { result.name.now ≡ name.now }
     ensures generation { result.generation ≡ generation }
@@ -103,6 +105,7 @@ fn bar(id: MessageId, name: &[u8], generation: u64, begin: Moment) -> Bar<'_>
     ensures lives { result.end ≡ None }
 {
     Bar {
+        port,
         id,
         name,
         generation,
@@ -140,7 +143,7 @@ fn ask<'a>(
         ≡ in_turn (asked (map (λ n. n.now) names.now) at) 0 messages.now (lives_of questions.old)) }
 {
     for (index, message) in messages.iter().enumerate() {
-        ask_one(questions, names, at, index, message.body())?;
+        ask_one(questions, names, at, index, message)?;
     }
     Ok(())
 }
@@ -150,13 +153,13 @@ fn ask_one<'a>(
     names: &[&'a [u8]],
     at: u64,
     line: usize,
-    body: &Body,
+    message: &Message,
 ) -> Result<(), AllocError>
     ensures { OnOk result (lives_of questions.new
-        ≡ asked_by (map (λ n. n.now) names.now) at line body.now (lives_of questions.old)) }
+        ≡ asked (map (λ n. n.now) names.now) at line message.now (lives_of questions.old)) }
 {
-    let at = moment(at, 0, line);
-    match body {
+    let (at, port) = (moment(at, 0, line), message.port());
+    match message.body() {
         Body::Scan {
             id,
             stream,
@@ -164,10 +167,11 @@ fn ask_one<'a>(
             ..
         } => {
             let name = name_of(names, stream.get());
-            questions.begin(bar(*id, name, generation.get(), at))
+            questions.begin(bar(port, *id, name, generation.get(), at))
         }
         Body::Abort { id } => {
             questions.end(
+                port,
                 *id,
                 End {
                     at,
@@ -203,13 +207,19 @@ fn end_questions(questions: &mut Lives<'_>, world: &World, step: &Step, at: u64,
                 end_replied(questions, member_of(world.up(), place), at);
             }
         }
-        Deed::DisconnectFilter | Deed::RestartFilter => {
-            questions.end_all(End {
-                at: moment(at, 0, 0),
-                how: How::Ended,
-            });
-        }
+        Deed::DisconnectFilter { port } => questions.end_at(port, over(at)),
+        Deed::RestartFilter => questions.end_all(over(at)),
         _ => {}
+    }
+}
+
+// The end of what a step ended without a word.
+fn over(at: u64) -> End
+    ensures { result ≡ record { at = moment at 0; how = How.Ended } }
+{
+    End {
+        at: moment(at, 0, 0),
+        how: How::Ended,
     }
 }
 
@@ -225,7 +235,7 @@ fn end_replied(questions: &mut Lives<'_>, message: Option<&Message>, at: u64)
             at: moment(at, 0, 0),
             how: how_replied(*outcome),
         };
-        questions.end(*id, end);
+        questions.end(message.port(), *id, end);
     }
 }
 
@@ -265,7 +275,7 @@ fn work(jobs: &mut Lives<'_>, at: u64, first: usize, messages: &[Message]) -> Re
     ensures { OnOk result (lives_of jobs.new ≡ in_turn (worked at) first messages.now (lives_of jobs.old)) }
 {
     for (index, message) in messages.iter().enumerate() {
-        work_one(jobs, at, first, index, message.body())?;
+        work_one(jobs, at, first, index, message)?;
     }
     Ok(())
 }
@@ -275,19 +285,19 @@ fn work_one(
     at: u64,
     first: usize,
     behind: usize,
-    body: &Body,
+    message: &Message,
 ) -> Result<(), AllocError>
-    ensures { OnOk result (lives_of jobs.new ≡ worked_by at (first + behind) body.now (lives_of jobs.old)) }
+    ensures { OnOk result (lives_of jobs.new ≡ worked at (first + behind) message.now (lives_of jobs.old)) }
 {
-    let at = moment(at, first, behind);
-    match body {
-        Body::Read { id, .. } => jobs.begin(bar(*id, b"".as_slice(), 0, at)),
+    let (at, port) = (moment(at, first, behind), message.port());
+    match message.body() {
+        Body::Read { id, .. } => jobs.begin(bar(port, *id, b"".as_slice(), 0, at)),
         Body::Reply { id, outcome } => {
             let end = End {
                 at,
                 how: how_worked(*outcome),
             };
-            jobs.end(*id, end);
+            jobs.end(port, *id, end);
             Ok(())
         }
         _ => Ok(()),
@@ -324,7 +334,9 @@ fn end_jobs(jobs: &mut Lives<'_>, world: &World, step: &Step, at: u64, deed: Dee
                 drop_job(jobs, member_of(world.down(), place), at);
             }
         }
-        Deed::DisconnectService | Deed::RestartService => jobs.end_all(dropped(at)),
+        Deed::DisconnectService { port } | Deed::RestartService { port } => {
+            jobs.end_at(port, dropped(at));
+        }
         _ => {}
     }
 }
@@ -337,8 +349,8 @@ fn drop_job(jobs: &mut Lives<'_>, message: Option<&Message>, at: u64)
         return;
     };
     match message.body() {
-        Body::Abort { id } => jobs.end(*id, dropped(at)),
-        Body::NoChunk { id, .. } => jobs.end(*id, dropped(at)),
+        Body::Abort { id } => jobs.end(message.port(), *id, dropped(at)),
+        Body::NoChunk { id, .. } => jobs.end(message.port(), *id, dropped(at)),
         _ => {}
     }
 }
@@ -366,7 +378,7 @@ pub fn take_works(
     end_run(works, at, deed);
     for index in report.before.works..report.after.works {
         let id = number_id(index.saturating_add(1));
-        works.begin(bar(id, b"".as_slice(), 0, moment(at, 0, 0)))?;
+        works.begin(bar(Port::One, id, b"".as_slice(), 0, moment(at, 0, 0)))?;
     }
     Ok(())
 }
@@ -380,6 +392,6 @@ fn end_run(works: &mut Lives<'_>, at: u64, deed: Deed)
             at: moment(at, 0, 0),
             how: How::Run,
         };
-        works.end(number_id(place), end);
+        works.end(Port::One, number_id(place), end);
     }
 }

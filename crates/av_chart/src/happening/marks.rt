@@ -5,6 +5,7 @@ ghost use Rattle.av_pend.specs.Pend.{open_of};
 ghost use Rattle.av_chart.specs.Marks.{asked_id, asks_of, deed_of, filter_deed, filter_id, filter_mark, is_spent, judged_mark, lent_of, ran_of, said_by_filter, said_by_service, said_of, service_deed, service_mark, submitted_id, volume_mark};
 
 use crate::happened::{Asks, FilterMark, Said, ServiceMark, VolumeMark, Way};
+use av_base::Port;
 use av_filter::Note as FilterNote;
 use av_pend::Answer;
 use av_service::Note as ServiceNote;
@@ -20,10 +21,10 @@ pub enum Deed {
     Timeout,
     Deliver { way: Way, place: u64 },
     Run { place: u64 },
-    DisconnectFilter,
-    DisconnectService,
+    DisconnectFilter { port: Port },
+    DisconnectService { port: Port },
     RestartFilter,
-    RestartService,
+    RestartService { port: Port },
 }
 
 /// What an event is to a picture.
@@ -43,10 +44,10 @@ pub fn deed_of(event: &Event) -> Deed
             place: *place,
         },
         Event::Run { place } => Deed::Run { place: *place },
-        Event::DisconnectFilter => Deed::DisconnectFilter,
-        Event::DisconnectService => Deed::DisconnectService,
+        Event::DisconnectFilter { port } => Deed::DisconnectFilter { port: *port },
+        Event::DisconnectService { port } => Deed::DisconnectService { port: *port },
         Event::RestartFilter => Deed::RestartFilter,
-        Event::RestartService => Deed::RestartService,
+        Event::RestartService { port } => Deed::RestartService { port: *port },
         _ => Deed::Other,
     }
 }
@@ -171,7 +172,7 @@ fn filter_deed(deed: Deed) -> Option<FilterMark>
 {
     match deed {
         Deed::Timeout => Some(FilterMark::Timeout),
-        Deed::DisconnectFilter => Some(FilterMark::ServiceLost),
+        Deed::DisconnectFilter { port } => Some(FilterMark::ServiceLost { port }),
         _ => None,
     }
 }
@@ -196,8 +197,8 @@ fn service_deed(deed: Deed) -> Option<ServiceMark>
     ensures { result ≡ service_deed deed }
 {
     match deed {
-        Deed::DisconnectService => Some(ServiceMark::FilterLost),
-        Deed::RestartService => Some(ServiceMark::Restart),
+        Deed::DisconnectService { port } => Some(ServiceMark::FilterLost { port }),
+        Deed::RestartService { port } => Some(ServiceMark::Restart { port }),
         _ => None,
     }
 }

@@ -10,7 +10,7 @@ use super::{FILTER, OPENER, Picture, VOLUME};
 use crate::escape::{put_parts, short};
 use crate::happened::{Asks, FilterMark, Step, VolumeMark};
 use crate::happening::{span_of, word};
-use crate::label::{answer_label, label, told_note, verdict_word};
+use crate::label::{answer_label, label, port_end, told_note, verdict_word};
 use crate::life::Moment;
 use crate::mark::{Mark, Side, put_mark};
 use crate::spot::Spot;
@@ -338,6 +338,9 @@ fn filter_label(alloc: Global, mark: FilterMark, seq: &[u8]) -> Result<Vec<u8>, 
     match mark {
         FilterMark::Boot { boot } => label(alloc, &[Part::Text(b"boot "), Part::Number(boot)]),
         FilterMark::Timeout => label(alloc, &[Part::Text(b"timeout "), Part::Text(seq)]),
-        FilterMark::ServiceLost => label(alloc, &[Part::Text(b"service is lost")]),
+        FilterMark::ServiceLost { port } => label(
+            alloc,
+            &[Part::Text(b"service is lost"), Part::Text(port_end(port))],
+        ),
     }
 }

@@ -260,7 +260,7 @@ fn put_message(
     let Some(message) = all.get(index as usize) else {
         return Ok(());
     };
-    let words = message_label(alloc, way, index.saturating_add(1), message.body())?;
+    let words = message_label(alloc, way, index.saturating_add(1), message)?;
     let title = message_title(alloc, picture.world, way, index)?;
     let shown = Shown {
         way,

@@ -9,7 +9,7 @@ use super::lanes::{put_arrow, put_pill, wide};
 use super::{Picture, SERVICE};
 use crate::happened::{ServiceMark, Step};
 use crate::happening::word;
-use crate::label::{label, told_note};
+use crate::label::{label, port_end, told_note};
 use crate::life::{Bar, Moment};
 use crate::mark::{Mark, Side, put_mark};
 use crate::spot::Spot;
@@ -89,8 +89,14 @@ fn service_label(alloc: Global, mark: ServiceMark) -> Result<Vec<u8>, AllocError
     ensures { IfOk result (λ text. text.items ≡ service_label mark) }
 {
     match mark {
-        ServiceMark::FilterLost => label(alloc, &[Part::Text(b"filter is lost")]),
-        ServiceMark::Restart => label(alloc, &[Part::Text(b"restart")]),
+        ServiceMark::FilterLost { port } => label(
+            alloc,
+            &[Part::Text(b"filter is lost"), Part::Text(port_end(port))],
+        ),
+        ServiceMark::Restart { port } => label(
+            alloc,
+            &[Part::Text(b"restart"), Part::Text(port_end(port))],
+        ),
         ServiceMark::Set {
             version,
             signatures,

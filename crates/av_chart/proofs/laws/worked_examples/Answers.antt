@@ -30,13 +30,13 @@ lines =
 
 words : AreWords
 unfolding digits encode_with about_text body_text message_label number_word numbered_text
-words = record { signs = refl; bytes = refl; cut = refl; whole = refl; word = refl; none = refl; scan = refl; abort = refl }
+words = record { signs = refl; bytes = refl; cut = refl; whole = refl; word = refl; none = refl; scan = refl; abort = refl; spare = refl }
 
 rows : AreRows
 rows = record { first = refl; second = refl; third = refl; bottom = refl }
 
 deeds : AreDeeds
-deeds = record { posts = refl; nowhere = refl; begun = refl; once = refl; by_scan = refl; by_abort = refl; places = refl }
+deeds = record { posts = refl; nowhere = refl; begun = refl; once = refl; by_scan = refl; by_abort = refl; apart = refl; lost = refl; places = refl }
 
 pub returns : goal.returns
 returns c = record { lines = lines; words = words; rows = rows; deeds = deeds }
