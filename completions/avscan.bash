@@ -38,7 +38,7 @@ _avscan() {
     case $command in
     run) options="--json --help" ;;
     scan) options="--recursive --keep-going --max-size --infected --json --files-from --null --found-status --summary --quiet --help" ;;
-    host) options="--openers --workers --infected --json --files-from --null --found-status --summary --quiet --help" ;;
+    host) options="--openers --workers --spare --infected --json --files-from --null --found-status --summary --quiet --help" ;;
     filter) options="--wait --mode --infected --json --files-from --null --found-status --summary --quiet --help" ;;
     service) options="--wait --watch --help" ;;
     guard) options="--open --wait --keep --questions --clamd --names --mode --help" ;;

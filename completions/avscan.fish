@@ -26,6 +26,7 @@ complete -c avscan -n "__fish_seen_subcommand_from scan host filter ask" -l foun
 complete -c avscan -n "__fish_seen_subcommand_from scan host filter ask" -l summary -d "Say at the end how many files were scanned"
 complete -c avscan -n "__fish_seen_subcommand_from host" -l openers -x -a "(seq 16)" -d "Threads that open files"
 complete -c avscan -n "__fish_seen_subcommand_from host" -l workers -x -a "(seq 16)" -d "Threads that scan"
+complete -c avscan -n "__fish_seen_subcommand_from host" -l spare -d "A second service stands by"
 complete -c avscan -n "__fish_seen_subcommand_from service" -l watch -x -a "5 10 60 300" -d "Seconds between two looks at the signature file"
 complete -c avscan -n "__fish_seen_subcommand_from filter service guard ask" -l wait -x -a "5 30 60 300" -d "Seconds to wait for the other side"
 complete -c avscan -n "__fish_seen_subcommand_from filter guard" -l mode -x -a "600 660 666" -d "Who may join at the socket"

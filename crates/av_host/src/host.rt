@@ -1,14 +1,15 @@
-ghost use Rattle.std.specs.Prelude.{◌≡◌, IfErr, IfOk, OnOk, map};
+ghost use Rattle.std.specs.Prelude.{◌≡◌, IfErr, IfOk, OnOk, map, vec_len};
 ghost use Rattle.std.specs.Io.KnownBytes.{Appends};
 ghost use Rattle.av_engines.specs.declared.end.End.TheVariants.{Done};
 ghost use Rattle.av_files.specs.Opened.{opened_lines, tally_from};
 ghost use Rattle.av_gate.specs.Seats.{IsSeatOf};
+ghost use Rattle.av_pool.specs.Pool.{AreEndsOf};
 ghost use Rattle.av_host.specs.Brought.{AreBrought, AreHosted, AreTold, answer_at, opened_files};
 ghost use Rattle.av_status.specs.Status.{EndsWell, graver, gravest_from, IsFault, status_of_end};
 
-use crate::carrying::Wire;
-use crate::crew::meet;
+use crate::crew::{meet, meet_both};
 use crate::opener::{Brought, Group, Openings};
+use crate::wire::{GateWires, Wire};
 use av_base::{Limits, Mode, Port, Refusal};
 use av_desk::Desk;
 use av_engines::End;
@@ -17,7 +18,7 @@ use av_files::scanner::{Input, read_set};
 use av_files::streams::{VOLUME, add_file, empty_volume};
 use av_gate::{Gate, Seat};
 use av_pend::Answer;
-use av_pool::Pool;
+use av_pool::{Giver, Pool, Taker};
 use av_sigset::{Catalogue, SignatureSet};
 use av_status::faults::out_of_memory;
 use av_status::progress::Progress;
@@ -29,9 +30,7 @@ use std::alloc::{AllocError, Global};
 use std::fs::Files;
 use std::io::Write;
 use std::net::Net;
-use std::os::unix::net::UnixStream;
 use std::sync::Wait;
-use std::sync::atomic::Ordering::SeqCst;
 use std::thread::Threads;
 use std::time::Clock;
 
@@ -40,11 +39,23 @@ pub trait Hosting: Files + Threads + Wait + Net + Clock + Sync + Copy + Send + '
 
 impl<R: Files + Threads + Wait + Net + Clock + Sync + Copy + Send + 'static> Hosting for R {}
 
-/// How many threads open files, and how many scan: each 1 to 16.
+/// How many threads open files, and how many scan for a service: each 1 to 16. With a spare there are two services: what is asked of
+/// the first one is asked of the spare where that one is lost.
 #[derive(Clone, Copy, Debug, PartialEq, Eq)]
 pub struct Crew {
     pub openers: usize,
     pub workers: usize,
+    pub has_spare: bool,
+}
+
+impl Crew {
+    // Openings of a group's files by as many openers.
+    fn openings<'a>(self, group: Group<'a>) -> Openings<'a>
+        ensures group { result.group ≡ group.entry }
+        ensures openers { result.openers ≡ self.openers }
+    {
+        Openings::new(group, self.openers)
+    }
 }
 
 /// Opens files through a filter and its scanning service, in threads of this process, and writes a line for each, in the
@@ -108,19 +119,23 @@ pub fn host_group<R: Hosting, C: Clock, W: Write, E: Write>(
     ensures told { IfOk result (λ status. AreTold crew.openers group.entry.names.now wishes tally.old tally.new (W.contents out.old) (W.contents out.new) status) }
     ensures failed { IfErr result (λ status. IsFault status) }
 {
-    match connected_desk(rt, alloc, set) {
+    let Ok(spare) = spare_desk(rt, alloc, &set, crew) else {
+        return Err(out_of_memory(err));
+    };
+    match connected_desk(rt, alloc, Port::One, set) {
         Ok(desk) => host_beside(
-            rt, alloc, &desk, volume, group, crew, wishes, tally, out, err,
+            rt, alloc, &desk, &spare, volume, group, crew, wishes, tally, out, err,
         ),
         Err(_) => Err(out_of_memory(err)),
     }
 }
 
-// The same, beside a desk that has greeted the filter.
+// The same, beside a desk that has greeted the filter, and a spare's where there is to be one.
 fn host_beside<R: Hosting, C: Clock, W: Write, E: Write>(
     rt: &R,
     alloc: Global,
     desk: &Desk,
+    spare: &Option<Desk>,
     volume: Volume,
     group: Group<'_>,
     crew: Crew,
@@ -135,7 +150,7 @@ fn host_beside<R: Hosting, C: Clock, W: Write, E: Write>(
     let Ok((gate, seat)) = Gate::new(alloc, volume, Mode::FailClosed, Limits::greatest()) else {
         return Err(out_of_memory(err));
     };
-    let opened = open_at(rt, alloc, &gate, seat, desk, group, crew, err);
+    let opened = open_at(rt, alloc, &gate, seat, desk, spare, group, crew, err);
     gate.abandon();
     err.wipe();
     match opened {
@@ -168,13 +183,18 @@ fn tell<W: Write, E: Write>(
     }
 }
 
-// A desk with this one set, which has greeted the filter.
-fn connected_desk<R: Wait>(rt: &R, alloc: Global, set: SignatureSet) -> Result<Desk, AllocError> {
+// A desk at a port with this one set, which has greeted the filter.
+fn connected_desk<R: Wait>(
+    rt: &R,
+    alloc: Global,
+    port: Port,
+    set: SignatureSet,
+) -> Result<Desk, AllocError> {
     let mut catalogue = Catalogue::new(alloc);
     if catalogue.publish(set).is_err() {
         return Err(AllocError);
     }
-    let Ok(desk) = Desk::new(alloc, VOLUME, Port::One, catalogue, Limits::greatest()) else {
+    let Ok(desk) = Desk::new(alloc, VOLUME, port, catalogue, Limits::greatest()) else {
         return Err(AllocError);
     };
     match desk.connect(rt, alloc) {
@@ -183,13 +203,40 @@ fn connected_desk<R: Wait>(rt: &R, alloc: Global, set: SignatureSet) -> Result<D
     }
 }
 
-// Opens the files between this gate and desk: what each was told, and the gravest end of a loop. Else why none was opened.
+// The spare's desk, with a set of its own, where there is to be one.
+fn spare_desk<R: Wait>(
+    rt: &R,
+    alloc: Global,
+    set: &SignatureSet,
+    crew: Crew,
+) -> Result<Option<Desk>, AllocError> {
+    if !crew.has_spare {
+        return Ok(None);
+    }
+    let desk = connected_desk(rt, alloc, Port::Two, copy_of(alloc, set)?)?;
+    Ok(Some(desk))
+}
+
+// A copy of a set that was read from a file.
+fn copy_of(alloc: Global, set: &SignatureSet) -> Result<SignatureSet, AllocError> {
+    let mut file = Vec::new(alloc);
+    if set.write(&mut file).is_err() {
+        return Err(AllocError);
+    }
+    match SignatureSet::read(alloc, file.as_slice()) {
+        Ok(set) => Ok(set),
+        Err(_) => Err(AllocError),
+    }
+}
+
+// Opens the files between this gate and its desks: what each was told, and the gravest end of a loop. Else why none was opened.
 fn open_at<'a, R: Hosting, C: Clock, E: Write>(
     rt: &R,
     alloc: Global,
     gate: &Gate,
     seat: Seat,
     desk: &Desk,
+    spare: &Option<Desk>,
     group: Group<'a>,
     crew: Crew,
     err: &mut Progress<'_, C, E>,
@@ -198,28 +245,18 @@ fn open_at<'a, R: Hosting, C: Clock, E: Write>(
     ensures brought { IfOk result (λ r. AreBrought crew.openers group.entry.names.now r.0.items r.1) }
     ensures failed { IfErr result (λ end. IsFault (status_of_end end)) }
 {
-    let Ok((gate_stream, desk_stream)) = UnixStream::pair(rt) else {
-        return Err(End::ReadFault);
-    };
-    let Ok(gate_wire) = Wire::new(alloc, gate_stream) else {
-        return Err(End::ReadFault);
-    };
-    let Ok(desk_wire) = Wire::new(alloc, desk_stream) else {
-        return Err(End::ReadFault);
-    };
-    open_over(
-        rt, alloc, &gate_wire, gate, seat, &desk_wire, desk, group, crew, err,
-    )
+    match spare {
+        None => open_at_one(rt, alloc, gate, seat, desk, group, crew, err),
+        Some(spare) => open_at_both(rt, alloc, gate, seat, desk, spare, group, crew, err),
+    }
 }
 
-// The same, over the two ends of a connection.
-fn open_over<'a, R: Hosting, C: Clock, E: Write>(
+// The same between this gate and one desk.
+fn open_at_one<'a, R: Hosting, C: Clock, E: Write>(
     rt: &R,
     alloc: Global,
-    gate_wire: &Wire,
     gate: &Gate,
     seat: Seat,
-    desk_wire: &Wire,
     desk: &Desk,
     group: Group<'a>,
     crew: Crew,
@@ -229,26 +266,171 @@ fn open_over<'a, R: Hosting, C: Clock, E: Write>(
     ensures brought { IfOk result (λ r. AreBrought crew.openers group.entry.names.now r.0.items r.1) }
     ensures failed { IfErr result (λ end. IsFault (status_of_end end)) }
 {
-    let (pool, giver, taker) = match Pool::start(*rt, alloc, crew.workers, ()) {
-        Ok(started) => started,
-        Err(Refusal::NoMemory) => return Err(End::Memory),
-        Err(Refusal::Fault(_)) => return Err(End::ReadFault),
+    let Ok((first, wire)) = Wire::pair(rt, alloc) else {
+        return Err(End::ReadFault);
     };
-    let openings = Openings::new(group, crew.openers);
+    let wires = GateWires { first, spare: None };
+    open_over(rt, alloc, &wires, gate, seat, &wire, desk, group, crew, err)
+}
+
+// The same between this gate and two desks.
+fn open_at_both<'a, R: Hosting, C: Clock, E: Write>(
+    rt: &R,
+    alloc: Global,
+    gate: &Gate,
+    seat: Seat,
+    desk: &Desk,
+    spare_desk: &Desk,
+    group: Group<'a>,
+    crew: Crew,
+    err: &mut Progress<'_, C, E>,
+) -> Result<(Vec<Opened<'a>>, End), End>
+    requires { IsSeatOf gate.now seat }
+    ensures brought { IfOk result (λ r. AreBrought crew.openers group.entry.names.now r.0.items r.1) }
+    ensures failed { IfErr result (λ end. IsFault (status_of_end end)) }
+{
+    let Ok((first, wire)) = Wire::pair(rt, alloc) else {
+        return Err(End::ReadFault);
+    };
+    let Ok((spare, spare_wire)) = Wire::pair(rt, alloc) else {
+        return Err(End::ReadFault);
+    };
+    let wires = GateWires {
+        first,
+        spare: Some(spare),
+    };
+    open_over_both(
+        rt,
+        alloc,
+        &wires,
+        gate,
+        seat,
+        &wire,
+        desk,
+        &spare_wire,
+        spare_desk,
+        group,
+        crew,
+        err,
+    )
+}
+
+// The pool of a service, and its ends.
+fn start_pool<R: Hosting>(rt: &R, alloc: Global, crew: Crew) -> Result<(Pool, Giver, Taker), End>
+    ensures ends { IfOk result (λ r. AreEndsOf r.0 r.1 r.2) }
+    ensures failed { IfErr result (λ end. IsFault (status_of_end end)) }
+{
+    match Pool::start(*rt, alloc, crew.workers, ()) {
+        Ok(started) => Ok(started),
+        Err(Refusal::NoMemory) => Err(End::Memory),
+        Err(Refusal::Fault(_)) => Err(End::ReadFault),
+    }
+}
+
+// Opens the files over the two ends of a connection.
+fn open_over<'a, R: Hosting, C: Clock, E: Write>(
+    rt: &R,
+    alloc: Global,
+    wires: &GateWires,
+    gate: &Gate,
+    seat: Seat,
+    wire: &Wire,
+    desk: &Desk,
+    group: Group<'a>,
+    crew: Crew,
+    err: &mut Progress<'_, C, E>,
+) -> Result<(Vec<Opened<'a>>, End), End>
+    requires { IsSeatOf gate.now seat }
+    ensures brought { IfOk result (λ r. AreBrought crew.openers group.entry.names.now r.0.items r.1) }
+    ensures failed { IfErr result (λ end. IsFault (status_of_end end)) }
+{
+    let (pool, giver, taker) = start_pool(rt, alloc, crew)?;
+    let openings = crew.openings(group);
     let (giver, taker, brought, end) = meet(
-        rt, alloc, gate_wire, gate, seat, desk_wire, desk, giver, taker, &openings, err,
+        rt, alloc, wires, gate, seat, wire, desk, giver, taker, &openings, err,
     );
     pool.stop(rt, giver, taker).discard();
-    let lacks_thread = gate_wire.lacks_thread.load(SeqCst) || desk_wire.lacks_thread.load(SeqCst);
-    let lack = if lacks_thread {
-        End::ReadFault
-    } else {
-        End::Done
+    let end = with_lack(end, wires.lack_thread() || wire.lacks_thread());
+    told_by(alloc, group, crew.openers, brought, end)
+}
+
+// The same over two connections.
+fn open_over_both<'a, R: Hosting, C: Clock, E: Write>(
+    rt: &R,
+    alloc: Global,
+    wires: &GateWires,
+    gate: &Gate,
+    seat: Seat,
+    wire: &Wire,
+    desk: &Desk,
+    spare_wire: &Wire,
+    spare_desk: &Desk,
+    group: Group<'a>,
+    crew: Crew,
+    err: &mut Progress<'_, C, E>,
+) -> Result<(Vec<Opened<'a>>, End), End>
+    requires { IsSeatOf gate.now seat }
+    ensures brought { IfOk result (λ r. AreBrought crew.openers group.entry.names.now r.0.items r.1) }
+    ensures failed { IfErr result (λ end. IsFault (status_of_end end)) }
+{
+    let (pool, giver, taker) = start_pool(rt, alloc, crew)?;
+    let (spare_pool, spare_giver, spare_taker) = match start_pool(rt, alloc, crew) {
+        Ok(started) => started,
+        Err(end) => {
+            pool.stop(rt, giver, taker).discard();
+            return Err(end);
+        }
     };
-    match brought {
-        Ok(brought) => told_of(alloc, group.names, &brought, gravest(end, lack)),
-        Err(_) => Err(gravest(gravest(end, lack), End::Memory)),
+    let openings = crew.openings(group);
+    let (giver, taker, spare_giver, spare_taker, brought, end) = meet_both(
+        rt,
+        alloc,
+        wires,
+        gate,
+        seat,
+        wire,
+        desk,
+        giver,
+        taker,
+        spare_wire,
+        spare_desk,
+        spare_giver,
+        spare_taker,
+        &openings,
+        err,
+    );
+    pool.stop(rt, giver, taker).discard();
+    spare_pool.stop(rt, spare_giver, spare_taker).discard();
+    let lacks_thread = wires.lack_thread() || wire.lacks_thread() || spare_wire.lacks_thread();
+    let end = with_lack(end, lacks_thread);
+    told_by(alloc, group, crew.openers, brought, end)
+}
+
+// The graver of an end and of that of a host that lacks a thread.
+fn with_lack(end: End, lacks_thread: bool) -> End {
+    if lacks_thread {
+        gravest(end, End::ReadFault)
+    } else {
+        end
     }
+}
+
+// What each file was told by what the openers brought back, if they did, and the gravest of this end and theirs.
+fn told_by<'a>(
+    alloc: Global,
+    group: Group<'a>,
+    openers: usize,
+    brought: Result<Vec<Brought>, AllocError>,
+    end: End,
+) -> Result<(Vec<Opened<'a>>, End), End>
+    requires { IfOk brought (λ all. vec_len all ≡ openers) }
+    ensures brought { IfOk result (λ r. AreBrought openers group.entry.names.now r.0.items r.1) }
+    ensures failed { IfErr result (λ end. IsFault (status_of_end end)) }
+{
+    let Ok(brought) = brought else {
+        return Err(gravest(end, End::Memory));
+    };
+    told_of(alloc, group.names, &brought, end)
 }
 
 // What each file was told, of what the openers brought, and the gravest of this end and theirs.

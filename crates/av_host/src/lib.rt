@@ -2,7 +2,7 @@
 //! connected sockets.
 //!
 //! ```text
-//! let status = host_files(&rt, alloc, set, &files, Crew { openers: 2, workers: 2 }, &mut out, &mut err);
+//! let status = host_files(&rt, alloc, set, &files, Crew { openers: 2, workers: 2, has_spare: false }, wishes, &mut out, &mut err);
 //! ```
 #![tactic(auto)]
 
@@ -10,6 +10,7 @@ mod carrying;
 mod crew;
 pub mod host;
 pub mod opener;
+pub mod wire;
 
 pub use host::{Crew, Hosting, host_files, host_group};
 pub use opener::Group;

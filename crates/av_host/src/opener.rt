@@ -2,14 +2,15 @@ ghost use Rattle.std.specs.Prelude.{◌≡◌, ◌≤◌};
 ghost use Rattle.av_ends.specs.Tickets.{IsNoteOf};
 ghost use Rattle.av_gate.specs.Seats.{IsSeatOf};
 
+use crate::wire::GateWires;
 use av_base::Refusal;
 use av_ends::{Receipt, Ticket, TicketNote};
 use av_engines::End;
 use av_gate::{Gate, Seat};
 use std::alloc::Global;
 use std::sync::Wait;
+use std::sync::atomic::AtomicU64;
 use std::sync::atomic::Ordering::SeqCst;
-use std::sync::atomic::{AtomicBool, AtomicU64};
 use std::thread;
 
 /// Files that are opened together, each once, in the order given, and where they stand among all that are to be opened.
@@ -61,11 +62,11 @@ impl<'a> Openings<'a> {
     }
 }
 
-/// What one opener has to do: every `openers`-th file from the one of number `first` on, once the service was welcome or is lost.
+/// What one opener has to do: every `openers`-th file from the one of number `first` on, once each service was welcome or is lost.
 #[derive(Clone, Copy, Drop)]
 pub struct Part<'a> {
     pub openings: &'a Openings<'a>,
-    pub is_over: &'a AtomicBool,
+    pub wires: &'a GateWires,
     pub first: usize,
 }
 
@@ -88,19 +89,19 @@ pub fn open_files<R: Wait>(
 ) -> Brought
     requires { IsSeatOf gate.now seat }
 {
-    await_service(rt, gate, &mut seat, part.is_over);
+    await_services(rt, gate, &mut seat, part.wires);
     let mut receipts = Vec::new(alloc);
     let end = open_each(rt, alloc, gate, &mut seat, part, &mut receipts);
     part.openings.at_rest.fetch_add(1, SeqCst);
     Brought { receipts, end }
 }
 
-fn await_service<R: Wait>(rt: &R, gate: &Gate, seat: &mut Seat, is_over: &AtomicBool)
+fn await_services<R: Wait>(rt: &R, gate: &Gate, seat: &mut Seat, wires: &GateWires)
     requires { IsSeatOf gate.now seat.old }
     ensures { IsSeatOf gate.now seat.new }
 {
     'looks: for _ in rt.forever() {
-        if gate.floor(seat).get() != 0 || is_over.load(SeqCst) {
+        if wires.have_come(rt, gate, seat) {
             return;
         }
         thread::yield_now();

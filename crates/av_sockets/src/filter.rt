@@ -11,7 +11,7 @@ use crate::group::{Contents, Group};
 use crate::line::Line;
 use crate::sockets::Meeting;
 use av_base::limits::MAX_JOBS;
-use av_base::{Limits, Mode, StreamId, Version};
+use av_base::{Limits, Mode, Port, StreamId, Version};
 use av_engines::{End, Watched, serve_filter};
 use av_files::opened::{Opened, conclude_opened, count_opened, print_opened};
 use av_files::scanner::MAX_FILE;
@@ -271,7 +271,7 @@ fn open_streams<C: Clock>(
     }
 }
 
-// Opens these streams, once the filter is connected.
+// Opens these streams, once the filter is connected. Nothing ever connects its other port.
 fn open_part<C: Clock>(
     alloc: Global,
     volume: &mut Volume,
@@ -282,7 +282,7 @@ fn open_part<C: Clock>(
     requires fits { Fits filter.old volume.old }
     ensures fits { Fits filter.new volume.new }
 {
-    if volume.opens_left() < streams.len() as u64 {
+    if volume.opens_left() < streams.len() as u64 || filter.connected(Port::Two) {
         return Watched {
             end: End::Closed,
             answers: Vec::new(alloc),

@@ -165,6 +165,7 @@ fn host_command<'a>(alloc: Global) -> Result<Command<'a>, AllocError> {
             SUMMARY,
             OPENERS,
             WORKERS,
+            SPARE,
             QUIET,
         ],
     )
@@ -484,6 +485,12 @@ const WORKERS: Word = Word {
         absent: Absent::Means("2"),
     },
     help: "How many threads scan beside the one that reads, 1 to 16",
+};
+
+const SPARE: Word = Word {
+    name: "spare",
+    kind: Kind::Flag,
+    help: "A second service stands by: what the first one leaves undone when it is lost is asked there",
 };
 
 const WAIT_FOR_SERVICE: Word = Word {

@@ -71,13 +71,15 @@ pub struct Scan<'a> {
     pub finding: Finding,
 }
 
-/// Which files are opened, under the signature file `set`, by 1 to 16 threads that open and as many that scan.
+/// Which files are opened, under the signature file `set`, by 1 to 16 threads that open and as many that scan. With a spare a
+/// second service stands by, with as many threads of its own.
 #[derive(Drop)]
 pub struct Host<'a> {
     pub set: &'a str,
     pub named: Named<'a>,
     pub openers: usize,
     pub workers: usize,
+    pub has_spare: bool,
 }
 
 /// Which files are opened, through which socket: it has these rights, and the service may take `wait` seconds to join.

@@ -147,10 +147,10 @@ fn the_first_word_that_is_no_text_is_named(rt: HostRuntime) -> Result<(), Fail> 
     Ok(())
 }
 
-// How many threads open files in this process and how many scan, as a line asks for.
-fn crew_of(alloc: Global, line: &str) -> Option<(usize, usize)> {
+// How many threads open files in this process, how many scan, and whether a second service stands by, as a line asks for.
+fn crew_of(alloc: Global, line: &str) -> Option<(usize, usize, bool)> {
     match request_of(alloc, words_of(alloc, line)?.as_slice()) {
-        Some(Request::Host(host)) => Some((host.openers, host.workers)),
+        Some(Request::Host(host)) => Some((host.openers, host.workers, host.has_spare)),
         _ => None,
     }
 }
@@ -158,10 +158,13 @@ fn crew_of(alloc: Global, line: &str) -> Option<(usize, usize)> {
 #[test]
 fn a_host_has_one_to_sixteen_openers_and_workers(rt: HostRuntime) -> Result<(), Fail> {
     for (line, crew) in [
-        ("host s f", Some((2, 2))),
-        ("host s f --openers 16 --workers 1", Some((16, 1))),
+        ("host s f", Some((2, 2, false))),
+        ("host s f --openers 16 --workers 1", Some((16, 1, false))),
+        ("host s f --spare", Some((2, 2, true))),
         ("host s f --openers 17", None),
         ("host s f --workers 0", None),
+        ("host s f --spare --spare", None),
+        ("filter s f --spare", None),
     ] {
         assert!(&rt; crew_of(rt.alloc(), line) == crew, "{line}");
     }

@@ -112,6 +112,7 @@ fn host_of<'a>(alloc: Global, matches: &ArgMatches<'a>) -> Result<Request<'a>, A
         named: named_of(alloc, matches)?,
         openers: count_of(matches, "openers"),
         workers: count_of(matches, "workers"),
+        has_spare: matches.get_flag("spare"),
     }))
 }
 

@@ -213,6 +213,7 @@ fn host_made<R: Hosting, W: Write, E: Write>(
     let crew = Crew {
         openers: asked.openers,
         workers: asked.workers,
+        has_spare: asked.has_spare,
     };
     let wishes = asked.named.wishes;
     match host_group(

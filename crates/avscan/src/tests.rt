@@ -18,6 +18,7 @@ const SET: &[u8] = b"avsig 1\nversion 1\nx 5858\n";
 const CREW: Crew = Crew {
     openers: 2,
     workers: 2,
+    has_spare: false,
 };
 
 const PLAIN: Wishes = Wishes {

@@ -3,7 +3,7 @@ use Rattle.std.proofs.Crossing.{crosses}
 use Rattle.av_desk.proofs.Crossing.{desk_sync}
 use Rattle.av_pool.proofs.giver.Giver.TheSendSync as giver
 use Rattle.av_pool.proofs.taker.Taker.TheSendSync as taker
-use Rattle.av_host.proofs.carrying.Wire.TheSendSync as wire
+use Rattle.av_host.proofs.wire.Wire.TheSendSync as wire
 use Rattle.av_host.proofs.crew.start_service.Goals as goal
 
 pub spawn_with-started-requires-send-F : goal.spawn_with-started-requires-send-F

@@ -1,5 +1,5 @@
 use Rattle.av_gate.specs.Seats.{IsSeatOf}
-use Rattle.av_host.proofs.opener.await_service.Given as goal
+use Rattle.av_host.proofs.opener.await_services.Given as goal
 
 -- the seat is the gate's
 abbrev pub invariant-looks : goal.invariant-looks
