@@ -44,6 +44,11 @@ def verdict_of(patterns, content):
     return min(found)[::-1] if found else None
 
 
+def port_words(port):
+    """The end of the line of a message or a work: that of port 1 has none."""
+    return "" if port == 1 else f" port {port}"
+
+
 def verdict_words(verdict):
     return "clean" if verdict is None else "infected %d end %d" % verdict
 
@@ -78,18 +83,118 @@ class Volume:
         self.streams[s][1:] = [generation + 1, new]
 
 
+class Service:
+    """The scanning service of a port. A job is [id, stream, generation, length, bytes judged, lease or None, bytes lent]."""
+
+    def __init__(self, world, port):
+        self.world, self.port = world, port
+        self.lease, self.cache = 0, Cache(world.limits["cache"])
+        self.jobs, self.connected, self.version = [], False, None
+
+    def send(self, *message):
+        self.world.up.append((self.port, *message))
+
+    def job(self, id_):
+        return next((j for j in self.jobs if j[0] == id_), None)
+
+    def read(self, job):
+        self.send("read", job[0], len(job[4]), min(self.world.limits["chunk"], job[3] - len(job[4])))
+
+    def reply(self, id_, s, generation, verdict):
+        self.cache.put((s, generation, self.version), verdict)
+        self.send("reply", id_, 0, self.version, verdict)
+
+    def connect(self):
+        if self.version is None:
+            raise Refused("NoSignatures")
+        if self.connected:
+            raise Refused("AlreadyConnected")
+        self.connected = True
+        self.send("hello", self.world.number, self.version)
+
+    def take(self, kind, id_, *fields):
+        """A message from the filter, and the note that it gives."""
+        job = self.job(id_)
+        if not self.connected:
+            return "Ignored"
+        if kind == "scan":
+            return self.start_job(id_, *fields)
+        if job is None:
+            return "Ignored"
+        if kind != "chunk":
+            self.jobs.remove(job)
+            return None
+        offset, chunk = fields
+        if job[5] is not None or len(job[4]) != offset:
+            return "Ignored"
+        if offset + len(chunk) > job[3]:
+            self.jobs.remove(job)
+            self.send("reply", id_, 2)
+        else:
+            self.lease += 1
+            job[5:] = [self.lease, chunk]
+            self.world.works.append((self.lease, id_, self.version, offset, chunk, self.port))
+        return None
+
+    def start_job(self, id_, s, generation, length):
+        known = [e for e in self.cache.entries if e[0] == (s, generation, self.version)]
+        if self.job(id_):
+            return "Repeat"
+        if known:
+            self.send("reply", id_, 0, self.version, self.cache.look(known[0][0]))
+        elif len(self.jobs) >= self.world.limits["jobs"]:
+            self.send("reply", id_, 1)
+        elif length == 0:
+            self.reply(id_, s, generation, None)
+        else:
+            self.jobs.append([id_, s, generation, length, b"", None, b""])
+            self.read(self.jobs[-1])
+        return None
+
+    def finish(self, lease, version, chunk):
+        """A work comes back, and the note that it gives."""
+        job = next((j for j in self.jobs if j[5] == lease), None)
+        if job is None:
+            return "Orphan"
+        job[4:] = [job[4] + chunk, None, b""]
+        verdict = verdict_of(self.world.patterns(version), job[4])
+        if verdict is not None or len(job[4]) == job[3]:
+            self.jobs.remove(job)
+            self.reply(job[0], job[1], job[2], verdict)
+        else:
+            self.read(job)
+        return None
+
+    def publish(self, version):
+        self.version = version
+        if self.connected:
+            self.send("updated", version)
+            for job in self.jobs:
+                job[4:] = [b"", None, b""]
+                self.read(job)
+
+    def disconnect(self):
+        self.connected, self.jobs = False, []
+
+    def restart(self):
+        self.disconnect()
+        self.cache = Cache(self.world.limits["cache"])
+        self.version = self.world.sets[-1][0] if self.world.sets else None
+
+
 class World:
+    """Messages are (port, kind, fields ..), a question is (stream, generation, port), a work (lease or None, id, version, offset, bytes, port)."""
+
     def __init__(self, number, is_open, limits):
         self.number, self.is_open, self.limits = number, is_open, limits
         self.volume, self.sets, self.opens = Volume(limits), [], 0
         self.boot, self.down, self.up, self.works = 1, [], [], []
-        self.lease, self.service_cache = 0, Cache(limits["cache"])
-        self.jobs, self.service_connected, self.version = [], False, None
+        self.services = {port: Service(self, port) for port in (1, 2)}
         self.mount()
         self.lines = ["boot 1"]
 
     def mount(self):
-        self.seq, self.floor, self.filter_connected = 0, 0, False
+        self.seq, self.floor, self.connected = 0, 0, set()
         self.contexts, self.questions, self.pended, self.filter_cache = {}, {}, [], Cache(self.limits["cache"])
 
     # ---- what a step tells
@@ -108,13 +213,17 @@ class World:
         for way, sent, first in (("down", self.down, before[0]), ("up", self.up, before[1])):
             lines += ["%s %d %s" % (way, k + 1, self.message_words(sent[k])) for k in range(first, len(sent))]
         for k in range(before[2], len(self.works)):
-            _, id_, _, offset, chunk = self.works[k]
-            lines.append("work %d lent %d.%d offset %d length %d" % (k + 1, *id_, offset, len(chunk)))
+            _, id_, _, offset, chunk, port = self.works[k]
+            lines.append("work %d lent %d.%d offset %d length %d" % (k + 1, *id_, offset, len(chunk)) + port_words(port))
         self.lines += lines + (["note " + self.note] if self.note else [])
 
     @staticmethod
     def message_words(message):
-        kind, *fields = message
+        port, kind, *fields = message
+        return World.body_words(kind, fields) + port_words(port)
+
+    @staticmethod
+    def body_words(kind, fields):
         if kind == "hello":
             return "hello volume %d version %d" % tuple(fields)
         if kind == "updated":
@@ -153,26 +262,28 @@ class World:
             self.deny(n, INFECTED)
 
     def question_of(self, s):
-        return next((q for q, (stream, _) in self.questions.items() if stream == s), None)
+        return next((q for q, question in self.questions.items() if question[0] == s), None)
 
     def ask(self, s):
+        """A question is asked on the least connected port."""
         self.seq += 1
-        self.questions[self.seq] = (s, self.generation(s))
-        self.down.append(("scan", (self.boot, self.seq), s, self.generation(s), len(self.volume.streams[s][2])))
+        port = min(self.connected)
+        self.questions[self.seq] = (s, self.generation(s), port)
+        self.down.append((port, "scan", (self.boot, self.seq), s, self.generation(s), len(self.volume.streams[s][2])))
         self.contexts[s] = "scanning"
         return self.seq
 
     def end(self, q):
         """The question ends, and gives back its stream and its opens in order."""
-        s, _ = self.questions.pop(q)
+        s = self.questions.pop(q)[0]
         opens = [p for p in self.pended if p[0] == q]
         self.pended = [p for p in self.pended if p[0] != q]
         return s, opens
 
     def again(self, q, is_rewritten):
-        s, _ = self.questions.pop(q)
+        s, _, port = self.questions.pop(q)
         if is_rewritten:
-            self.down.append(("abort", (self.boot, q)))
+            self.down.append((port, "abort", (self.boot, q)))
         asked = [p for p in self.pended if p[0] == q]
         for _, n, _, rescans, _ in [p for p in asked if p[3] >= 8]:
             self.by_mode(n, s, UNSETTLED)
@@ -197,7 +308,7 @@ class World:
         if q is None:
             if len(self.pended) >= self.limits["pended"]:
                 return self.by_mode(n, s, BUSY)
-            if not self.filter_connected:
+            if not self.connected:
                 return self.by_mode(n, s, NOT_CONNECTED)
             if len(self.questions) >= self.limits["questions"]:
                 return self.by_mode(n, s, BUSY)
@@ -229,16 +340,17 @@ class World:
         s = self.named(name)
         q = self.question_of(s)
         if q is not None:
+            port = self.questions[q][2]
             for _, n, *_ in self.end(q)[1]:
                 self.deny(n, REMOVED)
-            self.down.append(("abort", (self.boot, q)))
+            self.down.append((port, "abort", (self.boot, q)))
         self.contexts.pop(s, None)
         del self.volume.streams[s]
         self.own.append("removed %d" % s)
 
     def cleanup(self, name):
         s = self.named(name)
-        if self.contexts.get(s) == "modified" and self.filter_connected and len(self.questions) < self.limits["questions"]:
+        if self.contexts.get(s) == "modified" and self.connected and len(self.questions) < self.limits["questions"]:
             self.ask(s)
 
     def refuse_all(self, q, cause):
@@ -251,17 +363,23 @@ class World:
         if seq not in self.questions:
             self.note = "NoWaiter"
             return
+        port = self.questions[seq][2]
         self.refuse_all(seq, TIMED_OUT)
-        self.down.append(("abort", (self.boot, seq)))
+        self.down.append((port, "abort", (self.boot, seq)))
 
     def all_by_mode(self, cause):
         for _, n, _, _, s in self.pended:
             self.by_mode(n, s, cause)
         self.pended = []
 
-    def disconnect_filter(self):
-        self.filter_connected = False
-        for s, _ in self.questions.values():
+    def disconnect_filter(self, port):
+        self.connected.discard(port)
+        if self.connected:
+            for q in [q for q, question in sorted(self.questions.items()) if question[2] == port]:
+                self.again(q, False)
+            self.given.sort()
+            return
+        for s, *_ in self.questions.values():
             self.contexts[s] = "modified"
         self.questions = {}
         self.all_by_mode(PORT_LOST)
@@ -275,24 +393,25 @@ class World:
     def up_frame(self, k):
         if not 1 <= k <= len(self.up):
             raise Refused("NoSuchFrame")
-        kind, *fields = self.up[k - 1]
+        port, kind, *fields = self.up[k - 1]
         if kind == "hello":
             volume, version = fields
             if volume != self.number:
                 self.note = "WrongVolume"
-            elif self.filter_connected:
+            elif port in self.connected:
                 self.note = "Connected"
             elif version < self.floor:
                 self.note = "OldVersion"
             else:
-                self.filter_connected, self.floor, self.note = True, version, "Welcome"
+                self.connected.add(port)
+                self.floor, self.note = version, "Welcome"
         elif kind == "updated":
             self.floor = max(self.floor, fields[0])
         else:
             boot, q = fields[0]
-            asked = boot == self.boot and q in self.questions
+            asked = boot == self.boot and q in self.questions and self.questions[q][2] == port
             if kind == "read":
-                self.send_chunk(fields[0], fields[1], fields[2], asked)
+                self.send_chunk(port, fields[0], fields[1], fields[2], asked)
             elif not asked:
                 self.note = "NoWaiter"
             elif fields[1]:
@@ -306,90 +425,32 @@ class World:
                 for _, n, least, *_ in opens:
                     self.judged(n, s, fields[2], least, fields[3])
 
-    def send_chunk(self, id_, offset, count, asked):
+    def send_chunk(self, port, id_, offset, count, asked):
         content = self.volume.streams[self.questions[id_[1]][0]][2] if asked else b""
         if not asked:
-            self.down.append(("nochunk", id_, offset, 1))
+            self.down.append((port, "nochunk", id_, offset, 1))
         elif offset >= len(content):
-            self.down.append(("nochunk", id_, offset, 2))
+            self.down.append((port, "nochunk", id_, offset, 2))
         else:
-            self.down.append(("chunk", id_, offset, content[offset:offset + min(count, self.limits["chunk"])]))
+            self.down.append((port, "chunk", id_, offset, content[offset:offset + min(count, self.limits["chunk"])]))
 
-    # ---- the service; a job is [id, stream, generation, length, bytes judged, lease or None, bytes lent]
+    # ---- the services
 
-    def job(self, id_):
-        return next((j for j in self.jobs if j[0] == id_), None)
-
-    def read(self, job):
-        self.up.append(("read", job[0], len(job[4]), min(self.limits["chunk"], job[3] - len(job[4]))))
-
-    def reply(self, id_, s, generation, verdict):
-        self.service_cache.put((s, generation, self.version), verdict)
-        self.up.append(("reply", id_, 0, self.version, verdict))
-
-    def connect(self):
-        if self.version is None:
-            raise Refused("NoSignatures")
-        if self.service_connected:
-            raise Refused("AlreadyConnected")
-        self.service_connected = True
-        self.up.append(("hello", self.number, self.version))
+    def connect(self, port):
+        self.services[port].connect()
 
     def down_frame(self, k):
         if not 1 <= k <= len(self.down):
             raise Refused("NoSuchFrame")
-        kind, id_, *fields = self.down[k - 1]
-        job = self.job(id_)
-        if not self.service_connected:
-            self.note = "Ignored"
-        elif kind == "scan":
-            self.start_job(id_, *fields)
-        elif kind == "chunk":
-            offset, chunk = fields
-            if job is None or job[5] is not None or len(job[4]) != offset:
-                self.note = "Ignored"
-            elif offset + len(chunk) > job[3]:
-                self.jobs.remove(job)
-                self.up.append(("reply", id_, 2))
-            else:
-                self.lease += 1
-                job[5:] = [self.lease, chunk]
-                self.works.append((self.lease, id_, self.version, offset, chunk))
-        elif job is None:
-            self.note = "Ignored"
-        else:
-            self.jobs.remove(job)
-
-    def start_job(self, id_, s, generation, length):
-        known = [e for e in self.service_cache.entries if e[0] == (s, generation, self.version)]
-        if self.job(id_):
-            self.note = "Repeat"
-        elif known:
-            self.up.append(("reply", id_, 0, self.version, self.service_cache.look(known[0][0])))
-        elif len(self.jobs) >= self.limits["jobs"]:
-            self.up.append(("reply", id_, 1))
-        elif length == 0:
-            self.reply(id_, s, generation, None)
-        else:
-            self.jobs.append([id_, s, generation, length, b"", None, b""])
-            self.read(self.jobs[-1])
+        port, *message = self.down[k - 1]
+        self.note = self.services[port].take(*message)
 
     def work(self, k):
         if not 1 <= k <= len(self.works) or self.works[k - 1][0] is None:
             raise Refused("NoSuchWork")
-        lease, id_, version, offset, chunk = self.works[k - 1]
-        self.works[k - 1] = (None, id_, version, offset, chunk)
-        job = next((j for j in self.jobs if j[5] == lease), None)
-        if job is None:
-            self.note = "Orphan"
-            return
-        job[4:] = [job[4] + chunk, None, b""]
-        verdict = verdict_of(self.patterns(version), job[4])
-        if verdict is not None or len(job[4]) == job[3]:
-            self.jobs.remove(job)
-            self.reply(job[0], job[1], job[2], verdict)
-        else:
-            self.read(job)
+        lease, id_, version, offset, chunk, port = self.works[k - 1]
+        self.works[k - 1] = (None, id_, version, offset, chunk, port)
+        self.note = self.services[port].finish(lease, version, chunk)
 
     def patterns(self, version):
         return next(patterns for v, patterns in self.sets if v == version)
@@ -403,21 +464,15 @@ class World:
         if len(self.sets) >= 4096:
             raise Refused("CatalogueFull")
         self.sets.append((version, patterns))
-        self.version = version
         self.own.append("version %d signatures %d" % (version, len(patterns)))
-        if self.service_connected:
-            self.up.append(("updated", version))
-            for job in self.jobs:
-                job[4:] = [b"", None, b""]
-                self.read(job)
+        for port in (1, 2):
+            self.services[port].publish(version)
 
-    def disconnect_service(self):
-        self.service_connected, self.jobs = False, []
+    def disconnect_service(self, port):
+        self.services[port].disconnect()
 
-    def restart_service(self):
-        self.disconnect_service()
-        self.service_cache = Cache(self.limits["cache"])
-        self.version = self.sets[-1][0] if self.sets else None
+    def restart_service(self, port):
+        self.services[port].restart()
 
     def judge(self, name):
         s = self.named(name)
@@ -453,15 +508,16 @@ def lines_of_command(world, line):
 
 def run(world, verb, words):
     name = words[0].encode("latin-1") if words else b""
+    port = 2 if words[-1:] == ["2"] else 1
     steps = {
         "publish": lambda: (world.publish, int(words[0]), [pattern_of(w) for w in words[1:]]),
         "create": lambda: (world.create, name), "remove": lambda: (world.remove, name), "cleanup": lambda: (world.cleanup, name),
         "judge": lambda: (world.judge, name), "open": lambda: (world.open, name, *map(int, words[1:])),
         "write": lambda: (world.changed, name, int(words[1]), b"" if words[2] == "-" else bytes.fromhex(words[2])),
-        "cut": lambda: (world.changed, name, int(words[1]), None), "connect": lambda: (world.connect,),
+        "cut": lambda: (world.changed, name, int(words[1]), None), "connect": lambda: (world.connect, port),
         "down": lambda: (world.down_frame, int(name)), "up": lambda: (world.up_frame, int(name)), "work": lambda: (world.work, int(name)),
         "timeout": lambda: (world.timeout, int(name)),
-        "disconnect": lambda: (world.disconnect_filter if words[0] == "filter" else world.disconnect_service,),
-        "restart": lambda: (world.restart_filter if words[0] == "filter" else world.restart_service,),
+        "disconnect": lambda: (world.disconnect_filter if words[0] == "filter" else world.disconnect_service, port),
+        "restart": lambda: (world.restart_filter,) if words[0] == "filter" else (world.restart_service, port),
     }
     world.step(*steps[verb]())

@@ -1,5 +1,5 @@
 #!/usr/bin/env python3
-"""Random scripts, each stopped at a random place and then finished: by deliveries, runs and a new connection of the service alone, each
+"""Random scripts, each stopped at a random place and then finished: by deliveries, runs and a new connection of both services alone, each
 open that waited must get the verdict of its stream.
 
 Which commands finish a script is read off the lines that the program printed. A name that is too long is refused and changes nothing: its
@@ -31,12 +31,14 @@ class Watch:
 
     def __init__(self, chunk):
         self.chunk, self.down, self.up, self.works = chunk, [], [], 0
-        self.streams, self.waiting, self.running = {}, {}, {}
+        self.streams, self.waiting = {}, {}
+        # the chunks that are left of each question that runs, and its port
+        self.running, self.ports = {}, {}
 
     def see(self, command, lines):
         verb, *words = command.split()
-        if command == "disconnect filter":
-            self.running.clear()
+        if command.startswith("disconnect filter"):
+            self.loses("2" if words[-1] == "2" else "1")
         if verb == "up" and not {"note NoWaiter", "refused NoSuchFrame"} & set(lines):
             self.comes_up(*self.up[int(words[0]) - 1])
         for kind, place, *rest in (line.split() for line in lines if " " in line):
@@ -56,13 +58,19 @@ class Watch:
             elif kind == "boot":
                 self.running.clear()
 
+    def loses(self, port):
+        """Each question of a port ends with it: where it is asked again, the command's own lines say so."""
+        for identity in [it for it in self.running if self.ports[it] == port]:
+            del self.running[identity]
+
     def comes_up(self, kind, identity, *words):
         if kind == "reply":
             self.running.pop(identity, None)
 
     def goes_down(self, kind, identity, *words):
         if kind == "scan":
-            self.running[identity] = -(-int(words[-1]) // self.chunk)
+            self.ports[identity] = "2" if words[-2:] == ("port", "2") else "1"
+            self.running[identity] = -(-int(words[words.index("length") + 1]) // self.chunk)
         elif kind == "abort":
             self.running.pop(identity, None)
 
@@ -74,8 +82,9 @@ def finishing(watch):
     """The commands that finish a script, each by what was printed before it."""
     if not watch.waiting:
         return
-    yield "disconnect service"
-    yield "connect"
+    for port in ("", " 2"):
+        yield "disconnect service" + port
+        yield "connect" + port
     for identity, chunks in list(watch.running.items()):
         yield f"down {watch.scan(identity)}"
         for _ in range(chunks):
@@ -124,11 +133,11 @@ def answer(identity, least, judged):
 
 def check_list(watch, steps):
     """The commands are those that the printed lines say, they carry and happen, and they are few; gives the opens' answers."""
-    most = 2 + 2 * len(watch.running) + 3 * sum(watch.running.values())
+    most = 4 + 2 * len(watch.running) + 3 * sum(watch.running.values())
     answers, rule = [], finishing(watch)
     for command, lines in steps:
         wants(command == next(rule, None), f"the lines printed so far do not say {command!r}")
-        wants(command.startswith(CARRYING), f"{command!r} is neither a delivery, a run nor a connection of the service")
+        wants(command.startswith(CARRYING), f"{command!r} is neither a delivery, a run nor a connection of a service")
         wants(not any(line.startswith("refused") for line in lines), f"{command!r} is refused")
         answers += [line for line in lines if line.startswith("open ")]
         watch.see(command, lines)

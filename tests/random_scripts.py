@@ -1,5 +1,5 @@
 #!/usr/bin/env python3
-"""Random scripts, run by the built program and by the plain model of plain_world.py: both must print the same lines, and together the
+"""Random scripts of both ports, run by the built program and by the plain model of plain_world.py: both must print the same lines, and together the
 scripts must reach every row of rows.py.
 
 Small limits, few names and short contents, so that limits are met and scans are overtaken; messages are delivered late, again and
@@ -14,14 +14,15 @@ import plain_world, rows
 SECONDS = 60
 # Where scripts that fail are written.
 FAILED = os.path.join(os.path.dirname(os.path.dirname(os.path.abspath(__file__))), "out", "random")
-SCRIPTS = 500
+SCRIPTS = 2000
 STEPS = 500
 NAMES = ["a", "b", "c"]
 SHARES = ((4, 4, 1), (10, 1, 1))    # how often each name is taken: one of these a script
 # each verb, what it weighs where it has something to do, and what else
 WEIGHTS = {"publish": (12, 2), "create": (12, 1), "write": (8, 1), "cut": (8, 1), "remove": (1, 1), "judge": (1, 1), "open": (16, 2), "cleanup": (5, 1),
            "connect": (12, 1), "down": (24, 2), "up": (24, 2), "work": (20, 1), "timeout": (2, 1), "disconnect filter": (1, 1), "disconnect service": (1, 1),
-           "restart filter": (1, 1), "restart service": (1, 1)}
+           "restart filter": (1, 1), "restart service": (1, 1), "connect 2": (12, 1), "disconnect filter 2": (1, 1), "disconnect service 2": (1, 1),
+           "restart service 2": (1, 1)}
 SPELL = 16
 TEMPERS = (0, 1, 1, 6)
 EAGERNESS = (0, 3 / 8, 6 / 8, 1)
@@ -55,7 +56,7 @@ def place(chance, count):
 
 
 def has_something_to_do(verb, world):
-    ready = {"publish": not world.sets, "create": len(world.volume.streams) < 2, "connect": not world.service_connected, "down": world.down, "up": world.up,
+    ready = {"publish": not world.sets, "create": len(world.volume.streams) < 2, "connect": not world.services[1].connected, "connect 2": not world.services[2].connected, "down": world.down, "up": world.up,
              "work": any(work[0] is not None for work in world.works), "timeout": world.questions}
     return bool(ready.get(verb, world.volume.streams))
 
@@ -75,6 +76,11 @@ class Author:
         before, self.sent = self.sent, self.sizes()
         return next((f"{verb} {count}" for verb, count in self.sent.items() if count > before[verb]), None)
 
+    def loss(self):
+        """Now and then the port of a question is lost that an open has waited for as often as it may."""
+        spent = [self.world.questions[p[0]][2] for p in self.world.pended if p[3] >= rows.RESCANS]
+        return f"disconnect filter{' 2' * (spent[0] == 2)}" if spent and self.chance.random() < 1 / 8 else None
+
     def command(self):
         fresh = self.fresh()
         if self.left == 0:
@@ -84,6 +90,9 @@ class Author:
         self.left -= 1
         if fresh and self.chance.random() < self.eagerness:
             return fresh
+        loss = self.loss()
+        if loss:
+            return loss
         weights = [weight[not has_something_to_do(verb, self.world)] * temper for (verb, weight), temper in zip(WEIGHTS.items(), self.tempers)]
         return self.words(self.chance.choices(list(WEIGHTS), weights)[0] if any(weights) else "open")
 

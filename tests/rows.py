@@ -27,17 +27,20 @@ ROWS = [
     "judge: NoSuchName", "judge: NoSignatures", "judge: verdict",
     "timeout: NoWaiter", "timeout: question without opens", *by_mode("timeout: question with opens"),
     "disconnect filter: no question", "disconnect filter: questions without opens", *by_mode("disconnect filter: questions with opens"),
+    "disconnect filter, a port is left: no question", *asked_again("disconnect filter, a port is left: "),
     "restart filter: none waits", *by_mode("restart filter: opens wait"),
     "connect: NoSignatures", "connect: AlreadyConnected", "connect: Hello",
     *(f"{verb} service: {jobs}" for verb in ("disconnect", "restart") for jobs in ("jobs", "no job")),
-    "publish: BadSet", "publish: OldVersion", "publish: not connected", "publish: no job", "publish: jobs wait", "publish: a job is lent",
+    "publish: BadSet", "publish: OldVersion", "publish: not connected",
+    *(f"publish: {jobs}{told}" for jobs in ("no job", "jobs wait", "a job is lent") for told in ("", ", both are told")),
     "work: NoSuchWork", "work: Orphan", "work: hit", "work: all judged", "work: goes on",
     "down: NoSuchFrame", "up: NoSuchFrame",
     *(f"{kind}: not connected" for kind in ("scan", "chunk", "nochunk", "abort")),
     "scan: Repeat", "scan: cached verdict", "scan: as many jobs as may be", "scan: length 0", "scan: job",
     "chunk: no job", "chunk: lent already", "chunk: another offset", "chunk: lent",
     *(f"{kind}: {job}" for kind in ("abort", "nochunk") for job in ("no job", "a lent job ends", "a waiting job ends")),
-    "hello: Connected", "hello: OldVersion", "hello: Welcome", "updated: raises the floor", "updated: nothing",
+    "hello: Connected", "hello: OldVersion", "hello: Welcome", "hello: Welcome beside the other port", "hello: OldVersion beside the other port",
+    "updated: raises the floor", "updated: nothing",
     "read: no question", "read: chunk",
     "reply: NoWaiter", "reply: failed, no open waits", *by_mode("reply: failed, opens wait"), *asked_again("reply below the floor: "),
     *(f"reply: {verdict}, {opens}" for verdict in ("clean", "infected") for opens in ("opens wait", "no open waits")),
@@ -76,7 +79,7 @@ def open_row(world, name, least=0):
         return "question runs, as many wait as may" + mode(world) if full else "joins a question"
     if full:
         return "as many wait as may" + mode(world)
-    if not world.filter_connected:
+    if not world.connected:
         return "not connected" + mode(world)
     return "no question can be asked" + mode(world) if len(world.questions) >= world.limits["questions"] else "asked"
 
@@ -107,7 +110,7 @@ def question_row(world, s):
 def cleanup_row(world, s):
     context = world.contexts.get(s)
     if context == "modified":
-        return "asked" if world.filter_connected and len(world.questions) < world.limits["questions"] else "can't ask"
+        return "asked" if world.connected and len(world.questions) < world.limits["questions"] else "can't ask"
     return {None: "never changed", "scanning": "scanning"}[context] if not isinstance(context, tuple) else "judged " + judged(context[1])
 
 
@@ -132,14 +135,20 @@ def timeout_row(world, seq):
     return "question with opens" + mode(world) if opens_of(world, int(seq)) else "question without opens"
 
 
+def lost_row(world, port):
+    """A port is lost and the other one is left: how the first question that ran on it goes on."""
+    lost = [q for q, question in sorted(world.questions.items()) if question[2] == port]
+    return again(world, lost[0]) if lost else "no question"
+
+
 def filter_row(world, verb):
     if verb == "restart":
         return "opens wait" + mode(world) if world.pended else "none waits"
     return "no question" if not world.questions else "questions with opens" + mode(world) if world.pended else "questions without opens"
 
 
-def connect_row(world):
-    return "NoSignatures" if world.version is None else "AlreadyConnected" if world.service_connected else "Hello"
+def connect_row(service):
+    return "NoSignatures" if service.version is None else "AlreadyConnected" if service.connected else "Hello"
 
 
 def publish_row(world, version, *patterns):
@@ -148,38 +157,40 @@ def publish_row(world, version, *patterns):
         return "BadSet"
     if world.sets and int(version) <= world.sets[-1][0]:
         return "OldVersion"
-    if not world.service_connected:
+    told = [service for service in world.services.values() if service.connected]
+    if not told:
         return "not connected"
-    return "no job" if not world.jobs else "a job is lent" if any(job[5] is not None for job in world.jobs) else "jobs wait"
+    jobs = [job for service in told for job in service.jobs]
+    return ("no job" if not jobs else "a job is lent" if any(job[5] is not None for job in jobs) else "jobs wait") + ", both are told" * (len(told) == 2)
 
 
 def work_row(world, k):
     if not 1 <= int(k) <= len(world.works) or world.works[int(k) - 1][0] is None:
         return "NoSuchWork"
-    lease, _, version, _, chunk = world.works[int(k) - 1]
-    job = next((job for job in world.jobs if job[5] == lease), None)
+    lease, _, version, _, chunk, port = world.works[int(k) - 1]
+    job = next((job for job in world.services[port].jobs if job[5] == lease), None)
     if job is None:
         return "Orphan"
     content = job[4] + chunk
     return "hit" if plain_world.verdict_of(world.patterns(version), content) is not None else "all judged" if len(content) == job[3] else "goes on"
 
 
-def scan_row(world, job, s, generation, length):
+def scan_row(service, job, s, generation, length):
     if job is not None:
         return "Repeat"
-    if any(entry[0] == (s, generation, world.version) for entry in world.service_cache.entries):
+    if any(entry[0] == (s, generation, service.version) for entry in service.cache.entries):
         return "cached verdict"
-    if len(world.jobs) >= world.limits["jobs"]:
+    if len(service.jobs) >= service.world.limits["jobs"]:
         return "as many jobs as may be"
     return "length 0" if length == 0 else "job"
 
 
-def down_row(world, kind, id_, *fields):
-    job = world.job(id_)
-    if not world.service_connected:
+def down_row(service, kind, id_, *fields):
+    job = service.job(id_)
+    if not service.connected:
         return "not connected"
     if kind == "scan":
-        return scan_row(world, job, *fields)
+        return scan_row(service, job, *fields)
     if job is None:
         return "no job"
     if kind != "chunk":
@@ -187,8 +198,9 @@ def down_row(world, kind, id_, *fields):
     return "lent already" if job[5] is not None else "another offset" if fields[0] != len(job[4]) else "lent"
 
 
-def hello_row(world, version):
-    return "Connected" if world.filter_connected else "OldVersion" if version < world.floor else "Welcome"
+def hello_row(world, port, version):
+    beside = " beside the other port" if world.connected else ""
+    return "Connected" if port in world.connected else ("OldVersion" if version < world.floor else "Welcome") + beside
 
 
 def reply_row(world, id_, failed, version=None, verdict=None):
@@ -203,9 +215,9 @@ def reply_row(world, id_, failed, version=None, verdict=None):
     return f"reply: {judged(verdict)}, " + ("opens wait" if opens else "no open waits")
 
 
-def up_row(world, kind, *fields):
+def up_row(world, port, kind, *fields):
     if kind == "hello":
-        return "hello: " + hello_row(world, fields[1])
+        return "hello: " + hello_row(world, port, fields[1])
     if kind == "updated":
         return "updated: " + ("raises the floor" if fields[0] > world.floor else "nothing")
     if kind == "reply":
@@ -225,11 +237,14 @@ def row_of(world, line):
         if not 1 <= int(words[0]) <= len(frames):
             return f"{verb}: NoSuchFrame"
         message = frames[int(words[0]) - 1]
-        return f"{message[0]}: " + down_row(world, *message) if verb == "down" else up_row(world, *message)
+        return f"{message[1]}: " + down_row(world.services[message[0]], *message[1:]) if verb == "down" else up_row(world, *message)
+    port = 2 if words[-1:] == ["2"] else 1
+    if words and (verb, words[0]) == ("disconnect", "filter") and world.connected - {port}:
+        return "disconnect filter, a port is left: " + lost_row(world, port)
     if verb in ("disconnect", "restart"):
-        return f"{verb} {words[0]}: " + (filter_row(world, verb) if words[0] == "filter" else "jobs" if world.jobs else "no job")
+        return f"{verb} {words[0]}: " + (filter_row(world, verb) if words[0] == "filter" else "jobs" if world.services[port].jobs else "no job")
     rows = {"open": lambda: open_row(world, name, *words[1:]), "create": lambda: create_row(world, name), "timeout": lambda: timeout_row(world, words[0]),
-            "connect": lambda: connect_row(world), "publish": lambda: publish_row(world, *words), "work": lambda: work_row(world, words[0])}
+            "connect": lambda: connect_row(world.services[port]), "publish": lambda: publish_row(world, *words), "work": lambda: work_row(world, words[0])}
     return f"{verb}: " + rows[verb]()
 
 

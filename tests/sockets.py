@@ -6,7 +6,7 @@ killed after each of its first 200 bytes; bytes that are no frames; peers that a
 the time measured from below and above; a socket that is left over, in use, no socket, too long a path, in no folder, of a mode,
 not to be entered; the users, groups and modes of docs/OPERATING.md; a service that never comes, that says nothing, a second one. A filter
 over several groups of files: its memory, a service that is killed behind each, a file that goes between look and reading. `host` with 1 to 16 openers and workers tells of
-each file what `scan` tells. Nothing is left behind.
+each file what `scan` tells, with a spare also where one of its services is lost in the midst. Nothing is left behind.
 The last line says how many passed and how many failed."""
 import os, random, re, signal, socket, struct, subprocess, sys, tempfile, threading, time
 
@@ -642,6 +642,52 @@ def hosts(cases, programs):
         cases.same(f"host, turn {turn}, {openers} openers and {workers} workers", got, (0, b"".join(wanted[name] for name in some), b""))
 
 
+def losing(programs, library, words, losses):
+    """A host that loses connections: what it wrote, its status, and how many were lost."""
+    report = os.path.join(programs.folder, "lost")
+    environment = dict(os.environ, LD_PRELOAD=library, LOSE=losses, LOSE_REPORT=report)
+    done = subprocess.run([programs.program, *words], cwd=programs.folder, stdin=subprocess.DEVNULL, capture_output=True, env=environment, timeout=SECONDS)
+    with open(report, encoding="ascii") as text:
+        return (done.returncode, done.stdout, done.stderr), int(text.read())
+
+
+def spares(cases, programs):
+    """A host with a spare tells of each file what `scan` tells: as it is, and where one of its two services is lost in the midst. Where both are,
+    each file has its verdict, or is denied as the service was lost or isn't there."""
+    library = os.path.join(programs.folder, "lose_service.so")
+    source = os.path.join(os.path.dirname(os.path.abspath(__file__)), "lose_service.c")
+    subprocess.run(["cc", "-shared", "-fPIC", "-O1", "-o", library, source], check=True)
+    chance = random.Random(26)
+    names = []
+    for i in range(40):
+        content = bytearray(chance.randrange(65, 88) for _ in range(chance.choice((1, 1000, 4096, 9000, 20000, 40000))))
+        if i % 3 == 0 and len(content) > 1:
+            at = chance.randrange(len(content) - 1)
+            content[at:at + 2] = b"XX"
+        names.append(f"g{i}")
+        programs.write(names[-1], bytes(content))
+    wanted = {name: line for name, line in zip(names, told_by_scan(programs, names).splitlines(keepends=True))}
+    lost_one = lost_both = 0
+    for turn in range(300):
+        some = chance.sample(names, chance.randrange(4, 20))
+        words = ["host", "--spare", "set.txt", *some, "--openers", str(turn % 8 + 1), "--workers", str(turn // 8 % 4 + 1)]
+        first, at = turn % 2 + 1, chance.randrange(1, 60)
+        got, lost = losing(programs, library, words, f"{first}:{at}")
+        lost_one += lost
+        cases.same(f"host --spare, turn {turn}, connection {first} is lost with message {at}", got, (0, b"".join(wanted[name] for name in some), b""))
+    for turn in range(100):
+        some = chance.sample(names, chance.randrange(4, 20))
+        one, two = chance.randrange(1, 40), chance.randrange(1, 40)
+        got, lost = losing(programs, library, ["host", "--spare", "set.txt", *some], f"1:{one},2:{two}")
+        lines = [(wanted[name], *(f"{name} denied cause {cause}\n".encode() for cause in (6, 3))) for name in some]
+        told = got[1].splitlines(keepends=True)
+        lost_both += lost == 2 and any(line in of[1:] for line, of in zip(told, lines))
+        are_told = len(told) == len(some) and all(line in of for line, of in zip(told, lines))
+        cases.check(f"host --spare, turn {turn}, connections are lost with messages {one} and {two}", are_told and (got[0], got[2]) in ((0, b""), FULL[::2]), f"{got}")
+    cases.check("a connection was lost in the midst", lost_one >= 200, f"{lost_one} times")
+    cases.check("both connections were lost while an open waited", lost_both >= 20, f"{lost_both} times")
+
+
 def groups(cases, programs):
     """A host of more files than one group holds: those that reach 7 MiB together, a small one counted as 4,096 bytes."""
     large = [f"large{i}" for i in range(70)]
@@ -763,7 +809,7 @@ def main():
     if len(sys.argv) != 2:
         sys.exit("usage: tests/sockets.py PROGRAM")
     cases = Cases()
-    for part in (meetings, many_files, stopped_and_continued, waits, modes, recipe, hostile_services, hostile_filters, places, inputs, kills, hosts, groups, filter_groups):
+    for part in (meetings, many_files, stopped_and_continued, waits, modes, recipe, hostile_services, hostile_filters, places, inputs, kills, hosts, spares, groups, filter_groups):
         begun = time.time()
         try:
             with tempfile.TemporaryDirectory() as folder:
