@@ -45,7 +45,16 @@ def once(pairs):
 
 
 def line_of(told):
-    """The line that an object tells."""
+    """The line that an object tells. What names a port is of the second one, says so last, and is a message or a work."""
+    if "port" not in told:
+        return body_of(told)
+    if told["port"] != 2 or list(told)[-1] != "port" or not {"down", "up", "work"} & set(told):
+        raise ValueError(f"a port in {told}")
+    return body_of({name: told[name] for name in told if name != "port"}) + " port 2"
+
+
+def body_of(told):
+    """The same without its port."""
     kind, fields = told["is"], dict(told)
     fields["way"] = f"down {told['down']}" if "down" in told else f"up {told['up']}" if "up" in told else ""
     if fields.get("verdict") == "infected":

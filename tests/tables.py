@@ -108,7 +108,7 @@ BAD_LINES += [f"{verb}{words}" for verb in ("down", "up", "work", "timeout")
 BAD_LINES += [f"open{words}" for words in ("", " ", " a ", "  1", " a x", " a 01", " a -", " a 1 ", " a 1 2", " a 18446744073709551616")]
 BAD_LINES += [f"{verb}{words}" for verb in ("disconnect", "restart")
               for words in ("", " ", " a", " Filter", " filters", " filter ", " filter service", " service 1", " 1", " world")]
-BAD_LINES += ["connect ", "connect 1", "connect 2", "connect filter", "connects", "Connect", "removes a", "opens a", "clean a", "works 1", "frame 1", "down1", "limits jobs 1", "volumes"]
+BAD_LINES += ["connect ", "connect 1", "connect 02", "connect 2 2", "connect 2 ", "disconnect 2", "disconnect filter 1", "restart filter 2", "restart service 3", "connect filter", "connects", "Connect", "removes a", "opens a", "clean a", "works 1", "frame 1", "down1", "limits jobs 1", "volumes"]
 BAD_SCRIPTS += [(f"volume 1 closed\n{line}\n", 2) for line in BAD_LINES]
 BAD_SCRIPTS += [(f"{line}\nvolume 1 closed\n", 1) for line in ("connect", "open a", "down 1", "work 1", "timeout 1", "restart filter", "disconnect service", "remove a", "cleanup a")]
 

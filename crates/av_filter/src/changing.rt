@@ -1,4 +1,4 @@
-ghost use Rattle.std.specs.Prelude.{◌≡◌, ◌<◌, ◌∷◌, [], true, None, Ok, IsSome, IfOk, OnOk, OnErr, OnSome, length, if◌then◌else◌};
+ghost use Rattle.std.specs.Prelude.{◌≡◌, ◌<◌, ◌∷◌, [], true, None, Ok, IsSome, OnOk, OnErr, OnSome, length, if◌then◌else◌};
 ghost use Rattle.std.specs.Option.{option_map};
 ghost use Rattle.av_filter.specs.Again.{again};
 ghost use Rattle.av_filter.specs.Call.{Meets, MeetsAlways};

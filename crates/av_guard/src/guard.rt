@@ -20,18 +20,16 @@ ghost use Rattle.av_store.specs.Store.{greatest};
 use crate::ask::Ask;
 use crate::events::{disconnect, open, receive, remove, room_for_answers, time_out};
 use crate::fault::{AskFault, QuestionsFault};
-use crate::given::{Given, Told};
+use crate::given::Given;
 use crate::keeping::store;
 use crate::place::{Place, place_of as find_place};
 use crate::settling::{enter, leave, settle};
 use crate::shelf::{Oldest, Shelf};
 use crate::waiter::Waiter;
-use av_base::limits::MAX_QUESTIONS;
 use av_base::{
-    ByteList, LimitField, LimitValues, Limits, Mode, OpenId, Port, Refusal, Refused, StreamId,
-    Version,
+    ByteList, LimitField, LimitValues, Limits, Mode, Port, Refusal, Refused, StreamId, Version,
 };
-use av_filter::{Filter, Out};
+use av_filter::Filter;
 use av_frame::Message;
 use av_store::Volume;
 use std::alloc::{AllocError, Global};

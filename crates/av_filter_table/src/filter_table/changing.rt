@@ -1,25 +1,17 @@
-ghost use Rattle.std.specs.Prelude.{◌≡◌, ◌+◌, ◌<◌, ◌≤◌, ◌^◌, ◌++◌, None, Some, Ok, IsSome, IfSome, IfOk, OnOk, OnErr, length, filter, vec_len, vec_capacity};
-ghost use Rattle.av_base.specs.declared.cause.Cause.TheVariants.{Unsettled};
+ghost use Rattle.std.specs.Prelude.{◌≡◌, ◌<◌, None, Some, Ok, OnOk, OnErr};
 ghost use Rattle.av_context.specs.Contexts.{set_at};
 ghost use Rattle.av_context.specs.declared.context_state.ContextState.TheVariants.{Modified};
-ghost use Rattle.av_filter_table.specs.Answering.{by_mode, present_generation};
-ghost use Rattle.av_filter_table.specs.Asking.{asked_again, is_lost};
-ghost use Rattle.av_filter_table.specs.FilterTable.{id_of};
 ghost use Rattle.av_filter_table.specs.Rewriting.{change_by};
-ghost use Rattle.av_filter_table.specs.Table.{next_id, opens_of, question_at, question_of};
+ghost use Rattle.av_filter_table.specs.Table.{question_of};
 ghost use Rattle.std.specs.Result.{result_err};
 ghost use Rattle.av_store.specs.Seen.{change_of};
 
 use super::FilterTable;
-use crate::asked::Asked;
-use crate::moving::move_opens;
-use crate::present::generation_now;
 use crate::rewriting::Rewriting;
-use av_base::{Generation, MessageId, Port, StreamId};
+use av_base::StreamId;
 use av_context::ContextState;
-use av_pend::Answer;
 use av_store::Volume;
-use std::alloc::{AllocError, AllocFailed};
+use std::alloc::AllocError;
 
 impl FilterTable {
     /// Changes the bytes of a stream that no question runs of, and its context is Modified from then on. Where memory is

@@ -1,4 +1,4 @@
-ghost use Rattle.std.specs.Prelude.{◌+◌, ◌^◌, IfOk, ◌≡◌, ◌++◌, ◌∷◌, ◌<◌, [], IsSome, IfSome, IfNone, OnOk, OnErr, IfErr, length, filter, vec_len, vec_capacity, ◌≤◌};
+ghost use Rattle.std.specs.Prelude.{◌+◌, ◌^◌, ◌≡◌, ◌++◌, ◌∷◌, ◌<◌, [], IsSome, IfSome, IfNone, OnOk, OnErr, IfErr, length, filter, vec_len, vec_capacity, ◌≤◌};
 ghost use Rattle.std.specs.List.{AllByRecursion, list_any};
 ghost use Rattle.av_base.specs.declared.cause.Cause.TheVariants.{Unsettled};
 ghost use Rattle.av_filter_table.specs.Asking.{is_held, is_lost, asked_again};
@@ -16,7 +16,7 @@ use av_base::{MessageId, Port};
 use av_context::ContextState;
 use av_pend::{Answer, PendedOpen};
 use av_store::Volume;
-use std::alloc::{AllocError, AllocFailed};
+use std::alloc::AllocFailed;
 
 impl FilterTable {
     /// Holds an open under a question that runs. The cost grows with the logarithms of the counts of questions and of opens.

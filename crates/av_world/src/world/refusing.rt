@@ -23,7 +23,6 @@ use av_frame::Message;
 use av_service::{ConnectFault, Work};
 use av_sigset::SignatureSet;
 use av_store::StoreFault;
-use std::alloc::Global;
 
 impl Stage {
     // Why an event can't happen, where it can't whatever memory there is.

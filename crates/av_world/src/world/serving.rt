@@ -2,7 +2,7 @@ ghost use Rattle.std.specs.Prelude.{◌≡◌, ◌≤◌, ◌+◌, ◌++◌, Lis
 ghost use Rattle.std.specs.Option.{option_to_list};
 ghost use Rattle.std.specs.Vec.{vec_capacity};
 ghost use Rattle.av_world.specs.Serving.{IsSmallResponse, Served, Serves, TakesServed, event_called};
-ghost use Rattle.av_world.specs.World.{desk_of, lent_at};
+ghost use Rattle.av_world.specs.World.{lent_at};
 ghost use Rattle.av_world.specs.declared.event.Event.{Event};
 ghost use Rattle.av_world.specs.declared.report.Note.TheVariants as note;
 
