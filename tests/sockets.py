@@ -668,10 +668,12 @@ def spares(cases, programs):
         programs.write(names[-1], bytes(content))
     wanted = {name: line for name, line in zip(names, told_by_scan(programs, names).splitlines(keepends=True))}
     lost_one = lost_both = 0
-    for turn in range(300):
+    for turn in range(450):
         some = chance.sample(names, chance.randrange(4, 20))
         words = ["host", "--spare", "set.txt", *some, "--openers", str(turn % 8 + 1), "--workers", str(turn // 8 % 4 + 1)]
-        first, at = turn % 2 + 1, chance.randrange(1, 60)
+        # Over the spare's connection goes nothing but its greeting, as long as the first one stands.
+        first = 2 if turn % 3 == 0 else 1
+        at = chance.randrange(1, 60) if first == 1 else 1
         got, lost = losing(programs, library, words, f"{first}:{at}")
         lost_one += lost
         cases.same(f"host --spare, turn {turn}, connection {first} is lost with message {at}", got, (0, b"".join(wanted[name] for name in some), b""))
@@ -684,7 +686,7 @@ def spares(cases, programs):
         lost_both += lost == 2 and any(line in of[1:] for line, of in zip(told, lines))
         are_told = len(told) == len(some) and all(line in of for line, of in zip(told, lines))
         cases.check(f"host --spare, turn {turn}, connections are lost with messages {one} and {two}", are_told and (got[0], got[2]) in ((0, b""), FULL[::2]), f"{got}")
-    cases.check("a connection was lost in the midst", lost_one >= 200, f"{lost_one} times")
+    cases.check("a connection was lost in the midst", lost_one >= 300, f"{lost_one} times")
     cases.check("both connections were lost while an open waited", lost_both >= 20, f"{lost_both} times")
 
 
