@@ -68,11 +68,12 @@ def memory(cases, program):
             cases.check(f"avscan {' '.join(words)}", refused > 0, "no request was refused")
 
 
-def memory_of_host(cases, program):
-    """A host with each request refused in turn: all files opened as ever, or one line that says why not, and of each file that has
+def memory_of_host(cases, program, *flags):
+    """A host, with a spare where the flags say so, with each request refused in turn: all files opened as ever, or one line that says why not, and of each file that has
     a line what it was told: its verdict, or that the service was lost (3) or is not there (6). What was told by then is written first."""
     names = [LETTER, os.path.join(EXAMPLES, "eicar.com.txt")]
-    words = [program, "host", SET, *names]
+    words = [program, "host", *flags, SET, *names]
+    name = " ".join(["avscan host", *flags])
     whole = run(words, stdout=subprocess.PIPE).stdout
     told = [{line, *(f"{name} denied cause {cause}".encode() for cause in (3, 6))} for name, line in zip(names, whole.splitlines())]
     with tempfile.TemporaryDirectory() as work:
@@ -89,10 +90,10 @@ def memory_of_host(cases, program):
             refused += is_told
             with_lines += is_told and lines != []
             if not is_whole and not is_told:
-                cases.check("avscan host", False, f"request {number} refused: status {done.returncode}, {done.stdout!r} {done.stderr!r}")
+                cases.check(name, False, f"request {number} refused: status {done.returncode}, {done.stdout!r} {done.stderr!r}")
                 return
-        cases.check("avscan host", refused > 0, "no request was refused")
-        cases.check("avscan host: answers before the line that says why not", with_lines > 0, "no run without memory wrote what was told")
+        cases.check(name, refused > 0, "no request was refused")
+        cases.check(f"{name}: answers before the line that says why not", with_lines > 0, "no run without memory wrote what was told")
 
 
 class Guarded:
@@ -386,7 +387,7 @@ def main():
     if len(sys.argv) != 2:
         sys.exit("usage: tests/program.py PROGRAM")
     cases = Cases()
-    for part in (devices, devices_of_ask, guard_that_can_say_nothing, memory, memory_of_host, memory_of_ask, memory_of_guard, words, order, helps, progress, alone, kinds):
+    for part in (devices, devices_of_ask, guard_that_can_say_nothing, memory, memory_of_host, lambda *words: memory_of_host(*words, "--spare"), memory_of_ask, memory_of_guard, words, order, helps, progress, alone, kinds):
         try:
             part(cases, os.path.abspath(sys.argv[1]))
         except Exception as fault:
