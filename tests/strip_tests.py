@@ -142,6 +142,9 @@ def main(words):
     asked.add_argument("folder")
     asked = asked.parse_args(words)
     crates = sorted(os.listdir(f"{asked.folder}/crates"))
+    linked = [it for it in crates if os.path.islink(f"{asked.folder}/crates/{it}")]
+    if linked:
+        sys.exit(f"strip_tests.py: crates/{linked[0]} is a link: tests would go from what it leads to")
     of = crates if asked.of is None else asked.of.split(",")
     print(sum(left(f"{asked.folder}/crates/{it}", asked.keep if it in of else "") for it in crates), flush=True)
 
