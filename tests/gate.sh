@@ -94,6 +94,8 @@ echo "gate: what is installed, and where"
 step install sh tests/install.sh "$program"
 echo "gate: what the documents name"
 step documents python3 tests/docs.py "$program"
+echo "gate: the figures of README.md, as bench/ has them"
+step figures python3 bench/figures.py --check
 echo "gate: the tests"
 step tests python3 tests/run_tests.py --times "$times" --only run
 echo "gate: refused memory"
