@@ -187,15 +187,6 @@ impl Message {
     {
         &self.body
     }
-
-    /// The fields, given back.
-    pub fn into_body(self) -> Body
-        ensures same { result ≡ self.body }
-        ensures in_range { IsInRange self.body }
-    {
-        let Message { body, .. } = self;
-        body
-    }
 }
 
 impl Clone for Message {

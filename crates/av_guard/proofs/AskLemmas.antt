@@ -12,7 +12,8 @@ use Rattle.av_filter.specs.declared.fault.FilterFault.TheVariants as filter_faul
 use Rattle.av_filter.specs.declared.note.Note.TheVariants.{Quiet}
 use Rattle.av_filter_table.specs.Table.{Table}
 use Rattle.av_frame.specs.Message.{Letter}
-use Rattle.av_guard.proofs.KeepLemmas.{at_last, created_as, created_is, creation_fits, creation_taken, next_free, stored_by}
+use Rattle.av_store.proofs.SeenLemmas.{next_free}
+use Rattle.av_guard.proofs.KeepLemmas.{at_last, created_as, created_is, creation_fits, creation_taken, stored_by}
 use Rattle.av_guard.proofs.LawLemmas.{opens_its_bytes}
 use Rattle.av_guard.proofs.PairLemmas.{of_two}
 use Rattle.av_guard.proofs.OnePortLemmas.{IsOfGuard}

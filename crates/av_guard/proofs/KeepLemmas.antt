@@ -35,26 +35,11 @@ use Rattle.av_guard.proofs.SumLemmas.{count_more, sum_more}
 use Rattle.av_store.specs.Files.{Create, Write}
 use Rattle.av_store.specs.declared.fault.StoreFault.{StoreFault}
 use Rattle.av_store.specs.declared.fault.StoreFault.TheVariants.{NoStream}
-use Rattle.av_store.proofs.SeenLemmas.{stream_seen}
-use Rattle.av_store.specs.Files.{if_here, numbered}
 use Rattle.av_store.specs.Rows.{Streams, is_number, number_named, replaced, stream_at, without}
 use Rattle.av_store.specs.Seen.{change_of, kept_or, stream_of, volume_of}
 use Rattle.av_store.specs.Sound.{IsOfFiles}
 use Rattle.av_store.specs.Store.{Store, create_of, greatest, is_name, remove_of, with_streams}
 use Rattle.av_store.specs.declared.stream.Stream.{Stream}
-
-none_past : {A : Type 0} (xs : List A) (n : ℕ) → length xs < n → numbered xs n ≡ None
-unfolding numbered
-none_past [] n far = refl
-none_past (x ∷ xs) zero far = refl
-none_past (x ∷ xs) (suc zero) far = absurd (omega (arith, far))
-none_past (x ∷ xs) (suc (suc n)) far = none_past xs (suc n) (omega (arith, far))
-
--- the next number is no stream's
-pub next_free : (v : Store) → IsOfFiles v → stream_at (v.last + 1) v.streams ≡ None
-next_free v (fs, keeps) =
-    let past : numbered fs (v.last + 1) ≡ None = none_past fs (v.last + 1) (omega (arith, keeps.last)) in
-    ap (λ ss. stream_at (v.last + 1) ss) keeps.streams ∙ stream_seen fs (v.last + 1) ∙ ap (λ o. option_map stream_of (if_here o)) past
 
 is_own : (n : ℕ) → is_number n n ≡ true
 is_own n = grind (arith, nat_tests)

@@ -13,7 +13,7 @@ mod cells;
 mod credit;
 mod endings;
 mod lanes;
-pub mod law;
+pub mod laws;
 mod leaps;
 mod parts;
 mod pieces;

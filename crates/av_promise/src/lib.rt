@@ -1,4 +1,4 @@
 //! What a guard and a scanning service promise together: a content that was granted is clean.
 #![tactic(auto)]
 
-pub mod law;
+pub mod laws;

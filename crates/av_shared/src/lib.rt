@@ -2,6 +2,6 @@
 #![tactic(auto)]
 
 pub mod apart;
-pub mod law;
+pub mod laws;
 #[cfg(test)]
 mod tests;

@@ -18,7 +18,7 @@ use self::between::{Between, Desks};
 use self::joined::joined;
 use self::rows::{APART, BESIDE, NONE_LEFT, ROWS, Row};
 use crate::apart::are_apart;
-use crate::law::headline_of_audits;
+use crate::laws::headline_of_audits;
 use av_base::{Limits, Mode, Port, StreamId, Version};
 use av_desk::{Audit as DeskAudit, Desk, Event as DeskEvent};
 use av_ends::{Receipt, Ticket};

@@ -13,7 +13,7 @@ pub mod fault;
 mod format;
 pub mod hexadecimal;
 mod judge;
-pub mod law;
+pub mod laws;
 mod line;
 mod made;
 mod read;

@@ -9,8 +9,8 @@ use Rattle.av_filter.proofs.VolumeLemmas.{SameBut, changed_same, left_by, stays_
 use Rattle.av_filter.specs.Fit.{Fits, IsPresent, IsThere}
 use Rattle.av_filter_table.specs.Table.{Table}
 use Rattle.av_store.specs.Content.{new_stream}
-use Rattle.av_store.proofs.SeenLemmas.{stream_seen}
-use Rattle.av_store.specs.Files.{Create, Write, if_here, numbered}
+use Rattle.av_store.proofs.SeenLemmas.{next_free}
+use Rattle.av_store.specs.Files.{Create, Write}
 use Rattle.av_store.specs.Rows.{number_named, stream_at}
 use Rattle.av_store.specs.Seen.{change_of, kept_or, stream_of, volume_of}
 use Rattle.av_store.specs.Sound.{IsOfFiles}
@@ -37,19 +37,6 @@ kept_fits t v w f boot opens stays = record {
   leasts = f.leasts;
   taken = each_weaker (λ p. p.held.open_id ≤ v.opens) (λ p. p.held.open_id ≤ w.opens) (λ p h. subst (λ n. p.held.open_id ≤ n) (sym opens) h) t.pended f.taken;
 }
-
-none_past : {A : Type 0} (xs : List A) (n : ℕ) → length xs < n → numbered xs n ≡ None
-unfolding numbered
-none_past [] n far = refl
-none_past (x ∷ xs) zero far = refl
-none_past (x ∷ xs) (suc zero) far = absurd (omega (arith, far))
-none_past (x ∷ xs) (suc (suc n)) far = none_past xs (suc n) (omega (arith, far))
-
--- the next number is no stream's
-next_free : (v : Store) → IsOfFiles v → stream_at (v.last + 1) v.streams ≡ None
-next_free v (fs, keeps) =
-    let past : numbered fs (v.last + 1) ≡ None = none_past fs (v.last + 1) (omega (arith, keeps.last)) in
-    ap (λ ss. stream_at (v.last + 1) ss) keeps.streams ∙ stream_seen fs (v.last + 1) ∙ ap (λ o. option_map stream_of (if_here o)) past
 
 -- a new stream has the next number
 next_given : (v w : Store) (name : List ℕ) (id : ℕ) → create_of v name ≡ Ok (id, w) → id ≡ v.last + 1

@@ -1,4 +1,4 @@
-use Rattle.std.proofs.Common.{ℕ, ◌≡◌, ◌<◌, ◌+◌, zero, suc, List, [], ◌∷◌, ◌++◌, length, take, Bool, true, false, cond, not, ◌&&◌, ◌||◌, nat_lt, nat_le, nat_eq, Some, None, Ok, Err, refl, sym, ◌∙◌, ap, subst, arith, count_by, Result, ◌≤◌}
+use Rattle.std.proofs.Common.{ℕ, ◌≡◌, ◌<◌, ◌+◌, zero, suc, List, [], ◌∷◌, ◌++◌, length, take, Bool, true, false, cond, not, ◌&&◌, ◌||◌, nat_lt, nat_le, nat_eq, Option, Some, None, Ok, Err, refl, sym, ◌∙◌, ap, subst, arith, count_by, Result, ◌≤◌}
 use Rattle.std.specs.Prelude.{is_some}
 use Rattle.std.specs.List.{list_any}
 use Rattle.std.specs.Option.{option_map, unwrap_or}
@@ -14,6 +14,7 @@ use Rattle.av_store.specs.Content.{new_stream, cut_to}
 use Rattle.av_store.specs.Content as content
 use Rattle.av_store.specs.Files.{Change, File, Create, Write, Cut, Remove, same_bytes, numbered, changed, set_bytes, gone, files_after, if_here, file_of, has_name, number_from, write_refusal, cut_refusal, remove_refusal, change_refusal, written}
 use Rattle.av_store.specs.Rows.{Streams, is_number, is_same, stream_at, number_named, replaced, without}
+use Rattle.av_store.specs.Sound.{IsOfFiles}
 use Rattle.av_store.specs.Seen.{stream_of, seen_from, seen, Keeps, volume_of, change_of, kept_or, run_of, files_or, files_run, Follows, NumbersRise}
 use Rattle.av_base.specs.Refused.{unless}
 use Rattle.av_store.specs.declared.fault.StoreFault.{StoreFault}
@@ -408,3 +409,17 @@ follows = record {
   starts = starts;
   runs = runs;
 }
+
+-- no number past the last file is one's
+none_past : {A : Type 0} (xs : List A) (n : ℕ) → length xs < n → numbered xs n ≡ None
+unfolding numbered
+none_past [] n far = refl
+none_past (x ∷ xs) zero far = refl
+none_past (x ∷ xs) (suc zero) far = absurd (omega (arith, far))
+none_past (x ∷ xs) (suc (suc n)) far = none_past xs (suc n) (omega (arith, far))
+
+-- the next number is no stream's
+pub next_free : (v : Store) → IsOfFiles v → stream_at (v.last + 1) v.streams ≡ None
+next_free v (fs, keeps) =
+    let past : numbered fs (v.last + 1) ≡ None = none_past fs (v.last + 1) (omega (arith, keeps.last)) in
+    ap (λ ss. stream_at (v.last + 1) ss) keeps.streams ∙ stream_seen fs (v.last + 1) ∙ ap (λ o. option_map stream_of (if_here o)) past

@@ -10,7 +10,7 @@ use Rattle.av_gate.specs.declared.audit.Audit.{Audit as GateAudit}
 use Rattle.av_service.specs.Audit.{IsCatalogue, IsServiceAudit}
 use Rattle.av_service.specs.Desk.{just_started}
 use Rattle.av_shared.specs.History.{AreOneHistory, HaveOneSets, IsOfPort, IsSpare, events_of, opened_as, sets_at, told_at}
-use Rattle.av_shared.proofs.law.headline_of_audits.Goals as goal
+use Rattle.av_shared.proofs.laws.headline_of_audits.Goals as goal
 use Rattle.av_sigset.specs.Publication.{latest_as, published_as}
 use Rattle.av_store.specs.Files.{File}
 use Rattle.av_store.specs.Seen.{Keeps}

@@ -1,5 +1,5 @@
 use Rattle.av_promise.proofs.PromiseLemmas.{clean_grants, legal}
-use Rattle.av_promise.proofs.law.grants_are_clean.Goals as goal
+use Rattle.av_promise.proofs.laws.grants_are_clean.Goals as goal
 
 pub returns : goal.returns
 returns c = λ mode keep questions calls g leads.
