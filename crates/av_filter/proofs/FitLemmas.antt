@@ -1,43 +1,42 @@
 -- Each event of the filter keeps the fit of its table and the volume.
-use Rattle.std.proofs.Common.{◌≡◌, ◌≢◌, ℕ, ◌+◌, ◌<◌, ◌≤◌, Bool, true, false, not, ◌&&◌, if◌then◌else◌, ◌==◌, nat_lt, nat_le, max, List, [], ◌∷◌, ◌++◌, length, find, Option, Some, None, Result, Ok, Err, refl, sym, ap, ◌∙◌, subst, arith, eqb-true}
+use Rattle.std.proofs.Common.{◌≡◌, ◌≢◌, ℕ, ◌+◌, ◌<◌, ◌≤◌, Bool, true, false, not, ◌&&◌, if◌then◌else◌, ◌==◌, max, List, [], ◌∷◌, ◌++◌, find, map}
+use Rattle.std.proofs.Common.{filter, Option, Some, None, Result, Ok, Err, refl, sym, ap, ◌∙◌, subst, arith, eqb-true}
 use Rattle.std.proofs.lemmas.Bool.{and_right, cond_both, ltb-false, ne_eqb, not-true, true≢false}
-use Rattle.std.specs.List.{AllByRecursion as Each, list_any}
-use Rattle.std.specs.Option.{is_some, option_map}
+use Rattle.std.specs.List.{AllByRecursion as Each}
+use Rattle.std.specs.Option.{option_map}
 use Rattle.av_base.specs.MessageId.{same_id}
 use Rattle.av_base.specs.declared.limits.LimitValues.{LimitValues}
 use Rattle.av_base.specs.declared.message_id.MessageId.{MessageId}
 use Rattle.av_base.specs.declared.mode.Mode.{Mode}
 use Rattle.av_base.specs.declared.verdict.Verdict.{Verdict}
-use Rattle.av_cache.specs.declared.entry.Entry.{Entry}
 use Rattle.av_context.specs.Contexts.{set_at}
 use Rattle.av_context.specs.declared.context_state.ContextState.{ContextState}
 use Rattle.av_context.specs.declared.context_state.ContextState.TheVariants as context
 use Rattle.av_filter.proofs.EachLemmas.{each_weaker, each-append, each-filter, each-filter_passed, each-map, find_each, find_passes}
 use Rattle.av_filter.proofs.MapLemmas.{at-set, at-set_other, each-set, rises-set}
 use Rattle.av_filter.proofs.QuestionLemmas.{apart-filter, apart-push, away_none, away_without, found_more, found_new, found_own, found_without, order-filter, order-push, same_id-refl, same_id-true}
+use Rattle.av_filter.proofs.RowLemmas.{again_row, again_volume, open_row, row_of}
 use Rattle.av_filter.proofs.VolumeLemmas.{Leaves, SameBut, changed_same, left_by, stays_there, there_after}
 use Rattle.av_filter.specs.Again.{again, again_at, ends}
-use Rattle.av_filter_table.specs.Asking.{again_under, asks, ended, is_held, is_lost, lost_contexts, moved, next_question}
-use Rattle.av_filter.specs.Changing.{changed_volume, changes, cleaned, cleaned_at, removed, rewritten}
-use Rattle.av_filter.specs.Conduct.{FilterEvent, Opens, Changes, CleansUp, Receives, TimesOut, Disconnects, Restarts, again_each, booted, disconnects, disconnects_to, filter_refusal, filter_step, loses_all, moves, restarts, times_out}
+use Rattle.av_filter_table.specs.Asking.{again_under, asks, ended, is_lost, lost_contexts, moved, next_question, settled}
+use Rattle.av_filter.specs.Changing.{changed_volume}
+use Rattle.av_filter.specs.Conduct.{FilterEvent, again_each, booted, filter_refusal, filter_step, loses_all, moves, restarts}
 use Rattle.av_filter.specs.Fit.{AreApart, AreInOrder, Fits, IsAsked, IsGiven, IsPresent, IsScanned, IsThere, KeepsFit, Rises}
-use Rattle.av_filter.specs.Opening.{new_open, open_asked, open_cached, open_found, open_judged, open_new, opened, taken}
+use Rattle.av_filter.specs.Opening.{new_open, opened, taken}
+use Rattle.av_filter.specs.Rows
+use Rattle.av_filter.specs.Rows.{AgainRow, OpenRow, Rewrites, Row, marked, without}
 use Rattle.av_filter.specs.Reaction.{Reaction}
-use Rattle.av_filter_table.specs.Answering.{present_bytes, stream_generation}
-use Rattle.av_filter.specs.Receiving.{greeted, reads, receives_at, replies}
-use Rattle.av_filter_table.specs.Table.{Table, asking, context_of, has_room, is_modified, mounted, next_id, on_port, other_opens, question_at, question_of, question_on, raised, sequence_left, waits_for, without_question}
+use Rattle.av_filter_table.specs.Answering.{stream_generation}
+use Rattle.av_filter_table.specs.Table.{Table, context_of, is_modified, mounted, next_id, on_port, other_opens, question_at, question_of, question_on, raised, waits_for, without_question}
 use Rattle.av_filter.specs.declared.fault.FilterFault.TheVariants as filter_fault
 use Rattle.av_filter_table.specs.declared.pended.Pended.{Pended}
-use Rattle.av_frame.specs.Message.{Letter}
+use Rattle.av_frame.specs.Message.{Letter, via}
 use Rattle.av_base.specs.declared.port.Port.{Port}
 use Rattle.av_filter_table.specs.declared.ports.Ports.{Ports}
 use Rattle.av_filter_table.specs.declared.question.Question.{Question}
-use Rattle.av_filter_table.specs.Ports.{is_open, least_port, with_port, without_port}
+use Rattle.av_filter_table.specs.Ports.{least_port, with_port, without_port}
 use Rattle.av_base.specs.Port.{same_port}
-use Rattle.av_frame.specs.declared.message.Body.{Body}
-use Rattle.av_frame.specs.declared.message.Body.TheVariants.{Hello, Read, Reply, Updated}
-use Rattle.av_frame.specs.declared.outcome.Outcome.{Outcome}
-use Rattle.av_frame.specs.declared.outcome.Outcome.TheVariants.{Judged, Failed}
+use Rattle.av_frame.specs.declared.message.Body.TheVariants.{Abort}
 use Rattle.std.specs.Result.{result_err}
 use Rattle.av_store.specs.Files.{Change, Create, Write, Cut, Remove}
 use Rattle.av_store.specs.History.{IsOf}
@@ -45,7 +44,6 @@ use Rattle.av_store.specs.Rows.{Streams, stream_at}
 use Rattle.av_store.specs.Seen.{change_of, kept_or}
 use Rattle.av_store.specs.Store.{Store}
 use Rattle.av_store.specs.declared.fault.StoreFault.{StoreFault}
-use Rattle.av_store.specs.declared.stream.Stream.{Stream}
 
 abbrev Marks : Type 0
 Marks = List (ℕ × ContextState)
@@ -220,20 +218,15 @@ module _ (t : Table) (v : Store) (q : Question) (boots : t.boot ≡ v.boot) (a :
   unfolding ended
   cleared_fits = others_fit _ refl refl refl refl (clear t.boot t.sequence t.contexts (without_question q.id t.questions) v.streams q.stream a)
 
-  ends_fits : (early : List Letter) → IsThere v.streams q.stream → FitsAt v (ends t v q early)
-  unfolding ends
-  ends_fits early here = ended_fits context.Modified here
-
-  again_at_fits : (o : Option Port) (early : List Letter) → question_at q.id t.questions ≡ Some q → IsThere v.streams q.stream → FitsAt v (again_at o t v q early)
-  unfolding again_at asks
-  again_at_fits None early at here = ends_fits early here
-  again_at_fits (Some port) early at here =
+  again_at_fits : {o : Option Port} {early : List Letter} {r : Reaction} → AgainRow o t v q early r → question_at q.id t.questions ≡ Some q → IsThere v.streams q.stream → FitsAt v r
+  unfolding ends asks
+  again_at_fits (Rows.over why) at here = ended_fits context.Modified here
+  again_at_fits (Rows.anew port to left) at here =
       let rest : List Question = without_question q.id t.questions in
       let new : Question = next_question t v port q.stream in
-      let whole : Whole t.boot (t.sequence + 1) (set_at t.contexts q.stream (Some (context.Scanning (next_id t)))) (rest ++ new ∷ []) v.streams = ask t.boot t.sequence t.contexts rest v.streams port q.stream here a in
+      let scanning : Option ContextState = Some (context.Scanning (next_id t)) in
+      let whole : Whole t.boot (t.sequence + 1) (set_at t.contexts q.stream scanning) (rest ++ new ∷ []) v.streams = ask t.boot t.sequence t.contexts rest v.streams port q.stream here a in
       let found : question_at (next_id t) (rest ++ new ∷ []) ≡ Some new = found_new t.boot t.sequence new rest (omega arith) a.given in
-      cond_both (list_any (is_held q.id) t.pended && sequence_left t) _ _ (FitsAt v)
-      (λ e.
       fit _ v boots whole
       (each-map (IsAsked (rest ++ new ∷ [])) (IsAsked t.questions) (moved q.id (next_id t))
       (λ p h. (elim (waits_for q.id p) as (λ b. waits_for q.id p ≡ b → IsAsked (rest ++ new ∷ []) (if b then again_under (next_id t) p else p)) [
@@ -242,20 +235,22 @@ module _ (t : Table) (v : Store) (q : Question) (boots : t.boot ≡ v.boot) (a :
             let same : Some h.question ≡ Some q = sym h.runs ∙ (ap (λ i. question_at i t.questions) id ∙ at) in
             let is : h.question ≡ q = cc (same) in
             record { question = new; runs = found; stream = ap (λ (x : Question). x.stream) (sym is) ∙ h.stream }
-        | false ↦ λ w. record { question = h.question; runs = found_more p.question h.question rest (new ∷ []) (found_without p.question q.id h.question t.questions w h.runs); stream = h.stream }
+        | false ↦ λ w.
+            let kept = found_without p.question q.id h.question t.questions w h.runs in
+            record { question = h.question; runs = found_more p.question h.question rest (new ∷ []) kept; stream = h.stream }
       ]) refl) _
       (each-filter (IsAsked t.questions) (λ p. not (is_lost q.id p)) t.pended asked))
-      (each-map (Least t.floor) (Least t.floor) (moved q.id (next_id t)) (λ p le. cond_both (waits_for q.id p) (again_under (next_id t) p) p (Least t.floor) (λ w. le) (λ w. le)) _ (each-filter (Least t.floor) (λ p. not (is_lost q.id p)) t.pended leasts))
-      (each-map (Taken v.opens) (Taken v.opens) (moved q.id (next_id t)) (λ p le. cond_both (waits_for q.id p) (again_under (next_id t) p) p (Taken v.opens) (λ w. le) (λ w. le)) _ (each-filter (Taken v.opens) (λ p. not (is_lost q.id p)) t.pended taken)))
-      (λ e. ends_fits early here)
-
-  after_fits : (o : Option Port) (early : List Letter) → FitsAt v (again_at o t v q early) → FitsAfter (again_at o t v q early)
-  unfolding again_at ends
-  after_fits None early f = f
-  after_fits (Some port) early f = cond_both (list_any (is_held q.id) t.pended && sequence_left t) _ _ (λ (r : Reaction). FitsAt v r → FitsAfter r) (λ e g. g) (λ e g. g) f
+      (still (Least t.floor) (λ p le. le) leasts) (still (Taken v.opens) (λ p le. le) taken)
+    where
+      -- what holds of an open in whatever question holds of those that go on
+      still : (P : Pended → Type 0) → ((p : Pended) → P p → P (again_under (next_id t) p)) → Each P t.pended → Each P (map (moved q.id (next_id t)) (filter (λ p. not (is_lost q.id p)) t.pended))
+      still P under all =
+          each-map P P (moved q.id (next_id t)) (λ p h. cond_both (waits_for q.id p) (again_under (next_id t) p) p P (λ w. under p h) (λ w. h)) _
+          (each-filter P (λ p. not (is_lost q.id p)) t.pended all)
 
   again_fits : (early : List Letter) → question_at q.id t.questions ≡ Some q → IsThere v.streams q.stream → FitsAfter (again t v q early)
-  again_fits early at here = after_fits (least_port t.connected) early (again_at_fits (least_port t.connected) early at here)
+  again_fits early at here =
+      let row = again_row (least_port t.connected) t v q early in subst (Fits (again t v q early).table) (sym (again_volume row)) (again_at_fits row at here)
 
 -- the stream of a question that runs is there
 runs_there : (t : Table) (v : Store) (f : Fits t v) (test : Question → Bool) (q : Question) → find test t.questions ≡ Some q → IsThere v.streams q.stream
@@ -264,8 +259,8 @@ runs_there t v f test q at = let h = find_each (IsPresent v.streams) test t.ques
 away_of : (t : Table) (v : Store) (f : Fits t v) (test : Question → Bool) (q : Question) → find test t.questions ≡ Some q → Away q.stream t.boot t.sequence t.contexts (without_question q.id t.questions) v.streams
 away_of t v f test q at = leave t.boot t.sequence t.contexts t.questions v.streams test q at (whole_of t v f)
 
--- an open whose stream is there
-module _ (t : Table) (v : Store) (f : Fits t v) (s least : ℕ) (low : least ≤ t.floor) (x : Stream) (here : stream_at s v.streams ≡ Some x) where
+-- an open, whose least is not above the floor
+module _ (t : Table) (v : Store) (f : Fits t v) (s least : ℕ) (low : least ≤ t.floor) where
   abbrev new : MessageId → Pended
   new id = record { question = id; held = new_open v s least }
 
@@ -275,52 +270,44 @@ module _ (t : Table) (v : Store) (f : Fits t v) (s least : ℕ) (low : least ≤
   taken_more : (id : MessageId) → Each (Taken v.opens) (t.pended ++ new id ∷ [])
   taken_more id = each-append (Taken v.opens) t.pended (new id ∷ []) f.taken (omega arith, tt)
 
-  new_fits : question_of s t.questions ≡ None → (b : Bool) (o : Option Port) → FitsAfter (open_new t v s least x b o)
-  unfolding open_new asks
-  new_fits none false o = f
-  new_fits none true None = f
-  new_fits none true (Some port) =
-      let q : Question = next_question t v port s in
-      let away = leave_none t.boot t.sequence t.contexts t.questions v.streams s none (whole_of t v f) in
-      fit _ v f.boots (ask t.boot t.sequence t.contexts t.questions v.streams port s (x, here) away)
-      (each-append (IsAsked (t.questions ++ q ∷ [])) t.pended (new (next_id t) ∷ []) (asked_more t.questions (q ∷ []) t.pended f.asked) (record { question = q; runs = found_new t.boot t.sequence q t.questions (omega arith) f.given; stream = refl }, tt))
-      (leasts_more (next_id t)) (taken_more (next_id t))
+  away_new : question_of s t.questions ≡ None → Away s t.boot t.sequence t.contexts t.questions v.streams
+  away_new none = leave_none t.boot t.sequence t.contexts t.questions v.streams s none (whole_of t v f)
 
-  cached_fits : question_of s t.questions ≡ None → (o : Option Entry) → FitsAfter (open_cached t v s least x o)
-  unfolding open_cached asks
-  cached_fits none (Some e) =
-      fit _ v f.boots (close t.boot t.sequence t.contexts t.questions v.streams s (context.Judged t.floor e.verdict) (x, here) (leave_none t.boot t.sequence t.contexts t.questions v.streams s none (whole_of t v f))) f.asked f.leasts f.taken
-  cached_fits none None =
-      cond_both (not (has_room t)) _ _ FitsAfter (λ e. f)
-      (λ e. new_fits none (is_some (least_port t.connected)) (asking t))
-
-  asked_fits : (o : Option Question) → question_of s t.questions ≡ o → FitsAfter (open_asked t v s least x o)
-  unfolding open_asked
-  asked_fits (Some q) at =
+  open_fits : {r : Reaction} → OpenRow t v s least r → FitsAfter r
+  unfolding asks
+  open_fits (Rows.joins x q at found room) =
       let test : Question → Bool = λ (q : Question). q.stream == s in
-      let same : q.stream ≡ s = eqb-true q.stream s (find_passes test t.questions q at) in
-      cond_both (has_room t) _ _ FitsAfter
-      (λ e. fit _ v f.boots (whole_of t v f) (each-append (IsAsked t.questions) t.pended (new q.id ∷ []) f.asked (record { question = q; runs = found_own test q t.questions f.order at; stream = same }, tt)) (leasts_more q.id) (taken_more q.id)) (λ e. f)
-  asked_fits None at = cached_fits at _
+      let same : q.stream ≡ s = eqb-true q.stream s (find_passes test t.questions q found) in
+      let asked : IsAsked t.questions (new q.id) = record { question = q; runs = found_own test q t.questions f.order found; stream = same } in
+      fit _ v f.boots (whole_of t v f) (each-append (IsAsked t.questions) t.pended (new q.id ∷ []) f.asked (asked, tt)) (leasts_more q.id) (taken_more q.id)
+  open_fits (Rows.cached x e at none found) =
+      fit _ v f.boots (close t.boot t.sequence t.contexts t.questions v.streams s (context.Judged t.floor e.verdict) (x, at) (away_new none)) f.asked f.leasts f.taken
+  open_fits (Rows.asked x port at none room e) =
+      let q : Question = next_question t v port s in
+      let asked : IsAsked (t.questions ++ q ∷ []) (new (next_id t)) = record { question = q; runs = found_new t.boot t.sequence q t.questions (omega arith) f.given; stream = refl } in
+      fit _ v f.boots (ask t.boot t.sequence t.contexts t.questions v.streams port s (x, at) (away_new none))
+      (each-append (IsAsked (t.questions ++ q ∷ [])) t.pended (new (next_id t) ∷ []) (asked_more t.questions (q ∷ []) t.pended f.asked) (asked, tt))
+      (leasts_more (next_id t)) (taken_more (next_id t))
+  open_fits _ = f
 
-  judged_fits : (o : Option Verdict) → FitsAfter (open_judged t v s least x o)
-  unfolding open_judged
-  judged_fits (Some r) = f
-  judged_fits None = asked_fits _ refl
-
-found_fits : (t : Table) (v : Store) → Fits t v → (s least : ℕ) → least ≤ t.floor → (o : Option Stream) → stream_at s v.streams ≡ o → FitsAfter (open_found t v s least o)
-unfolding open_found
-found_fits t v f s least low None at = f
-found_fits t v f s least low (Some x) at = judged_fits t v f s least low x at _
+-- its number is taken, and the floor is raised to its least
+begun : (t : Table) (v : Store) → Fits t v → (least : ℕ) → Fits (raised least t) (taken v)
+begun t v f least =
+    let higher : Each (Least (max t.floor least)) t.pended = each_weaker (Least t.floor) (Least (max t.floor least)) (λ p le. omega arith) t.pended f.leasts in
+    let more : Each (Taken (v.opens + 1)) t.pended = each_weaker (Taken v.opens) (Taken (v.opens + 1)) (λ p le. omega arith) t.pended f.taken in
+    fit (raised least t) (taken v) f.boots (whole_of t v f) f.asked higher more
 
 pub opened_fits : (t : Table) (v : Store) → Fits t v → (s least : ℕ) → FitsAfter (opened t v s least)
 unfolding opened
-opened_fits t v f s least =
-    let higher : Each (Least (max t.floor least)) t.pended = each_weaker (Least t.floor) (Least (max t.floor least)) (λ p le. omega arith) t.pended f.leasts in
-    let more : Each (Taken (v.opens + 1)) t.pended = each_weaker (Taken v.opens) (Taken (v.opens + 1)) (λ p le. omega arith) t.pended f.taken in
-    found_fits (raised least t) (taken v) (fit (raised least t) (taken v) f.boots (whole_of t v f) f.asked higher more) s least (omega arith) _ refl
+opened_fits t v f s least = open_fits (raised least t) (taken v) (begun t v f least) s least (omega arith) (open_row (raised least t) (taken v) s least _ refl)
 
 -- a change of a stream
+pub rewrites_of : (c : Change) (s : ℕ) → Rewrites s c → IsOf c s × (c ≡ Remove s → ⊥)
+rewrites_of (Create name) s is = absurd is
+rewrites_of (Write u o b) s is = (sym is, λ e. cc (e))
+rewrites_of (Cut u n) s is = (sym is, λ e. cc (e))
+rewrites_of (Remove u) s is = absurd is
+
 module _ (t : Table) (v w : Store) (f : Fits t v) (same : SameBut v w) where
   boots : t.boot ≡ w.boot
   boots = f.boots ∙ sym same.boot
@@ -337,18 +324,23 @@ module _ (t : Table) (v w : Store) (f : Fits t v) (same : SameBut v w) where
       let is : q.stream ≡ s = eqb-true q.stream s (find_passes test t.questions q at) in
       (is, change_away t.boot t.sequence t.contexts (without_question q.id t.questions) v.streams q.stream w.streams (left_by v w c q.stream (subst (IsOf c) (sym is) of) ok) (away_of t v f test q at))
 
-  rewritten_fits : (c : Change) (s : ℕ) → IsOf c s → (c ≡ Remove s → ⊥) → change_of v c ≡ Ok w → (o : Option Question) → question_of s t.questions ≡ o → FitsAfter (rewritten t w s o)
-  unfolding rewritten
-  rewritten_fits c s of keep ok None at =
-      fit _ w boots (close t.boot t.sequence t.contexts t.questions w.streams s context.Modified (there_after v w c s of keep ok) (away_none_at c s of ok at)) f.asked f.leasts taken_still
-  rewritten_fits c s of keep ok (Some q) at =
-      let a = away_at c s of ok q at in
-      again_fits t w q boots a.1 f.asked f.leasts taken_still _ (found_own (λ (q : Question). q.stream == s) q t.questions f.order at) (subst (IsThere w.streams) (sym a.0) (there_after v w c s of keep ok))
+  rewritten_fits : (c : Change) (s : ℕ) → Rewrites s c → change_of v c ≡ Ok w → question_of s t.questions ≡ None → Fits (marked t s (Some context.Modified)) w
+  rewritten_fits c s is ok none =
+      let of = rewrites_of c s is in
+      fit _ w boots (close t.boot t.sequence t.contexts t.questions w.streams s context.Modified (there_after v w c s of.0 of.1 ok) (away_none_at c s of.0 ok none)) f.asked f.leasts taken_still
 
-  removed_fits : (s : ℕ) → change_of v (Remove s) ≡ Ok w → (o : Option Question) → question_of s t.questions ≡ o → FitsAfter (removed t w s o)
-  unfolding removed
-  removed_fits s ok None at = fit _ w boots (clear t.boot t.sequence t.contexts t.questions w.streams s (away_none_at (Remove s) s refl ok at)) f.asked f.leasts taken_still
-  removed_fits s ok (Some q) at = let a = away_at (Remove s) s refl ok q at in cleared_fits t w q boots a.1 f.asked f.leasts taken_still
+  outdated_fits : (c : Change) (s : ℕ) (q : Question) → Rewrites s c → change_of v c ≡ Ok w → question_of s t.questions ≡ Some q → FitsAfter (again t w q (via q.port (Abort q.id) ∷ []))
+  outdated_fits c s q is ok at =
+      let of = rewrites_of c s is in
+      let a = away_at c s of.0 ok q at in
+      again_fits t w q boots a.1 f.asked f.leasts taken_still _ (found_own (λ (q : Question). q.stream == s) q t.questions f.order at)
+      (subst (IsThere w.streams) (sym a.0) (there_after v w c s of.0 of.1 ok))
+
+  removed_fits : (s : ℕ) → change_of v (Remove s) ≡ Ok w → question_of s t.questions ≡ None → Fits (marked t s None) w
+  removed_fits s ok none = fit _ w boots (clear t.boot t.sequence t.contexts t.questions w.streams s (away_none_at (Remove s) s refl ok none)) f.asked f.leasts taken_still
+
+  gone_fits : (s : ℕ) (q : Question) → change_of v (Remove s) ≡ Ok w → question_of s t.questions ≡ Some q → Fits (ended t q None) w
+  gone_fits s q ok at = let a = away_at (Remove s) s refl ok q at in cleared_fits t w q boots a.1 f.asked f.leasts taken_still
 
   created_fits : (name : List ℕ) → change_of v (Create name) ≡ Ok w → Fits t w
   created_fits name ok =
@@ -364,13 +356,6 @@ module _ (t : Table) (v w : Store) (f : Fits t v) (same : SameBut v w) where
       })
       f.asked f.leasts taken_still
 
-changes_fits : (t : Table) (v : Store) → Fits t v → (c : Change) → change_of v c ≡ Ok (changed_volume v c) → FitsAfter (changes t v c)
-unfolding changes
-changes_fits t v f (Create name) ok = created_fits t v (changed_volume v (Create name)) f (changed_same v (Create name)) name ok
-changes_fits t v f (Write s o b) ok = rewritten_fits t v (changed_volume v (Write s o b)) f (changed_same v (Write s o b)) (Write s o b) s refl (λ e. cc (e)) ok _ refl
-changes_fits t v f (Cut s n) ok = rewritten_fits t v (changed_volume v (Cut s n)) f (changed_same v (Cut s n)) (Cut s n) s refl (λ e. cc (e)) ok _ refl
-changes_fits t v f (Remove s) ok = removed_fits t v (changed_volume v (Remove s)) f (changed_same v (Remove s)) s ok _ refl
-
 -- the contexts once the service is lost
 lost_rises : (qs : List Question) (contexts : Marks) → Rises contexts → Rises (lost_contexts qs contexts)
 unfolding lost_contexts
@@ -384,81 +369,44 @@ lost_there ss (q ∷ qs) contexts r present there =
     each-set (λ n. IsThere ss n) (lost_contexts qs contexts) q.stream (Some context.Modified) (lost_rises qs contexts r) (λ some. (present.0.0, present.0.1))
     (each_weaker (λ (c : ℕ × ContextState). IsThere ss c.0) (λ (c : ℕ × ContextState). c.0 ≢ q.stream → IsThere ss c.0) (λ c h ne. h) (lost_contexts qs contexts) (lost_there ss qs contexts r present.1 there))
 
+-- a written stream has no question
+pub no_question : (contexts : Marks) (qs : List Question) → Each (IsScanned contexts) qs → (s : ℕ) → is_modified (context_of contexts s) ≡ true → question_of s qs ≡ None
+no_question contexts qs all s modified = go (question_of s qs) refl
+  where
+    go : (o : Option Question) → question_of s qs ≡ o → question_of s qs ≡ None
+    go None at = at
+    go (Some q) at =
+        let test : Question → Bool = λ (q : Question). q.stream == s in
+        let scanned : context_of contexts q.stream ≡ Some (context.Scanning q.id) = find_each (IsScanned contexts) test qs q all at in
+        let same : q.stream ≡ s = eqb-true q.stream s (find_passes test qs q at) in
+        let marked : context_of contexts s ≡ Some (context.Scanning q.id) = subst (λ u. context_of contexts u ≡ Some (context.Scanning q.id)) same scanned in
+        absurd (true≢false (sym modified ∙ ap is_modified marked))
+
 -- the other events
 module _ (t : Table) (v : Store) (f : Fits t v) where
   with_floor : (connected : Ports) (version : ℕ) → t.floor ≤ version → Fits (record t { connected = connected; floor = version }) v
   with_floor connected version up = fit _ v f.boots (whole_of t v f) f.asked (each_weaker (Least t.floor) (Least version) (λ p le. omega arith) t.pended f.leasts) f.taken
 
-  -- a written stream has no question
-  no_question : (s : ℕ) → is_modified (context_of t.contexts s) ≡ true → (o : Option Question) → question_of s t.questions ≡ o → question_of s t.questions ≡ None
-  no_question s modified None at = at
-  no_question s modified (Some q) at =
-      let test : Question → Bool = λ (q : Question). q.stream == s in
-      let scanned : context_of t.contexts q.stream ≡ Some (context.Scanning q.id) = find_each (IsScanned t.contexts) test t.questions q f.scanned at in
-      let same : q.stream ≡ s = eqb-true q.stream s (find_passes test t.questions q at) in
-      let marked : context_of t.contexts s ≡ Some (context.Scanning q.id) = subst (λ u. context_of t.contexts u ≡ Some (context.Scanning q.id)) same scanned in
-      absurd (true≢false (sym modified ∙ ap is_modified marked))
+  with_ports : (connected : Ports) → Fits (record t { connected = connected }) v
+  with_ports connected = fit _ v f.boots (whole_of t v f) f.asked f.leasts f.taken
 
-  cleaned_at_fits : (s : ℕ) (x : Stream) → stream_at s v.streams ≡ Some x → (b : Bool) → is_modified (context_of t.contexts s) ≡ b → (o : Option Port) → FitsAfter (cleaned_at t v s b o)
-  unfolding cleaned_at asks
-  cleaned_at_fits s x at true e (Some port) =
-      let none : question_of s t.questions ≡ None = no_question s e (question_of s t.questions) refl in
-      fit _ v f.boots (ask t.boot t.sequence t.contexts t.questions v.streams port s (x, at) (leave_none t.boot t.sequence t.contexts t.questions v.streams s none (whole_of t v f))) (asked_more t.questions _ t.pended f.asked) f.leasts f.taken
-  cleaned_at_fits s x at true e None = f
-  cleaned_at_fits s x at false e (Some port) = f
-  cleaned_at_fits s x at false e None = f
+  closed_fits : (test : Question → Bool) (q : Question) → find test t.questions ≡ Some q → Fits (ended t q (Some context.Modified)) v
+  closed_fits test q at = ended_fits t v q f.boots (away_of t v f test q at) f.asked f.leasts f.taken context.Modified (runs_there t v f test q at)
 
-  cleaned_fits : (s : ℕ) (o : Option Stream) → stream_at s v.streams ≡ o → FitsAfter (cleaned t v s o)
-  unfolding cleaned
-  cleaned_fits s None at = f
-  cleaned_fits s (Some x) at = cleaned_at_fits s x at (is_modified (context_of t.contexts s)) refl (asking t)
-
-  greeted_fits : (port : Port) (number version : ℕ) → FitsAfter (greeted t v port number version)
-  unfolding greeted
-  greeted_fits port number version =
-      cond_both (not (number == v.number)) _ _ FitsAfter (λ e. f)
-      (λ e. cond_both (is_open port t.connected) _ _ FitsAfter (λ e. f) (λ e. cond_both (nat_lt version t.floor) _ _ FitsAfter (λ e. f) (λ e. with_floor (with_port port t.connected) version (ltb-false version t.floor e))))
-
-  reads_fits : (port : Port) (id : MessageId) (offset count : ℕ) (o : Option Question) → FitsAfter (reads t v port id offset count o)
-  unfolding reads
-  reads_fits port id offset count None = f
-  reads_fits port id offset count (Some q) = cond_both (nat_le (length (present_bytes v q.stream)) offset) _ _ FitsAfter (λ e. f) (λ e. f)
-
-  replies_fits : (port : Port) (id : MessageId) (outcome : Outcome) (o : Option Question) → question_on port id t.questions ≡ o → FitsAfter (replies t v outcome o)
-  unfolding replies ended
-  replies_fits port id outcome None at = f
-  replies_fits port id (Failed why) (Some q) at =
+  replied_fits : (port : Port) (id : MessageId) (version : ℕ) (r : Verdict) (q : Question) → question_on port id t.questions ≡ Some q → t.floor ≤ version → Fits (settled t q version r) v
+  unfolding ended
+  replied_fits port id version r q at up =
       let test : Question → Bool = λ (q : Question). same_id q.id id && same_port q.port port in
-      ended_fits t v q f.boots (away_of t v f test q at) f.asked f.leasts f.taken context.Modified (runs_there t v f test q at)
-  replies_fits port id (Judged version r) (Some q) at =
-      let test : Question → Bool = λ (q : Question). same_id q.id id && same_port q.port port in
-      let away = away_of t v f test q at in
-      let here : IsThere v.streams q.stream = runs_there t v f test q at in
-      cond_both (nat_lt version t.floor) _ _ FitsAfter (λ e. again_fits t v q f.boots away f.asked f.leasts f.taken _ (found_own test q t.questions f.order at) here)
-      (λ e.
-      let up : t.floor ≤ version = ltb-false version t.floor e in
-      fit _ v f.boots (close t.boot t.sequence t.contexts (without_question q.id t.questions) v.streams q.stream (context.Judged version r) here away) (asked_without q.id t.questions t.pended f.asked)
-      (each-filter (Least version) (λ p. not (waits_for q.id p)) t.pended (each_weaker (Least t.floor) (Least version) (λ p le. omega arith) t.pended f.leasts)) (each-filter (Taken v.opens) (λ p. not (waits_for q.id p)) t.pended f.taken))
-
-  receives_fits : (port : Port) (m : Body) → FitsAfter (receives_at t v port m)
-  unfolding receives_at
-  receives_fits port (Hello number version) = greeted_fits port number version
-  receives_fits port (Updated version) = with_floor t.connected (max t.floor version) (omega arith)
-  receives_fits port (Read id offset count) = reads_fits port id offset count _
-  receives_fits port (Reply id outcome) = replies_fits port id outcome _ refl
-  receives_fits port _ = f
-
-  times_out_fits : (id : MessageId) (o : Option Question) → question_at id t.questions ≡ o → FitsAfter (times_out t v o)
-  unfolding times_out
-  times_out_fits id None at = f
-  times_out_fits id (Some q) at =
-      let test : Question → Bool = λ (q : Question). same_id q.id id in
-      ended_fits t v q f.boots (away_of t v f test q at) f.asked f.leasts f.taken context.Modified (runs_there t v f test q at)
+      let left : Pended → Bool = λ p. not (waits_for q.id p) in
+      let high = each_weaker (Least t.floor) (Least version) (λ p le. omega arith) t.pended f.leasts in
+      fit _ v f.boots (close t.boot t.sequence t.contexts (without_question q.id t.questions) v.streams q.stream (context.Judged version r) (runs_there t v f test q at) (away_of t v f test q at))
+      (asked_without q.id t.questions t.pended f.asked) (each-filter (Least version) left t.pended high) (each-filter (Taken v.opens) left t.pended f.taken)
 
   loses_fits : FitsAfter (loses_all t v)
   unfolding loses_all
   loses_fits =
-      fit _ v f.boots (record { rises = lost_rises t.questions t.contexts f.rises; given = tt; order = tt; apart = tt; scanned = tt; there = lost_there v.streams t.questions t.contexts f.rises f.present f.there; present = tt }) tt tt tt
+      let there = lost_there v.streams t.questions t.contexts f.rises f.present f.there in
+      fit _ v f.boots (record { rises = lost_rises t.questions t.contexts f.rises; given = tt; order = tt; apart = tt; scanned = tt; there = there; present = tt }) tt tt tt
 
 -- a question of this list runs
 abbrev pub Runs : Table → Question → Type 0
@@ -477,36 +425,34 @@ all_found (q ∷ qs) a = (rw (same_id-refl q.id) refl, behind qs a.0 (all_found 
         (rw other g.0, behind ks h.1 g.1)
 
 -- a later question still runs when this one was asked again
-still_runs : (t : Table) (v : Store) (o : Option Port) (q k : Question) → q.id.seq < k.id.seq → Runs t k → Runs (again_at o t v q []).table k
-unfolding again_at ends ended asks
-still_runs t v None q k less h = found_without k.id q.id k t.questions (and_right (k.id.boot == q.id.boot) (k.id.seq == q.id.seq) (ne_eqb k.id.seq q.id.seq (λ e. omega arith))) h
-still_runs t v (Some port) q k less h =
+still_runs : {t : Table} {v : Store} {o : Option Port} {q : Question} {early : List Letter} {r : Reaction} (k : Question) → AgainRow o t v q early r → q.id.seq < k.id.seq
+    → Runs t k → Runs r.table k
+unfolding ends ended asks
+still_runs {t} {v} {o} {q} k row less h =
     let other : same_id k.id q.id ≡ false = and_right (k.id.boot == q.id.boot) (k.id.seq == q.id.seq) (ne_eqb k.id.seq q.id.seq (λ e. omega arith)) in
     let kept : question_at k.id (without_question q.id t.questions) ≡ Some k = found_without k.id q.id k t.questions other h in
-    cond_both (list_any (is_held q.id) t.pended && sequence_left t) _ _ (λ (r : Reaction). Runs r.table k) (λ e. found_more k.id k (without_question q.id t.questions) (next_question t v port q.stream ∷ []) kept) (λ e. kept)
+    elim row as (λ r i. Runs r.table k) [
+      | Rows.anew port to left ↦ found_more k.id k (without_question q.id t.questions) (next_question t v port q.stream ∷ []) kept
+      | Rows.over why ↦ kept
+    ]
 
 pub all_run : (t : Table) (v : Store) (o : Option Port) (q : Question) (ks : List Question) → Each (λ k. q.id.seq < k.id.seq) ks → Each (Runs t) ks → Each (Runs (again_at o t v q []).table) ks
 all_run t v o q [] less h = tt
-all_run t v o q (k ∷ ks) less h = (still_runs t v o q k less.0 h.0, all_run t v o q ks less.1 h.1)
+all_run t v o q (k ∷ ks) less h = (still_runs k (again_row o t v q []) less.0 h.0, all_run t v o q ks less.1 h.1)
 
 pub each_fits : (v : Store) (qs : List Question) (t : Table) → Fits t v → AreInOrder qs → Each (Runs t) qs → Fits (again_each t v qs).table v
 unfolding again_each
 each_fits v [] t f order runs = f
 each_fits v (q ∷ qs) t f order runs =
     let test : Question → Bool = λ (k : Question). same_id k.id q.id in
-    let next : Fits (again t v q []).table v = again_at_fits t v q f.boots (away_of t v f test q runs.0) f.asked f.leasts f.taken (least_port t.connected) [] runs.0 (runs_there t v f test q runs.0) in
+    let row = again_row (least_port t.connected) t v q [] in
+    let next : Fits (again t v q []).table v = again_at_fits t v q f.boots (away_of t v f test q runs.0) f.asked f.leasts f.taken row runs.0 (runs_there t v f test q runs.0) in
     each_fits v qs (again t v q []).table next order.1 (all_run t v (least_port t.connected) q qs order.0 runs.1)
 
-lost_fits : (v : Store) (port : Port) (o : Option Port) (t : Table) → Fits t v → FitsAfter (disconnects_to o t v port)
-unfolding disconnects_to moves
-lost_fits v port None t f = loses_fits t v f
-lost_fits v port (Some least) t f =
+moved_fits : (t : Table) (v : Store) → Fits t v → (port : Port) → Fits (again_each t v (on_port port t.questions)).table v
+moved_fits t v f port =
     each_fits v (on_port port t.questions) t f (order-filter (λ q. same_port q.port port) t.questions f.order)
     (each-filter (Runs t) (λ q. same_port q.port port) t.questions (all_found t.questions f.order))
-
-disconnects_fits : (t : Table) (v : Store) → Fits t v → (port : Port) → FitsAfter (disconnects t v port)
-unfolding disconnects
-disconnects_fits t v f port = lost_fits v port (least_port (without_port port t.connected)) (record t { connected = without_port port t.connected }) (fit _ v f.boots (whole_of t v f) f.asked f.leasts f.taken)
 
 pub mounted_fits : (mode : Mode) (limits : LimitValues) (v : Store) → Fits (mounted mode limits v.boot) v
 unfolding Rises
@@ -520,15 +466,32 @@ accepted v c = go (change_of v c)
     go (Ok w) h = refl
     go (Err f) h = absurd (cc (h))
 
+row_fits : (t : Table) (v : Store) → Fits t v → {e : FilterEvent} {r : Reaction} → Row t v e r → filter_refusal t v e ≡ None → FitsAfter r
+unfolding filter_refusal asks ended moves restarts
+row_fits t v f (Rows.opens s least r row) ok = open_fits (raised least t) (taken v) (begun t v f least) s least (omega arith) row
+row_fits t v f (Rows.created name) ok = created_fits t v _ f (changed_same v (Create name)) name (accepted v (Create name) ok)
+row_fits t v f (Rows.rewritten c s is at) ok = rewritten_fits t v _ f (changed_same v c) c s is (accepted v c ok) at
+row_fits t v f (Rows.outdated c s q is at) ok = outdated_fits t v _ f (changed_same v c) c s q is (accepted v c ok) at
+row_fits t v f (Rows.removed s at) ok = removed_fits t v _ f (changed_same v (Remove s)) s (accepted v (Remove s) ok) at
+row_fits t v f (Rows.gone s q at) ok = gone_fits t v _ f (changed_same v (Remove s)) s q (accepted v (Remove s) ok) at
+row_fits t v f (Rows.cleaned s x port at is e) ok =
+    let away = leave_none t.boot t.sequence t.contexts t.questions v.streams s (no_question t.contexts t.questions f.scanned s is) (whole_of t v f) in
+    fit _ v f.boots (ask t.boot t.sequence t.contexts t.questions v.streams port s (x, at) away) (asked_more t.questions _ t.pended f.asked) f.leasts f.taken
+row_fits t v f (Rows.greeted port number version same free up) ok = with_floor t v f (with_port port t.connected) version (ltb-false version t.floor up)
+row_fits t v f (Rows.updated port version) ok = with_floor t v f t.connected (max t.floor version) (omega arith)
+row_fits t v f (Rows.failed port id why q at) ok = closed_fits t v f (λ q. same_id q.id id && same_port q.port port) q at
+row_fits t v f (Rows.stale port id version r q at old) ok =
+    let test : Question → Bool = λ (q : Question). same_id q.id id && same_port q.port port in
+    again_fits t v q f.boots (away_of t v f test q at) f.asked f.leasts f.taken _ (found_own test q t.questions f.order at) (runs_there t v f test q at)
+row_fits t v f (Rows.replied port id version r q at up) ok = replied_fits t v f port id version r q at (ltb-false version t.floor up)
+row_fits t v f (Rows.timed_out seq q at) ok = closed_fits t v f (λ q. same_id q.id (record { boot = t.boot; seq = seq })) q at
+row_fits t v f (Rows.moved port other left) ok = moved_fits (without t port) v (with_ports t v f (without_port port t.connected)) port
+row_fits t v f (Rows.lost port none) ok = loses_fits (without t port) v (with_ports t v f (without_port port t.connected))
+row_fits t v f Rows.restarted ok = mounted_fits t.mode t.limits (booted v)
+row_fits t v f _ ok = f
+
 pub event_fits : (t : Table) (v : Store) (e : FilterEvent) → Fits t v → filter_refusal t v e ≡ None → Fits (filter_step t v e).table (filter_step t v e).volume
-unfolding filter_step filter_refusal restarts
-event_fits t v (Opens s least) f ok = opened_fits t v f s least
-event_fits t v (Changes c) f ok = changes_fits t v f c (accepted v c ok)
-event_fits t v (CleansUp s) f ok = cleaned_fits t v f s _ refl
-event_fits t v (Receives m) f ok = receives_fits t v f m.port m.body
-event_fits t v (TimesOut seq) f ok = times_out_fits t v f _ _ refl
-event_fits t v (Disconnects port) f ok = disconnects_fits t v f port
-event_fits t v Restarts f ok = mounted_fits t.mode t.limits (booted v)
+event_fits t v e f ok = row_fits t v f (row_of t v e) ok
 
 pub keeps_fit : KeepsFit
 keeps_fit = record { mounts = mounted_fits; events = event_fits }

@@ -2,6 +2,7 @@ pub mod EachLemmas
 pub mod MapLemmas
 pub mod QuestionLemmas
 pub mod VolumeLemmas
+pub mod RowLemmas
 pub mod FitLemmas
 pub mod BoundLemmas
 pub mod RoomLemmas

@@ -13,4 +13,5 @@ pub mod Reaction
 pub mod Ready
 pub mod Receiving
 pub mod Room
+pub mod Rows
 pub mod Verdict

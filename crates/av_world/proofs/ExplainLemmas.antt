@@ -1,8 +1,9 @@
 -- Each answer is explained by the event that gives it.
-use Rattle.std.proofs.Common.{◌≡◌, ℕ, ◌+◌, ◌<◌, ◌≤◌, Bool, true, false, not, ◌&&◌, List, [], ◌∷◌, ◌++◌, length, map, filter, find, append_assoc, is_some, Option, Some, None, if◌then◌else◌, ◌==◌, nat_lt, nat_le, max, refl, sym, ap, ◌∙◌, subst, arith, inl, inr}
+use Rattle.std.proofs.Common.{◌≡◌, ℕ, ◌+◌, ◌<◌, ◌≤◌, Bool, true, false, not, ◌&&◌, List, [], ◌∷◌, ◌++◌, length, map, filter, find, append_assoc, Option}
+use Rattle.std.proofs.Common.{Some, None, if◌then◌else◌, ◌==◌, nat_lt, max, refl, sym, ap, ◌∙◌, subst, arith, inl, inr}
 use Rattle.std.specs.List.{AllByRecursion as Each, list_any}
 use Rattle.std.specs.Option.{option_map}
-use Rattle.std.proofs.lemmas.Bool.{and_parts, and_cases, and_from, or_right, true≢false, cond_both, not-true, ltb-true, ltb-false, leb-true}
+use Rattle.std.proofs.lemmas.Bool.{and_parts, and_cases, and_from, or_right, true≢false, ltb-true, ltb-false, leb-true}
 use Rattle.av_base.specs.MessageId.{same_id}
 use Rattle.av_base.specs.declared.cause.Cause.{Cause}
 use Rattle.av_base.specs.declared.cause.Cause.TheVariants.{NotConnected, Busy, TimedOut, PortDisconnected, ScanFailed, Unsettled, StreamRemoved, FilterRestart}
@@ -11,37 +12,32 @@ use Rattle.av_base.specs.declared.mode.Mode.{Mode}
 use Rattle.av_base.specs.declared.mode.Mode.TheVariants.{FailClosed, FailOpen}
 use Rattle.av_base.specs.declared.verdict.Verdict.{Verdict}
 use Rattle.av_base.specs.declared.verdict.Verdict.TheVariants.{Clean, Infected}
-use Rattle.av_cache.specs.Cache.{look}
-use Rattle.av_cache.specs.declared.entry.Entry.{Entry}
 use Rattle.av_context.specs.declared.context_state.ContextState.{ContextState}
 use Rattle.av_context.specs.declared.context_state.ContextState.TheVariants as context
-use Rattle.av_filter.specs.Again.{again, again_at, ends}
+use Rattle.av_filter.specs.Again.{again, ends}
 use Rattle.av_filter_table.specs.Asking.{again_cause, again_under, asks, ended, is_held, is_lost, is_spent, moved}
-use Rattle.av_filter.specs.Changing.{changed_volume, changes as conduct_of, cleaned, cleaned_at, removed, rewritten}
-use Rattle.av_filter.specs.Conduct.{FilterEvent, Opens, Changes, CleansUp, Receives, TimesOut, Disconnects, Restarts, again_each, disconnects, disconnects_to, loses_all, moves, filter_step, restarts, times_out}
-use Rattle.av_filter.specs.Opening.{answers_with, new_open, open_new, open_asked, open_cached, open_found, open_judged, opened, pends, taken}
+use Rattle.av_filter.specs.Conduct.{FilterEvent, Opens, Receives, Disconnects, Restarts, again_each, loses_all, moves, filter_step, restarts}
+use Rattle.av_filter.specs.Opening.{answers_with, new_open, pends, taken}
+use Rattle.av_filter.proofs.RowLemmas.{again_row, row_of}
+use Rattle.av_filter.specs.Rows
+use Rattle.av_filter.specs.Rows.{AgainRow, Hinders, OpenRow, Row, without}
 use Rattle.av_filter.specs.Reaction.{Reaction}
-use Rattle.av_filter_table.specs.Answering.{by_mode, judged, present_bytes, refused_now}
-use Rattle.av_filter.specs.Receiving.{greeted, reads, receives, receives_at, replies}
-use Rattle.av_filter_table.specs.Table.{Table, asking, context_of, current, has_room, is_modified, next_id, on_port, opens_of, question_at, question_of, question_on, raised, sequence_left, waits_for}
+use Rattle.av_filter_table.specs.Answering.{all_judged, by_mode, judged, refused_now}
+use Rattle.av_filter_table.specs.Table.{Table, context_of, next_id, on_port, opens_of, question_on, raised, sequence_left, waits_for}
 use Rattle.av_filter.specs.declared.note.Note.{Note}
 use Rattle.av_filter_table.specs.declared.pended.Pended.{Pended}
 use Rattle.av_filter_table.specs.declared.question.Question.{Question}
-use Rattle.av_frame.specs.declared.message.Body.{Body}
 use Rattle.av_frame.specs.Message.{Letter, via}
 use Rattle.av_base.specs.declared.port.Port.TheVariants.{One, Two}
 use Rattle.av_base.specs.declared.port.Port.{Port}
 use Rattle.av_filter_table.specs.declared.ports.Ports.{Ports}
 use Rattle.av_filter_table.specs.Ports.{is_open, least_port, without_port}
 use Rattle.av_base.specs.Port.{same_port}
-use Rattle.av_frame.specs.declared.message.Body.TheVariants.{Scan, Chunk, NoChunk, Abort, Hello, Read, Reply, Updated}
-use Rattle.av_frame.specs.declared.outcome.Outcome.{Outcome}
-use Rattle.av_frame.specs.declared.outcome.Outcome.TheVariants.{Judged, Failed}
+use Rattle.av_frame.specs.declared.message.Body.TheVariants.{Reply}
+use Rattle.av_frame.specs.declared.outcome.Outcome.TheVariants.{Judged}
 use Rattle.av_pend.specs.Pend.{denied, refused}
 use Rattle.av_pend.specs.Waiting.{Waiting}
 use Rattle.av_pend.specs.declared.answer.Answer.{Answer}
-use Rattle.av_store.specs.Files.{Change}
-use Rattle.av_store.specs.Files as change
 use Rattle.av_store.specs.History.{generation_of}
 use Rattle.av_store.specs.Rows.{stream_at}
 use Rattle.av_store.specs.Store.{Store, greatest}
@@ -50,10 +46,10 @@ use Rattle.av_filter.proofs.QuestionLemmas.{same_id-true, order-filter}
 use Rattle.av_world.proofs.ContentLemmas.{present_content}
 use Rattle.av_filter.proofs.EachLemmas.{each_weaker, each-append, each-filter, each-filter_passed, each-map, find_each, find_passes}
 use Rattle.av_world.proofs.FilterLemmas.{Comes, Runs, order_just, current_right, look_right, past_filter, runs}
-use Rattle.av_world.proofs.FitLemmas.{Fits as FilterFits, core, UpBody, UpFits, OutcomeFits, about}
+use Rattle.av_world.proofs.FitLemmas.{Fits as FilterFits, core, OutcomeFits, about}
 use Rattle.av_world.specs.Held.{Asked, asked}
-use Rattle.av_world.specs.Past.{Past, changes, IsVerdictOf}
-use Rattle.av_world.specs.Safety.{Among, Waits, Explains, IsByMode, IsExplained, Moves, Submission, next_open, without}
+use Rattle.av_world.specs.Past.{Past, IsVerdictOf}
+use Rattle.av_world.specs.Safety.{Among, Waits, Explains, IsByMode, IsExplained, Moves, Submission, next_open}
 use Rattle.av_filter.specs.Fit.{AreInOrder, Fits, IsGiven, RunOnOpen}
 
 -- what the open of each number asked for
@@ -143,24 +139,31 @@ record Walked (wanted : Wanted) (p : Past) (t0 : Table) (v : Store) (f : FilterE
   explained : Each (IsExplained wanted p t0 v f t.floor) r.answers
 
 -- asked again: every reason for it and for a want of numbers is the caller's
-again_walked : (wanted : Wanted) (p : Past) (t0 t : Table) (v v' : Store) (f : FilterEvent) (port : Port) (q : Question) (early : List Letter) → Stand wanted t.floor t.pended
+again_walked : (wanted : Wanted) (p : Past) (t0 t : Table) (v v' : Store) (f : FilterEvent) {to : Option Port} (port : Port) → to ≡ Some port
+    → (q : Question) (early : List Letter) → Stand wanted t.floor t.pended
     → ((o : Pended) → Among o t.pended → waits_for q.id o ≡ true → 8 ≤ o.held.rescans → Explains p t0 v f o.held.open_id Unsettled)
-    → ((o : Pended) → Among o t.pended → waits_for q.id o ≡ true → greatest ≤ t.sequence → Explains p t0 v f o.held.open_id Busy) → Walked wanted p t0 v f t (again_at (Some port) t v' q early)
-unfolding again_at ends asks ended
-again_walked wanted p t0 t v v' f port q early stand spent number =
-    cond_both (list_any (is_held q.id) t.pended && sequence_left t) _ _ (Walked wanted p t0 v f t)
-    (λ e. record {
-      stand = each-map (Stands wanted t.floor) (Stands wanted t.floor) (moved q.id (next_id t)) (λ o h. moved_stands wanted t.floor q.id (next_id t) o h) _ (each-filter (Stands wanted t.floor) (λ o. not (is_lost q.id o)) t.pended stand);
-      floor = refl;
-      explained =
-          each-map (IsExplained wanted p t0 v f t.floor) (λ (o : Pended). IsExplained wanted p t0 v f t.floor (refused_now t v' Unsettled o)) (refused_now t v' Unsettled) (λ o h. h) (filter (is_lost q.id) t.pended)
-          (each-filter_passed (λ (o : Pended). Among o t.pended) (λ (o : Pended). IsExplained wanted p t0 v f t.floor (refused_now t v' Unsettled o)) (is_lost q.id) (λ o w a. let both = and_parts (waits_for q.id o) (is_spent o) w in unsettles o a both.0 (leb-true 8 o.held.rescans both.1)) t.pended (each_self t.pended));
-    })
-    (λ e. record {
-      stand = each-filter (Stands wanted t.floor) (λ o. not (waits_for q.id o)) t.pended stand;
-      floor = refl;
-      explained = opens_get (IsExplained wanted p t0 v f t.floor) t q.id (λ (o : Pended). refused_now t v' (again_cause o) o) (λ o a w. left e o a w);
-    })
+    → ((o : Pended) → Among o t.pended → waits_for q.id o ≡ true → greatest ≤ t.sequence → Explains p t0 v f o.held.open_id Busy)
+    → {r : Reaction} → AgainRow to t v' q early r → Walked wanted p t0 v f t r
+unfolding ends asks ended
+again_walked wanted p t0 t v v' f {to} port on q early stand spent number row =
+    elim row as (λ r i. Walked wanted p t0 v f t r) [
+      | Rows.anew at is can ↦ record {
+        stand =
+            each-map (Stands wanted t.floor) (Stands wanted t.floor) (moved q.id (next_id t)) (λ o h. moved_stands wanted t.floor q.id (next_id t) o h) _
+            (each-filter (Stands wanted t.floor) (λ o. not (is_lost q.id o)) t.pended stand);
+        floor = refl;
+        explained =
+            each-map (IsExplained wanted p t0 v f t.floor) (λ (o : Pended). IsExplained wanted p t0 v f t.floor (refused_now t v' Unsettled o)) (refused_now t v' Unsettled) (λ o h. h)
+            (filter (is_lost q.id) t.pended)
+            (each-filter_passed (λ (o : Pended). Among o t.pended) (λ (o : Pended). IsExplained wanted p t0 v f t.floor (refused_now t v' Unsettled o)) (is_lost q.id)
+            (λ o w a. let both = and_parts (waits_for q.id o) (is_spent o) w in unsettles o a both.0 (leb-true 8 o.held.rescans both.1)) t.pended (each_self t.pended));
+      }
+      | Rows.over why ↦ record {
+        stand = each-filter (Stands wanted t.floor) (λ o. not (waits_for q.id o)) t.pended stand;
+        floor = refl;
+        explained = opens_get (IsExplained wanted p t0 v f t.floor) t q.id (λ (o : Pended). refused_now t v' (again_cause o) o) (λ o a w. left (why port on) o a w);
+      }
+    ]
   where
     submitted_so : (o : Pended) → Among o t.pended → wanted o.held.open_id ≡ Some (record { stream = o.held.stream; least = o.held.least })
     submitted_so o a = (among_each (Stands wanted t.floor) t.pended o stand a).0
@@ -191,13 +194,13 @@ again_fair : (wanted : Wanted) (p : Past) (t : Table) (v v' : Store) (f : Filter
     → ((o : Pended) → Waits t q.id o.held.open_id → Among o t.pended → waits_for q.id o ≡ true → 8 ≤ o.held.rescans → Explains p t v f o.held.open_id Unsettled) → ((n : ℕ) → Waits t q.id n → greatest ≤ t.sequence → Explains p t v f n Busy)
     → Fair wanted p t v f (again t v' q early)
 again_fair wanted p t v v' f q early on stand spent number =
-    let w : Walked wanted p t v f t (again_at (Some on.0) t v' q early) =
-    again_walked wanted p t t v v' f on.0 q early stand (λ o a k le. spent o (waits t q.id o a k) a k le) (λ o a k le. number o.held.open_id (waits t q.id o a k) le) in
-    let fair : Fair wanted p t v f (again_at (Some on.0) t v' q early) = record {
-      stand = subst (λ n. Stand wanted n (again_at (Some on.0) t v' q early).table.pended) (sym w.floor) w.stand;
-      explained = subst (λ n. Each (IsExplained wanted p t v f n) (again_at (Some on.0) t v' q early).answers) (sym w.floor) w.explained;
-    } in
-    subst (λ o. Fair wanted p t v f (again_at o t v' q early)) (sym on.1) fair
+    let w : Walked wanted p t v f t (again t v' q early) =
+    again_walked wanted p t t v v' f on.0 on.1 q early stand (λ o a k le. spent o (waits t q.id o a k) a k le) (λ o a k le. number o.held.open_id (waits t q.id o a k) le)
+    (again_row (least_port t.connected) t v' q early) in
+    record {
+      stand = subst (λ n. Stand wanted n (again t v' q early).table.pended) (sym w.floor) w.stand;
+      explained = subst (λ n. Each (IsExplained wanted p t v f n) (again t v' q early).answers) (sym w.floor) w.explained;
+    }
 
 -- nothing answered
 quiet_fair : (wanted : Wanted) (p : Past) (t : Table) (v : Store) (f : FilterEvent) (r : Reaction) → Stand wanted r.table.floor r.table.pended → r.answers ≡ [] → Fair wanted p t v f r
@@ -221,15 +224,6 @@ refused_fair wanted p t v f floor c by stand why =
 
 -- an open, on the table with the floor raised
 module _ (wanted : Wanted) (p : Past) (t : Table) (v : Store) (down : List Letter) (fits : FilterFits p v.streams (core t) down) (stand : Stand wanted t.floor t.pended) (s least : ℕ) (now : wanted (next_open v) ≡ Some (record { stream = s; least = least })) where
-  now_table : Table
-  now_table = raised least t
-
-  now_volume : Store
-  now_volume = taken v
-
-  Good : Reaction → Type 0
-  Good r = Fair wanted p t v (Opens s least) r
-
   higher : Stand wanted (max t.floor least) t.pended
   higher = raised_floor wanted t.floor (max t.floor least) (omega arith) t.pended stand
 
@@ -255,45 +249,32 @@ module _ (wanted : Wanted) (p : Past) (t : Table) (v : Store) (down : List Lette
     explained = tt;
   }
 
-  -- where one more is asked
-  new_fair : (f : Stream) (on : Option Port) → least_port t.connected ≡ on → (o : Option Port) → asking t ≡ o → Fair wanted p t v (Opens s least) (open_new (raised least t) (taken v) s least f (is_some on) o)
-  unfolding open_new asks
-  new_fair f None off o at = refusal NotConnected f not_connected (Explains.not_connected s least off)
-  new_fair f (Some x) on (Some port) at = one_more _ _ _ refl refl
-  new_fair f (Some x) on None at = refusal Busy f busy (no_ask (nat_lt (length t.questions) t.limits.questions && sequence_left t) refl at)
+  -- where it is asked about nothing
+  hindered : (f : Stream) (c : Cause) → Hinders (raised least t) c
+      → Fair wanted p t v (Opens s least) (answers_with (raised least t) (taken v) (refused t.mode f.generation c (new_open (taken v) s least)))
+  hindered f _ why = elim why as (λ c i. Fair wanted p t v (Opens s least) (answers_with (raised least t) (taken v) (refused t.mode f.generation c (new_open (taken v) s least)))) [
+    | Rows.full e ↦ refusal Busy f busy (Explains.opens_full s least (ltb-false (length t.pended) t.limits.pended e))
+    | Rows.not_connected off ↦ refusal NotConnected f not_connected (Explains.not_connected s least off)
+    | Rows.not_asked x on at ↦ refusal Busy f busy (no_ask x on (nat_lt (length t.questions) t.limits.questions && sequence_left t) refl at)
+  ]
     where
-      no_ask : (b : Bool) → (nat_lt (length t.questions) t.limits.questions && sequence_left t) ≡ b → (if b then least_port t.connected else None) ≡ None → Explains p t v (Opens s least) (next_open v) Busy
-      no_ask true e none = let both : Some x ≡ None = sym on ∙ none in absurd (cc (both))
-      no_ask false e none =
+      no_ask : (x : Port) → least_port t.connected ≡ Some x → (b : Bool) → (nat_lt (length t.questions) t.limits.questions && sequence_left t) ≡ b
+          → (if b then least_port t.connected else None) ≡ None → Explains p t v (Opens s least) (next_open v) Busy
+      no_ask x on true e none = let both : Some x ≡ None = sym on ∙ none in absurd (cc (both))
+      no_ask x on false e none =
           elim (and_cases (nat_lt (length t.questions) t.limits.questions) (sequence_left t) e) [
             | inl full ↦ Explains.questions_full s least (ltb-false (length t.questions) t.limits.questions full)
             | inr h ↦ Explains.no_number s least (ltb-false t.sequence greatest h)
           ]
 
-  cached_fair : (f : Stream) → stream_at s v.streams ≡ Some f → (o : Option Entry) → look s f.generation (max t.floor least) t.cache ≡ o → Fair wanted p t v (Opens s least) (open_cached (raised least t) (taken v) s least f o)
-  unfolding open_cached
-  cached_fair f here (Some e) at = one_answer _ _ refl refl (verdict_answer f e.verdict here (look_right p s f.generation (max t.floor least) t.cache e fits.cache at))
-  cached_fair f here None at =
-      cond_both (not (has_room (raised least t))) _ _ (Fair wanted p t v (Opens s least))
-      (λ e. refusal Busy f busy (Explains.opens_full s least (ltb-false (length t.pended) t.limits.pended (not-true (has_room t) e))))
-      (λ e. new_fair f (least_port t.connected) refl (asking t) refl)
-
-  asked_fair : (f : Stream) → stream_at s v.streams ≡ Some f → (o : Option Question) → Fair wanted p t v (Opens s least) (open_asked (raised least t) (taken v) s least f o)
-  unfolding open_asked
-  asked_fair f here (Some q) =
-      cond_both (has_room (raised least t)) _ _ (Fair wanted p t v (Opens s least)) (λ e. one_more _ _ _ refl refl)
-      (λ e. refusal Busy f busy (Explains.opens_full s least (ltb-false (length t.pended) t.limits.pended e)))
-  asked_fair f here None = cached_fair f here _ refl
-
-  judged_fair : (f : Stream) → stream_at s v.streams ≡ Some f → (o : Option Verdict) → current (context_of t.contexts s) (max t.floor least) ≡ o → Fair wanted p t v (Opens s least) (open_judged (raised least t) (taken v) s least f o)
-  unfolding open_judged
-  judged_fair f here (Some r) at = one_answer _ _ refl refl (verdict_answer f r here (current_right p v.streams s (max t.floor least) f r (context_of t.contexts s) (fits.contexts s) here at))
-  judged_fair f here None at = asked_fair f here _
-
-  found_fair : (o : Option Stream) → stream_at s v.streams ≡ o → Fair wanted p t v (Opens s least) (open_found (raised least t) (taken v) s least o)
-  unfolding open_found
-  found_fair None at = one_answer _ _ refl refl (Explains.no_stream s least at)
-  found_fair (Some f) at = judged_fair f at _ refl
+  open_fair : {r : Reaction} → OpenRow (raised least t) (taken v) s least r → Fair wanted p t v (Opens s least) r
+  unfolding asks
+  open_fair (Rows.no_stream at) = one_answer _ _ refl refl (Explains.no_stream s least at)
+  open_fair (Rows.known f r at known) =
+      one_answer _ _ refl refl (verdict_answer f r at (current_right p v.streams s (max t.floor least) f r (context_of t.contexts s) (fits.contexts s) at known))
+  open_fair (Rows.hindered f c at why) = hindered f c why
+  open_fair (Rows.cached f e at none found) = one_answer _ _ refl refl (verdict_answer f e.verdict at (look_right p s f.generation (max t.floor least) t.cache e fits.cache found))
+  open_fair _ = one_more _ _ _ refl refl
 
 -- what asking one question again keeps of a table, and which opens may be there
 record Kept (n : Table) (q : Question) (after : Table) : Type 0 where
@@ -323,12 +304,20 @@ moved_among old n (x ∷ ps) o k low (inl e) w =
       | false ↦ λ h. h
     ]) e)
 
-again_kept : (n : Table) (v : Store) (port : Port) (q : Question) → Kept n q (again_at (Some port) n v q []).table
-unfolding again_at ends asks ended
-again_kept n v port q =
-    cond_both (list_any (is_held q.id) n.pended && sequence_left n) _ _ (λ (r : Reaction). Kept n q r.table)
-    (λ e. record { connected = refl; floor = refl; sequence = omega arith; pended = λ o k low a w. among_filter (λ x. not (is_lost q.id x)) n.pended o (moved_among q.id n (filter (λ x. not (is_lost q.id x)) n.pended) o k low a w) })
-    (λ e. record { connected = refl; floor = refl; sequence = omega arith; pended = λ o k low a w. among_filter (λ x. not (waits_for q.id x)) n.pended o a })
+again_kept : {to : Option Port} {n : Table} {v : Store} {q : Question} {r : Reaction} → AgainRow to n v q [] r → Kept n q r.table
+unfolding ends asks ended
+again_kept {to} {n} {v} {q} (Rows.anew port at can) = record {
+  connected = refl;
+  floor = refl;
+  sequence = omega arith;
+  pended = λ o k low a w. among_filter (λ x. not (is_lost q.id x)) n.pended o (moved_among q.id n (filter (λ x. not (is_lost q.id x)) n.pended) o k low a w);
+}
+again_kept {to} {n} {v} {q} (Rows.over why) = record {
+  connected = refl;
+  floor = refl;
+  sequence = omega arith;
+  pended = λ o k low a w. among_filter (λ x. not (waits_for q.id x)) n.pended o a;
+}
 
 among_behind : (front : List Question) (q : Question) (qs : List Question) → Among q (front ++ q ∷ qs)
 among_behind [] q qs = inl refl
@@ -357,101 +346,24 @@ module _ (wanted : Wanted) (p : Past) (t : Table) (v : Store) (down : List Lette
   left_for : (test : Question → Bool) (q : Question) → find test t.questions ≡ Some q → (least : Port) × (least_port t.connected ≡ Some least)
   left_for test q at = port_left t.connected q.port (find_each (λ (k : Question). is_open k.port t.connected ≡ true) test t.questions q runs_on at)
 
-  changes_fair : (c : Change) (q : Past) → Fair wanted q t v (Changes c) (conduct_of t v c)
-  unfolding conduct_of rewritten removed
-  changes_fair (change.Create name) q = quiet_fair wanted q t v _ _ stand refl
-  changes_fair (change.Write s o b) q = go (question_of s t.questions) refl
-    where
-      go : (k : Option Question) → question_of s t.questions ≡ k → Fair wanted q t v (Changes (change.Write s o b)) (rewritten t (changed_volume v (change.Write s o b)) s k)
-      go None at = quiet_fair wanted q t v _ _ stand refl
-      go (Some k) at = again_fair wanted q t v _ _ k _ (left_for (λ (x : Question). x.stream == s) k at) stand (λ x w a h le. Explains.unsettled_changed (change.Write s o b) s k x.held.open_id refl at (waits t k.id x a h) le) (λ n w le. Explains.no_number_changed (change.Write s o b) s k n refl at w le)
-  changes_fair (change.Cut s l) q = go (question_of s t.questions) refl
-    where
-      go : (k : Option Question) → question_of s t.questions ≡ k → Fair wanted q t v (Changes (change.Cut s l)) (rewritten t (changed_volume v (change.Cut s l)) s k)
-      go None at = quiet_fair wanted q t v _ _ stand refl
-      go (Some k) at = again_fair wanted q t v _ _ k _ (left_for (λ (x : Question). x.stream == s) k at) stand (λ x w a h le. Explains.unsettled_changed (change.Cut s l) s k x.held.open_id refl at (waits t k.id x a h) le) (λ n w le. Explains.no_number_changed (change.Cut s l) s k n refl at w le)
-  changes_fair (change.Remove s) q = go (question_of s t.questions) refl
-    where
-      go : (k : Option Question) → question_of s t.questions ≡ k → Fair wanted q t v (Changes (change.Remove s)) (removed t (changed_volume v (change.Remove s)) s k)
-      go None at = quiet_fair wanted q t v _ _ stand refl
-      go (Some k) at = ended_fair wanted q t v _ _ k _ (λ (o : Pended). denied StreamRemoved o.held) _ _ stand (λ x a h. Explains.removed s k x.held.open_id at (waits t k.id x a h))
-
-  cleaned_at_fair : (s : ℕ) (b : Bool) (o : Option Port) → Fair wanted p t v (CleansUp s) (cleaned_at t v s b o)
-  unfolding cleaned_at asks
-  cleaned_at_fair s true (Some port) = quiet_fair wanted p t v _ _ stand refl
-  cleaned_at_fair s true None = quiet_fair wanted p t v _ _ stand refl
-  cleaned_at_fair s false o = quiet_fair wanted p t v _ _ stand refl
-
-  cleaned_fair : (s : ℕ) (o : Option Stream) → Fair wanted p t v (CleansUp s) (cleaned t v s o)
-  unfolding cleaned
-  cleaned_fair s None = quiet_fair wanted p t v _ _ stand refl
-  cleaned_fair s (Some f) = cleaned_at_fair s (is_modified (context_of t.contexts s)) (asking t)
-
-  times_out_fair : (seq : ℕ) (o : Option Question) → question_at (record { boot = t.boot; seq = seq }) t.questions ≡ o → Fair wanted p t v (TimesOut seq) (times_out t v o)
-  unfolding times_out
-  times_out_fair seq None at = quiet_fair wanted p t v _ _ stand refl
-  times_out_fair seq (Some q) at =
-      let id : MessageId = record { boot = t.boot; seq = seq } in
-      let same : q.id ≡ id = same_id-true q.id id (find_passes (λ (q : Question). same_id q.id id) t.questions q at) in
-      ended_fair wanted p t v v _ q (Some context.Modified) _ _ _ stand (λ x a h. explained-refused wanted p t v _ _ t.mode _ TimedOut x.held (submitted_so x a) timed_out (Explains.timed_out seq x.held.open_id (waits_as t q.id id x same a h)))
-
-  replies_fair : (port : Port) (id : MessageId) (outcome : Outcome) → OutcomeFits p down port id outcome → (o : Option Question) → question_on port id t.questions ≡ o → Fair wanted p t v (Receives (via port (Reply id outcome))) (replies t v outcome o)
-  unfolding replies ended
-  replies_fair port id outcome h None at = quiet_fair wanted p t v _ _ stand refl
-  replies_fair port id (Failed why) h (Some q) at =
-      let same : q.id ≡ id = same_id-true q.id id (and_parts (same_id q.id id) (same_port q.port port) (find_passes (λ (q : Question). same_id q.id id && same_port q.port port) t.questions q at)).0 in
-      ended_fair wanted p t v v _ q (Some context.Modified) _ _ _ stand (λ x a w. explained-refused wanted p t v _ _ t.mode _ ScanFailed x.held (submitted_so x a) failed (Explains.failed port id q why x.held.open_id at (waits t q.id x a w)))
-  replies_fair port id (Judged version r) h (Some q) at =
+  -- what a reply that judges a question says of its content
+  replied_fair : (port : Port) (id : MessageId) (version : ℕ) (r : Verdict) (q : Question) → question_on port id t.questions ≡ Some q → t.floor ≤ version
+      → OutcomeFits p down port id (Judged version r)
+      → Each (IsExplained wanted p t v (Receives (via port (Reply id (Judged version r)))) version) (all_judged r q.generation version (opens_of q.id t.pended))
+  replied_fair port id version r q at up h =
       let run : Runs p v.streams down q = runs p v.streams (core t) down (λ q. same_id q.id id && same_port q.port port) q fits at in
       let same : q.id ≡ id = same_id-true q.id id (and_parts (same_id q.id id) (same_port q.port port) (find_passes (λ (q : Question). same_id q.id id && same_port q.port port) t.questions q at)).0 in
       let told = sym h.told ∙ subst (λ i. asked down i ≡ Some (about q.port q.stream q.generation (length run.file.bytes))) same run.told in
       let about_it : h.of ≡ about q.port q.stream q.generation (length run.file.bytes) = cc (told) in
       let right : IsVerdictOf p q.stream q.generation version r = subst (λ (a : Asked). IsVerdictOf p a.stream a.generation version r) about_it h.right in
-      cond_both (nat_lt version t.floor) _ _ (Fair wanted p t v (Receives (via port (Reply id (Judged version r)))))
-      (λ e.
-      let old : version < t.floor = ltb-true version t.floor e in
-      again_fair wanted p t v v _ q _ (left_for (λ (k : Question). same_id k.id id && same_port k.port port) q at) stand (λ x w a k le. Explains.unsettled_stale port id q version r x.held.open_id at old (waits t q.id x a k) le) (λ n w le. Explains.no_number_stale port id q version r n at old w le))
-      (λ e.
-      let up : t.floor ≤ version = ltb-false version t.floor e in
-      record {
-        stand = each-filter (Stands wanted version) (λ o. not (waits_for q.id o)) t.pended (raised_floor wanted t.floor version up t.pended stand);
-        explained = opens_get (IsExplained wanted p t v (Receives (via port (Reply id (Judged version r)))) version) t q.id (λ (o : Pended). judged r q.generation version o.held) (λ o a w.
-            let stands : Stands wanted t.floor o = among_each (Stands wanted t.floor) t.pended o stand a in
-            by_verdict o (waits t q.id o a w) refl stands.0 (omega (arith, stands.1, up)) r (subst (λ g. IsVerdictOf p q.stream g version r) run.present right));
-      })
+      opens_get (IsExplained wanted p t v (Receives (via port (Reply id (Judged version r)))) version) t q.id (λ (o : Pended). judged r q.generation version o.held) (λ o a w.
+      let stands : Stands wanted t.floor o = among_each (Stands wanted t.floor) t.pended o stand a in
+      by_verdict o (waits t q.id o a w) refl stands.0 (omega (arith, stands.1, up)) r (subst (λ g. IsVerdictOf p q.stream g version r) run.present right))
     where
       by_verdict : (o : Pended) (w : Waits t q.id o.held.open_id) → w.waiting ≡ o → wanted o.held.open_id ≡ Some (record { stream = o.held.stream; least = o.held.least }) → o.held.least ≤ version → (x : Verdict) → IsVerdictOf p q.stream (generation_of p.streams q.stream) version x
           → IsExplained wanted p t v (Receives (via port (Reply id (Judged version r)))) version (judged x q.generation version o.held)
       by_verdict o w is so least Clean right = (so, least, refl)
       by_verdict o w is so least (Infected i e) right = Explains.judged_late port id (Judged version r) q o.held.open_id version i e at w (subst (λ (z : Pended). z.held.least ≤ version) (sym is) least) right
-
-  greeted_fair : (port : Port) (number version : ℕ) → Fair wanted p t v (Receives (via port (Hello number version))) (greeted t v port number version)
-  unfolding greeted
-  greeted_fair port number version =
-      cond_both (not (number == v.number)) _ _ (Fair wanted p t v (Receives (via port (Hello number version)))) (λ e. quiet_fair wanted p t v _ _ stand refl)
-      (λ e. cond_both (is_open port t.connected) _ _ (Fair wanted p t v (Receives (via port (Hello number version)))) (λ e. quiet_fair wanted p t v _ _ stand refl)
-      (λ e. cond_both (nat_lt version t.floor) _ _ (Fair wanted p t v (Receives (via port (Hello number version)))) (λ e. quiet_fair wanted p t v _ _ stand refl)
-      (λ e.
-      let up : t.floor ≤ version = ltb-false version t.floor e in
-      quiet_fair wanted p t v _ _ (raised_floor wanted t.floor version up t.pended stand) refl)))
-
-  receives_at_fair : (port : Port) (m : Body) → UpBody p down port m → Fair wanted p t v (Receives (via port m)) (receives_at t v port m)
-  unfolding receives_at reads
-  receives_at_fair port (Hello number version) h = greeted_fair port number version
-  receives_at_fair port (Updated version) h = quiet_fair wanted p t v _ _ (raised_floor wanted t.floor (max t.floor version) (omega arith) t.pended stand) refl
-  receives_at_fair port (Read id offset count) h = go (question_on port id t.questions)
-    where
-      go : (o : Option Question) → Fair wanted p t v (Receives (via port (Read id offset count))) (reads t v port id offset count o)
-      go None = quiet_fair wanted p t v _ _ stand refl
-      go (Some q) = cond_both (nat_le (length (present_bytes v q.stream)) offset) _ _ (Fair wanted p t v (Receives (via port (Read id offset count)))) (λ e. quiet_fair wanted p t v _ _ stand refl) (λ e. quiet_fair wanted p t v _ _ stand refl)
-  receives_at_fair port (Reply id outcome) h = replies_fair port id outcome h _ refl
-  receives_at_fair port (Scan id s g l) h = quiet_fair wanted p t v _ _ stand refl
-  receives_at_fair port (Chunk id o b) h = quiet_fair wanted p t v _ _ stand refl
-  receives_at_fair port (NoChunk id o r) h = quiet_fair wanted p t v _ _ stand refl
-  receives_at_fair port (Abort id) h = quiet_fair wanted p t v _ _ stand refl
-
-  receives_fair : (m : Letter) → UpFits p down m → Fair wanted p t v (Receives m) (receives t v m)
-  receives_fair m h = receives_at_fair m.port m.body h
 
   -- ---- a port is lost
 
@@ -466,24 +378,20 @@ module _ (wanted : Wanted) (p : Past) (t : Table) (v : Store) (down : List Lette
       let r : Reaction = again n v q [] in
       let to : least_port n.connected ≡ Some other = ap least_port on ∙ left in
       let moves : Moves t port = (other, left) in
-      let step : Walked wanted p t v (Disconnects port) n (again_at (Some other) n v q []) =
-      again_walked wanted p t n v v (Disconnects port) other q [] (subst (λ k. Stand wanted k n.pended) (sym fl) l)
+      let here : Walked wanted p t v (Disconnects port) n r =
+      again_walked wanted p t n v v (Disconnects port) other to q [] (subst (λ k. Stand wanted k n.pended) (sym fl) l)
       (λ o a w le. Explains.unsettled_lost port q o.held.open_id moves (subst (Among q) (sym is) (among_behind front q qs)) (waits t q.id o (stays o q (inl refl) a w) w) le)
-      (λ o a w le. Explains.no_number_lost port front qs q o.held.open_id moves is (waits t q.id o (stays o q (inl refl) a w) w) (subst (λ (x : Table). greatest ≤ x.sequence) (sym at) le)) in
-      let here : Walked wanted p t v (Disconnects port) n r = subst (λ o. Walked wanted p t v (Disconnects port) n (again_at o n v q [])) (sym to) step in
-      let kept : Kept n q r.table = subst (λ o. Kept n q (again_at o n v q []).table) (sym to) (again_kept n v other q) in
+      (λ o a w le. Explains.no_number_lost port front qs q o.held.open_id moves is (waits t q.id o (stays o q (inl refl) a w) w) (subst (λ (x : Table). greatest ≤ x.sequence) (sym at) le))
+      (again_row (least_port n.connected) n v q []) in
+      let kept : Kept n q r.table = again_kept (again_row (least_port n.connected) n v q []) in
       let next = walk port other left (front ++ q ∷ []) qs r.table (is ∙ sym (append_assoc front (q ∷ []) qs)) (each_last (without t port) v front q ∙ ap (λ (x : Table). (again x v q []).table) at) (kept.connected ∙ on) (kept.floor ∙ fl)
       (subst (λ k. Stand wanted k r.table.pended) fl here.stand) order.1 (each_weaker (λ (k : Question). k.id.seq ≤ n.sequence) (λ (k : Question). k.id.seq ≤ r.table.sequence) (λ k le. omega (arith, le, kept.sequence)) qs low.1)
       (λ o k among a w. stays o k (inr among) (kept.pended o k (among_low n.sequence qs k among low.1) a w) w) in
       (next.0, next.1, each-append (IsExplained wanted p t v (Disconnects port) t.floor) r.answers (again_each r.table v qs).answers (subst (λ k. Each (IsExplained wanted p t v (Disconnects port) k) r.answers) fl here.explained) next.2)
 
-  lost_fair : (port : Port) (o : Option Port) → least_port (without_port port t.connected) ≡ o → Fair wanted p t v (Disconnects port) (disconnects_to o (without t port) v port)
-  unfolding disconnects_to moves loses_all
-  lost_fair port None none = record {
-    stand = tt;
-    explained = refused_fair wanted p t v (Disconnects port) t.floor PortDisconnected disconnected stand (λ id n w. Explains.disconnected port id n none w);
-  }
-  lost_fair port (Some other) left =
+  moved_fair : (port other : Port) → least_port (without_port port t.connected) ≡ Some other → Fair wanted p t v (Disconnects port) (moves (without t port) v (on_port port t.questions))
+  unfolding moves
+  moved_fair port other left =
       let qs : List Question = on_port port t.questions in
       let w = walk port other left [] qs (without t port) refl (nothing_walked (without t port) v) refl refl stand (order-filter (λ q. same_port q.port port) t.questions sits.order)
       (each-filter (λ (q : Question). q.id.seq ≤ t.sequence) (λ q. same_port q.port port) t.questions (each_weaker (IsGiven t.boot t.sequence) (λ (q : Question). q.id.seq ≤ t.sequence) (λ q h. h.high) t.questions sits.given)) (λ o k among a w. a) in
@@ -492,12 +400,41 @@ module _ (wanted : Wanted) (p : Past) (t : Table) (v : Store) (down : List Lette
         explained = order_just (IsExplained wanted p t v (Disconnects port) (again_each (without t port) v qs).table.floor) (again_each (without t port) v qs).answers (subst (λ k. Each (IsExplained wanted p t v (Disconnects port) k) (again_each (without t port) v qs).answers) (sym w.1) w.2);
       }
 
+  row_fair : {f : FilterEvent} {r : Reaction} → Row t v f r → Submits wanted v f → Comes p down t v f → Fair wanted (past_filter p f) t v f r
+  unfolding ended loses_all restarts asks
+  row_fair (Rows.opens s least r row) now h = open_fair wanted p t v down fits stand s least now row
+  row_fair (Rows.outdated c s k of at) now h =
+      again_fair wanted _ t v _ _ k _ (left_for (λ (x : Question). x.stream == s) k at) stand
+      (λ x w a e le. Explains.unsettled_changed c s k x.held.open_id of at (waits t k.id x a e) le) (λ n w le. Explains.no_number_changed c s k n of at w le)
+  row_fair (Rows.gone s k at) now h =
+      ended_fair wanted _ t v _ _ k None (λ (o : Pended). denied StreamRemoved o.held) _ _ stand (λ x a w. Explains.removed s k x.held.open_id at (waits t k.id x a w))
+  row_fair (Rows.greeted port number version same free up) now h = quiet_fair wanted p t v _ _ (raised_floor wanted t.floor version (ltb-false version t.floor up) t.pended stand) refl
+  row_fair (Rows.updated port version) now h = quiet_fair wanted p t v _ _ (raised_floor wanted t.floor (max t.floor version) (omega arith) t.pended stand) refl
+  row_fair (Rows.failed port id why q at) now h =
+      ended_fair wanted p t v v _ q (Some context.Modified) _ _ _ stand (λ x a w. explained-refused wanted p t v _ _ t.mode _ ScanFailed x.held (submitted_so x a) failed
+      (Explains.failed port id q why x.held.open_id at (waits t q.id x a w)))
+  row_fair (Rows.stale port id version r q at low) now h =
+      let old : version < t.floor = ltb-true version t.floor low in
+      again_fair wanted p t v v _ q _ (left_for (λ (k : Question). same_id k.id id && same_port k.port port) q at) stand
+      (λ x w a k le. Explains.unsettled_stale port id q version r x.held.open_id at old (waits t q.id x a k) le) (λ n w le. Explains.no_number_stale port id q version r n at old w le)
+  row_fair (Rows.replied port id version r q at high) now h =
+      let up : t.floor ≤ version = ltb-false version t.floor high in
+      record {
+        stand = each-filter (Stands wanted version) (λ o. not (waits_for q.id o)) t.pended (raised_floor wanted t.floor version up t.pended stand);
+        explained = replied_fair port id version r q at up h;
+      }
+  row_fair (Rows.timed_out seq q at) now h =
+      let id : MessageId = record { boot = t.boot; seq = seq } in
+      let same : q.id ≡ id = same_id-true q.id id (find_passes (λ (q : Question). same_id q.id id) t.questions q at) in
+      ended_fair wanted p t v v _ q (Some context.Modified) _ _ _ stand (λ x a w. explained-refused wanted p t v _ _ t.mode _ TimedOut x.held (submitted_so x a) timed_out
+      (Explains.timed_out seq x.held.open_id (waits_as t q.id id x same a w)))
+  row_fair (Rows.moved port other left) now h = moved_fair port other left
+  row_fair (Rows.lost port none) now h = record {
+    stand = tt;
+    explained = refused_fair wanted p t v (Disconnects port) t.floor PortDisconnected disconnected stand (λ id n w. Explains.disconnected port id n none w);
+  }
+  row_fair Rows.restarted now h = record { stand = tt; explained = refused_fair wanted p t v Restarts 0 FilterRestart restarted stand Explains.restarted }
+  row_fair _ now h = quiet_fair wanted _ t v _ _ stand refl
+
   pub filter_fair : (f : FilterEvent) → Submits wanted v f → Comes p down t v f → Fair wanted (past_filter p f) t v f (filter_step t v f)
-  unfolding filter_step opened disconnects restarts
-  filter_fair (Opens s least) now h = found_fair wanted p t v down fits stand s least now _ refl
-  filter_fair (Changes c) now h = changes_fair c (changes p c)
-  filter_fair (CleansUp s) now h = cleaned_fair s _
-  filter_fair (Receives m) now h = receives_fair m h
-  filter_fair (TimesOut seq) now h = times_out_fair seq _ refl
-  filter_fair (Disconnects port) now h = lost_fair port (least_port (without_port port t.connected)) refl
-  filter_fair Restarts now h = record { stand = tt; explained = refused_fair wanted p t v Restarts 0 FilterRestart restarted stand Explains.restarted }
+  filter_fair f now h = row_fair (row_of t v f) now h

@@ -1,34 +1,32 @@
 -- What an event leaves of what is counted: one walk over the filter's conduct, and one over the service's.
-use Rattle.std.proofs.Common.{◌∙◌, Bool, true, false, find, is_some, if◌then◌else◌, filter, nat_le, nat_lt, ◌≡◌, ℕ, ◌+◌, ◌-◌, ◌≤◌, not, ◌&&◌, List, [], ◌∷◌, ◌++◌, length, Option, Some, None, ◌==◌, refl, arith, length-append}
+use Rattle.std.proofs.Common.{◌∙◌, Bool, true, false, find, if◌then◌else◌, filter, nat_le, nat_lt, ◌≡◌, ℕ, ◌+◌, ◌-◌, ◌≤◌, not, ◌&&◌}
+use Rattle.std.proofs.Common.{List, [], ◌∷◌, ◌++◌, length, Option, Some, None, ◌==◌, refl, arith, length-append}
 use Rattle.std.proofs.lemmas.Bool.{cond_both}
 use Rattle.std.proofs.lemmas.List.Filters.{length-filter_both}
-use Rattle.std.specs.List.{AllByRecursion as Each, list_any}
+use Rattle.std.specs.List.{AllByRecursion as Each}
 use Rattle.av_base.specs.declared.message_id.MessageId.{MessageId}
 use Rattle.av_base.specs.declared.verdict.Verdict.{Verdict}
 use Rattle.av_base.specs.MessageId.{same_id}
 use Rattle.av_base.specs.Port.{same_port}
 use Rattle.av_base.specs.declared.port.Port.{Port}
 use Rattle.av_cache.specs.declared.entry.Entry.{Entry}
-use Rattle.av_filter.specs.Again.{again, again_at, ends}
+use Rattle.av_filter.specs.Again.{again, ends}
 use Rattle.av_filter.specs.Fit.{AreInOrder}
 use Rattle.av_filter.proofs.EachLemmas.{each-filter}
 use Rattle.av_filter.proofs.FitLemmas.{Runs, all_found, all_run}
+use Rattle.av_filter.proofs.RowLemmas.{again_row, row_of}
+use Rattle.av_filter.specs.Rows
+use Rattle.av_filter.specs.Rows.{AgainRow, OpenRow, Row, without}
 use Rattle.av_filter.proofs.QuestionLemmas.{order-filter}
-use Rattle.av_filter_table.specs.Ports.{is_open, least_port, without_port}
-use Rattle.av_filter_table.specs.Asking.{asks, ended, is_held, next_question}
-use Rattle.av_filter.specs.Changing.{changes, cleaned, cleaned_at, removed, rewritten}
-use Rattle.av_filter.specs.Conduct.{FilterEvent, Opens, Changes, CleansUp, Receives, TimesOut, Disconnects, Restarts, again_each, disconnects, disconnects_to, filter_step, loses_all, moves, restarts, times_out}
+use Rattle.av_filter_table.specs.Ports.{least_port}
+use Rattle.av_filter_table.specs.Asking.{asks, ended, next_question}
+use Rattle.av_filter.specs.Conduct.{FilterEvent, again_each, filter_step, loses_all, moves, restarts}
 use Rattle.av_filter_table.specs.declared.question.Question.{Question}
-use Rattle.av_filter.specs.Opening.{open_asked, open_cached, open_found, open_judged, open_new, opened, taken}
 use Rattle.av_filter.specs.Reaction.{Reaction}
-use Rattle.av_filter_table.specs.Answering.{present_bytes}
-use Rattle.av_filter.specs.Receiving.{greeted, reads, receives_at, replies}
-use Rattle.av_filter_table.specs.Table.{Table, asking, without_question, context_of, has_room, is_modified, on_port, raised, sequence_left}
+use Rattle.av_filter_table.specs.Table.{Table, without_question, on_port}
 use Rattle.av_frame.specs.Message.{Letter}
 use Rattle.av_frame.specs.declared.message.Body.{Body}
-use Rattle.av_frame.specs.declared.message.Body.TheVariants.{Hello, Read, Reply, Updated, Scan, Chunk, NoChunk, Abort}
-use Rattle.av_frame.specs.declared.outcome.Outcome.{Outcome}
-use Rattle.av_frame.specs.declared.outcome.Outcome.TheVariants.{Judged, Failed}
+use Rattle.av_frame.specs.declared.message.Body.TheVariants.{Scan, Chunk, NoChunk, Abort}
 use Rattle.av_match.specs.Scanning.{ScanState}
 use Rattle.av_service.specs.Conduct.{ServiceEvent, Connects, Publishes, service_step}
 use Rattle.av_service.specs.Conduct as service_events
@@ -37,8 +35,6 @@ use Rattle.av_service.specs.Desk.{Desk, loan_count}
 use Rattle.av_service.specs.Lending.{finished}
 use Rattle.av_service.specs.Response.{Response}
 use Rattle.av_service.specs.Scanning.{awaits, chunk_found, dropped, most_leases, receives as service_receives, scan_cached, scan_found}
-use Rattle.av_store.specs.declared.stream.Stream.{Stream}
-use Rattle.av_store.specs.Files.{Change, Create, Write, Cut, Remove}
 use Rattle.av_store.specs.Store.{Store}
 
 -- ---- an event of the filter keeps the limits, and asks one question at most, but for those of a lost port
@@ -74,106 +70,23 @@ module _ (t : Table) where
   anew_leaves : (id : MessageId) (q : Question) → (t.limits ≡ t.limits) × (length (without_question id t.questions ++ q ∷ []) ≤ length t.questions + 1)
   anew_leaves id q = (refl, omega (arith, one_more (without_question id t.questions) q, fewer (λ (k : Question). not (same_id k.id id)) t.questions))
 
-module _ (t : Table) (v : Store) where
-  again_at_leaves : (o : Option Port) (q : Question) (early : List Letter) → Leaves t (again_at o t v q early)
-  unfolding again_at ends asks ended
-  again_at_leaves None q early = without_leaves t q.id
-  again_at_leaves (Some port) q early = cond_both (list_any (is_held q.id) t.pended && sequence_left t) _ _ (Leaves t) (λ e. anew_leaves t q.id (next_question t v port q.stream)) (λ e. without_leaves t q.id)
+open_leaves : {t : Table} {v : Store} {s least : ℕ} {r : Reaction} → OpenRow t v s least r → Leaves t r
+unfolding asks
+open_leaves {t} {v} {s} (Rows.asked x port at none room e) = with_leaves t (next_question t v port s)
+open_leaves {t} _ = same_leaves t
 
-  again_leaves : (q : Question) (early : List Letter) → Leaves t (again t v q early)
-  again_leaves q early = again_at_leaves (least_port t.connected) q early
-
-  new_leaves : (s least : ℕ) (x : Stream) (on : Bool) (o : Option Port) → Leaves t (open_new t v s least x on o)
-  unfolding open_new asks
-  new_leaves s least x false o = same_leaves t
-  new_leaves s least x true None = same_leaves t
-  new_leaves s least x true (Some port) = with_leaves t (next_question t v port s)
-
-  cached_leaves : (s least : ℕ) (x : Stream) (o : Option Entry) → Leaves t (open_cached t v s least x o)
-  unfolding open_cached
-  cached_leaves s least x (Some e) = same_leaves t
-  cached_leaves s least x None = cond_both (not (has_room t)) _ _ (Leaves t) (λ e. same_leaves t) (λ e. new_leaves s least x (is_some (least_port t.connected)) (asking t))
-
-  asked_leaves : (s least : ℕ) (x : Stream) (o : Option Question) → Leaves t (open_asked t v s least x o)
-  unfolding open_asked
-  asked_leaves s least x (Some q) = cond_both (has_room t) _ _ (Leaves t) (λ e. same_leaves t) (λ e. same_leaves t)
-  asked_leaves s least x None = cached_leaves s least x _
-
-  judged_leaves : (s least : ℕ) (x : Stream) (o : Option Verdict) → Leaves t (open_judged t v s least x o)
-  unfolding open_judged
-  judged_leaves s least x (Some r) = same_leaves t
-  judged_leaves s least x None = asked_leaves s least x _
-
-  found_leaves : (s least : ℕ) (o : Option Stream) → Leaves t (open_found t v s least o)
-  unfolding open_found
-  found_leaves s least None = same_leaves t
-  found_leaves s least (Some x) = judged_leaves s least x _
-
-  written_leaves : (s : ℕ) (o : Option Question) → Leaves t (rewritten t v s o)
-  unfolding rewritten
-  written_leaves s None = same_leaves t
-  written_leaves s (Some q) = again_leaves q _
-
-  removed_leaves : (s : ℕ) (o : Option Question) → Leaves t (removed t v s o)
-  unfolding removed ended
-  removed_leaves s None = same_leaves t
-  removed_leaves s (Some q) = without_leaves t q.id
-
-  cleaned_at_leaves : (s : ℕ) (b : Bool) (o : Option Port) → Leaves t (cleaned_at t v s b o)
-  unfolding cleaned_at asks
-  cleaned_at_leaves s true (Some port) = with_leaves t (next_question t v port s)
-  cleaned_at_leaves s true None = same_leaves t
-  cleaned_at_leaves s false o = same_leaves t
-
-  cleaned_leaves : (s : ℕ) (o : Option Stream) → Leaves t (cleaned t v s o)
-  unfolding cleaned
-  cleaned_leaves s None = same_leaves t
-  cleaned_leaves s (Some x) = cleaned_at_leaves s (is_modified (context_of t.contexts s)) (asking t)
-
-  greeted_leaves : (port : Port) (number version : ℕ) → Leaves t (greeted t v port number version)
-  unfolding greeted
-  greeted_leaves port number version = cond_both (not (number == v.number)) _ _ (Leaves t) (λ e. same_leaves t) (λ e. cond_both (is_open port t.connected) _ _ (Leaves t) (λ e. same_leaves t) (λ e. cond_both (nat_lt version t.floor) _ _ (Leaves t) (λ e. same_leaves t) (λ e. same_leaves t)))
-
-  reads_leaves : (port : Port) (id : MessageId) (offset count : ℕ) (o : Option Question) → Leaves t (reads t v port id offset count o)
-  unfolding reads
-  reads_leaves port id offset count None = same_leaves t
-  reads_leaves port id offset count (Some q) = cond_both (nat_le (length (present_bytes v q.stream)) offset) _ _ (Leaves t) (λ e. same_leaves t) (λ e. same_leaves t)
-
-  replies_leaves : (outcome : Outcome) (o : Option Question) → Leaves t (replies t v outcome o)
-  unfolding replies ended
-  replies_leaves outcome None = same_leaves t
-  replies_leaves (Failed why) (Some q) = without_leaves t q.id
-  replies_leaves (Judged version r) (Some q) = cond_both (nat_lt version t.floor) _ _ (Leaves t) (λ e. again_leaves q []) (λ e. without_leaves t q.id)
-
-  receives_leaves : (port : Port) (m : Body) → Leaves t (receives_at t v port m)
-  unfolding receives_at
-  receives_leaves port (Hello number version) = greeted_leaves port number version
-  receives_leaves port (Updated version) = same_leaves t
-  receives_leaves port (Read id offset count) = reads_leaves port id offset count _
-  receives_leaves port (Reply id outcome) = replies_leaves outcome _
-  receives_leaves port _ = same_leaves t
-
-  timed_leaves : (o : Option Question) → Leaves t (times_out t v o)
-  unfolding times_out ended
-  timed_leaves None = same_leaves t
-  timed_leaves (Some q) = without_leaves t q.id
-
-changes_leaves : (t : Table) (v : Store) (c : Change) → Leaves t (changes t v c)
-unfolding changes
-changes_leaves t v (Create name) = same_leaves t
-changes_leaves t v (Write s o b) = written_leaves t _ s _
-changes_leaves t v (Cut s n) = written_leaves t _ s _
-changes_leaves t v (Remove s) = removed_leaves t _ s _
+again_leaves : {o : Option Port} {t : Table} {v : Store} {q : Question} {early : List Letter} {r : Reaction} → AgainRow o t v q early r → Leaves t r
+unfolding ends asks ended
+again_leaves {o} {t} {v} {q} (Rows.anew port to left) = anew_leaves t q.id (next_question t v port q.stream)
+again_leaves {o} {t} {v} {q} (Rows.over why) = without_leaves t q.id
 
 -- ---- a lost port's questions are asked again, and are no more then
 
-again_few : (o : Option Port) (t : Table) (v : Store) (q : Question) (early : List Letter) → Runs t q → length (again_at o t v q early).table.questions ≤ length t.questions
-unfolding again_at ends asks ended
-again_few None t v q early runs = omega (arith, fewer (λ (k : Question). not (same_id k.id q.id)) t.questions)
-again_few (Some port) t v q early runs =
-    cond_both (list_any (is_held q.id) t.pended && sequence_left t) _ _ (λ (r : Reaction). length r.table.questions ≤ length t.questions)
-    (λ e. omega (arith, one_fewer q.id t.questions q runs, one_more (without_question q.id t.questions) (next_question t v port q.stream)))
-    (λ e. omega (arith, fewer (λ (k : Question). not (same_id k.id q.id)) t.questions))
+again_few : {o : Option Port} {t : Table} {v : Store} {q : Question} {early : List Letter} {r : Reaction} → AgainRow o t v q early r → Runs t q → length r.table.questions ≤ length t.questions
+unfolding ends asks ended
+again_few {o} {t} {v} {q} (Rows.anew port to left) runs =
+    omega (arith, one_fewer q.id t.questions q runs, one_more (without_question q.id t.questions) (next_question t v port q.stream))
+again_few {o} {t} {v} {q} (Rows.over why) runs = omega (arith, fewer (λ (k : Question). not (same_id k.id q.id)) t.questions)
 
 each_few : (qs : List Question) (t : Table) (v : Store) → AreInOrder qs → Each (Runs t) qs → length (again_each t v qs).table.questions ≤ length t.questions
 unfolding again_each
@@ -181,36 +94,34 @@ each_few [] t v order runs = omega arith
 each_few (q ∷ qs) t v order runs =
     let o : Option Port = least_port t.connected in
     let r : Reaction = again t v q [] in
-    omega (arith, again_few o t v q [] runs.0, each_few qs r.table v order.1 (all_run t v o q qs order.0 runs.1))
+    omega (arith, again_few (again_row o t v q []) runs.0, each_few qs r.table v order.1 (all_run t v o q qs order.0 runs.1))
 
 each_limits : (qs : List Question) (t : Table) (v : Store) → (again_each t v qs).table.limits ≡ t.limits
 unfolding again_each
 each_limits [] t v = refl
-each_limits (q ∷ qs) t v = let r : Reaction = again t v q [] in each_limits qs r.table v ∙ (again_leaves t v q []).0
+each_limits (q ∷ qs) t v = let r : Reaction = again t v q [] in each_limits qs r.table v ∙ (again_leaves (again_row (least_port t.connected) t v q [])).0
 
-lost_limits : (o : Option Port) (t : Table) (v : Store) (port : Port) → (disconnects_to o t v port).table.limits ≡ t.limits
-unfolding disconnects_to loses_all moves
-lost_limits None t v port = refl
-lost_limits (Some least) t v port = each_limits (on_port port t.questions) t v
-
-lost_few : (o : Option Port) (t : Table) (v : Store) (port : Port) → AreInOrder t.questions → length (disconnects_to o t v port).table.questions ≤ length t.questions
-unfolding disconnects_to loses_all moves
-lost_few None t v port order = omega arith
-lost_few (Some least) t v port order =
-    each_few (on_port port t.questions) t v (order-filter (λ q. same_port q.port port) t.questions order) (each-filter (Runs t) (λ q. same_port q.port port) t.questions (all_found t.questions order))
+row_leaves : {t : Table} {v : Store} {f : FilterEvent} {r : Reaction} → Row t v f r → AreInOrder t.questions → Leaves t r
+unfolding asks ended loses_all moves restarts
+row_leaves (Rows.opens s least r row) order = open_leaves row
+row_leaves {t} (Rows.outdated c s q is at) order = again_leaves (again_row _ t _ q _)
+row_leaves {t} (Rows.gone s q at) order = without_leaves t q.id
+row_leaves {t} {v} (Rows.cleaned s x port at is e) order = with_leaves t (next_question t v port s)
+row_leaves {t} (Rows.failed port id why q at) order = without_leaves t q.id
+row_leaves {t} (Rows.stale port id version r q at old) order = again_leaves (again_row _ t _ q _)
+row_leaves {t} (Rows.replied port id version r q at up) order = without_leaves t q.id
+row_leaves {t} (Rows.timed_out seq q at) order = without_leaves t q.id
+row_leaves {t} {v} (Rows.moved port other left) order =
+    let qs : List Question = on_port port t.questions in
+    let run = each-filter (Runs t) (λ q. same_port q.port port) t.questions (all_found t.questions order) in
+    let few = each_few qs (without t port) v (order-filter (λ q. same_port q.port port) t.questions order) run in
+    (each_limits qs (without t port) v, omega (arith, few))
+row_leaves (Rows.lost port none) order = (refl, omega arith)
+row_leaves Rows.restarted order = (refl, omega arith)
+row_leaves {t} _ order = same_leaves t
 
 pub filter_leaves : (t : Table) (v : Store) (f : FilterEvent) → AreInOrder t.questions → Leaves t (filter_step t v f)
-unfolding filter_step opened disconnects restarts
-filter_leaves t v (Opens s least) order = found_leaves (raised least t) (taken v) s least _
-filter_leaves t v (Changes c) order = changes_leaves t v c
-filter_leaves t v (CleansUp s) order = cleaned_leaves t v s _
-filter_leaves t v (Receives m) order = receives_leaves t v m.port m.body
-filter_leaves t v (TimesOut seq) order = timed_leaves t v _
-filter_leaves t v (Disconnects port) order =
-    let off : Table = record t { connected = without_port port t.connected } in
-    let o : Option Port = least_port (without_port port t.connected) in
-    (lost_limits o off v port, omega (arith, lost_few o off v port order))
-filter_leaves t v Restarts order = (refl, omega arith)
+filter_leaves t v f order = row_leaves (row_of t v f) order
 
 -- ---- an event of the service keeps the limits, and lends under one lease at most
 

@@ -1,27 +1,28 @@
 -- While no version is published that the filter may grant under, no message makes it give a verdict.
-use Rattle.std.proofs.Common.{length, slice_get, ◌≡◌, ◌≢◌, ℕ, zero, suc, ◌<◌, ◌≤◌, Bool, true, false, cond, not, ◌&&◌, List, [], ◌∷◌, ◌++◌, map, Option, Some, None, if◌then◌else◌, ◌==◌, nat_lt, nat_le, refl, sym, ap, ◌∙◌, subst, arith, append_assoc, append-nil, eqb-true, lt-ltb}
-use Rattle.std.proofs.lemmas.Bool.{cond_both, cond-true, ltb-false}
-use Rattle.std.specs.List.{AllByRecursion as Each, list_any}
+use Rattle.std.proofs.Common.{length, slice_get, ◌≡◌, ◌≢◌, ℕ, zero, suc, ◌<◌, ◌≤◌, Bool, true, false, cond, List, [], ◌∷◌, ◌++◌, map, Option, Some, None, if◌then◌else◌, ◌==◌, refl, sym, ap, ◌∙◌, subst, arith, append_assoc, append-nil, eqb-true}
+use Rattle.std.proofs.lemmas.Bool.{ltb-false}
+use Rattle.std.specs.List.{AllByRecursion as Each}
 use Rattle.av_base.specs.declared.cause.Cause.{Cause}
 use Rattle.av_base.specs.declared.cause.Cause.TheVariants.{Infected, Unsettled, Busy, ScanFailed}
 use Rattle.av_base.specs.declared.limits.LimitValues.{LimitValues}
-use Rattle.av_base.specs.declared.message_id.MessageId.{MessageId}
 use Rattle.av_base.specs.declared.mode.Mode.{Mode}
 use Rattle.av_base.specs.declared.mode.Mode.TheVariants.{FailClosed, FailOpen}
 use Rattle.av_base.specs.declared.port.Port.{Port}
 use Rattle.av_filter.proofs.EachLemmas.{each-append, each-map, each_mapped}
-use Rattle.av_filter.specs.Again.{again_at, ends}
-use Rattle.av_filter_table.specs.Ports.{is_open, least_port}
-use Rattle.av_filter_table.specs.Asking.{again_cause, asks, ended, is_held, is_spent}
+use Rattle.av_filter.proofs.RowLemmas.{again_row, row_of}
+use Rattle.av_filter.specs.Again.{ends}
+use Rattle.av_filter.specs.Rows
+use Rattle.av_filter.specs.Rows.{AgainRow, Row}
+use Rattle.av_filter_table.specs.Ports.{least_port}
+use Rattle.av_filter_table.specs.Asking.{again_cause, asks, ended, is_spent}
 use Rattle.av_filter.specs.Conduct.{filter_refusal, filter_step}
 use Rattle.av_filter_table.specs.declared.pended.Pended.{Pended}
 use Rattle.av_filter_table.specs.declared.question.Question.{Question}
 use Rattle.av_filter.specs.Reaction.{Reaction}
-use Rattle.av_filter_table.specs.Answering.{present_bytes, present_generation, refused_now}
-use Rattle.av_filter.specs.Receiving.{greeted, reads, receives, receives_at, replies}
-use Rattle.av_filter_table.specs.Table.{Table, sequence_left}
+use Rattle.av_filter_table.specs.Answering.{present_generation, refused_now}
+use Rattle.av_filter_table.specs.Table.{Table}
 use Rattle.av_frame.specs.Message.{Letter}
-use Rattle.av_frame.specs.declared.message.Body.TheVariants.{Hello, Read, Reply, Updated}
+use Rattle.av_frame.specs.declared.message.Body.TheVariants.{Reply}
 use Rattle.av_frame.specs.declared.message.Body.{Body}
 use Rattle.av_frame.specs.declared.outcome.Outcome.{Outcome}
 use Rattle.av_frame.specs.declared.outcome.Outcome.TheVariants.{Judged, Failed}
@@ -70,56 +71,36 @@ record Withholds (t : Table) (r : Reaction) : Type 0 where
 unsettled_cause : (p : Pended) → again_cause p ≢ Infected
 unsettled_cause p = (elim (is_spent p) as (λ b. (if b then Unsettled else Busy) ≢ Infected) [ true ↦ (λ e. absurd (cc (e))) | false ↦ (λ e. absurd (cc (e))) ])
 
-ends_withholds : (t : Table) (v : Store) (q : Question) (early : List Letter) → Withholds t (ends t v q early)
-unfolding ends ended
-ends_withholds t v q early = record { floor = omega arith; answers = each_mapped IsNoVerdict (λ (p : Pended). refused_now t v (again_cause p) p) (λ p. no_refusal t.mode (present_generation v p.held.stream) (again_cause p) p.held (unsettled_cause p)) _ }
+again_withholds : {o : Option Port} {t : Table} {v : Store} {q : Question} {early : List Letter} {r : Reaction} → AgainRow o t v q early r → Withholds t r
+unfolding ends ended asks
+again_withholds {o} {t} {v} (Rows.over why) = record {
+  floor = omega arith;
+  answers = each_mapped IsNoVerdict (λ (p : Pended). refused_now t v (again_cause p) p) (λ p. no_refusal t.mode (present_generation v p.held.stream) (again_cause p) p.held (unsettled_cause p)) _;
+}
+again_withholds {o} {t} {v} (Rows.anew port to left) = record {
+  floor = omega arith;
+  answers = each_mapped IsNoVerdict (refused_now t v Unsettled) (λ p. no_refusal t.mode (present_generation v p.held.stream) Unsettled p.held (λ e. absurd (cc (e)))) _;
+}
 
-again_at_withholds : (o : Option Port) (t : Table) (v : Store) (q : Question) (early : List Letter) → Withholds t (again_at o t v q early)
-unfolding again_at asks
-again_at_withholds None t v q early = ends_withholds t v q early
-again_at_withholds (Some port) t v q early =
-    cond_both (list_any (is_held q.id) t.pended && sequence_left t) _ _ (Withholds t)
-    (λ e. record { floor = omega arith; answers = each_mapped IsNoVerdict (refused_now t v Unsettled) (λ p. no_refusal t.mode (present_generation v p.held.stream) Unsettled p.held (λ e. absurd (cc (e)))) _ })
-    (λ e. ends_withholds t v q early)
+-- a reply of a version below the floor
+abbrev IsBelow : Table → Outcome → Type 0
+IsBelow t (Judged version r) = version < t.floor
+IsBelow t (Failed why) = Unit {0}
 
-silent : (t : Table) (r : Reaction) → t.floor ≤ r.table.floor → r.answers ≡ [] → Withholds t r
-silent t r floor none = record { floor = floor; answers = subst (Each IsNoVerdict) (sym none) tt }
+abbrev MayHear : Table → Body → Type 0
+MayHear t (Reply id outcome) = IsBelow t outcome
+MayHear t _ = Unit {0}
 
-module _ (t : Table) (v : Store) where
-  greets : (port : Port) (number version : ℕ) → Withholds t (greeted t v port number version)
-  unfolding greeted
-  greets port number version =
-      cond_both (not (number == v.number)) _ _ (Withholds t) (λ e. record { floor = omega arith; answers = tt })
-      (λ e. cond_both (is_open port t.connected) _ _ (Withholds t) (λ e. record { floor = omega arith; answers = tt })
-      (λ e. cond_both (nat_lt version t.floor) _ _ (Withholds t) (λ e. record { floor = omega arith; answers = tt }) (λ e. record { floor = ltb-false version t.floor e; answers = tt })))
-
-  reads_on : (port : Port) (id : MessageId) (offset count : ℕ) (o : Option Question) → Withholds t (reads t v port id offset count o)
-  unfolding reads
-  reads_on port id offset count None = record { floor = omega arith; answers = tt }
-  reads_on port id offset count (Some q) = cond_both (nat_le (length (present_bytes v q.stream)) offset) _ _ (Withholds t) (λ e. record { floor = omega arith; answers = tt }) (λ e. record { floor = omega arith; answers = tt })
-
-  -- a reply of a version below the floor
-  abbrev IsBelow : Outcome → Type 0
-  IsBelow (Judged version r) = version < t.floor
-  IsBelow (Failed why) = Unit {0}
-
-  hears : (outcome : Outcome) (o : Option Question) → IsBelow outcome → Withholds t (replies t v outcome o)
-  unfolding replies ended
-  hears outcome None h = record { floor = omega arith; answers = tt }
-  hears (Failed why) (Some q) h = record { floor = omega arith; answers = each_mapped IsNoVerdict (refused_now t v ScanFailed) (λ p. no_refusal t.mode (present_generation v p.held.stream) ScanFailed p.held (λ e. absurd (cc (e)))) _ }
-  hears (Judged version r) (Some q) h = subst (Withholds t) (sym (cond-true (nat_lt version t.floor) _ _ (lt-ltb version t.floor h))) (again_at_withholds (least_port t.connected) t v q [])
-
-  abbrev MayHear : Body → Type 0
-  MayHear (Reply id outcome) = IsBelow outcome
-  MayHear _ = Unit {0}
-
-  receives_withholds : (port : Port) (m : Body) → MayHear m → Withholds t (receives_at t v port m)
-  unfolding receives_at
-  receives_withholds port (Hello number version) h = greets port number version
-  receives_withholds port (Updated version) h = record { floor = omega arith; answers = tt }
-  receives_withholds port (Read id offset count) h = reads_on port id offset count _
-  receives_withholds port (Reply id outcome) h = hears outcome _ h
-  receives_withholds port _ h = record { floor = omega arith; answers = tt }
+row_withholds : {t : Table} {v : Store} {m : Letter} {r : Reaction} → Row t v (filter_events.Receives m) r → MayHear t m.body → Withholds t r
+unfolding ended
+row_withholds {t} (Rows.greeted port number version same free up) h = record { floor = ltb-false version t.floor up; answers = tt }
+row_withholds {t} {v} (Rows.failed port id why q at) h = record {
+  floor = omega arith;
+  answers = each_mapped IsNoVerdict (refused_now t v ScanFailed) (λ p. no_refusal t.mode (present_generation v p.held.stream) ScanFailed p.held (λ e. absurd (cc (e)))) _;
+}
+row_withholds {t} {v} (Rows.stale port id version r q at old) h = again_withholds (again_row (least_port t.connected) t v q [])
+row_withholds {t} (Rows.replied port id version r q at up) h = let high : t.floor ≤ version = ltb-false version t.floor up in absurd (omega (arith, h, high))
+row_withholds _ h = record { floor = omega arith; answers = tt }
 
 -- ---- worlds
 
@@ -138,7 +119,7 @@ nothing_given w x h sets table answers = record {
 
 module _ (mode : Mode) (w : WorldState) (s : Steady mode w) (h : IsAbove w) where
   -- what was sent up tells no later version
-  may_hear : (port : Port) (m : Body) → UpBody (past w.history) w.down port m → MayHear w.table w.volume m
+  may_hear : (port : Port) (m : Body) → UpBody (past w.history) w.down port m → MayHear w.table m
   may_hear port (Reply id (Judged version r)) fits =
       let below : version ≤ latest_as (past w.history).sets = published_below (past w.history).sets version fits.right.patterns s.sound.falling fits.right.published in
       omega (arith, below, h, latest_same w.sets, ap latest_as s.sound.sets)
@@ -146,15 +127,15 @@ module _ (mode : Mode) (w : WorldState) (s : Steady mode w) (h : IsAbove w) wher
   may_hear port _ fits = tt
 
   comes_up : (k : ℕ) (m : Letter) → UpFits (past w.history) w.down m → Refrains w (reacted w (Up k) (filter_step w.table w.volume (filter_events.Receives m)))
-  unfolding filter_step
   comes_up k m fits =
-      let r : Withholds w.table (receives w.table w.volume m) = receives_withholds w.table w.volume m.port m.body (may_hear m.port m.body fits) in
+      let x : Reaction = filter_step w.table w.volume (filter_events.Receives m) in
+      let r : Withholds w.table x = row_withholds (row_of w.table w.volume (filter_events.Receives m)) (may_hear m.port m.body fits) in
       record {
         above = omega (arith, h, r.floor);
         gave = record {
-          answers = map (given_at (suc (length w.history))) (receives w.table w.volume m).answers;
+          answers = map (given_at (suc (length w.history))) x.answers;
           given = refl;
-          without = each-map (λ (a : Given). IsNoVerdict a.answer) IsNoVerdict (given_at (suc (length w.history))) (λ a n. n) (receives w.table w.volume m).answers r.answers;
+          without = each-map (λ (a : Given). IsNoVerdict a.answer) IsNoVerdict (given_at (suc (length w.history))) (λ a n. n) x.answers r.answers;
         };
       }
 

@@ -1,5 +1,6 @@
 -- From every world that can be reached, what waits can be finished.
-use Rattle.std.proofs.Common.{◌*◌, ◌≡◌, ℕ, zero, suc, ◌+◌, ◌≤◌, nat_lt, Bool, true, false, not, ◌&&◌, List, [], ◌∷◌, ◌++◌, length, map, reverse, Option, Some, None, ◌==◌, min, refl, sym, ap, ◌∙◌, subst, arith, eq-eqb, append-nil}
+use Rattle.std.proofs.Common.{◌*◌, ◌≡◌, ℕ, zero, suc, ◌+◌, ◌≤◌, nat_lt, Bool, true, false, ◌&&◌, find, if◌then◌else◌, List, [], ◌∷◌, ◌++◌, length}
+use Rattle.std.proofs.Common.{map, reverse, Some, None, ◌==◌, min, refl, sym, ap, ◌∙◌, subst, arith, eq-eqb, append-nil}
 use Rattle.std.proofs.lemmas.Bool.{cond_both, cond-true, cond-false, ne_eqb}
 use Rattle.std.specs.List.{AllByRecursion as Each}
 use Rattle.av_base.specs.declared.limits.LimitValues.{LimitValues}
@@ -8,19 +9,19 @@ use Rattle.av_base.specs.declared.port.Port.{Port}
 use Rattle.av_base.specs.declared.port.Port.TheVariants.{One, Two}
 use Rattle.av_filter.proofs.FitLemmas.{keeps_fit}
 use Rattle.av_filter.specs.Fit.{Fits}
-use Rattle.av_filter_table.specs.Ports.{least_port, none_open}
+use Rattle.av_filter_table.specs.Ports.{least_port, none_open, without_port}
 use Rattle.av_world.proofs.SceneLemmas.{heard_desks}
-use Rattle.av_base.specs.declared.verdict.Verdict.{Verdict}
-use Rattle.av_cache.specs.declared.entry.Entry.{Entry}
 use Rattle.av_filter.proofs.EachLemmas.{each_weaker}
-use Rattle.av_filter.specs.Changing.{changes, cleaned, cleaned_at, removed, rewritten}
-use Rattle.av_filter.specs.Conduct.{FilterEvent, Opens, Changes, CleansUp, Receives, TimesOut, Disconnects, Restarts, disconnects, disconnects_to, filter_step, loses_all, restarts, times_out}
+use Rattle.av_filter.proofs.RowLemmas.{row_of}
+use Rattle.av_filter.specs.Rows
+use Rattle.av_filter.specs.Rows.{OpenRow, Row}
+use Rattle.av_filter.specs.Conduct.{FilterEvent, Receives, filter_step, loses_all, restarts}
 use Rattle.av_filter_table.specs.declared.pended.Pended.{Pended}
 use Rattle.av_filter_table.specs.declared.question.Question.{Question}
-use Rattle.av_filter.specs.Opening.{open_asked, open_cached, open_found, open_judged, open_new, opened, taken}
+use Rattle.av_filter.specs.Opening.{taken}
 use Rattle.av_filter.specs.Reaction.{Reaction}
 use Rattle.av_filter_table.specs.Answering.{judged, present_generation}
-use Rattle.av_filter_table.specs.Table.{Table, asking, context_of, has_room, is_modified, on_port, raised, sequence_left}
+use Rattle.av_filter_table.specs.Table.{Table, asking, raised, on_port, sequence_left}
 use Rattle.av_frame.specs.Message.{Letter}
 use Rattle.av_service.proofs.LendLemmas.{lends}
 use Rattle.av_service.specs.Conduct.{ServiceEvent, Connects, Publishes, connect_refusal, service_step}
@@ -32,8 +33,6 @@ use Rattle.av_service.specs.Response.{Response}
 use Rattle.av_service.specs.Scanning.{most_leases}
 use Rattle.av_service.specs.Sound.{version_after}
 use Rattle.av_sigset.specs.Catalogue.{latest}
-use Rattle.av_store.specs.declared.stream.Stream.{Stream}
-use Rattle.av_store.specs.Files.{Create, Write, Cut, Remove}
 use Rattle.av_store.specs.Store.{Store}
 use Rattle.av_world.proofs.FinishLemmas.{AllSettled, HaveLeases, Idle, all_chunks_same, all_settled, none_waits}
 use Rattle.av_world.proofs.LeaveLemmas.{filter_leaves, service_leaves}
@@ -54,9 +53,6 @@ use Rattle.av_world.specs.World.{WorldState, after, all_told, at_port, back_at, 
 -- ---- before anything was published
 
 -- a filter that isn't connected and has no question
-abbrev unused : Table → Table
-unused t = record t { connected = none_open; questions = [] }
-
 abbrev IsUnused : Reaction → Type 0
 IsUnused r = (r.table.connected ≡ none_open) × (r.table.questions ≡ [])
 
@@ -65,59 +61,49 @@ abbrev IsNoMessage : FilterEvent → Type 0
 IsNoMessage (Receives m) = ⊥
 IsNoMessage _ = Unit {0}
 
-module _ (t : Table) (v : Store) where
-  cached_unused : (s least : ℕ) (x : Stream) (o : Option Entry) → IsUnused (open_cached (unused t) v s least x o)
-  unfolding open_cached open_new
-  cached_unused s least x (Some e) = (refl, refl)
-  cached_unused s least x None = cond_both (not (has_room (unused t))) _ _ IsUnused (λ e. (refl, refl)) (λ e. (refl, refl))
+-- without a port none is left where one is lost
+no_other : (port other : Port) → least_port (without_port port none_open) ≡ Some other → ⊥
+no_other One other e = cc (e)
+no_other Two other e = cc (e)
 
-  judged_unused : (s least : ℕ) (x : Stream) (o : Option Verdict) → IsUnused (open_judged (unused t) v s least x o)
-  unfolding open_judged open_asked
-  judged_unused s least x (Some r) = (refl, refl)
-  judged_unused s least x None = cached_unused s least x _
+none_but : (port : Port) → without_port port none_open ≡ none_open
+none_but One = refl
+none_but Two = refl
 
-  found_unused : (s least : ℕ) (o : Option Stream) → IsUnused (open_found (unused t) v s least o)
-  unfolding open_found
-  found_unused s least None = (refl, refl)
-  found_unused s least (Some x) = judged_unused s least x _
+module _ (t : Table) (v : Store) (off : t.connected ≡ none_open) (none : t.questions ≡ []) where
+  not_asking : (port : Port) → asking t ≡ Some port → ⊥
+  not_asking port e =
+      let at : (if nat_lt (length t.questions) t.limits.questions && sequence_left t then least_port none_open else None) ≡ Some port =
+      subst (λ c. (if nat_lt (length t.questions) t.limits.questions && sequence_left t then least_port c else None) ≡ Some port) off e in
+      cond_both (nat_lt (length t.questions) t.limits.questions && sequence_left t) (least_port none_open) None (λ o. o ≡ Some port → ⊥) (λ b h. cc (h)) (λ b h. cc (h)) at
 
-  cleaned_at_unused : (s : ℕ) (b : Bool) → IsUnused (cleaned_at (unused t) v s b (asking (unused t)))
-  unfolding cleaned_at
-  cleaned_at_unused s b =
-      let none : asking (unused t) ≡ None = cond_both (nat_lt 0 t.limits.questions && sequence_left t) (least_port none_open) None (λ o. o ≡ None) (λ e. refl) (λ e. refl) in
-      subst (λ o. IsUnused (cleaned_at (unused t) v s b o)) (sym none) (nothing_asked b)
-    where
-      nothing_asked : (b : Bool) → IsUnused (cleaned_at (unused t) v s b None)
-      nothing_asked true = (refl, refl)
-      nothing_asked false = (refl, refl)
+  not_found : (test : Question → Bool) (q : Question) → find test t.questions ≡ Some q → ⊥
+  not_found test q at = let gone : find test [] ≡ Some q = subst (λ qs. find test qs ≡ Some q) none at in cc (gone)
 
-  cleaned_unused : (s : ℕ) (o : Option Stream) → IsUnused (cleaned (unused t) v s o)
-  unfolding cleaned
-  cleaned_unused s None = (refl, refl)
-  cleaned_unused s (Some x) = cleaned_at_unused s (is_modified (context_of t.contexts s))
+  open_unused : {s least : ℕ} {r : Reaction} → OpenRow t v s least r → IsUnused r
+  open_unused (Rows.joins x q at found room) = absurd (not_found _ q found)
+  open_unused (Rows.asked x port at alone room e) = absurd (not_asking port e)
+  open_unused _ = (off, none)
 
-  lost_unused : (port : Port) → IsUnused (disconnects (unused t) v port)
-  unfolding disconnects disconnects_to loses_all
-  lost_unused One = (refl, refl)
-  lost_unused Two = (refl, refl)
-
-step_unused : (t : Table) (v : Store) (f : FilterEvent) → IsNoMessage f → IsUnused (filter_step (unused t) v f)
-unfolding filter_step opened changes rewritten removed times_out restarts
-step_unused t v (Opens s least) h = found_unused (raised least t) (taken v) s least _
-step_unused t v (Changes (Create n)) h = (refl, refl)
-step_unused t v (Changes (Write s o b)) h = (refl, refl)
-step_unused t v (Changes (Cut s n)) h = (refl, refl)
-step_unused t v (Changes (Remove s)) h = (refl, refl)
-step_unused t v (CleansUp s) h = cleaned_unused t v s _
-step_unused t v (Receives m) h = absurd h
-step_unused t v (TimesOut q) h = (refl, refl)
-step_unused t v (Disconnects port) h = lost_unused t v port
-step_unused t v Restarts h = (refl, refl)
+module _ (t : Table) (v : Store) (off : t.connected ≡ none_open) (none : t.questions ≡ []) where
+  row_unused : {f : FilterEvent} {r : Reaction} → Row t v f r → IsNoMessage f → IsUnused r
+  unfolding loses_all restarts
+  row_unused (Rows.opens s least r row) h = open_unused (raised least t) (taken v) off none row
+  row_unused (Rows.outdated c s q is at) h = absurd (not_found t v off none _ q at)
+  row_unused (Rows.gone s q at) h = absurd (not_found t v off none _ q at)
+  row_unused (Rows.cleaned s x port at is e) h = absurd (not_asking t v off none port e)
+  row_unused (Rows.timed_out seq q at) h = absurd (not_found t v off none _ q at)
+  row_unused (Rows.moved port other left) h = absurd (no_other port other (ap (λ c. least_port (without_port port c)) (sym off) ∙ left))
+  row_unused (Rows.lost port alone) h = (ap (without_port port) off ∙ none_but port, refl)
+  row_unused Rows.restarted h = (refl, refl)
+  row_unused (Rows.greeted port number version same free up) h = absurd h
+  row_unused (Rows.failed port id why q at) h = absurd h
+  row_unused (Rows.stale port id version r q at old) h = absurd h
+  row_unused (Rows.replied port id version r q at up) h = absurd h
+  row_unused _ h = (off, none)
 
 filter_unused : (t : Table) (v : Store) (f : FilterEvent) → IsNoMessage f → t.connected ≡ none_open → t.questions ≡ [] → IsUnused (filter_step t v f)
-filter_unused t v f h off none =
-    let same : unused t ≡ t = λ i. record t { connected = (sym off) i; questions = (sym none) i } in
-    subst (λ k. IsUnused (filter_step k v f)) same (step_unused t v f h)
+filter_unused t v f h off none = row_unused t v off none (row_of t v f) h
 
 -- ---- a service that isn't connected sends nothing
 

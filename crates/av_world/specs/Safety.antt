@@ -11,6 +11,7 @@ use Rattle.av_base.specs.declared.port.Port.{Port}
 use Rattle.av_base.specs.declared.verdict.Verdict.{Verdict}
 use Rattle.av_base.specs.declared.verdict.Verdict.TheVariants.{Infected}
 use Rattle.av_filter.specs.Conduct.{FilterEvent, Opens, Changes, Receives, TimesOut, Disconnects, Restarts, again_each}
+use Rattle.av_filter.specs.Rows.{Rewrites, without}
 use Rattle.av_filter_table.specs.Ports.{least_port, without_port}
 use Rattle.av_filter_table.specs.Table.{Table, on_port, question_of, question_on}
 use Rattle.av_filter_table.specs.declared.pended.Pended.{Pended}
@@ -108,17 +109,6 @@ pub record Waits (t : Table) (id : MessageId) (n : ℕ) : Type 0 where
 -- the number of an open that comes now
 abbrev pub next_open : Store → ℕ
 next_open v = v.opens + 1
-
--- the change writes or cuts this stream
-abbrev pub Rewrites : ℕ → Change → Type 0
-Rewrites s (change.Create name) = ⊥
-Rewrites s (change.Write t o b) = s ≡ t
-Rewrites s (change.Cut t l) = s ≡ t
-Rewrites s (change.Remove t) = ⊥
-
--- a table without a port, and that a port is left then
-abbrev pub without : Table → Port → Table
-without t port = record t { connected = without_port port t.connected }
 
 -- a lost port's questions go to another
 abbrev pub Moves : Table → Port → Type 0

@@ -1,4 +1,4 @@
-use Rattle.std.proofs.Common.{◌≡◌, ◌++◌, [], ap, ◌∙◌}
+use Rattle.std.proofs.Common.{◌++◌, [], ap, ◌∙◌}
 use Rattle.av_filter.proofs.AgainLemmas.{reacts_behind}
 use Rattle.av_filter.proofs.ReadyLemmas.{stream_there}
 use Rattle.av_filter.specs.Again.{again}

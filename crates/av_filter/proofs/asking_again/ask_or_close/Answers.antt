@@ -1,7 +1,7 @@
-use Rattle.std.proofs.Common.{◌≡◌, ◌++◌, [], None, sym, ap, ◌∙◌}
+use Rattle.std.proofs.Common.{◌++◌, [], sym, ap, ◌∙◌}
 use Rattle.std.proofs.lemmas.List.{append-nil}
 use Rattle.av_filter.proofs.AgainLemmas.{closed}
-use Rattle.av_filter.specs.Again.{again, ends}
+use Rattle.av_filter.specs.Again.{ends}
 use Rattle.av_filter_table.specs.Ports.{least_port}
 use Rattle.av_filter.proofs.asking_again.ask_or_close.Goals as goal
 

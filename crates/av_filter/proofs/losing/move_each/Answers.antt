@@ -1,4 +1,4 @@
-use Rattle.std.proofs.Common.{◌≡◌, ◌+◌, ◌<◌, ◌≤◌, ◌^◌, ◌++◌, ◌∷◌, [], Some, List, drop, length, refl, sym, ap, ◌∙◌, subst, arith}
+use Rattle.std.proofs.Common.{◌≡◌, ◌+◌, ◌<◌, ◌^◌, ◌++◌, ◌∷◌, [], Some, List, drop, length, refl, sym, ap, ◌∙◌, subst, arith}
 use Rattle.std.proofs.lemmas.List.{append-nil, drop_all, drop_more, length-append}
 use Rattle.std.specs.List.{AllByRecursion as Each}
 use Rattle.av_base.specs.MessageId.{same_id}
@@ -8,7 +8,6 @@ use Rattle.av_filter.proofs.RoomLemmas.{again_gives, passed}
 use Rattle.av_filter.specs.Again.{again}
 use Rattle.av_filter.specs.Conduct.{again_each}
 use Rattle.av_filter.specs.Fit.{AreInOrder, Fits}
-use Rattle.av_filter.specs.Ready.{IsRunning}
 use Rattle.av_filter_table.specs.Ports.{least_port}
 use Rattle.av_filter_table.specs.Table.{Table, waits_for}
 use Rattle.av_filter_table.specs.declared.question.Question.{Question}

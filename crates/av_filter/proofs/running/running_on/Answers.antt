@@ -1,7 +1,7 @@
 use Rattle.std.proofs.Common.{◌≡◌, true, false, None, Some, if◌then◌else◌, rules, sym, ap, ◌∙◌}
 use Rattle.av_base.specs.Port.{same_port}
 use Rattle.av_filter.proofs.QuestionLemmas.{on-at, where_on}
-use Rattle.av_filter_table.specs.Table.{question_at, question_on}
+use Rattle.av_filter_table.specs.Table.{question_at}
 use Rattle.av_filter.proofs.running.running_on.Goals as goal
 
 pub returns-in_err-question-clause-found : goal.returns-in_err-question-clause-found
