@@ -1,8 +1,7 @@
 //! Whole texts from readers and to writers, which may fail at any byte.
 
-ghost use Rattle.std.specs.Prelude.{◌≡◌, ◌≢◌, ◌≤◌, ◌<◌, length, take, Err, IfOk, IfSome, IsErrOf, OnOk, OnErr};
-ghost use Rattle.std.specs.Io.KnownBytes.{Appends};
-ghost use Rattle.av_base.specs.Device.{AppendsPrefix};
+ghost use Rattle.std.specs.Prelude.{◌≡◌, ◌≢◌, ◌≤◌, ◌<◌, length, take, Err, IfOk, IfSome, IsErrOf};
+ghost use Rattle.av_base.specs.Device.{Writes};
 
 use std::alloc::{AllocError, Global};
 use std::io::{Read, Write};
@@ -95,8 +94,7 @@ pub fn read_into<R: Read>(reader: &mut R, buffer: &mut [u8], turns: u64) -> Resu
 
 /// Writes a text. Where that fails, the front of the text was written and nothing else.
 pub fn write_text<W: Write>(writer: &mut W, text: &[u8]) -> Result<(), WriteFault>
-    ensures ok { OnOk result (Appends (W.contents writer.old) (W.contents writer.new) text.now) }
-    ensures err { OnErr result (AppendsPrefix (W.contents writer.old) (W.contents writer.new) text.now) }
+    ensures { Writes result (W.contents writer.old) (W.contents writer.new) text.now }
 {
     let mut at = 0;
     'writes: while at < text.len() {

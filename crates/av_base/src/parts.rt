@@ -1,8 +1,7 @@
 //! Lines made of parts: text, numbers and bytes.
 
-ghost use Rattle.std.specs.Prelude.{map, OnOk, OnErr};
-ghost use Rattle.std.specs.Io.KnownBytes.{Appends};
-ghost use Rattle.av_base.specs.Device.{AppendsPrefix};
+ghost use Rattle.std.specs.Prelude.{map};
+ghost use Rattle.av_base.specs.Device.{Writes};
 ghost use Rattle.hex.specs.Hex.{encode_lower};
 ghost use Rattle.av_base.specs.Part.{digits_of, part_text, spelt};
 
@@ -20,8 +19,7 @@ pub enum Part<'a> {
 
 /// Writes parts one behind the other. It takes no memory. Where that fails, a front of their text was written.
 pub fn write_parts<W: Write>(writer: &mut W, parts: &[Part<'_>]) -> Result<(), WriteFault>
-    ensures ok { OnOk result (Appends (W.contents writer.old) (W.contents writer.new) (spelt (map part_text parts.now))) }
-    ensures err { OnErr result (AppendsPrefix (W.contents writer.old) (W.contents writer.new) (spelt (map part_text parts.now))) }
+    ensures { Writes result (W.contents writer.old) (W.contents writer.new) (spelt (map part_text parts.now)) }
 {
     for part in parts {
         if write_part(writer, *part).is_err() {
@@ -32,8 +30,7 @@ pub fn write_parts<W: Write>(writer: &mut W, parts: &[Part<'_>]) -> Result<(), W
 }
 
 fn write_part<W: Write>(writer: &mut W, part: Part<'_>) -> Result<(), WriteFault>
-    ensures ok { OnOk result (Appends (W.contents writer.old) (W.contents writer.new) (part_text part.entry)) }
-    ensures err { OnErr result (AppendsPrefix (W.contents writer.old) (W.contents writer.new) (part_text part.entry)) }
+    ensures { Writes result (W.contents writer.old) (W.contents writer.new) (part_text part.entry) }
 {
     match part {
         Part::Text(text) => write_text(writer, text),
@@ -46,8 +43,7 @@ fn write_part<W: Write>(writer: &mut W, part: Part<'_>) -> Result<(), WriteFault
 }
 
 fn write_hexadecimal<W: Write>(writer: &mut W, bytes: &[u8]) -> Result<(), WriteFault>
-    ensures ok { OnOk result (Appends (W.contents writer.old) (W.contents writer.new) (encode_lower bytes.now)) }
-    ensures err { OnErr result (AppendsPrefix (W.contents writer.old) (W.contents writer.new) (encode_lower bytes.now)) }
+    ensures { Writes result (W.contents writer.old) (W.contents writer.new) (encode_lower bytes.now) }
 {
     for byte in bytes {
         if write_byte(writer, *byte).is_err() {
@@ -58,8 +54,7 @@ fn write_hexadecimal<W: Write>(writer: &mut W, bytes: &[u8]) -> Result<(), Write
 }
 
 fn write_byte<W: Write>(writer: &mut W, byte: u8) -> Result<(), WriteFault>
-    ensures ok { OnOk result (Appends (W.contents writer.old) (W.contents writer.new) (digits_of byte)) }
-    ensures err { OnErr result (AppendsPrefix (W.contents writer.old) (W.contents writer.new) (digits_of byte)) }
+    ensures { Writes result (W.contents writer.old) (W.contents writer.new) (digits_of byte) }
 {
     let mut digits = [0; 2];
     let Ok(()) = hex::encode_to_slice([byte].as_slice(), &mut digits) else {

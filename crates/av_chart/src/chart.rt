@@ -1,6 +1,5 @@
-ghost use Rattle.std.specs.Prelude.{◌≡◌, ◌+◌, ◌<◌, ◌^◌, count_by, length, map, position, IfErr, IfOk, IfSome, Ok, OnErr, OnOk};
-ghost use Rattle.std.specs.Io.KnownBytes.{Appends};
-ghost use Rattle.av_base.specs.Device.{AppendsPrefix};
+ghost use Rattle.std.specs.Prelude.{◌≡◌, ◌+◌, ◌<◌, ◌^◌, count_by, length, map, position, IfErr, IfOk, IfSome, Ok, OnOk};
+ghost use Rattle.av_base.specs.Device.{Writes};
 ghost use Rattle.av_chart.specs.Chart.{Draws, HaveSlots, IsDrawn, IsEarly, IsNotDrawn, IsOfDrawing, IsPicture, IsRunDrawn, IsTrueOf, Leaves, Shows, asks, begun};
 ghost use Rattle.av_chart.specs.Picture.{picture_text};
 ghost use Rattle.av_chart.specs.Place.{StandAt, bottom_of};
@@ -74,8 +73,7 @@ fn read_page<R: Read>(
 
 // Writes a page.
 fn write_page<W: Write>(writer: &mut W, page: &[u8]) -> Result<(), ChartFault>
-    ensures ok { OnOk result (Appends (W.contents writer.old) (W.contents writer.new) page.now) }
-    ensures err { OnErr result (AppendsPrefix (W.contents writer.old) (W.contents writer.new) page.now) }
+    ensures writes { Writes result (W.contents writer.old) (W.contents writer.new) page.now }
     ensures fault { IfErr result (λ f. f ≡ ChartFault.Write) }
 {
     if write_text(writer, page).is_err() || writer.flush().is_err() {

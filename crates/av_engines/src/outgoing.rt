@@ -1,7 +1,7 @@
 ghost use Rattle.std.specs.Prelude.{◌≡◌, ◌++◌, [], IfErr, OnErr, OnOk};
 ghost use Rattle.std.specs.Io.KnownBytes.{Appends};
 ghost use Rattle.std.specs.List.{flat_map};
-ghost use Rattle.av_base.specs.Device.{AppendsPrefix};
+ghost use Rattle.av_base.specs.Device.{Writes};
 ghost use Rattle.av_engines.specs.Outgoing.{FailsAs};
 ghost use Rattle.av_frame.specs.Spelling.{frame};
 
@@ -56,8 +56,7 @@ impl Outgoing {
     /// Writes the frames that wait, in one piece where the writer takes it, and flushes the writer. Where that fails a
     /// front of them was written, and the rest is gone.
     pub fn flush<W: Write>(&mut self, writer: &mut W) -> Result<(), WriteFault>
-        ensures ok { OnOk result (Appends (W.contents writer.old) (W.contents writer.new) self.old) }
-        ensures err { OnErr result (AppendsPrefix (W.contents writer.old) (W.contents writer.new) self.old) }
+        ensures writes { Writes result (W.contents writer.old) (W.contents writer.new) self.old }
         ensures empty { self.new ≡ [] }
     {
         if self.buffer.is_empty() {
@@ -89,8 +88,7 @@ impl Outgoing {
 
 // Writes a text and flushes the writer.
 fn write_flushed<W: Write>(writer: &mut W, text: &[u8]) -> Result<(), WriteFault>
-    ensures ok { OnOk result (Appends (W.contents writer.old) (W.contents writer.new) text.now) }
-    ensures err { OnErr result (AppendsPrefix (W.contents writer.old) (W.contents writer.new) text.now) }
+    ensures { Writes result (W.contents writer.old) (W.contents writer.new) text.now }
 {
     write_text(writer, text)?;
     if writer.flush().is_err() {

@@ -1,5 +1,6 @@
-ghost use Rattle.std.specs.Prelude.{◌≡◌, OnOk};
+ghost use Rattle.std.specs.Prelude.{◌≡◌};
 ghost use Rattle.std.specs.Io.KnownBytes.{Appends};
+ghost use Rattle.av_base.specs.Device.{Writes};
 ghost use Rattle.av_files.specs.Opened.{answer_text, denied_text, ended_tally, is_granted, IsDoneOrFault, line_of, object_of, opened_line, opened_lines, tally_from, unscanned_text};
 ghost use Rattle.av_status.specs.Tally.{concluded};
 ghost use Rattle.av_status.specs.declared.status.Status.TheVariants.{Done};
@@ -82,7 +83,7 @@ fn print_lines<W: Write>(
     wishes: Wishes,
     out: &mut W,
 ) -> Result<(), LineFault>
-    ensures { OnOk result (Appends (W.contents out.old) (W.contents out.new) (opened_lines wishes opened.now)) }
+    ensures { Writes result (W.contents out.old) (W.contents out.new) (opened_lines wishes opened.now) }
 {
     let mut room = Vec::new(alloc);
     for file in opened {
@@ -102,7 +103,7 @@ fn print_shown<W: Write>(
     room: &mut Vec<u8>,
     out: &mut W,
 ) -> Result<(), LineFault>
-    ensures { OnOk result (Appends (W.contents out.old) (W.contents out.new) (opened_line wishes file.now)) }
+    ensures { Writes result (W.contents out.old) (W.contents out.new) (opened_line wishes file.now) }
 {
     if wishes.shown.has_line(!is_granted(file.answer)) {
         print_in(alloc, wishes.form, file, room, out)
@@ -119,7 +120,7 @@ fn print_in<W: Write>(
     room: &mut Vec<u8>,
     out: &mut W,
 ) -> Result<(), LineFault>
-    ensures { OnOk result (Appends (W.contents out.old) (W.contents out.new) (line_of form file.now)) }
+    ensures { Writes result (W.contents out.old) (W.contents out.new) (line_of form file.now) }
 {
     match form {
         Form::Lines => match print_answer(file.name, file.answer, out) {
@@ -137,7 +138,7 @@ fn print_object<W: Write>(
     room: &mut Vec<u8>,
     out: &mut W,
 ) -> Result<(), LineFault>
-    ensures { OnOk result (Appends (W.contents out.old) (W.contents out.new) (object_of file.now)) }
+    ensures { Writes result (W.contents out.old) (W.contents out.new) (object_of file.now) }
 {
     let mut line = new_line(alloc, room);
     if put_opened(alloc, &mut line, file.name.as_bytes(), file.answer).is_err() {
@@ -158,7 +159,7 @@ fn is_granted(answer: Answer) -> bool
 
 // Writes the line of what an open was told.
 fn print_answer<W: Write>(name: &str, answer: Answer, out: &mut W) -> Result<(), WriteFault>
-    ensures { OnOk result (Appends (W.contents out.old) (W.contents out.new) (answer_text name.now answer)) }
+    ensures { Writes result (W.contents out.old) (W.contents out.new) (answer_text name.now answer) }
 {
     match answer {
         Answer::Granted {
@@ -191,7 +192,7 @@ fn print_unscanned<W: Write>(
     cause: Cause,
     out: &mut W,
 ) -> Result<(), WriteFault>
-    ensures { OnOk result (Appends (W.contents out.old) (W.contents out.new) (unscanned_text name.now generation cause)) }
+    ensures { Writes result (W.contents out.old) (W.contents out.new) (unscanned_text name.now generation cause) }
 {
     write_parts(
         out,
@@ -207,7 +208,7 @@ fn print_unscanned<W: Write>(
 }
 
 fn print_denied<W: Write>(name: &[u8], cause: Cause, out: &mut W) -> Result<(), WriteFault>
-    ensures { OnOk result (Appends (W.contents out.old) (W.contents out.new) (denied_text name.now cause)) }
+    ensures { Writes result (W.contents out.old) (W.contents out.new) (denied_text name.now cause) }
 {
     write_parts(
         out,

@@ -1,7 +1,8 @@
-ghost use Rattle.std.specs.Prelude.{◌≡◌, map, Some, true, IfErr, IfOk, OnOk};
+ghost use Rattle.std.specs.Prelude.{◌≡◌, map, Some, true, IfErr, IfOk};
 ghost use Rattle.std.specs.List.{list_any};
 ghost use Rattle.std.specs.Option.{option_copied};
 ghost use Rattle.std.specs.Io.KnownBytes.{Appends};
+ghost use Rattle.av_base.specs.Device.{Writes};
 ghost use Rattle.av_files.specs.Scan.{Scans, is_infected, line_of, name_found, object_of, scanned_of, shown_line, shown_lines, tally_of, verdict_text};
 ghost use Rattle.av_status.specs.Status.{EndsWell, IsFault};
 ghost use Rattle.av_status.specs.Tally.{with_scanned};
@@ -119,7 +120,7 @@ pub fn print_one<W: Write>(
     room: &mut Vec<u8>,
     out: &mut W,
 ) -> Result<(), LineFault>
-    ensures line { OnOk result (Appends (W.contents out.old) (W.contents out.new) (shown_line wishes scanner.now file.entry)) }
+    ensures line { Writes result (W.contents out.old) (W.contents out.new) (shown_line wishes scanner.now file.entry) }
     ensures counted { tally.new ≡ with_scanned tally.old (is_infected file.entry.verdict) }
 {
     tally.add_scanned(is_infected(file.verdict));
@@ -143,7 +144,7 @@ fn print_lines<W: Write>(
     wishes: Wishes,
     out: &mut W,
 ) -> Result<(), LineFault>
-    ensures { OnOk result (Appends (W.contents out.old) (W.contents out.new) (shown_lines wishes set.now scanned.now)) }
+    ensures { Writes result (W.contents out.old) (W.contents out.new) (shown_lines wishes set.now scanned.now) }
 {
     let mut room = Vec::new(alloc);
     for file in scanned {
@@ -164,7 +165,7 @@ fn print_shown<W: Write>(
     room: &mut Vec<u8>,
     out: &mut W,
 ) -> Result<(), LineFault>
-    ensures { OnOk result (Appends (W.contents out.old) (W.contents out.new) (shown_line wishes set.now file.entry)) }
+    ensures { Writes result (W.contents out.old) (W.contents out.new) (shown_line wishes set.now file.entry) }
 {
     if wishes.shown.has_line(is_infected(file.verdict)) {
         print_in(alloc, wishes.form, set, file, room, out)
@@ -182,7 +183,7 @@ fn print_in<W: Write>(
     room: &mut Vec<u8>,
     out: &mut W,
 ) -> Result<(), LineFault>
-    ensures { OnOk result (Appends (W.contents out.old) (W.contents out.new) (line_of form set.now file.entry)) }
+    ensures { Writes result (W.contents out.old) (W.contents out.new) (line_of form set.now file.entry) }
 {
     match form {
         Form::Lines => match print_verdict(set, file.name, file.verdict, out) {
@@ -201,7 +202,7 @@ fn print_object<W: Write>(
     room: &mut Vec<u8>,
     out: &mut W,
 ) -> Result<(), LineFault>
-    ensures { OnOk result (Appends (W.contents out.old) (W.contents out.new) (object_of set.now file.entry)) }
+    ensures { Writes result (W.contents out.old) (W.contents out.new) (object_of set.now file.entry) }
 {
     let mut line = new_line(alloc, room);
     let name = name_found(set, file.verdict);
@@ -237,7 +238,7 @@ fn print_verdict<'a, W: Write>(
     verdict: Verdict,
     out: &mut W,
 ) -> Result<(), WriteFault>
-    ensures { OnOk result (Appends (W.contents out.old) (W.contents out.new) (verdict_text set.now file.now verdict)) }
+    ensures { Writes result (W.contents out.old) (W.contents out.new) (verdict_text set.now file.now verdict) }
 {
     match verdict {
         Verdict::Clean => write_parts(

@@ -1,7 +1,6 @@
-ghost use Rattle.std.specs.Prelude.{◌≡◌, ◌++◌, IfOk, OnOk, OnErr};
+ghost use Rattle.std.specs.Prelude.{◌≡◌, ◌++◌, IfOk, OnOk};
 ghost use Rattle.std.specs.String.{string_bytes};
-ghost use Rattle.std.specs.Io.KnownBytes.{Appends};
-ghost use Rattle.av_base.specs.Device.{AppendsPrefix};
+ghost use Rattle.av_base.specs.Device.{Writes};
 ghost use Rattle.av_generate.specs.Head.{headed_as};
 ghost use Rattle.av_generate.specs.Generated.{behind_head, generated, line_drawn, lines_drawn};
 
@@ -36,8 +35,7 @@ pub fn write_script<W: Write>(
     profile: Profile,
     writer: &mut W,
 ) -> Result<(), GenerateFault>
-    ensures ok { OnOk result (Appends (W.contents writer.old) (W.contents writer.new) (generated seed commands profile)) }
-    ensures err { OnErr result (AppendsPrefix (W.contents writer.old) (W.contents writer.new) (generated seed commands profile)) }
+    ensures { Writes result (W.contents writer.old) (W.contents writer.new) (generated seed commands profile) }
 {
     let mut draws = Draws::new(seed);
     let Ok(head) = head_drawn(alloc, &mut draws) else {
@@ -55,8 +53,7 @@ fn write_behind<W: Write>(
     profile: Profile,
     writer: &mut W,
 ) -> Result<(), GenerateFault>
-    ensures ok { OnOk result (Appends (W.contents writer.old) (W.contents writer.new) (behind_head profile commands (headed_as head draws))) }
-    ensures err { OnErr result (AppendsPrefix (W.contents writer.old) (W.contents writer.new) (behind_head profile commands (headed_as head draws))) }
+    ensures { Writes result (W.contents writer.old) (W.contents writer.new) (behind_head profile commands (headed_as head draws)) }
 {
     let Ok(mut generator) = Generator::new(alloc, profile, draws) else {
         return Err(GenerateFault::NoMemory);
@@ -79,10 +76,8 @@ fn write_whole<W: Write>(
     commands: u64,
     writer: &mut W,
 ) -> Result<(), GenerateFault>
-    ensures ok { OnOk result (Appends (W.contents writer.old) (W.contents writer.new)
-        (text.now ++ lines_drawn commands generator.old world.old)) }
-    ensures err { OnErr result (AppendsPrefix (W.contents writer.old) (W.contents writer.new)
-        (text.now ++ lines_drawn commands generator.old world.old)) }
+    ensures { Writes result (W.contents writer.old) (W.contents writer.new)
+        (text.now ++ lines_drawn commands generator.old world.old) }
 {
     if write_text(writer, text).is_err() {
         return Err(GenerateFault::Write);
@@ -98,10 +93,8 @@ fn write_lines<W: Write>(
     commands: u64,
     writer: &mut W,
 ) -> Result<(), GenerateFault>
-    ensures ok { OnOk result (Appends (W.contents writer.old) (W.contents writer.new)
-        (lines_drawn commands generator.old world.old)) }
-    ensures err { OnErr result (AppendsPrefix (W.contents writer.old) (W.contents writer.new)
-        (lines_drawn commands generator.old world.old)) }
+    ensures { Writes result (W.contents writer.old) (W.contents writer.new)
+        (lines_drawn commands generator.old world.old) }
 {
     let mut left = commands;
     'lines: while left > 0 {
@@ -122,9 +115,7 @@ fn write_line<W: Write>(
     writer: &mut W,
 ) -> Result<(), GenerateFault>
     ensures state { OnOk result ((generator.new, world.new) ≡ (line_drawn generator.old world.old).1) }
-    ensures ok { OnOk result (Appends (W.contents writer.old) (W.contents writer.new) (line_drawn generator.old world.old).0) }
-    ensures err { OnErr result
-        (AppendsPrefix (W.contents writer.old) (W.contents writer.new) (line_drawn generator.old world.old).0) }
+    ensures writes { Writes result (W.contents writer.old) (W.contents writer.new) (line_drawn generator.old world.old).0 }
 {
     let Ok(line) = line_drawn(alloc, generator, world) else {
         return Err(GenerateFault::NoMemory);

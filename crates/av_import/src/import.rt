@@ -1,8 +1,7 @@
 ghost use Rattle.std.specs.Prelude.{◌≡◌, ◌++◌, ◌≤◌, ◌<◌, ◌==◌, [], length, IfOk, IfErr, IfNone, OnOk, OnErr, Ok, Err, Option, List, ℕ};
 ghost use Rattle.hex.specs.Hex.{decode_of};
-ghost use Rattle.std.specs.Io.KnownBytes.{Appends};
 ghost use Rattle.std.specs.Result.{result_err};
-ghost use Rattle.av_base.specs.Device.{AppendsPrefix};
+ghost use Rattle.av_base.specs.Device.{Writes};
 ghost use Rattle.av_base.specs.Line.{lines_of};
 ghost use Rattle.av_sigset.specs.Judge.{set_of};
 ghost use Rattle.av_sigset.specs.Set.{byte_count, patterns_of};
@@ -116,10 +115,8 @@ impl Import {
     /// Writes the signature file of what was taken, under a version from 1 on: of format 2 where some signature is bound to places,
     /// and else of format 1. What was written is read back as exactly these signatures.
     pub fn write<W: Write>(&self, version: u64, writer: &mut W) -> Result<(), ImportFault>
-        ensures ok { OnOk result (Appends (W.contents writer.old) (W.contents writer.new)
-            (spelling (record { version = version; signatures = self.now.signatures }))) }
-        ensures err { OnErr result (AppendsPrefix (W.contents writer.old) (W.contents writer.new)
-            (spelling (record { version = version; signatures = self.now.signatures }))) }
+        ensures writes { Writes result (W.contents writer.old) (W.contents writer.new)
+            (spelling (record { version = version; signatures = self.now.signatures })) }
         ensures fault { IfErr result (λ f. f ≡ ImportFault.Write) }
         ensures reads_back { OnOk result (1 ≤ version
             → set_of (spelling (record { version = version; signatures = self.now.signatures }))

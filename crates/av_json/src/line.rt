@@ -1,8 +1,7 @@
-ghost use Rattle.std.specs.Prelude.{◌≡◌, ◌++◌, [], IfOk, OnOk, OnErr};
-ghost use Rattle.std.specs.Io.KnownBytes.{Appends};
+ghost use Rattle.std.specs.Prelude.{◌≡◌, ◌++◌, [], IfOk};
 ghost use Rattle.json.specs.Lex.{tokens};
 ghost use Rattle.json.specs.Print.{print};
-ghost use Rattle.av_base.specs.Device.{AppendsPrefix};
+ghost use Rattle.av_base.specs.Device.{Writes};
 ghost use Rattle.av_json.specs.Line.{object_line};
 
 use av_base::device::write_text;
@@ -24,8 +23,7 @@ pub enum LineFault {
 /// Writes what was put, and ends the line; gives back its memory, emptied. What was written reads back as the tokens that were
 /// put.
 pub fn write_line<W: Write>(line: Writer, writer: &mut W) -> Result<Vec<u8>, LineFault>
-    ensures ok { OnOk result (Appends (W.contents writer.old) (W.contents writer.new) (line.before ++ object_line line.tokens)) }
-    ensures err { OnErr result (AppendsPrefix (W.contents writer.old) (W.contents writer.new) (line.before ++ object_line line.tokens)) }
+    ensures writes { Writes result (W.contents writer.old) (W.contents writer.new) (line.before ++ object_line line.tokens) }
     ensures reads_back { tokens (print line.tokens) ≡ line.tokens }
     ensures emptied { IfOk result (λ room. room.items ≡ []) }
 {

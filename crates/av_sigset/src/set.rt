@@ -1,8 +1,7 @@
-ghost use Rattle.std.specs.Prelude.{◌≡◌, length, slice_get, map, OnOk, OnErr};
+ghost use Rattle.std.specs.Prelude.{◌≡◌, length, slice_get, map, IfOk, OnOk};
 ghost use Rattle.std.specs.Option.{option_copied, option_map};
-ghost use Rattle.std.specs.Io.KnownBytes.{Appends};
 ghost use Rattle.av_base.specs.Answers.{Reads};
-ghost use Rattle.av_base.specs.Device.{AppendsPrefix};
+ghost use Rattle.av_base.specs.Device.{Writes};
 ghost use Rattle.av_sigset.specs.Judge.{set_of};
 ghost use Rattle.av_sigset.specs.Made.{ranged, set_made};
 ghost use Rattle.std.specs.Result.{result_err};
@@ -14,8 +13,8 @@ use crate::made::{fault_in, serial_signatures};
 use crate::read::{body_of, read_signatures};
 use crate::signature::{AsPattern, Pattern, Signature, Span};
 use crate::spelling::write_signatures;
-use av_base::{Refusal, Version, WriteFault};
-use std::alloc::Global;
+use av_base::{ByteList, Refusal, Version, WriteFault};
+use std::alloc::{AllocError, Global};
 use std::io::Write;
 use std::marker::Model;
 
@@ -103,12 +102,21 @@ impl SignatureSet {
     /// Writes its signature file. Read back it is this set, where its signatures may stand in a file, as those do that were read
     /// from one. It takes no memory. Where a write fails, a front of the file was written.
     pub fn write<W: Write>(&self, writer: &mut W) -> Result<(), WriteFault>
-        ensures ok { OnOk result (Appends (W.contents writer.old) (W.contents writer.new) (spelling self.now)) }
-        ensures err { OnErr result (AppendsPrefix (W.contents writer.old) (W.contents writer.new) (spelling self.now)) }
+        ensures writes { Writes result (W.contents writer.old) (W.contents writer.new) (spelling self.now) }
         ensures reads_back { OnOk result (ReadsBack self.now) }
         ensures set { IsSet self.now }
     {
         write_signatures(self.version, self.signatures.as_slice(), writer)
+    }
+
+    /// A copy of it.
+    pub fn copied(&self, alloc: Global) -> Result<SignatureSet, AllocError>
+        ensures { IfOk result (λ set. set ≡ self.now) }
+    {
+        Ok(SignatureSet {
+            version: self.version,
+            signatures: copies_of(alloc, self.signatures.as_slice())?,
+        })
     }
 
     /// Its version, 1 or more.
@@ -165,4 +173,27 @@ impl SignatureSet {
             None => None,
         }
     }
+}
+
+// A copy of each.
+fn copies_of(alloc: Global, signatures: &[Signature]) -> Result<Vec<Signature>, AllocError>
+    ensures { IfOk result (λ copies. copies.items ≡ signatures.now) }
+{
+    let mut copies = Vec::with_capacity(alloc, signatures.len())?;
+    for signature in signatures {
+        copies.push(copy_of(alloc, signature)?)?;
+    }
+    Ok(copies)
+}
+
+fn copy_of(alloc: Global, signature: &Signature) -> Result<Signature, AllocError>
+    ensures { IfOk result (λ copy. copy ≡ signature.now) }
+{
+    Ok(Signature {
+        name: ByteList::copied(alloc, signature.name.as_slice())?,
+        pattern: Pattern {
+            bytes: ByteList::copied(alloc, signature.pattern.bytes.as_slice())?,
+            span: signature.pattern.span,
+        },
+    })
 }

@@ -1,8 +1,7 @@
 //! Sets written as signature files.
-ghost use Rattle.std.specs.Prelude.{◌≡◌, map, OnOk, OnErr};
-ghost use Rattle.std.specs.Io.KnownBytes.{Appends};
+ghost use Rattle.std.specs.Prelude.{◌≡◌, map, OnOk};
 ghost use Rattle.hex.specs.Hex.{IsBytes};
-ghost use Rattle.av_base.specs.Device.{AppendsPrefix};
+ghost use Rattle.av_base.specs.Device.{Writes};
 ghost use Rattle.av_base.specs.Part.{spelt};
 ghost use Rattle.av_sigset.specs.Spelling.{AreBytes, ReadsBack, format_for, head_text, is_widest, line_text, spelling};
 
@@ -20,10 +19,8 @@ pub fn write_signatures<W: Write>(
     signatures: &[Signature],
     writer: &mut W,
 ) -> Result<(), WriteFault>
-    ensures ok { OnOk result (Appends (W.contents writer.old) (W.contents writer.new)
-        (spelling (record { version = version; signatures = signatures.now }))) }
-    ensures err { OnErr result (AppendsPrefix (W.contents writer.old) (W.contents writer.new)
-        (spelling (record { version = version; signatures = signatures.now }))) }
+    ensures writes { Writes result (W.contents writer.old) (W.contents writer.new)
+        (spelling (record { version = version; signatures = signatures.now })) }
     ensures reads_back { OnOk result (ReadsBack (record { version = version; signatures = signatures.now })) }
 {
     write_head(format_for(signatures), version.get(), writer)?;
@@ -32,8 +29,7 @@ pub fn write_signatures<W: Write>(
 
 // Writes the first two lines.
 fn write_head<W: Write>(format: Format, version: u64, writer: &mut W) -> Result<(), WriteFault>
-    ensures ok { OnOk result (Appends (W.contents writer.old) (W.contents writer.new) (head_text format version)) }
-    ensures err { OnErr result (AppendsPrefix (W.contents writer.old) (W.contents writer.new) (head_text format version)) }
+    ensures { Writes result (W.contents writer.old) (W.contents writer.new) (head_text format version) }
 {
     let header = Part::Text(header_of(format));
     let word = Part::Text(b"\nversion ".as_slice());
@@ -43,8 +39,7 @@ fn write_head<W: Write>(format: Format, version: u64, writer: &mut W) -> Result<
 
 // Writes a line for each signature.
 fn write_lines<W: Write>(signatures: &[Signature], writer: &mut W) -> Result<(), WriteFault>
-    ensures ok { OnOk result (Appends (W.contents writer.old) (W.contents writer.new) (spelt (map line_text signatures.now))) }
-    ensures err { OnErr result (AppendsPrefix (W.contents writer.old) (W.contents writer.new) (spelt (map line_text signatures.now))) }
+    ensures writes { Writes result (W.contents writer.old) (W.contents writer.new) (spelt (map line_text signatures.now)) }
     ensures bytes { OnOk result (AreBytes signatures.now) }
 {
     for signature in signatures {
@@ -56,8 +51,7 @@ fn write_lines<W: Write>(signatures: &[Signature], writer: &mut W) -> Result<(),
 }
 
 fn write_line<W: Write>(signature: &Signature, writer: &mut W) -> Result<(), WriteFault>
-    ensures ok { OnOk result (Appends (W.contents writer.old) (W.contents writer.new) (line_text signature.now)) }
-    ensures err { OnErr result (AppendsPrefix (W.contents writer.old) (W.contents writer.new) (line_text signature.now)) }
+    ensures writes { Writes result (W.contents writer.old) (W.contents writer.new) (line_text signature.now) }
     ensures bytes { let s = signature.now in IsBytes s.pattern.bytes }
 {
     let bytes = signature.pattern.bytes.as_slice();

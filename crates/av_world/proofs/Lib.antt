@@ -36,10 +36,10 @@ pub mod SoundLemmas
 pub mod SpanLemmas
 pub mod StageLemmas
 pub mod StepLemmas
+pub mod ToldLemmas
 pub mod UnionLemmas
 pub mod WholeLemmas
 pub mod WordLemmas
 pub mod WorkLemmas
 pub mod WorkedLemmas
 pub mod WorldLemmas
-pub mod WriteLemmas

@@ -22,6 +22,7 @@ pub mod Script
 pub mod Serving
 pub mod Stage
 pub mod Text
+pub mod Told
 pub mod Whole
 pub mod Working
 pub mod World

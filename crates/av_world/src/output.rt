@@ -1,7 +1,6 @@
-ghost use Rattle.std.specs.Prelude.{◌≡◌, ◌<◌, ◌≤◌, ◌+◌, length, OnOk, OnErr};
-ghost use Rattle.std.specs.Io.KnownBytes.{Appends};
+ghost use Rattle.std.specs.Prelude.{◌≡◌, ◌<◌, ◌≤◌, ◌+◌, length};
 ghost use Rattle.std.specs.List.{between};
-ghost use Rattle.av_base.specs.Device.{AppendsPrefix};
+ghost use Rattle.av_base.specs.Device.{Writes};
 ghost use Rattle.av_world.specs.Text.{opens_text, sent_text, told_text};
 
 mod answer;
@@ -11,6 +10,7 @@ mod message;
 mod note;
 pub mod objects;
 pub mod refusal;
+mod told;
 mod work;
 
 use crate::given::Given;
@@ -34,10 +34,7 @@ pub fn print_report<W: Write>(
     works: &[Option<(Port, Work)>],
     writer: &mut W,
 ) -> Result<(), WriteFault>
-    ensures ok { OnOk result
-        (Appends (W.contents writer.old) (W.contents writer.new) (told_text report.now answers.now down.now up.now works.now)) }
-    ensures err { OnErr result (AppendsPrefix (W.contents writer.old) (W.contents writer.new)
-        (told_text report.now answers.now down.now up.now works.now)) }
+    ensures { Writes result (W.contents writer.old) (W.contents writer.new) (told_text report.now answers.now down.now up.now works.now) }
 {
     print_line(&report.line, writer)?;
     print_opens(report, answers, writer)?;
@@ -51,9 +48,7 @@ fn print_opens<W: Write>(
     answers: &[Given],
     writer: &mut W,
 ) -> Result<(), WriteFault>
-    ensures ok { OnOk result (Appends (W.contents writer.old) (W.contents writer.new) (opens_text report.now answers.now)) }
-    ensures err { OnErr result
-        (AppendsPrefix (W.contents writer.old) (W.contents writer.new) (opens_text report.now answers.now)) }
+    ensures { Writes result (W.contents writer.old) (W.contents writer.new) (opens_text report.now answers.now) }
 {
     let given = part(answers, report.before.answers, report.after.answers);
     print_answers(given, writer)?;
@@ -68,10 +63,7 @@ fn print_sent<W: Write>(
     works: &[Option<(Port, Work)>],
     writer: &mut W,
 ) -> Result<(), WriteFault>
-    ensures ok { OnOk result
-        (Appends (W.contents writer.old) (W.contents writer.new) (sent_text report.now down.now up.now works.now)) }
-    ensures err { OnErr result
-        (AppendsPrefix (W.contents writer.old) (W.contents writer.new) (sent_text report.now down.now up.now works.now)) }
+    ensures { Writes result (W.contents writer.old) (W.contents writer.new) (sent_text report.now down.now up.now works.now) }
 {
     let Report { before, after, .. } = *report;
     print_messages(Way::Down, down, before.down, after.down, writer)?;

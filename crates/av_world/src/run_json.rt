@@ -1,6 +1,5 @@
 ghost use Rattle.std.specs.Prelude.{◌≡◌, ◌+◌, ◌<◌, ◌^◌, ◌++◌, [], true, Some, length, IfErr, IfOk, IfSome, OnOk, OnErr};
-ghost use Rattle.std.specs.Io.KnownBytes.{Appends};
-ghost use Rattle.av_base.specs.Device.{AppendsPrefix};
+ghost use Rattle.av_base.specs.Device.{Writes};
 ghost use Rattle.av_base.specs.Line.{lines_of};
 ghost use Rattle.av_json.specs.Member.{Puts};
 ghost use Rattle.av_world.specs.Objects.{command_tokens, did, line_object, lines_json, refused, report_tokens, said_json, said_tokens, said_world, step_tokens, told_by};
@@ -57,10 +56,7 @@ fn run_lines<W: Write>(
     writer: &mut W,
 ) -> Result<(), RunFault>
     requires { 1 + length text.now < 2 ^ 64 }
-    ensures ok { OnOk result
-        (Appends (W.contents writer.old) (W.contents writer.new) (lines_json world.old 1 (lines_of text.now))) }
-    ensures err { OnErr result
-        (AppendsPrefix (W.contents writer.old) (W.contents writer.new) (lines_json world.old 1 (lines_of text.now))) }
+    ensures writes { Writes result (W.contents writer.old) (W.contents writer.new) (lines_json world.old 1 (lines_of text.now)) }
     ensures late { IfErr result IsLate }
 {
     let mut room = Vec::new(alloc);
@@ -89,10 +85,8 @@ fn run_line<W: Write>(
 ) -> Result<Vec<u8>, RunFault>
     requires { room.items ≡ [] }
     ensures world { OnOk result (world.new ≡ said_world world.old (line_of text.now)) }
-    ensures ok { OnOk result (Appends (W.contents writer.old) (W.contents writer.new)
-        (said_json number text.now (said_tokens world.old (line_of text.now)))) }
-    ensures err { OnErr result (AppendsPrefix (W.contents writer.old) (W.contents writer.new)
-        (said_json number text.now (said_tokens world.old (line_of text.now)))) }
+    ensures writes { Writes result (W.contents writer.old) (W.contents writer.new)
+        (said_json number text.now (said_tokens world.old (line_of text.now))) }
     ensures late { IfErr result IsLate }
     ensures emptied { IfOk result (λ left. left.items ≡ []) }
 {
@@ -117,10 +111,8 @@ fn run_statement<W: Write>(
     requires empty { room.items ≡ [] }
     requires told { is_told (meaning statement) ≡ true }
     ensures world { OnOk result (world.new ≡ said_world world.old (Some (meaning statement.entry))) }
-    ensures ok { OnOk result (Appends (W.contents writer.old) (W.contents writer.new)
-        (said_json number text.now (said_tokens world.old (Some (meaning statement.entry))))) }
-    ensures err { OnErr result (AppendsPrefix (W.contents writer.old) (W.contents writer.new)
-        (said_json number text.now (said_tokens world.old (Some (meaning statement.entry))))) }
+    ensures writes { Writes result (W.contents writer.old) (W.contents writer.new)
+        (said_json number text.now (said_tokens world.old (Some (meaning statement.entry)))) }
     ensures late { IfErr result IsLate }
     ensures emptied { IfOk result (λ left. left.items ≡ []) }
 {

@@ -1,6 +1,5 @@
 ghost use Rattle.std.specs.Prelude.{◌≡◌, ◌≤◌, ◌++◌, is_ok, length, IfErr, IfOk, IfSome, Ok, OnOk, OnErr};
-ghost use Rattle.std.specs.Io.KnownBytes.{Appends};
-ghost use Rattle.av_base.specs.Device.{AppendsPrefix};
+ghost use Rattle.av_base.specs.Device.{Writes};
 ghost use Rattle.av_world.specs.Output.{IsLate, IsTrueOf, KeepsEarly, Prints, PrintsFront};
 ghost use Rattle.av_world.specs.Text.{boot_text, command_text, command_world, commands_text, script_text, step_text};
 ghost use Rattle.av_world.specs.Script.{script_of};
@@ -86,8 +85,7 @@ pub fn read_script<R: Read>(
 
 // Writes the lines of a script.
 fn print_script<W: Write>(alloc: Global, script: Script, writer: &mut W) -> Result<(), RunFault>
-    ensures ok { OnOk result (Appends (W.contents writer.old) (W.contents writer.new) (script_text script)) }
-    ensures err { OnErr result (AppendsPrefix (W.contents writer.old) (W.contents writer.new) (script_text script)) }
+    ensures writes { Writes result (W.contents writer.old) (W.contents writer.new) (script_text script) }
     ensures late { IfErr result IsLate }
 {
     let Ok(mut world) = World::new(alloc, script.number(), script.mode(), script.limits()) else {
@@ -105,10 +103,7 @@ fn run_from_boot<W: Write>(
     commands: VecDeque<Command>,
     writer: &mut W,
 ) -> Result<(), RunFault>
-    ensures ok { OnOk result
-        (Appends (W.contents writer.old) (W.contents writer.new) (boot_text ++ commands_text world.old commands.items)) }
-    ensures err { OnErr result
-        (AppendsPrefix (W.contents writer.old) (W.contents writer.new) (boot_text ++ commands_text world.old commands.items)) }
+    ensures writes { Writes result (W.contents writer.old) (W.contents writer.new) (boot_text ++ commands_text world.old commands.items) }
     ensures late { IfErr result IsLate }
 {
     if write_text(writer, b"boot 1\n").is_err() {
@@ -124,9 +119,7 @@ fn run_commands<W: Write>(
     mut commands: VecDeque<Command>,
     writer: &mut W,
 ) -> Result<(), RunFault>
-    ensures ok { OnOk result (Appends (W.contents writer.old) (W.contents writer.new) (commands_text world.old commands.items)) }
-    ensures err { OnErr result
-        (AppendsPrefix (W.contents writer.old) (W.contents writer.new) (commands_text world.old commands.items)) }
+    ensures writes { Writes result (W.contents writer.old) (W.contents writer.new) (commands_text world.old commands.items) }
     ensures late { IfErr result IsLate }
 {
     'commands: while let Some(command) = commands.pop_front() {
@@ -146,8 +139,7 @@ fn run_command<W: Write>(
     writer: &mut W,
 ) -> Result<(), RunFault>
     ensures world { OnOk result (world.new ≡ command_world world.old command) }
-    ensures ok { OnOk result (Appends (W.contents writer.old) (W.contents writer.new) (command_text world.old command)) }
-    ensures err { OnErr result (AppendsPrefix (W.contents writer.old) (W.contents writer.new) (command_text world.old command)) }
+    ensures writes { Writes result (W.contents writer.old) (W.contents writer.new) (command_text world.old command) }
     ensures late { IfErr result IsLate }
 {
     match command {
@@ -167,9 +159,7 @@ fn run_step<W: Write>(
     writer: &mut W,
 ) -> Result<(), RunFault>
     ensures world { OnOk result (world.new ≡ after world.old event) }
-    ensures ok { OnOk result (Appends (W.contents writer.old) (W.contents writer.new) (step_text (step_of world.old event))) }
-    ensures err { OnErr result
-        (AppendsPrefix (W.contents writer.old) (W.contents writer.new) (step_text (step_of world.old event))) }
+    ensures writes { Writes result (W.contents writer.old) (W.contents writer.new) (step_text (step_of world.old event)) }
     ensures late { IfErr result IsLate }
 {
     match world.step(alloc, event) {

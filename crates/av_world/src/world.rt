@@ -1,7 +1,6 @@
-ghost use Rattle.std.specs.Prelude.{◌≡◌, ◌∷◌, length, reverse, IfOk, OnErr, OnOk};
-ghost use Rattle.std.specs.Io.KnownBytes.{Appends};
+ghost use Rattle.std.specs.Prelude.{◌≡◌, ◌∷◌, length, reverse, IfOk, OnOk};
 ghost use Rattle.std.specs.Option.{option_copied};
-ghost use Rattle.av_base.specs.Device.{AppendsPrefix};
+ghost use Rattle.av_base.specs.Device.{Writes};
 ghost use Rattle.av_json.specs.Member.{Puts};
 ghost use Rattle.av_sigset.specs.Catalogue.{newest};
 ghost use Rattle.av_store.specs.Rows.{number_named};
@@ -125,9 +124,7 @@ impl World {
     /// Writes what a report of this world tells, as its lines in a script's output. Where that fails a front of the lines was
     /// written. It takes no memory.
     pub fn print<W: Write>(&self, report: &Report, writer: &mut W) -> Result<(), WriteFault>
-        ensures ok { OnOk result (Appends (W.contents writer.old) (W.contents writer.new) (report_text self.now report.now)) }
-        ensures err { OnErr result
-            (AppendsPrefix (W.contents writer.old) (W.contents writer.new) (report_text self.now report.now)) }
+        ensures { Writes result (W.contents writer.old) (W.contents writer.new) (report_text self.now report.now) }
     {
         print_report(
             report,

@@ -1,6 +1,5 @@
-ghost use Rattle.std.specs.Prelude.{◌≡◌, OnOk, OnErr};
-ghost use Rattle.std.specs.Io.KnownBytes.{Appends};
-ghost use Rattle.av_base.specs.Device.{AppendsPrefix};
+ghost use Rattle.std.specs.Prelude.{◌≡◌};
+ghost use Rattle.av_base.specs.Device.{Writes};
 ghost use Rattle.av_pend.specs.Pend.{open_of};
 ghost use Rattle.av_pend.specs.declared.answer.Answer.TheVariants.{Denied, Granted, Unscanned};
 ghost use Rattle.av_world.specs.Text.Answers.{answer_text, answers_text, is_answered, pended_text, submitted_text};
@@ -15,8 +14,7 @@ use std::io::Write;
 
 /// Writes the lines of answers.
 pub fn print_answers<W: Write>(answers: &[Given], writer: &mut W) -> Result<(), WriteFault>
-    ensures ok { OnOk result (Appends (W.contents writer.old) (W.contents writer.new) (answers_text answers.now)) }
-    ensures err { OnErr result (AppendsPrefix (W.contents writer.old) (W.contents writer.new) (answers_text answers.now)) }
+    ensures { Writes result (W.contents writer.old) (W.contents writer.new) (answers_text answers.now) }
 {
     for given in answers {
         print_answer(&given.answer, writer)?;
@@ -25,8 +23,7 @@ pub fn print_answers<W: Write>(answers: &[Given], writer: &mut W) -> Result<(), 
 }
 
 fn print_answer<W: Write>(answer: &Answer, writer: &mut W) -> Result<(), WriteFault>
-    ensures ok { OnOk result (Appends (W.contents writer.old) (W.contents writer.new) (answer_text answer.now)) }
-    ensures err { OnErr result (AppendsPrefix (W.contents writer.old) (W.contents writer.new) (answer_text answer.now)) }
+    ensures { Writes result (W.contents writer.old) (W.contents writer.new) (answer_text answer.now) }
 {
     match *answer {
         Answer::Granted {
@@ -54,10 +51,8 @@ fn print_granted<W: Write>(
     version: Version,
     writer: &mut W,
 ) -> Result<(), WriteFault>
-    ensures ok { OnOk result (Appends (W.contents writer.old) (W.contents writer.new)
-        (answer_text (Granted open_id least stream generation version))) }
-    ensures err { OnErr result (AppendsPrefix (W.contents writer.old) (W.contents writer.new)
-        (answer_text (Granted open_id least stream generation version))) }
+    ensures { Writes result (W.contents writer.old) (W.contents writer.new)
+        (answer_text (Granted open_id least stream generation version)) }
 {
     write_parts(
         writer,
@@ -84,10 +79,7 @@ fn print_unscanned<W: Write>(
     cause: Cause,
     writer: &mut W,
 ) -> Result<(), WriteFault>
-    ensures ok { OnOk result
-        (Appends (W.contents writer.old) (W.contents writer.new) (answer_text (Unscanned open_id stream generation cause))) }
-    ensures err { OnErr result (AppendsPrefix (W.contents writer.old) (W.contents writer.new)
-        (answer_text (Unscanned open_id stream generation cause))) }
+    ensures { Writes result (W.contents writer.old) (W.contents writer.new) (answer_text (Unscanned open_id stream generation cause)) }
 {
     write_parts(
         writer,
@@ -106,9 +98,7 @@ fn print_unscanned<W: Write>(
 }
 
 fn print_denied<W: Write>(open_id: OpenId, cause: Cause, writer: &mut W) -> Result<(), WriteFault>
-    ensures ok { OnOk result (Appends (W.contents writer.old) (W.contents writer.new) (answer_text (Denied open_id cause))) }
-    ensures err { OnErr result
-        (AppendsPrefix (W.contents writer.old) (W.contents writer.new) (answer_text (Denied open_id cause))) }
+    ensures { Writes result (W.contents writer.old) (W.contents writer.new) (answer_text (Denied open_id cause)) }
 {
     write_parts(
         writer,
@@ -128,8 +118,7 @@ pub fn print_pended<W: Write>(
     answers: &[Given],
     writer: &mut W,
 ) -> Result<(), WriteFault>
-    ensures ok { OnOk result (Appends (W.contents writer.old) (W.contents writer.new) (pended_text note answers.now)) }
-    ensures err { OnErr result (AppendsPrefix (W.contents writer.old) (W.contents writer.new) (pended_text note answers.now)) }
+    ensures { Writes result (W.contents writer.old) (W.contents writer.new) (pended_text note answers.now) }
 {
     match note {
         Note::Filter(note) => print_submitted(note, answers, writer),
@@ -142,8 +131,7 @@ fn print_submitted<W: Write>(
     answers: &[Given],
     writer: &mut W,
 ) -> Result<(), WriteFault>
-    ensures ok { OnOk result (Appends (W.contents writer.old) (W.contents writer.new) (submitted_text note answers.now)) }
-    ensures err { OnErr result (AppendsPrefix (W.contents writer.old) (W.contents writer.new) (submitted_text note answers.now)) }
+    ensures { Writes result (W.contents writer.old) (W.contents writer.new) (submitted_text note answers.now) }
 {
     let FilterNote::Submitted { open_id } = note else {
         return Ok(());

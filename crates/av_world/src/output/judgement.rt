@@ -1,6 +1,4 @@
-ghost use Rattle.std.specs.Prelude.{OnOk, OnErr};
-ghost use Rattle.std.specs.Io.KnownBytes.{Appends};
-ghost use Rattle.av_base.specs.Device.{AppendsPrefix};
+ghost use Rattle.av_base.specs.Device.{Writes};
 ghost use Rattle.av_world.specs.Text.Lines.{judged_text};
 
 use crate::report::Judged;
@@ -10,8 +8,7 @@ use std::io::Write;
 
 /// Writes the line of a judgement.
 pub fn print_judged<W: Write>(judged: &Judged, writer: &mut W) -> Result<(), WriteFault>
-    ensures ok { OnOk result (Appends (W.contents writer.old) (W.contents writer.new) (judged_text judged.now)) }
-    ensures err { OnErr result (AppendsPrefix (W.contents writer.old) (W.contents writer.new) (judged_text judged.now)) }
+    ensures { Writes result (W.contents writer.old) (W.contents writer.new) (judged_text judged.now) }
 {
     let stream = judged.stream.get();
     let generation = judged.generation.get();

@@ -1,6 +1,4 @@
-ghost use Rattle.std.specs.Prelude.{OnOk, OnErr};
-ghost use Rattle.std.specs.Io.KnownBytes.{Appends};
-ghost use Rattle.av_base.specs.Device.{AppendsPrefix};
+ghost use Rattle.av_base.specs.Device.{Writes};
 ghost use Rattle.av_world.specs.Text.Lines.{line_text};
 ghost use Rattle.av_world.specs.declared.report.Line.TheVariants.{Booted, Changed, Created, Published, Removed};
 
@@ -11,8 +9,7 @@ use std::io::Write;
 
 /// Writes a step's own line, if it has one.
 pub fn print_line<W: Write>(line: &Line, writer: &mut W) -> Result<(), WriteFault>
-    ensures ok { OnOk result (Appends (W.contents writer.old) (W.contents writer.new) (line_text line.now)) }
-    ensures err { OnErr result (AppendsPrefix (W.contents writer.old) (W.contents writer.new) (line_text line.now)) }
+    ensures { Writes result (W.contents writer.old) (W.contents writer.new) (line_text line.now) }
 {
     match *line {
         Line::Silent => Ok(()),
@@ -36,10 +33,7 @@ fn print_published<W: Write>(
     signatures: u64,
     writer: &mut W,
 ) -> Result<(), WriteFault>
-    ensures ok { OnOk result
-        (Appends (W.contents writer.old) (W.contents writer.new) (line_text (Published version signatures))) }
-    ensures err { OnErr result
-        (AppendsPrefix (W.contents writer.old) (W.contents writer.new) (line_text (Published version signatures))) }
+    ensures { Writes result (W.contents writer.old) (W.contents writer.new) (line_text (Published version signatures)) }
 {
     write_parts(
         writer,
@@ -54,8 +48,7 @@ fn print_published<W: Write>(
 }
 
 fn print_created<W: Write>(stream: StreamId, writer: &mut W) -> Result<(), WriteFault>
-    ensures ok { OnOk result (Appends (W.contents writer.old) (W.contents writer.new) (line_text (Created stream))) }
-    ensures err { OnErr result (AppendsPrefix (W.contents writer.old) (W.contents writer.new) (line_text (Created stream))) }
+    ensures { Writes result (W.contents writer.old) (W.contents writer.new) (line_text (Created stream)) }
 {
     write_parts(
         writer,
@@ -73,10 +66,7 @@ fn print_changed<W: Write>(
     length: u64,
     writer: &mut W,
 ) -> Result<(), WriteFault>
-    ensures ok { OnOk result
-        (Appends (W.contents writer.old) (W.contents writer.new) (line_text (Changed stream generation length))) }
-    ensures err { OnErr result
-        (AppendsPrefix (W.contents writer.old) (W.contents writer.new) (line_text (Changed stream generation length))) }
+    ensures { Writes result (W.contents writer.old) (W.contents writer.new) (line_text (Changed stream generation length)) }
 {
     write_parts(
         writer,
@@ -93,8 +83,7 @@ fn print_changed<W: Write>(
 }
 
 fn print_removed<W: Write>(stream: StreamId, writer: &mut W) -> Result<(), WriteFault>
-    ensures ok { OnOk result (Appends (W.contents writer.old) (W.contents writer.new) (line_text (Removed stream))) }
-    ensures err { OnErr result (AppendsPrefix (W.contents writer.old) (W.contents writer.new) (line_text (Removed stream))) }
+    ensures { Writes result (W.contents writer.old) (W.contents writer.new) (line_text (Removed stream)) }
 {
     write_parts(
         writer,
@@ -107,8 +96,7 @@ fn print_removed<W: Write>(stream: StreamId, writer: &mut W) -> Result<(), Write
 }
 
 fn print_booted<W: Write>(boot: u64, writer: &mut W) -> Result<(), WriteFault>
-    ensures ok { OnOk result (Appends (W.contents writer.old) (W.contents writer.new) (line_text (Booted boot))) }
-    ensures err { OnErr result (AppendsPrefix (W.contents writer.old) (W.contents writer.new) (line_text (Booted boot))) }
+    ensures { Writes result (W.contents writer.old) (W.contents writer.new) (line_text (Booted boot)) }
 {
     write_parts(
         writer,

@@ -1,7 +1,6 @@
-ghost use Rattle.std.specs.Prelude.{◌≡◌, None, Some, OnOk, OnErr};
-ghost use Rattle.std.specs.Io.KnownBytes.{Appends};
+ghost use Rattle.std.specs.Prelude.{◌≡◌, None, Some};
 ghost use Rattle.std.specs.Option.{option_copied};
-ghost use Rattle.av_base.specs.Device.{AppendsPrefix};
+ghost use Rattle.av_base.specs.Device.{Writes};
 ghost use Rattle.av_world.specs.Text.Notes.{filter_word, note_text, note_word, service_word};
 
 use crate::report::Note;
@@ -13,8 +12,7 @@ use std::io::Write;
 
 /// Writes the line of a note, if it has one.
 pub fn print_note<W: Write>(note: Note, writer: &mut W) -> Result<(), WriteFault>
-    ensures ok { OnOk result (Appends (W.contents writer.old) (W.contents writer.new) (note_text note)) }
-    ensures err { OnErr result (AppendsPrefix (W.contents writer.old) (W.contents writer.new) (note_text note)) }
+    ensures { Writes result (W.contents writer.old) (W.contents writer.new) (note_text note) }
 {
     let Some(word) = note_word(note) else {
         return Ok(());

@@ -65,5 +65,5 @@ fn put_sent(
     let Report { before, after, .. } = *report;
     put_messages(alloc, Way::Down, down, before.down, after.down, line)?;
     put_messages(alloc, Way::Up, up, before.up, after.up, line)?;
-    put_works(works, before.works, after.works, line)
+    put_works(alloc, works, before.works, after.works, line)
 }

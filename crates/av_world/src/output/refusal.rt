@@ -1,6 +1,4 @@
-ghost use Rattle.std.specs.Prelude.{OnOk, OnErr};
-ghost use Rattle.std.specs.Io.KnownBytes.{Appends};
-ghost use Rattle.av_base.specs.Device.{AppendsPrefix};
+ghost use Rattle.av_base.specs.Device.{Writes};
 ghost use Rattle.av_world.specs.Text.Refusals.{refused_text};
 
 use av_base::parts::write_parts;
@@ -9,8 +7,7 @@ use std::io::Write;
 
 /// Writes the line of a refusal.
 pub fn print_refused<W: Write>(word: &str, writer: &mut W) -> Result<(), WriteFault>
-    ensures ok { OnOk result (Appends (W.contents writer.old) (W.contents writer.new) (refused_text word.now)) }
-    ensures err { OnErr result (AppendsPrefix (W.contents writer.old) (W.contents writer.new) (refused_text word.now)) }
+    ensures { Writes result (W.contents writer.old) (W.contents writer.new) (refused_text word.now) }
 {
     write_parts(
         writer,

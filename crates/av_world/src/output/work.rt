@@ -1,13 +1,12 @@
-ghost use Rattle.std.specs.Prelude.{◌+◌, OnOk, OnErr};
-ghost use Rattle.std.specs.Io.KnownBytes.{Appends};
+ghost use Rattle.std.specs.Prelude.{◌+◌};
 ghost use Rattle.std.specs.List.{between};
-ghost use Rattle.av_base.specs.Device.{AppendsPrefix};
+ghost use Rattle.av_base.specs.Device.{Writes};
 ghost use Rattle.av_world.specs.Text.Messages.{placed, work_text};
 
-use crate::output::message::line_end;
+use crate::output::message::{line_end, print_told};
 use crate::output::part;
-use av_base::parts::write_parts;
-use av_base::{Part, Port, WriteFault};
+use crate::output::told::{of_kind, work_fields};
+use av_base::{Port, WriteFault};
 use av_service::Work;
 use std::io::Write;
 
@@ -19,10 +18,8 @@ pub fn print_works<W: Write>(
     to: u64,
     writer: &mut W,
 ) -> Result<(), WriteFault>
-    ensures ok { OnOk result (Appends (W.contents writer.old) (W.contents writer.new)
-        (placed work_text (from + 1) (between from to works.now))) }
-    ensures err { OnErr result (AppendsPrefix (W.contents writer.old) (W.contents writer.new)
-        (placed work_text (from + 1) (between from to works.now))) }
+    ensures { Writes result (W.contents writer.old) (W.contents writer.new)
+        (placed work_text (from + 1) (between from to works.now)) }
 {
     for (index, work) in part(works, from, to).iter().enumerate() {
         let number = from + index as u64 + 1;
@@ -36,27 +33,11 @@ fn print_work<W: Write>(
     work: &Option<(Port, Work)>,
     writer: &mut W,
 ) -> Result<(), WriteFault>
-    ensures ok { OnOk result (Appends (W.contents writer.old) (W.contents writer.new) (work_text number work.now)) }
-    ensures err { OnErr result (AppendsPrefix (W.contents writer.old) (W.contents writer.new) (work_text number work.now)) }
+    ensures { Writes result (W.contents writer.old) (W.contents writer.new) (work_text number work.now) }
 {
     let Some((port, work)) = work else {
         return Ok(());
     };
-    let id = work.id();
-    write_parts(
-        writer,
-        &[
-            Part::Text(b"work "),
-            Part::Number(number),
-            Part::Text(b" lent "),
-            Part::Number(id.boot),
-            Part::Text(b"."),
-            Part::Number(id.seq),
-            Part::Text(b" offset "),
-            Part::Number(work.offset()),
-            Part::Text(b" length "),
-            Part::Number(work.length()),
-            Part::Text(line_end(*port)),
-        ],
-    )
+    let told = of_kind("lent", work_fields(work));
+    print_told(b"work ", number, &told, line_end(*port), writer)
 }

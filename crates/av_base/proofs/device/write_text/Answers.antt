@@ -6,10 +6,10 @@ pub writes-preserved : goal.writes-preserved
 writes-preserved g c =
     (Appends-more _ _ _ c.args.text.now c.writes.at c.in-Ok.count c.writes.invariant.0 c.in-Ok.ensures.bytes, grind (arith, c.in-Ok.ensures.bound, length-drop))
 
-pub returns-in_default-clause-err : goal.returns-in_default-clause-err
-returns-in_default-clause-err g c = prefix_take _ _ _ c.writes.at (Appends-kept _ _ _ _ c.writes.invariant.0 c.in_default.ensures.bytes)
+pub returns-in_default : goal.returns-in_default
+returns-in_default g c = prefix_take _ _ _ c.writes.at (Appends-kept _ _ _ _ c.writes.invariant.0 c.in_default.ensures.bytes)
 
-pub returns-then-count-eq0-clause-err : goal.returns-then-count-eq0-clause-err
-returns-then-count-eq0-clause-err g c =
+pub returns-then-count-eq0 : goal.returns-then-count-eq0
+returns-then-count-eq0 g c =
     prefix_take _ _ _ (c.writes.at + c.in-Ok.count)
     (Appends-more _ _ _ c.args.text.now c.writes.at c.in-Ok.count c.writes.invariant.0 c.in-Ok.ensures.bytes)

@@ -17,16 +17,16 @@ loop-byte-preserved g c =
     (sym (spelt_next digits_of c.args.bytes.now c.loop-byte.byte-index 0 c.loop-byte-test.true))
     (Appends-trans _ _ _ _ _ c.loop-byte.invariant wrote))
 
-pub returns-then-is_err-clause-err : goal.returns-then-is_err-clause-err
-returns-then-is_err-clause-err g c =
+pub returns-then-is_err : goal.returns-then-is_err
+returns-then-is_err g c =
     let wrote : AppendsPrefix (g.W.Write.contents c.loop-byte.writer) (g.W.Write.contents c.write_byte.new.writer) (digits_of (get_or c.args.bytes.now c.loop-byte.byte-index 0)) =
     search rules in
     subst (AppendsPrefix (g.W.Write.contents c.args.writer.now) (g.W.Write.contents c.write_byte.new.writer))
     (spelt_around digits_of c.args.bytes.now c.loop-byte.byte-index 0 c.loop-byte-test.true ∙ spelt_digits c.args.bytes.now)
     (prefix_after _ _ _ _ _ c.loop-byte.invariant (prefix_before _ _ _ (spelt (map digits_of (drop (suc c.loop-byte.byte-index) c.args.bytes.now))) wrote))
 
-pub returns-clause-ok : goal.returns-clause-ok
-returns-clause-ok g c =
+pub returns : goal.returns
+returns g c =
     let whole = take_all c.loop-byte.byte-index c.args.bytes.now (omega arith) in
     subst (Appends (g.W.Write.contents c.args.writer.now) (g.W.Write.contents c.loop-byte.writer))
     (ap (λ bs. spelt (map digits_of bs)) whole ∙ spelt_digits c.args.bytes.now) c.loop-byte.invariant

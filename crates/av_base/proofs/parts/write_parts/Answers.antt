@@ -22,8 +22,8 @@ loop-part-preserved g c =
     (sym (spelt_next part_text c.args.parts.now c.loop-part.part-index nothing c.loop-part-test.true))
     (Appends-trans _ _ _ _ _ c.loop-part.invariant wrote))
 
-pub returns-then-is_err-clause-err : goal.returns-then-is_err-clause-err
-returns-then-is_err-clause-err g c =
+pub returns-then-is_err : goal.returns-then-is_err
+returns-then-is_err g c =
     let wrote : AppendsPrefix (g.W.Write.contents c.loop-part.writer) (g.W.Write.contents c.write_part.new.writer) (part_text (get_or c.args.parts.now c.loop-part.part-index nothing)) =
     search rules in
     subst (AppendsPrefix (g.W.Write.contents c.args.writer.now) (g.W.Write.contents c.write_part.new.writer))

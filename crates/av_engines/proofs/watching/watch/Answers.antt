@@ -60,8 +60,8 @@ pub returns-in-Ok-flush-clause-runs : goal.returns-in-Ok-flush-clause-runs
 returns-in-Ok-flush-clause-runs g c =
     let h = c.messages.invariant.watching in
     let done = done_is _ _ _ _ _ _ _ _ _ _ _ _ _ _ _ _ h c.messages.invariant.first c.messages.tally.counted ∙ eq-eqb _ _ c.messages-test.false in
-    watching_ends _ _ _ _ _ _ _ _ _ _ _ _ _ _ _ c.requires.nothing.0 h done c.in-Ok-flush.ensures.ok
+    watching_ends _ _ _ _ _ _ _ _ _ _ _ _ _ _ _ c.requires.nothing.0 h done c.in-Ok-flush.ensures.writes
 
 pub returns-in-Err-flush-clause-runs : goal.returns-in-Err-flush-clause-runs
 returns-in-Err-flush-clause-runs g c =
-    watching_breaks _ _ _ _ _ _ _ _ _ _ _ _ _ _ _ c.requires.nothing.0 c.messages.invariant.watching c.in-Err-flush.ensures.err
+    watching_breaks _ _ _ _ _ _ _ _ _ _ _ _ _ _ _ c.requires.nothing.0 c.messages.invariant.watching c.in-Err-flush.ensures.writes

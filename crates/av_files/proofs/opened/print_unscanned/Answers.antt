@@ -2,4 +2,4 @@ use Rattle.std.proofs.Common.{sym}
 use Rattle.av_files.proofs.opened.print_unscanned.Goals as goal
 
 pub returns : goal.returns
-returns g c = rw (sym c.get.ensures) (rw (sym c.number.ensures) (rw (sym c.from.ensures) c.write_parts.ensures.ok))
+returns g c = rw (sym c.get.ensures) (rw (sym c.number.ensures) (rw (sym c.from.ensures) c.write_parts.ensures))

@@ -24,8 +24,8 @@ loop-signature-preserved g c =
       all_take (λ (s : Signature). IsBytes s.pattern.bytes) c.args.signatures.now c.loop-signature.signature-index d c.loop-signature-test.true c.loop-signature.invariant.1 bytes,
     )
 
-pub returns-then-is_err-clause-err : goal.returns-then-is_err-clause-err
-returns-then-is_err-clause-err g c =
+pub returns-then-is_err-clause-writes : goal.returns-then-is_err-clause-writes
+returns-then-is_err-clause-writes g c =
     let d = c.signature-item.result in
     let wrote : AppendsPrefix (g.W.Write.contents c.loop-signature.writer) (g.W.Write.contents c.write_line.new.writer) (line_text (get_or c.args.signatures.now c.loop-signature.signature-index d)) =
     search rules in

@@ -1,37 +1,29 @@
-use Rattle.std.proofs.Common.{◌<◌, ◌^◌, Result, Ok, Err, OnOk, OnErr, map, rules, arith}
+use Rattle.std.proofs.Common.{◌<◌, ◌^◌, Result, Ok, Err, OnOk, map, rules, arith}
 use Rattle.std.specs.Io.KnownBytes.{Appends}
-use Rattle.av_base.proofs.DeviceLemmas.{prefix_after, prefix_before}
+use Rattle.av_base.proofs.DeviceLemmas.{prefix_before, writes_after, writes_failed}
 use Rattle.av_base.specs.Device.{AppendsPrefix}
 use Rattle.av_base.specs.Part.{spelt}
 use Rattle.av_sigset.proofs.SpellingLemmas.{reads_back}
 use Rattle.av_sigset.specs.Spelling.{format_for, head_text, line_text}
 use Rattle.av_sigset.proofs.spelling.write_signatures.Goals as goal
 
--- what holds after a success, or after a failure, gives what is to hold there
+-- what holds after a success gives what is to hold there
 on_ok : {A E : Type 0} {P Q : Type 0} (r : Result A E) → (P → Q) → OnOk r P → OnOk r Q
 on_ok (Ok x) f p = f p
 on_ok (Err e) f p = tt
 
-on_err : {A E : Type 0} {P Q : Type 0} (r : Result A E) → (P → Q) → OnErr r P → OnErr r Q
-on_err (Ok x) f p = tt
-on_err (Err e) f p = f p
-
-after_err : {A E : Type 0} (r : Result A E) → OnErr r (Unit {0})
-after_err (Ok x) = tt
-after_err (Err e) = tt
-
-pub returns-in_err-write_head-clause-err : goal.returns-in_err-write_head-clause-err
-returns-in_err-write_head-clause-err g c =
+pub returns-in_err-write_head-clause-writes : goal.returns-in_err-write_head-clause-writes
+returns-in_err-write_head-clause-writes g c =
     let wrote : AppendsPrefix (g.W.Write.contents c.args.writer.now) (g.W.Write.contents c.write_head.new.writer) (head_text (format_for c.args.signatures.now) c.args.version) =
     search rules in
     let all = prefix_before _ _ _ (spelt (map line_text c.args.signatures.now)) wrote in
-    on_err c.from_residual.result (λ u. all) (after_err c.from_residual.result)
+    writes_failed _ _ _ _ c.from_residual.ensures.0 all
 
-pub returns-clause-err : goal.returns-clause-err
-returns-clause-err g c =
+pub returns-clause-writes : goal.returns-clause-writes
+returns-clause-writes g c =
     let head : Appends (g.W.Write.contents c.args.writer.now) (g.W.Write.contents c.write_head.new.writer) (head_text (format_for c.args.signatures.now) c.args.version) =
     search rules in
-    on_err c.write_lines.result (λ lines. prefix_after _ _ _ _ _ head lines) c.write_lines.ensures.err
+    writes_after c.write_lines.result _ _ _ _ _ head c.write_lines.ensures.writes
 
 pub returns-clause-reads_back : goal.returns-clause-reads_back
 returns-clause-reads_back g c =

@@ -1,26 +1,21 @@
-use Rattle.std.proofs.Common.{[]}
-use Rattle.std.proofs.lemmas.Result.{on_err_weaker}
-use Rattle.av_base.proofs.DeviceLemmas.{prefix_after, prefix_before}
-use Rattle.av_world.proofs.WriteLemmas.{on_err}
+use Rattle.av_base.proofs.DeviceLemmas.{prefix_after, prefix_before, writes_after, writes_all, writes_failed}
 use Rattle.av_world.proofs.output.print_report.Goals as goal
 
-pub returns-in_err-print_line-clause-err : goal.returns-in_err-print_line-clause-err
-returns-in_err-print_line-clause-err g c = on_err _ (prefix_before _ _ _ _ c.in_err-print_line.ensures.err)
+pub returns-in_err-print_line : goal.returns-in_err-print_line
+returns-in_err-print_line g c = writes_failed _ _ _ _ c.from_residual.ensures.0 (prefix_before _ _ _ _ c.in_err-print_line.ensures)
 
-pub returns-in_err-print_opens-clause-err : goal.returns-in_err-print_opens-clause-err
-returns-in_err-print_opens-clause-err g c =
-    on_err _ (prefix_after _ _ _ _ _ c.in_ok-print_line.ensures.ok (prefix_before _ _ _ _ c.in_err-print_opens.ensures.err))
+pub returns-in_err-print_opens : goal.returns-in_err-print_opens
+returns-in_err-print_opens g c =
+    writes_failed _ _ _ _ c.from_residual-in_err-print_opens.ensures.0 (prefix_after _ _ _ _ _ c.in_ok-print_line.ensures (prefix_before _ _ _ _ c.in_err-print_opens.ensures))
 
-pub returns-in_err-print_sent-clause-err : goal.returns-in_err-print_sent-clause-err
-returns-in_err-print_sent-clause-err g c =
-    on_err _
-    (prefix_after _ _ _ _ _ c.in_ok-print_line.ensures.ok
-    (prefix_after _ _ _ _ _ c.in_ok-print_opens.ensures.ok (prefix_before _ _ _ _ c.in_err-print_sent.ensures.err)))
+pub returns-in_err-print_sent : goal.returns-in_err-print_sent
+returns-in_err-print_sent g c =
+    writes_failed _ _ _ _ c.from_residual-in_err-print_sent.ensures.0
+    (prefix_after _ _ _ _ _ c.in_ok-print_line.ensures
+    (prefix_after _ _ _ _ _ c.in_ok-print_opens.ensures (prefix_before _ _ _ _ c.in_err-print_sent.ensures)))
 
-pub returns-clause-err : goal.returns-clause-err
-returns-clause-err g c =
-    on_err_weaker c.print_note.result
-    (λ wrote.
-    prefix_after _ _ _ _ _ c.in_ok-print_line.ensures.ok
-    (prefix_after _ _ _ _ _ c.in_ok-print_opens.ensures.ok (prefix_after _ _ _ _ _ c.in_ok-print_sent.ensures.ok (prefix_before _ _ _ [] wrote))))
-    c.print_note.ensures.err
+pub returns : goal.returns
+returns g c =
+    writes_after c.print_note.result _ _ _ _ _ c.in_ok-print_line.ensures
+    (writes_after c.print_note.result _ _ _ _ _ c.in_ok-print_opens.ensures
+    (writes_after c.print_note.result _ _ _ _ _ c.in_ok-print_sent.ensures (writes_all c.print_note.result _ _ _ c.print_note.ensures)))

@@ -1,8 +1,5 @@
 use Rattle.std.proofs.Common.{sym}
 use Rattle.av_world.proofs.output.answer.print_denied.Goals as goal
 
-pub returns-clause-ok : goal.returns-clause-ok
-returns-clause-ok g c = rw (sym c.get.ensures) (rw (sym c.number.ensures) (rw (sym c.from.ensures) c.write_parts.ensures.ok))
-
-pub returns-clause-err : goal.returns-clause-err
-returns-clause-err g c = rw (sym c.get.ensures) (rw (sym c.number.ensures) (rw (sym c.from.ensures) c.write_parts.ensures.err))
+pub returns : goal.returns
+returns g c = rw (sym c.get.ensures) (rw (sym c.number.ensures) (rw (sym c.from.ensures) c.write_parts.ensures))
