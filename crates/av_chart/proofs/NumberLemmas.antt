@@ -1,39 +1,27 @@
 -- What an event does to the numbers of opens: which it takes, and which wait or are answered.
-use Rattle.std.proofs.Common.{◌≡◌, ℕ, suc, ◌+◌, ◌==◌, ◌&&◌, ◌++◌, not, Bool, true, false, nat_le, nat_lt, List, [], ◌∷◌, length, map, Option, None, Some, Result, Ok, Err, if◌then◌else◌, refl, sym, ap, ◌∙◌, subst, arith}
+use Rattle.std.proofs.Common.{◌≡◌, ℕ, suc, ◌+◌, ◌==◌, ◌++◌, List, [], ◌∷◌, length, map, Option, None, Some, Result, Ok, Err, if◌then◌else◌, refl, sym, ap, ◌∙◌, subst, arith}
 use Rattle.std.proofs.Math.Seq.{drop-append_seam}
-use Rattle.std.proofs.lemmas.Bool.{cond_both}
 use Rattle.std.proofs.lemmas.Bool.Decides.{nat_tests}
 use Rattle.std.proofs.lemmas.List.Edits.{between_none}
 use Rattle.std.proofs.lemmas.Slice.{between_to_end}
-use Rattle.std.specs.List.{between, list_any}
-use Rattle.std.specs.Option.{is_some, option_map}
+use Rattle.std.specs.List.{between}
+use Rattle.std.specs.Option.{option_map}
 use Rattle.av_base.specs.Refused.{unless}
-use Rattle.av_base.specs.declared.message_id.MessageId.{MessageId}
 use Rattle.av_base.specs.declared.port.Port.{Port}
-use Rattle.av_base.specs.declared.verdict.Verdict.{Verdict}
-use Rattle.av_cache.specs.declared.entry.Entry.{Entry}
 use Rattle.av_filter.proofs.CountLemmas.{Balanced, filter_balanced, opens_after}
 use Rattle.av_filter.proofs.EachLemmas.{map_same}
-use Rattle.av_filter.specs.Again.{again_at, ends}
-use Rattle.av_filter.specs.Changing.{changes, cleaned, cleaned_at, removed, rewritten}
-use Rattle.av_filter.specs.Conduct.{FilterEvent, Opens, Changes, CleansUp, Receives, TimesOut, Disconnects, Restarts, again_each, disconnects, disconnects_to, filter_refusal, filter_step, loses_all, moves, restarts, times_out}
+use Rattle.av_filter.specs.Again.{ends}
+use Rattle.av_filter.specs.Conduct.{FilterEvent, again_each, filter_refusal, filter_step, loses_all, moves, restarts}
 use Rattle.av_filter.specs.Once.{once_up_to, times}
-use Rattle.av_filter.specs.Opening.{answers_with, open_asked, open_cached, open_found, open_judged, open_new, opened, pends, taken}
+use Rattle.av_filter.proofs.RowLemmas.{again_row, row_of}
+use Rattle.av_filter.specs.Rows
+use Rattle.av_filter.specs.Rows.{AgainRow, OpenRow, Row, without}
 use Rattle.av_filter.specs.Reaction.{Reaction}
-use Rattle.av_filter.specs.Receiving.{greeted, reads, receives_at, replies}
 use Rattle.av_filter.specs.declared.fault.FilterFault.{FilterFault}
-use Rattle.av_filter_table.specs.Answering.{present_bytes}
-use Rattle.av_filter_table.specs.Asking.{ended, is_held}
-use Rattle.av_filter_table.specs.Ports.{is_open, least_port, without_port}
-use Rattle.av_filter_table.specs.Table.{Table, asking, has_room, on_port, raised, sequence_left}
+use Rattle.av_filter_table.specs.Table.{Table, on_port}
 use Rattle.av_filter_table.specs.declared.question.Question.{Question}
 use Rattle.av_frame.specs.Message.{Letter}
-use Rattle.av_frame.specs.declared.message.Body.{Body}
-use Rattle.av_frame.specs.declared.message.Body.TheVariants.{Hello, Read, Reply, Updated}
-use Rattle.av_frame.specs.declared.outcome.Outcome.{Outcome as ReplyOutcome}
-use Rattle.av_frame.specs.declared.outcome.Outcome.TheVariants.{Judged, Failed}
 use Rattle.av_pend.specs.Pend.{open_of}
-use Rattle.av_pend.specs.declared.answer.Answer.{Answer}
 use Rattle.av_service.specs.Conduct.{ServiceEvent, connect_refusal}
 use Rattle.av_service.specs.Work.{WorkState}
 use Rattle.av_service.specs.declared.fault.ConnectFault.{ConnectFault}
@@ -42,12 +30,11 @@ use Rattle.av_sigset.specs.Made.{set_made}
 use Rattle.av_sigset.specs.Set.{NumberedSet}
 use Rattle.av_sigset.specs.declared.fault.CatalogueFault.{CatalogueFault}
 use Rattle.av_sigset.specs.declared.fault.SetFault.{SetFault}
-use Rattle.av_store.specs.Files.{Change, Create, Write, Cut, Remove}
 use Rattle.av_store.specs.Rows.{number_named}
 use Rattle.av_store.specs.Store.{Store}
-use Rattle.av_store.specs.declared.stream.Stream.{Stream}
 use Rattle.av_world.specs.Held.{pended}
-use Rattle.av_world.specs.World.{Outcome, WorldState, added, changed_line, connected, down_frame, filter_event, filter_outcome, given_at, member, named_event, no_line, published, service_event, step_fault, step_of, up_frame, work_at, work_event, desk_of}
+use Rattle.av_world.specs.World.{Outcome, WorldState, added, changed_line, connected, down_frame, filter_event, filter_outcome, given_at, member, named_event, no_line}
+use Rattle.av_world.specs.World.{published, service_event, step_fault, step_of, up_frame, work_at, work_event, desk_of}
 use Rattle.av_world.specs.declared.event.Event.{Event}
 use Rattle.av_world.specs.declared.given.Given.{Given}
 use Rattle.av_world.specs.declared.report.Line.{Line}
@@ -64,114 +51,20 @@ record TellsNone (r : Reaction) : Type 0 where
 record TellsLast (r : Reaction) : Type 0 where
   last : filter_id r.note ≡ r.volume.opens
 
-module _ (t : Table) (v : Store) where
-  answered_note : (t : Table) (a : Answer) → TellsLast (answers_with t v a)
-  answered_note t a = record { last = refl }
+open_note : {t : Table} {v : Store} {s least : ℕ} {r : Reaction} → OpenRow t v s least r → TellsLast r
+open_note (Rows.no_stream at) = record { last = refl }
+open_note _ = record { last = refl }
 
-  pended_note : (t : Table) (s least : ℕ) (id : MessageId) (ms : List Letter) → TellsLast (pends t v s least id ms)
-  pended_note t s least id ms = record { last = refl }
-
-  new_note : (s least : ℕ) (x : Stream) (b : Bool) (o : Option Port) → TellsLast (open_new t v s least x b o)
-  unfolding open_new
-  new_note s least x false o = answered_note t _
-  new_note s least x true None = answered_note t _
-  new_note s least x true (Some port) = pended_note _ s least _ _
-
-  cached_note : (s least : ℕ) (x : Stream) (o : Option Entry) → TellsLast (open_cached t v s least x o)
-  unfolding open_cached
-  cached_note s least x (Some e) = record { last = refl }
-  cached_note s least x None =
-      cond_both (not (has_room t)) _ _ TellsLast (λ e. answered_note t _) (λ e. new_note s least x (is_some (least_port t.connected)) (asking t))
-
-  asked_note : (s least : ℕ) (x : Stream) (o : Option Question) → TellsLast (open_asked t v s least x o)
-  unfolding open_asked
-  asked_note s least x (Some q) = cond_both (has_room t) _ _ TellsLast (λ e. pended_note t s least _ _) (λ e. answered_note t _)
-  asked_note s least x None = cached_note s least x _
-
-  judged_note : (s least : ℕ) (x : Stream) (o : Option Verdict) → TellsLast (open_judged t v s least x o)
-  unfolding open_judged
-  judged_note s least x (Some r) = record { last = refl }
-  judged_note s least x None = asked_note s least x _
-
-  found_note : (s least : ℕ) (o : Option Stream) → TellsLast (open_found t v s least o)
-  unfolding open_found
-  found_note s least None = record { last = refl }
-  found_note s least (Some x) = judged_note s least x _
-
-  again_note : (q : Question) (early : List Letter) (o : Option Port) → TellsNone (again_at o t v q early)
-  unfolding again_at ends
-  again_note q early None = record { none = refl }
-  again_note q early (Some port) = cond_both (list_any (is_held q.id) t.pended && sequence_left t) _ _ TellsNone (λ e. record { none = refl }) (λ e. record { none = refl })
-
-  written_note : (s : ℕ) (o : Option Question) → TellsNone (rewritten t v s o)
-  unfolding rewritten
-  written_note s None = record { none = refl }
-  written_note s (Some q) = again_note q _ (least_port t.connected)
-
-  removed_note : (s : ℕ) (o : Option Question) → TellsNone (removed t v s o)
-  unfolding removed ended
-  removed_note s None = record { none = refl }
-  removed_note s (Some q) = record { none = refl }
-
-  cleaned_at_note : (s : ℕ) (b : Bool) (o : Option Port) → TellsNone (cleaned_at t v s b o)
-  unfolding cleaned_at
-  cleaned_at_note s true (Some port) = record { none = refl }
-  cleaned_at_note s true None = record { none = refl }
-  cleaned_at_note s false (Some port) = record { none = refl }
-  cleaned_at_note s false None = record { none = refl }
-
-  cleaned_note : (s : ℕ) (o : Option Stream) → TellsNone (cleaned t v s o)
-  unfolding cleaned
-  cleaned_note s None = record { none = refl }
-  cleaned_note s (Some x) = cleaned_at_note s _ _
-
-  greeted_note : (port : Port) (number version : ℕ) → TellsNone (greeted t v port number version)
-  unfolding greeted
-  greeted_note port number version =
-      cond_both (not (number == v.number)) _ _ TellsNone (λ e. record { none = refl })
-      (λ e. cond_both (is_open port t.connected) _ _ TellsNone (λ e. record { none = refl }) (λ e. cond_both (nat_lt version t.floor) _ _ TellsNone (λ e. record { none = refl }) (λ e. record { none = refl })))
-
-  reads_note : (port : Port) (id : MessageId) (offset count : ℕ) (o : Option Question) → TellsNone (reads t v port id offset count o)
-  unfolding reads
-  reads_note port id offset count None = record { none = refl }
-  reads_note port id offset count (Some q) = cond_both (nat_le (length (present_bytes v q.stream)) offset) _ _ TellsNone (λ e. record { none = refl }) (λ e. record { none = refl })
-
-  replies_note : (outcome : ReplyOutcome) (o : Option Question) → TellsNone (replies t v outcome o)
-  unfolding replies ended
-  replies_note outcome None = record { none = refl }
-  replies_note (Failed why) (Some q) = record { none = refl }
-  replies_note (Judged version r) (Some q) = cond_both (nat_lt version t.floor) _ _ TellsNone (λ e. again_note q [] (least_port t.connected)) (λ e. record { none = refl })
-
-  receives_note : (port : Port) (m : Body) → TellsNone (receives_at t v port m)
-  unfolding receives_at
-  receives_note port (Hello number version) = greeted_note port number version
-  receives_note port (Updated version) = record { none = refl }
-  receives_note port (Read id offset count) = reads_note port id offset count _
-  receives_note port (Reply id outcome) = replies_note outcome _
-  receives_note port _ = record { none = refl }
-
-  timed_note : (o : Option Question) → TellsNone (times_out t v o)
-  unfolding times_out ended
-  timed_note None = record { none = refl }
-  timed_note (Some q) = record { none = refl }
+again_note : {o : Option Port} {t : Table} {v : Store} {q : Question} {early : List Letter} {r : Reaction} → AgainRow o t v q early r → TellsNone r
+unfolding ends
+again_note (Rows.anew port to left) = record { none = refl }
+again_note (Rows.over why) = record { none = refl }
 
 -- questions that are asked again one after the other
 each_note : (t : Table) (v : Store) (qs : List Question) → TellsNone (again_each t v qs)
 unfolding again_each
 each_note t v [] = record { none = refl }
 each_note t v (q ∷ qs) = record { none = refl }
-
-lost_note : (t : Table) (v : Store) (port : Port) (o : Option Port) → TellsNone (disconnects_to o t v port)
-unfolding disconnects_to loses_all moves
-lost_note t v port None = record { none = refl }
-lost_note t v port (Some least) = record { none = (each_note t v (on_port port t.questions)).none }
-
-changes_note : (t : Table) (v : Store) (c : Change) → TellsNone (changes t v c)
-unfolding changes
-changes_note t v (Create name) = record { none = refl }
-changes_note t v (Write s o b) = written_note t _ s _
-changes_note t v (Cut s n) = written_note t _ s _
-changes_note t v (Remove s) = removed_note t _ s _
 
 -- ---- the numbers that are taken
 
@@ -195,16 +88,18 @@ quiet_takes v r none same = subst (Takes v.opens (filter_id r.note)) (sym same) 
 open_takes : (v : Store) (r : Reaction) → TellsLast r → r.volume.opens ≡ v.opens + 1 → Takes v.opens (filter_id r.note) r.volume.opens
 open_takes v r last next = subst (Takes v.opens (filter_id r.note)) (sym next) (one_taken v.opens (filter_id r.note) (last.last ∙ next))
 
+row_takes : {t : Table} {v : Store} {f : FilterEvent} {r : Reaction} → Row t v f r → r.volume.opens ≡ opens_after v.opens f → Takes v.opens (filter_id r.note) r.volume.opens
+unfolding loses_all moves restarts
+row_takes {t} {v} (Rows.opens s least r row) so = open_takes v r (open_note row) so
+row_takes {t} {v} {f} {r} (Rows.outdated c s q is at) so = quiet_takes v r (again_note (again_row _ t _ q _)) so
+row_takes {t} {v} {f} {r} (Rows.stale port id version x q at old) so = quiet_takes v r (again_note (again_row _ t v q [])) so
+row_takes {t} {v} (Rows.moved port other left) so =
+    let qs = on_port port t.questions in quiet_takes v (moves (without t port) v qs) (record { none = (each_note (without t port) v qs).none }) so
+row_takes {t} {v} {f} {r} _ so = quiet_takes v r (record { none = refl }) so
+
 by_event : (t : Table) (v : Store) (f : FilterEvent) → (filter_step t v f).volume.opens ≡ opens_after v.opens f
     → Takes v.opens (filter_id (filter_step t v f).note) (filter_step t v f).volume.opens
-unfolding filter_step opened disconnects restarts
-by_event t v (Opens s least) so = open_takes v _ (found_note (raised least t) (taken v) s least _) so
-by_event t v (Changes c) so = quiet_takes v _ (changes_note t v c) so
-by_event t v (CleansUp s) so = quiet_takes v _ (cleaned_note t v s _) so
-by_event t v (Receives m) so = quiet_takes v _ (receives_note t v m.port m.body) so
-by_event t v (TimesOut seq) so = quiet_takes v _ (timed_note t v _) so
-by_event t v (Disconnects port) so = quiet_takes v (disconnects t v port) (lost_note (record t { connected = without_port port t.connected }) v port (least_port (without_port port t.connected))) so
-by_event t v Restarts so = quiet_takes v (restarts t v) (record { none = refl }) so
+by_event t v f so = row_takes (row_of t v f) so
 
 -- ---- the numbers that wait or are answered
 
