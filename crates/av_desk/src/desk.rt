@@ -1,6 +1,6 @@
 ghost use Rattle.std.specs.Prelude.{◌≡◌, ◌≢◌, [], IfErr, IfOk, IfSome, map};
 ghost use Rattle.av_desk.specs.Audit.{opened_by, started_by};
-ghost use Rattle.av_desk.specs.Book.{sets_end};
+ghost use Rattle.av_desk.specs.Book.{IsBuilt, sets_end};
 ghost use Rattle.av_service.specs.Audit.{IsCatalogue, IsServiceAudit};
 ghost use Rattle.av_sigset.specs.Publication.{publication_of};
 
@@ -43,14 +43,36 @@ impl Desk {
         ensures { IfErr result (λ e. e.value ≡ catalogue) }
     {
         match Locked::new(alloc, volume_number, port, catalogue, limits) {
-            Ok(locked) => Ok(Desk {
-                inner: Mutex::new(Inner {
-                    locked,
-                    is_stopped: false,
-                }),
-                came: Condvar::new(),
-            }),
+            Ok(locked) => Ok(Desk::of(locked)),
             Err(failed) => Err(failed),
+        }
+    }
+
+    /// The same over a catalogue whose newest automaton is built already, as for another desk of the same set.
+    pub fn over(
+        alloc: Global,
+        volume_number: u64,
+        port: Port,
+        catalogue: Catalogue,
+        automaton: Option<SharedAutomaton>,
+        limits: Limits,
+    ) -> Result<Desk, AllocFailed<Catalogue>>
+        requires { IsBuilt (map publication_of catalogue.sets) automaton }
+        ensures { IfErr result (λ e. e.value ≡ catalogue) }
+    {
+        match Locked::over(alloc, volume_number, port, catalogue, automaton, limits) {
+            Ok(locked) => Ok(Desk::of(locked)),
+            Err(refused) => Err(refused),
+        }
+    }
+
+    fn of(locked: Locked) -> Desk {
+        Desk {
+            inner: Mutex::new(Inner {
+                locked,
+                is_stopped: false,
+            }),
+            came: Condvar::new(),
         }
     }
 

@@ -63,9 +63,27 @@ impl Locked {
         ensures ok { IfOk result (λ l. l ≡ new_book volume_number port limits (map publication_of catalogue.sets)) }
         ensures err { IfErr result (λ e. e.value ≡ catalogue) }
     {
-        let Ok(automaton) = newest_built(alloc, &catalogue) else {
-            return Err(AllocFailed { value: catalogue });
-        };
+        match newest_built(alloc, &catalogue) {
+            Ok(built) => Locked::over(alloc, volume_number, port, catalogue, built, limits),
+            Err(_) => Err(AllocFailed { value: catalogue }),
+        }
+    }
+
+    /// The same over a catalogue whose newest automaton is built already.
+    pub fn over(
+        alloc: Global,
+        volume_number: u64,
+        port: Port,
+        catalogue: Catalogue,
+        automaton: Option<SharedAutomaton>,
+        limits: Limits,
+    ) -> Result<Locked, AllocFailed<Catalogue>>
+        requires { IsBuilt (map publication_of catalogue.sets) automaton }
+        ensures ok { IfOk result (λ l. l ≡ new_book volume_number port limits (map publication_of catalogue.sets)) }
+        ensures err { IfErr result (λ e. e.value ≡ catalogue) }
+    {
+        // Read for the prover: the versions of a catalogue rise, and each of its sets is one.
+        let _rises = catalogue.latest();
         let Ok(service) = Service::start(alloc, volume_number, port, &catalogue, limits) else {
             return Err(AllocFailed { value: catalogue });
         };
@@ -130,8 +148,7 @@ impl Locked {
 
 // The automaton of the set published last, if one was.
 fn newest_built(alloc: Global, catalogue: &Catalogue) -> Result<Option<SharedAutomaton>, AllocError>
-    ensures built { IfOk result (λ a. IsBuilt (map publication_of catalogue.now.sets) a) }
-    ensures catalogue { IsCatalogue (map publication_of catalogue.now.sets) }
+    ensures { IfOk result (λ a. IsBuilt (map publication_of catalogue.now.sets) a) }
 {
     let Some(version) = catalogue.latest() else {
         return Ok(None);
