@@ -3,15 +3,15 @@
 //! and kept. No wait is longer than was asked for: for a frame that has begun to be whole, for the first byte of the next one,
 //! and for what goes out to be taken.
 
-ghost use Rattle.std.specs.Prelude.{◌≤◌, length, IfOk};
+ghost use Rattle.std.specs.Prelude.{◌≤◌, length, IfOk, IfSome};
 
 use crate::place::Arriving;
 use std::alloc::Global;
 use std::cell::RefCell;
-use std::io;
 use std::io::{ErrorKind, Read, Write};
 use std::os::unix::net::UnixStream;
 use std::time::{Clock, Duration};
+use std::{io, thread};
 
 // For how many milliseconds a write waits before it is looked what has come meanwhile.
 const PAUSE: u64 = 10;
@@ -28,6 +28,10 @@ const PIECE: usize = 8_192;
 const PIECES: usize = 16;
 
 const MOST_KEPT: usize = 2_097_152;
+
+// How often a read looks whether something has come before it sleeps: some tens of microseconds in all, which the other side needs
+// for an answer.
+const LOOKS: usize = 50;
 
 // As soon as so many bytes wait to go out they do.
 const MANY: usize = 65_536;
@@ -157,6 +161,10 @@ impl Inside {
     fn hear<C: Clock>(&mut self, line: &Line<'_, C>, buf: &mut [u8]) -> io::Result<usize>
         ensures { IfOk result (λ count. count ≤ length buf.new) }
     {
+        if let Some(count) = self.look(line, buf)? {
+            self.pass(line, &buf[..count])?;
+            return Ok(count);
+        }
         let over = self.over(line)?;
         'reads: for _ in 0..u64::MAX {
             let now = line.clock.monotonic()?;
@@ -177,6 +185,16 @@ impl Inside {
             }
         }
         Err(lost())
+    }
+
+    // One read without sleeping, where something comes within some looks.
+    fn look<C: Clock>(&mut self, line: &Line<'_, C>, buf: &mut [u8]) -> io::Result<Option<usize>>
+        ensures { IfOk result (λ heard. IfSome heard (λ count. count ≤ length buf.new)) }
+    {
+        line.stream.set_nonblocking(true)?;
+        let heard = looked(&line.stream, buf);
+        line.stream.set_nonblocking(false)?;
+        heard
     }
 
     // The moment at which the wait for a frame is over, where it ever is.
@@ -281,6 +299,21 @@ impl<'a, C: Clock> Line<'a, C> {
         }
         Ok(Some(left))
     }
+}
+
+// One read of a stream that has nobody wait. Between two looks the processor is another thread's that wants it.
+fn looked(stream: &UnixStream, buf: &mut [u8]) -> io::Result<Option<usize>>
+    ensures { IfOk result (λ heard. IfSome heard (λ count. count ≤ length buf.new)) }
+{
+    let mut reader = stream;
+    'looks: for _ in 0..LOOKS {
+        match reader.read(buf) {
+            Ok(count) => return Ok(Some(count)),
+            Err(error) if !is_passing(&error) => return Err(error),
+            Err(_) => thread::yield_now(),
+        }
+    }
+    Ok(None)
 }
 
 // How much is left until a moment, or an hour where there is none.
