@@ -3,6 +3,7 @@
 ghost use Rattle.std.specs.Prelude.{◌≡◌, ◌≢◌};
 ghost use Rattle.av_engines.specs.declared.end.End.TheVariants.{Done};
 ghost use Rattle.av_gate.specs.Seats.{IsSeatOf};
+ghost use Rattle.av_host.specs.declared.carrying.Way.TheVariants.{Into};
 
 use crate::wire::{Line, Wire};
 use av_desk::Desk;
@@ -15,21 +16,46 @@ use std::alloc::Global;
 use std::sync::Wait;
 use std::sync::atomic::Ordering::SeqCst;
 
-/// From a connection into the gate, and what that gives out at its port into the connection. At its end the port's service is lost;
-/// once all are, opens need not wait any more. Where opens may have been left without an answer, the other connection ends too.
-pub fn into_gate<R: Wait>(rt: &R, alloc: Global, line: Line<'_>, gate: &Gate, mut seat: Seat) -> End
+/// Which way a loop carries messages: into the gate, or out of it.
+#[derive(Clone, Copy)]
+pub enum Way {
+    Into,
+    Out,
+}
+
+/// What one of the two loops round a port does. Only the one out of the gate can be done.
+pub fn carry<R: Wait>(
+    rt: &R,
+    alloc: Global,
+    way: Way,
+    line: Line<'_>,
+    gate: &Gate,
+    seat: Seat,
+) -> End
+    requires { IsSeatOf gate.now seat }
+    ensures { way ≡ Into → result ≢ Done }
+{
+    match way {
+        Way::Into => into_gate(rt, alloc, line, gate, seat),
+        Way::Out => out_of_gate(rt, alloc, line, gate, seat),
+    }
+}
+
+// From a connection into the gate, and what that gives out at its port into the connection. At its end the port's service is lost;
+// once all are, opens need not wait any more. Where opens may have been left without an answer, the other connection ends too.
+fn into_gate<R: Wait>(rt: &R, alloc: Global, line: Line<'_>, gate: &Gate, mut seat: Seat) -> End
     requires { IsSeatOf gate.now seat }
     ensures { result ≢ Done }
 {
     let wire = line.wire;
-    let mut stream = &wire.stream;
+    let mut reader = wire.reader();
     let end = gate_in(
         rt,
         alloc,
         gate,
         &mut seat,
         line.port,
-        &mut stream,
+        &mut reader,
         &wire.sender,
         TURNS,
     );
@@ -44,15 +70,9 @@ pub fn into_gate<R: Wait>(rt: &R, alloc: Global, line: Line<'_>, gate: &Gate, mu
     end
 }
 
-/// From the gate's port into its connection, of what the openers' calls and the other connection give out. At its end the other
-/// side's input ends.
-pub fn out_of_gate<R: Wait>(
-    rt: &R,
-    alloc: Global,
-    line: Line<'_>,
-    gate: &Gate,
-    mut seat: Seat,
-) -> End
+// From the gate's port into its connection, of what the openers' calls and the other connection give out. At its end the other
+// side's input ends.
+fn out_of_gate<R: Wait>(rt: &R, alloc: Global, line: Line<'_>, gate: &Gate, mut seat: Seat) -> End
     requires { IsSeatOf gate.now seat }
 {
     let wire = line.wire;
@@ -76,13 +96,13 @@ pub fn into_desk<R: Wait>(
     ensures same { result.0.channel ≡ giver.channel }
     ensures end { result.1 ≢ Done }
 {
-    let mut stream = &wire.stream;
+    let mut reader = wire.reader();
     let end = desk_in(
         rt,
         alloc,
         desk,
         &mut giver,
-        &mut stream,
+        &mut reader,
         &wire.sender,
         TURNS,
     );

@@ -1,16 +1,24 @@
 //! The threads of a host, each started in a scope. Where one can't be started its part is done in the thread that wanted to
 //! start it, after all the others were told to end.
 
-ghost use Rattle.std.specs.Prelude.{◌≡◌, IfOk, MatchResult, vec_len};
+ghost use Rattle.std.specs.Prelude.{◌≡◌, IfErr, IfOk, MatchOption, MatchResult, vec_len};
+ghost use Rattle.std.specs.Result.{ForErr, ForOk};
 ghost use Rattle.av_gate.specs.Seats.{IsSeatOf};
+ghost use Rattle.av_host.specs.Ends.{EndsAlone, EndsBeside};
+ghost use Rattle.av_pool.specs.Pool.{AreEndsOf};
+ghost use Rattle.av_status.specs.Status.{IsFault, status_of_end};
 
-use crate::carrying::{back_to_desk, into_desk, into_gate, out_of_gate};
+use crate::carrying::{Way, back_to_desk, carry, into_desk};
+use crate::ends::{PortEnds, end_of_both, with_lack};
+use crate::host::Hosting;
 use crate::opener::{Brought, Openings, Part, open_files};
-use crate::wire::{GateWires, Line, Wire};
+use crate::service::{Service, Services};
+use crate::staffed::{Staffed, start_pools};
+use crate::wire::{BreakOff, Line, Wire};
 use av_desk::Desk;
 use av_engines::End;
 use av_gate::{Gate, Seat};
-use av_pool::{Giver, Taker};
+use av_pool::{Giver, Pool, Taker};
 use av_status::gravest;
 use av_status::progress::Progress;
 use std::alloc::{AllocError, Global};
@@ -18,7 +26,7 @@ use std::io::Write;
 use std::snapshot::Snapshot;
 use std::sync::Wait;
 use std::thread;
-use std::thread::{JoinHandle, Promise, PromisedHandle, Scope, Threads};
+use std::thread::{JoinHandle, Promise, PromisedHandle, Scope, SpawnError, Threads};
 use std::time::Clock;
 
 // The giver that a thread gives back gives to the same pool.
@@ -29,204 +37,148 @@ impl Promise<(Giver, End)> for SameGiver {
     ghost kept_by = { λ p r. r.0.channel ≡ p.0.value.channel };
 }
 
-// The ends of the pool that a thread gives back are of the same pool.
+// The giver and the taker that a thread gives back are the ends of the pool.
 #[derive(Drop)]
-struct SameEnds {
-    giver: Snapshot<Giver>,
-    taker: Snapshot<Taker>,
+struct EndsOf(Snapshot<Pool>);
+
+impl Promise<(Giver, Taker, End)> for EndsOf {
+    ghost kept_by = { λ p r. AreEndsOf p.0.value r.0 r.1 };
 }
 
-impl Promise<(Giver, Taker, End)> for SameEnds {
-    ghost kept_by = { λ p r. (r.0.channel ≡ p.giver.value.channel) × (r.1.channel ≡ p.taker.value.channel) };
-}
-
-/// The gate and one service. Gives back the ends of the pool, what the openers brought back, and the gravest end of a loop.
-pub fn meet<R: Threads + Wait + Sync, C: Clock, E: Write>(
+/// The gate and its services, each with so many workers. Gives what the openers brought back, and the end of the host; else why
+/// nothing was opened.
+pub fn meet<R: Hosting, C: Clock, E: Write>(
     rt: &R,
     alloc: Global,
-    wires: &GateWires,
     gate: &Gate,
     seat: Seat,
-    wire: &Wire,
-    desk: &Desk,
-    giver: Giver,
-    taker: Taker,
+    services: &Services,
     openings: &Openings<'_>,
+    workers: usize,
     err: &mut Progress<'_, C, E>,
-) -> (Giver, Taker, Result<Vec<Brought>, AllocError>, End)
+) -> Result<(Vec<Brought>, End), End>
     requires { IsSeatOf gate.now seat }
-    ensures giver { result.0.channel ≡ giver.channel }
-    ensures taker { result.1.channel ≡ taker.channel }
-    ensures brought { IfOk result.2 (λ all. vec_len all ≡ openings.now.openers) }
+    ensures brought { IfOk result (λ met. vec_len met.0 ≡ openings.now.openers) }
+    ensures failed { IfErr result (λ end. IsFault (status_of_end end)) }
 {
     thread::scope(
         thread::scope_env(),
         rt,
-        |scope| -> (Giver, Taker, Result<Vec<Brought>, AllocError>, End)
+        |scope| -> Result<(Vec<Brought>, End), End>
             requires { IsSeatOf gate.now seat }
-            ensures giver { result.0.channel ≡ giver.channel }
-            ensures taker { result.1.channel ≡ taker.channel }
-            ensures brought { IfOk result.2 (λ all. vec_len all ≡ openings.entry.now.openers) }
+            ensures brought { IfOk result (λ met. vec_len met.0 ≡ openings.entry.now.openers) }
+            ensures failed { IfErr result (λ end. IsFault (status_of_end end)) }
         {
-            let started = start_service(scope, rt, alloc, wire, desk, giver, taker);
-            let (brought, first, spare) = open_all(rt, alloc, wires, gate, seat, openings, err);
-            let (giver, taker, end) = match started {
-                Ok(thread) => thread.join(rt),
-                Err(ended) => ended,
-            };
-            let end = gravest(gravest(first.gravest(), spare.gravest()), end);
-            (giver, taker, brought, end)
+            let (first, spare) = start_pools(rt, alloc, services, workers)?;
+            let first = Serving::start(scope, rt, alloc, first);
+            let spare = spare.map(|spare| Serving::start(scope, rt, alloc, spare));
+            let (brought, at_first, at_spare) = open_all(rt, alloc, gate, seat, openings, err);
+            let end = conclude(rt, first, at_first, spare, at_spare);
+            let end = with_lack(end, services.lack_thread());
+            match brought {
+                Ok(brought) => Ok((brought, end)),
+                Err(_) => Err(gravest(end, End::Memory)),
+            }
         },
     )
 }
 
-/// The gate and two services. Gives back the ends of both pools, the first one's before the spare's, what the openers brought back,
-/// and how both services ended.
-pub fn meet_both<R: Threads + Wait + Sync, C: Clock, E: Write>(
+// The end of the services, once all came to theirs. Then their pools are stopped.
+fn conclude<R: Threads + Wait>(
     rt: &R,
-    alloc: Global,
-    wires: &GateWires,
-    gate: &Gate,
-    seat: Seat,
-    wire: &Wire,
-    desk: &Desk,
-    giver: Giver,
-    taker: Taker,
-    spare_wire: &Wire,
-    spare_desk: &Desk,
-    spare_giver: Giver,
-    spare_taker: Taker,
-    openings: &Openings<'_>,
-    err: &mut Progress<'_, C, E>,
-) -> (
-    Giver,
-    Taker,
-    Giver,
-    Taker,
-    Result<Vec<Brought>, AllocError>,
-    End,
-)
-    requires { IsSeatOf gate.now seat }
-    ensures giver { result.0.channel ≡ giver.channel }
-    ensures taker { result.1.channel ≡ taker.channel }
-    ensures spare_giver { result.2.channel ≡ spare_giver.channel }
-    ensures spare_taker { result.3.channel ≡ spare_taker.channel }
-    ensures brought { IfOk result.4 (λ all. vec_len all ≡ openings.now.openers) }
+    first: Serving<'_>,
+    at_first: PortEnds,
+    spare: Option<Serving<'_>>,
+    at_spare: PortEnds,
+) -> End
+    ensures { MatchOption spare.entry (EndsAlone at_first result) (λ _. EndsBeside at_first at_spare result) }
 {
-    thread::scope(
-        thread::scope_env(),
-        rt,
-        |scope| -> (
-            Giver,
-            Taker,
-            Giver,
-            Taker,
-            Result<Vec<Brought>, AllocError>,
-            End,
-        )
-            requires { IsSeatOf gate.now seat }
-            ensures giver { result.0.channel ≡ giver.channel }
-            ensures taker { result.1.channel ≡ taker.channel }
-            ensures spare_giver { result.2.channel ≡ spare_giver.channel }
-            ensures spare_taker { result.3.channel ≡ spare_taker.channel }
-            ensures brought { IfOk result.4 (λ all. vec_len all ≡ openings.entry.now.openers) }
-        {
-            let one = start_service(scope, rt, alloc, wire, desk, giver, taker);
-            let two = start_service(
-                scope,
-                rt,
-                alloc,
-                spare_wire,
-                spare_desk,
-                spare_giver,
-                spare_taker,
-            );
-            let (brought, at_first, at_spare) = open_all(
-                rt, alloc, wires, gate, seat, openings, err,
-            );
-            let (giver, taker, end) = match one {
-                Ok(thread) => thread.join(rt),
-                Err(ended) => ended,
-            };
-            let (spare_giver, spare_taker, spare_end) = match two {
-                Ok(thread) => thread.join(rt),
-                Err(ended) => ended,
-            };
-            let end = end_of_both(at_first.with(end), at_spare.with(spare_end));
-            (giver, taker, spare_giver, spare_taker, brought, end)
-        },
-    )
-}
-
-// The ends of the two loops round a port of the gate.
-#[derive(Clone, Copy)]
-struct PortEnds {
-    into: End,
-    out: End,
-}
-
-impl PortEnds {
-    fn gravest(self) -> End {
-        gravest(self.into, self.out)
-    }
-
-    // The end of the port's service, whose own loops ended so: that of the loop into the gate where it left opens without an answer,
-    // else the gravest.
-    fn with(self, service: End) -> End {
-        if matches!(self.into, End::Memory | End::AuditFull) {
-            return self.into;
-        }
-        gravest(self.gravest(), service)
-    }
-}
-
-// The end of two services. That one was lost is no fault where the other one came to a good end.
-fn end_of_both(first: End, spare: End) -> End {
-    if is_lost(first) && ends_well(spare) {
-        return spare;
-    }
-    if is_lost(spare) && ends_well(first) {
-        return first;
-    }
-    gravest(first, spare)
-}
-
-// Whether a connection failed.
-fn is_lost(end: End) -> bool {
-    matches!(end, End::ReadFault | End::WriteFault | End::Frame)
-}
-
-fn ends_well(end: End) -> bool {
-    matches!(end, End::Done | End::Closed)
-}
-
-fn start_service<'s, S, R: Threads + Wait + Sync>(
-    scope: &'s Scope<'s, S>,
-    rt: &'s R,
-    alloc: Global,
-    wire: &'s Wire,
-    desk: &'s Desk,
-    giver: Giver,
-    taker: Taker,
-) -> Result<PromisedHandle<(Giver, Taker, End), SameEnds>, (Giver, Taker, End)>
-    ensures giver { MatchResult result (λ h. h.promise.giver.value.channel ≡ giver.channel) (λ e. e.0.channel ≡ giver.channel) }
-    ensures taker { MatchResult result (λ h. h.promise.taker.value.channel ≡ taker.channel) (λ e. e.1.channel ≡ taker.channel) }
-{
-    let same = SameEnds {
-        giver: Snapshot::of(&giver),
-        taker: Snapshot::of(&taker),
+    let (first, end) = first.join(rt);
+    let Some(spare) = spare else {
+        first.stop(rt);
+        return at_first.alone(end);
     };
-    let started = scope.spawn_with(
-        same,
-        move || -> (Giver, Taker, End)
-            ensures giver { result.0.channel ≡ giver.channel }
-            ensures taker { result.1.channel ≡ taker.channel }
-        { serve(rt, alloc, wire, desk, giver, taker) },
-    );
+    let (spare, spare_end) = spare.join(rt);
+    first.stop(rt);
+    spare.stop(rt);
+    end_of_both(at_first.beside(end), at_spare.beside(spare_end))
+}
+
+// A service whose side a thread does. It gives back the ends of the pool, and the gravest end of a loop.
+struct Serving<'a> {
+    service: &'a Service,
+    pool: Pool,
+    thread: Result<PromisedHandle<(Giver, Taker, End), EndsOf>, (Giver, Taker, End)>,
+    ghost running: { ForOk thread (λ h. h.promise.0.value ≡ pool) },
+    ghost over: { ForErr thread (λ ended. AreEndsOf pool ended.0 ended.1) },
+}
+
+impl<'a> Serving<'a> {
+    fn start<'s, S, R: Threads + Wait + Sync>(
+        scope: &'s Scope<'s, S>,
+        rt: &'s R,
+        alloc: Global,
+        staffed: Staffed<'s>,
+    ) -> Serving<'s>
+        ensures { result.pool ≡ staffed.entry.pool }
+    {
+        let Staffed {
+            service,
+            pool,
+            giver,
+            taker,
+        } = staffed;
+        let wire = &service.wire;
+        let desk = &service.desk;
+        let started = scope.spawn_with(
+            EndsOf(Snapshot::of(&pool)),
+            move || -> (Giver, Taker, End)
+                ensures giver { result.0.channel ≡ giver.channel }
+                ensures taker { result.1.channel ≡ taker.channel }
+            { serve(rt, alloc, wire, desk, giver, taker) },
+        );
+        let thread = or_run_here(started, wire);
+        Serving {
+            service,
+            pool,
+            thread,
+        }
+    }
+
+    fn join<R: Threads>(self, rt: &R) -> (Staffed<'a>, End)
+        ensures { result.0.pool ≡ self.entry.pool }
+    {
+        let Serving {
+            service,
+            pool,
+            thread,
+        } = self;
+        let (giver, taker, end) = match thread {
+            Ok(thread) => thread.join(rt),
+            Err(ended) => ended,
+        };
+        let staffed = Staffed {
+            service,
+            pool,
+            giver,
+            taker,
+        };
+        (staffed, end)
+    }
+}
+
+// The thread that was started. Where it wasn't, what its part gives in this one, once the others were told to end.
+fn or_run_here<B: BreakOff, H, T, F: FnOnce() -> T>(
+    started: Result<H, SpawnError<F>>,
+    others: &B,
+) -> Result<H, T>
+    requires { IfErr started (λ refused. F.pre refused.value) }
+    ensures { MatchResult started (λ h. result ≡ Ok h) (λ refused. (t : T) × (result ≡ Err t) × F.post refused.value t) }
+{
     match started {
         Ok(thread) => Ok(thread),
         Err(refused) => {
-            wire.break_off();
+            others.break_off();
             Err((refused.value)())
         }
     }
@@ -274,20 +226,13 @@ fn start_into_desk<'s, S, R: Threads + Wait + Sync>(
 ) -> Result<PromisedHandle<(Giver, End), SameGiver>, (Giver, End)>
     ensures { MatchResult result (λ h. h.promise.0.value.channel ≡ giver.channel) (λ e. e.0.channel ≡ giver.channel) }
 {
-    let same = SameGiver(Snapshot::of(&giver));
     let started = scope.spawn_with(
-        same,
+        SameGiver(Snapshot::of(&giver)),
         move || -> (Giver, End)
             ensures { result.0.channel ≡ giver.channel }
         { into_desk(rt, alloc, wire, desk, giver) },
     );
-    match started {
-        Ok(thread) => Ok(thread),
-        Err(refused) => {
-            wire.break_off();
-            Err((refused.value)())
-        }
-    }
+    or_run_here(started, wire)
 }
 
 // The filter's side: two loops round each port of the gate that has a connection, and the openers. Gives what the openers brought
@@ -295,7 +240,6 @@ fn start_into_desk<'s, S, R: Threads + Wait + Sync>(
 fn open_all<R: Threads + Wait + Sync, C: Clock, E: Write>(
     rt: &R,
     alloc: Global,
-    wires: &GateWires,
     gate: &Gate,
     mut seat: Seat,
     openings: &Openings<'_>,
@@ -319,40 +263,46 @@ fn open_all<R: Threads + Wait + Sync, C: Clock, E: Write>(
             requires seat { IsSeatOf gate.now seat }
             ensures { IfOk result.0 (λ all. vec_len all ≡ openings.entry.now.openers) }
         {
-            let first = Some(wires.first());
-            let spare = wires.spare();
-            let into = start_into_gate(scope, rt, alloc, first, gate, reader);
-            let into_spare = start_into_gate(scope, rt, alloc, spare, gate, spare_reader);
-            let out = start_out_of_gate(scope, rt, alloc, first, gate, writer);
-            let out_of_spare = start_out_of_gate(scope, rt, alloc, spare, gate, spare_writer);
-            let brought = open_in_threads(scope, rt, alloc, wires, gate, seat, openings, err);
+            let first = Some(openings.wires.first());
+            let spare = openings.wires.spare();
+            let into = start_loop(scope, rt, alloc, Way::Into, first, gate, reader);
+            let into_spare = start_loop(scope, rt, alloc, Way::Into, spare, gate, spare_reader);
+            let out = start_loop(scope, rt, alloc, Way::Out, first, gate, writer);
+            let out_of_spare = start_loop(scope, rt, alloc, Way::Out, spare, gate, spare_writer);
+            let brought = open_in_threads(scope, rt, alloc, gate, seat, openings, err);
             gate.stop(rt);
-            let first = PortEnds {
-                into: ended(rt, into),
-                out: ended(rt, out),
-            };
-            let spare = PortEnds {
-                into: ended(rt, into_spare),
-                out: ended(rt, out_of_spare),
-            };
+            let first = ends_at(rt, into, out);
+            let spare = ends_at(rt, into_spare, out_of_spare);
             (brought, first, spare)
         },
     )
 }
 
-// The end of a loop, once its thread has come to it.
-fn ended<R: Threads>(rt: &R, started: Result<JoinHandle<End>, End>) -> End {
+// The ends of the two loops round a port, once their threads have come to them.
+fn ends_at<R: Threads>(
+    rt: &R,
+    into: Result<JoinHandle<End>, End>,
+    out: Result<JoinHandle<End>, End>,
+) -> PortEnds {
+    let into = joined(rt, into);
+    let out = joined(rt, out);
+    PortEnds { into, out }
+}
+
+// What a thread gives, or gave where it couldn't be started.
+fn joined<R: Threads, T>(rt: &R, started: Result<JoinHandle<T>, T>) -> T {
     match started {
         Ok(thread) => thread.join(rt),
-        Err(end) => end,
+        Err(done) => done,
     }
 }
 
-// The loop into the gate at a port that has a connection; else Done.
-fn start_into_gate<'s, S, R: Threads + Wait + Sync>(
+// A loop at a port that has a connection; else Done.
+fn start_loop<'s, S, R: Threads + Wait + Sync>(
     scope: &'s Scope<'s, S>,
     rt: &'s R,
     alloc: Global,
+    way: Way,
     line: Option<Line<'s>>,
     gate: &'s Gate,
     seat: Seat,
@@ -365,43 +315,9 @@ fn start_into_gate<'s, S, R: Threads + Wait + Sync>(
     let started = scope.spawn(
         move ||
             requires { IsSeatOf gate.now seat }
-        { into_gate(rt, alloc, line, gate, seat) },
+        { carry(rt, alloc, way, line, gate, seat) },
     );
-    match started {
-        Ok(thread) => Ok(thread),
-        Err(refused) => {
-            line.wires.break_off();
-            Err((refused.value)())
-        }
-    }
-}
-
-// The loop out of it likewise.
-fn start_out_of_gate<'s, S, R: Threads + Wait + Sync>(
-    scope: &'s Scope<'s, S>,
-    rt: &'s R,
-    alloc: Global,
-    line: Option<Line<'s>>,
-    gate: &'s Gate,
-    seat: Seat,
-) -> Result<JoinHandle<End>, End>
-    requires { IsSeatOf gate.now seat }
-{
-    let Some(line) = line else {
-        return Err(End::Done);
-    };
-    let started = scope.spawn(
-        move ||
-            requires { IsSeatOf gate.now seat }
-        { out_of_gate(rt, alloc, line, gate, seat) },
-    );
-    match started {
-        Ok(thread) => Ok(thread),
-        Err(refused) => {
-            line.wires.break_off();
-            Err((refused.value)())
-        }
-    }
+    or_run_here(started, line.wires)
 }
 
 fn start_opener<'s, S, R: Threads + Wait + Sync>(
@@ -419,13 +335,7 @@ fn start_opener<'s, S, R: Threads + Wait + Sync>(
             requires { IsSeatOf gate.now seat }
         { open_files(rt, alloc, gate, seat, part) },
     );
-    match started {
-        Ok(thread) => Ok(thread),
-        Err(refused) => {
-            part.wires.break_off();
-            Err((refused.value)())
-        }
-    }
+    or_run_here(started, part.openings.wires)
 }
 
 // What the openers bring back, each from a thread of its own, the first opener's first.
@@ -433,7 +343,6 @@ fn open_in_threads<'s, S, R: Threads + Wait + Sync, C: Clock, E: Write>(
     scope: &'s Scope<'s, S>,
     rt: &'s R,
     alloc: Global,
-    wires: &'s GateWires,
     gate: &'s Gate,
     mut seat: Seat,
     openings: &'s Openings<'s>,
@@ -446,20 +355,13 @@ fn open_in_threads<'s, S, R: Threads + Wait + Sync, C: Clock, E: Write>(
     let mut all = Vec::with_capacity(alloc, openings.openers)?;
     'openers: for first in 0..openings.openers {
         let mine = gate.seat(&mut seat);
-        let part = Part {
-            openings,
-            wires,
-            first,
-        };
+        let part = Part { openings, first };
         let opener = start_opener(scope, rt, alloc, gate, mine, part);
         openers.push(opener)?;
     }
     watch(rt, openings, err);
     'threads: for opener in openers {
-        all.push(match opener {
-            Ok(thread) => thread.join(rt),
-            Err(brought) => brought,
-        })?;
+        all.push(joined(rt, opener))?;
     }
     Ok(all)
 }

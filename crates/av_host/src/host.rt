@@ -3,23 +3,21 @@ ghost use Rattle.std.specs.Io.KnownBytes.{Appends};
 ghost use Rattle.av_engines.specs.declared.end.End.TheVariants.{Done};
 ghost use Rattle.av_files.specs.Opened.{opened_lines, tally_from};
 ghost use Rattle.av_gate.specs.Seats.{IsSeatOf};
-ghost use Rattle.av_pool.specs.Pool.{AreEndsOf};
 ghost use Rattle.av_host.specs.Brought.{AreBrought, AreHosted, AreTold, answer_at, opened_files};
 ghost use Rattle.av_status.specs.Status.{EndsWell, graver, gravest_from, IsFault, status_of_end};
 
-use crate::crew::{meet, meet_both};
+use crate::crew::meet;
+use crate::desks::Desks;
 use crate::opener::{Brought, Group, Openings};
-use crate::wire::{GateWires, Wire};
-use av_base::{Limits, Mode, Port, Refusal};
-use av_desk::Desk;
+use crate::service::Services;
+use crate::signatures::Signatures;
+use av_base::{Limits, Mode};
 use av_engines::End;
 use av_files::opened::{Opened, conclude_opened, count_opened, print_opened};
 use av_files::scanner::{Input, read_set};
-use av_files::streams::{VOLUME, add_file, empty_volume};
+use av_files::streams::{add_file, empty_volume};
 use av_gate::{Gate, Seat};
 use av_pend::Answer;
-use av_pool::{Giver, Pool, Taker};
-use av_sigset::{Catalogue, SignatureSet};
 use av_status::faults::out_of_memory;
 use av_status::progress::Progress;
 use av_status::status::Status;
@@ -48,16 +46,6 @@ pub struct Crew {
     pub has_spare: bool,
 }
 
-impl Crew {
-    // Openings of a group's files by as many openers.
-    fn openings<'a>(self, group: Group<'a>) -> Openings<'a>
-        ensures group { result.group ≡ group.entry }
-        ensures openers { result.openers ≡ self.openers }
-    {
-        Openings::new(group, self.openers)
-    }
-}
-
 /// Opens files through a filter and its scanning service, in threads of this process, and writes a line for each, in the
 /// order given, as far as it is to be shown. The set and then each file is judged before any is opened; the first fault ends it,
 /// with one line to `err`.
@@ -77,6 +65,9 @@ pub fn host_files<R: Hosting, W: Write, E: Write>(
         Ok(set) => set,
         Err(status) => return status,
     };
+    let Ok(signatures) = Signatures::build(alloc, set) else {
+        return out_of_memory(err);
+    };
     let mut volume = empty_volume(alloc);
     let mut names = Vec::new(alloc);
     'files: for file in files {
@@ -95,7 +86,16 @@ pub fn host_files<R: Hosting, W: Write, E: Write>(
     let mut tally = Tally::new();
     let mut quiet = Progress::new(rt, err, false);
     match host_group(
-        rt, alloc, set, volume, group, crew, wishes, &mut tally, out, &mut quiet,
+        rt,
+        alloc,
+        &signatures,
+        volume,
+        group,
+        crew,
+        wishes,
+        &mut tally,
+        out,
+        &mut quiet,
     ) {
         Ok(ended) => conclude_opened(tally, files.len(), ended, wishes, &mut quiet),
         Err(failed) => failed,
@@ -107,7 +107,7 @@ pub fn host_files<R: Hosting, W: Write, E: Write>(
 pub fn host_group<R: Hosting, C: Clock, W: Write, E: Write>(
     rt: &R,
     alloc: Global,
-    set: SignatureSet,
+    signatures: &Signatures,
     volume: Volume,
     group: Group<'_>,
     crew: Crew,
@@ -119,24 +119,24 @@ pub fn host_group<R: Hosting, C: Clock, W: Write, E: Write>(
     ensures told { IfOk result (λ status. AreTold crew.openers group.entry.names.now wishes tally.old tally.new (W.contents out.old) (W.contents out.new) status) }
     ensures failed { IfErr result (λ status. IsFault status) }
 {
-    let Ok(spare) = spare_desk(rt, alloc, &set, crew) else {
+    let Ok(desks) = Desks::connected(rt, alloc, signatures, crew) else {
         return Err(out_of_memory(err));
     };
-    match connected_desk(rt, alloc, Port::One, set) {
-        Ok(desk) => host_beside(
-            rt, alloc, &desk, &spare, volume, group, crew, wishes, tally, out, err,
+    match Gate::new(alloc, volume, Mode::FailClosed, Limits::greatest()) {
+        Ok((gate, seat)) => host_over(
+            rt, alloc, gate, seat, desks, group, crew, wishes, tally, out, err,
         ),
         Err(_) => Err(out_of_memory(err)),
     }
 }
 
-// The same, beside a desk that has greeted the filter, and a spare's where there is to be one.
-fn host_beside<R: Hosting, C: Clock, W: Write, E: Write>(
+// The same over this gate and these desks.
+fn host_over<R: Hosting, C: Clock, W: Write, E: Write>(
     rt: &R,
     alloc: Global,
-    desk: &Desk,
-    spare: &Option<Desk>,
-    volume: Volume,
+    gate: Gate,
+    seat: Seat,
+    desks: Desks,
     group: Group<'_>,
     crew: Crew,
     wishes: Wishes,
@@ -144,13 +144,11 @@ fn host_beside<R: Hosting, C: Clock, W: Write, E: Write>(
     out: &mut W,
     err: &mut Progress<'_, C, E>,
 ) -> Result<Status, Status>
+    requires { IsSeatOf gate seat }
     ensures told { IfOk result (λ status. AreTold crew.openers group.entry.names.now wishes tally.old tally.new (W.contents out.old) (W.contents out.new) status) }
     ensures failed { IfErr result (λ status. IsFault status) }
 {
-    let Ok((gate, seat)) = Gate::new(alloc, volume, Mode::FailClosed, Limits::greatest()) else {
-        return Err(out_of_memory(err));
-    };
-    let opened = open_at(rt, alloc, &gate, seat, desk, spare, group, crew, err);
+    let opened = open_at(rt, alloc, &gate, seat, desks, group, crew, err);
     gate.abandon();
     err.wipe();
     match opened {
@@ -183,60 +181,14 @@ fn tell<W: Write, E: Write>(
     }
 }
 
-// A desk at a port with this one set, which has greeted the filter.
-fn connected_desk<R: Wait>(
-    rt: &R,
-    alloc: Global,
-    port: Port,
-    set: SignatureSet,
-) -> Result<Desk, AllocError> {
-    let mut catalogue = Catalogue::new(alloc);
-    if catalogue.publish(set).is_err() {
-        return Err(AllocError);
-    }
-    let Ok(desk) = Desk::new(alloc, VOLUME, port, catalogue, Limits::greatest()) else {
-        return Err(AllocError);
-    };
-    match desk.connect(rt, alloc) {
-        Ok(_) => Ok(desk),
-        Err(_) => Err(AllocError),
-    }
-}
-
-// The spare's desk, with a set of its own, where there is to be one.
-fn spare_desk<R: Wait>(
-    rt: &R,
-    alloc: Global,
-    set: &SignatureSet,
-    crew: Crew,
-) -> Result<Option<Desk>, AllocError> {
-    if !crew.has_spare {
-        return Ok(None);
-    }
-    let desk = connected_desk(rt, alloc, Port::Two, copy_of(alloc, set)?)?;
-    Ok(Some(desk))
-}
-
-// A copy of a set that was read from a file.
-fn copy_of(alloc: Global, set: &SignatureSet) -> Result<SignatureSet, AllocError> {
-    let mut file = Vec::new(alloc);
-    if set.write(&mut file).is_err() {
-        return Err(AllocError);
-    }
-    match SignatureSet::read(alloc, file.as_slice()) {
-        Ok(set) => Ok(set),
-        Err(_) => Err(AllocError),
-    }
-}
-
-// Opens the files between this gate and its desks: what each was told, and the gravest end of a loop. Else why none was opened.
+// Opens the files between this gate and services at these desks: what each was told, and the gravest end of a loop. Else why none
+// was opened.
 fn open_at<'a, R: Hosting, C: Clock, E: Write>(
     rt: &R,
     alloc: Global,
     gate: &Gate,
     seat: Seat,
-    desk: &Desk,
-    spare: &Option<Desk>,
+    desks: Desks,
     group: Group<'a>,
     crew: Crew,
     err: &mut Progress<'_, C, E>,
@@ -245,97 +197,17 @@ fn open_at<'a, R: Hosting, C: Clock, E: Write>(
     ensures brought { IfOk result (λ r. AreBrought crew.openers group.entry.names.now r.0.items r.1) }
     ensures failed { IfErr result (λ end. IsFault (status_of_end end)) }
 {
-    match spare {
-        None => open_at_one(rt, alloc, gate, seat, desk, group, crew, err),
-        Some(spare) => open_at_both(rt, alloc, gate, seat, desk, spare, group, crew, err),
-    }
+    let services = Services::connect(rt, alloc, desks)?;
+    open_over(rt, alloc, gate, seat, &services, group, crew, err)
 }
 
-// The same between this gate and one desk.
-fn open_at_one<'a, R: Hosting, C: Clock, E: Write>(
-    rt: &R,
-    alloc: Global,
-    gate: &Gate,
-    seat: Seat,
-    desk: &Desk,
-    group: Group<'a>,
-    crew: Crew,
-    err: &mut Progress<'_, C, E>,
-) -> Result<(Vec<Opened<'a>>, End), End>
-    requires { IsSeatOf gate.now seat }
-    ensures brought { IfOk result (λ r. AreBrought crew.openers group.entry.names.now r.0.items r.1) }
-    ensures failed { IfErr result (λ end. IsFault (status_of_end end)) }
-{
-    let Ok((first, wire)) = Wire::pair(rt, alloc) else {
-        return Err(End::ReadFault);
-    };
-    let wires = GateWires { first, spare: None };
-    open_over(rt, alloc, &wires, gate, seat, &wire, desk, group, crew, err)
-}
-
-// The same between this gate and two desks.
-fn open_at_both<'a, R: Hosting, C: Clock, E: Write>(
-    rt: &R,
-    alloc: Global,
-    gate: &Gate,
-    seat: Seat,
-    desk: &Desk,
-    spare_desk: &Desk,
-    group: Group<'a>,
-    crew: Crew,
-    err: &mut Progress<'_, C, E>,
-) -> Result<(Vec<Opened<'a>>, End), End>
-    requires { IsSeatOf gate.now seat }
-    ensures brought { IfOk result (λ r. AreBrought crew.openers group.entry.names.now r.0.items r.1) }
-    ensures failed { IfErr result (λ end. IsFault (status_of_end end)) }
-{
-    let Ok((first, wire)) = Wire::pair(rt, alloc) else {
-        return Err(End::ReadFault);
-    };
-    let Ok((spare, spare_wire)) = Wire::pair(rt, alloc) else {
-        return Err(End::ReadFault);
-    };
-    let wires = GateWires {
-        first,
-        spare: Some(spare),
-    };
-    open_over_both(
-        rt,
-        alloc,
-        &wires,
-        gate,
-        seat,
-        &wire,
-        desk,
-        &spare_wire,
-        spare_desk,
-        group,
-        crew,
-        err,
-    )
-}
-
-// The pool of a service, and its ends.
-fn start_pool<R: Hosting>(rt: &R, alloc: Global, crew: Crew) -> Result<(Pool, Giver, Taker), End>
-    ensures ends { IfOk result (λ r. AreEndsOf r.0 r.1 r.2) }
-    ensures failed { IfErr result (λ end. IsFault (status_of_end end)) }
-{
-    match Pool::start(*rt, alloc, crew.workers, ()) {
-        Ok(started) => Ok(started),
-        Err(Refusal::NoMemory) => Err(End::Memory),
-        Err(Refusal::Fault(_)) => Err(End::ReadFault),
-    }
-}
-
-// Opens the files over the two ends of a connection.
+// The same over the connections of these services.
 fn open_over<'a, R: Hosting, C: Clock, E: Write>(
     rt: &R,
     alloc: Global,
-    wires: &GateWires,
     gate: &Gate,
     seat: Seat,
-    wire: &Wire,
-    desk: &Desk,
+    services: &Services,
     group: Group<'a>,
     crew: Crew,
     err: &mut Progress<'_, C, E>,
@@ -344,92 +216,35 @@ fn open_over<'a, R: Hosting, C: Clock, E: Write>(
     ensures brought { IfOk result (λ r. AreBrought crew.openers group.entry.names.now r.0.items r.1) }
     ensures failed { IfErr result (λ end. IsFault (status_of_end end)) }
 {
-    let (pool, giver, taker) = start_pool(rt, alloc, crew)?;
-    let openings = crew.openings(group);
-    let (giver, taker, brought, end) = meet(
-        rt, alloc, wires, gate, seat, wire, desk, giver, taker, &openings, err,
-    );
-    pool.stop(rt, giver, taker).discard();
-    let end = with_lack(end, wires.lack_thread() || wire.lacks_thread());
-    told_by(alloc, group, crew.openers, brought, end)
-}
-
-// The same over two connections.
-fn open_over_both<'a, R: Hosting, C: Clock, E: Write>(
-    rt: &R,
-    alloc: Global,
-    wires: &GateWires,
-    gate: &Gate,
-    seat: Seat,
-    wire: &Wire,
-    desk: &Desk,
-    spare_wire: &Wire,
-    spare_desk: &Desk,
-    group: Group<'a>,
-    crew: Crew,
-    err: &mut Progress<'_, C, E>,
-) -> Result<(Vec<Opened<'a>>, End), End>
-    requires { IsSeatOf gate.now seat }
-    ensures brought { IfOk result (λ r. AreBrought crew.openers group.entry.names.now r.0.items r.1) }
-    ensures failed { IfErr result (λ end. IsFault (status_of_end end)) }
-{
-    let (pool, giver, taker) = start_pool(rt, alloc, crew)?;
-    let (spare_pool, spare_giver, spare_taker) = match start_pool(rt, alloc, crew) {
-        Ok(started) => started,
-        Err(end) => {
-            pool.stop(rt, giver, taker).discard();
-            return Err(end);
-        }
-    };
-    let openings = crew.openings(group);
-    let (giver, taker, spare_giver, spare_taker, brought, end) = meet_both(
+    let openings = Openings::new(group, crew.openers, &services.wires);
+    let met = meet(
         rt,
         alloc,
-        wires,
         gate,
         seat,
-        wire,
-        desk,
-        giver,
-        taker,
-        spare_wire,
-        spare_desk,
-        spare_giver,
-        spare_taker,
+        services,
         &openings,
+        crew.workers,
         err,
     );
-    pool.stop(rt, giver, taker).discard();
-    spare_pool.stop(rt, spare_giver, spare_taker).discard();
-    let lacks_thread = wires.lack_thread() || wire.lacks_thread() || spare_wire.lacks_thread();
-    let end = with_lack(end, lacks_thread);
-    told_by(alloc, group, crew.openers, brought, end)
-}
-
-// The graver of an end and of that of a host that lacks a thread.
-fn with_lack(end: End, lacks_thread: bool) -> End {
-    if lacks_thread {
-        gravest(end, End::ReadFault)
-    } else {
-        end
+    match met {
+        Ok((brought, end)) => told_by(alloc, group, crew.openers, brought, end),
+        Err(end) => Err(end),
     }
 }
 
-// What each file was told by what the openers brought back, if they did, and the gravest of this end and theirs.
+// What each file was told by what so many openers brought back, and the gravest of this end and theirs.
 fn told_by<'a>(
     alloc: Global,
     group: Group<'a>,
     openers: usize,
-    brought: Result<Vec<Brought>, AllocError>,
+    brought: Vec<Brought>,
     end: End,
 ) -> Result<(Vec<Opened<'a>>, End), End>
-    requires { IfOk brought (λ all. vec_len all ≡ openers) }
+    requires { vec_len brought ≡ openers }
     ensures brought { IfOk result (λ r. AreBrought openers group.entry.names.now r.0.items r.1) }
     ensures failed { IfErr result (λ end. IsFault (status_of_end end)) }
 {
-    let Ok(brought) = brought else {
-        return Err(gravest(end, End::Memory));
-    };
     told_of(alloc, group.names, &brought, end)
 }
 

@@ -8,9 +8,16 @@
 
 mod carrying;
 mod crew;
+mod desks;
+mod ends;
 pub mod host;
 pub mod opener;
-pub mod wire;
+mod service;
+mod signal;
+pub mod signatures;
+mod staffed;
+mod wire;
 
 pub use host::{Crew, Hosting, host_files, host_group};
 pub use opener::Group;
+pub use signatures::Signatures;

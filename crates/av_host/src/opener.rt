@@ -2,6 +2,7 @@ ghost use Rattle.std.specs.Prelude.{◌≡◌, ◌≤◌};
 ghost use Rattle.av_ends.specs.Tickets.{IsNoteOf};
 ghost use Rattle.av_gate.specs.Seats.{IsSeatOf};
 
+use crate::signal::LOOKS;
 use crate::wire::GateWires;
 use av_base::Refusal;
 use av_ends::{Receipt, Ticket, TicketNote};
@@ -28,6 +29,7 @@ pub struct Openings<'a> {
     pub group: Group<'a>,
     /// How many openers there are.
     pub openers: usize,
+    pub wires: &'a GateWires,
     // How many files have their answer, and how many openers are done.
     answered: AtomicU64,
     at_rest: AtomicU64,
@@ -35,13 +37,14 @@ pub struct Openings<'a> {
 
 impl<'a> Openings<'a> {
     /// Openings of these files, of which none has begun.
-    pub fn new(group: Group<'a>, openers: usize) -> Openings<'a>
+    pub fn new(group: Group<'a>, openers: usize, wires: &'a GateWires) -> Openings<'a>
         ensures group { result.group ≡ group.entry }
         ensures openers { result.openers ≡ openers }
     {
         Openings {
             group,
             openers,
+            wires,
             answered: AtomicU64::new(0),
             at_rest: AtomicU64::new(0),
         }
@@ -66,7 +69,6 @@ impl<'a> Openings<'a> {
 #[derive(Clone, Copy, Drop)]
 pub struct Part<'a> {
     pub openings: &'a Openings<'a>,
-    pub wires: &'a GateWires,
     pub first: usize,
 }
 
@@ -89,7 +91,7 @@ pub fn open_files<R: Wait>(
 ) -> Brought
     requires { IsSeatOf gate.now seat }
 {
-    await_services(rt, gate, &mut seat, part.wires);
+    await_services(rt, gate, &mut seat, part.openings.wires);
     let mut receipts = Vec::new(alloc);
     let end = open_each(rt, alloc, gate, &mut seat, part, &mut receipts);
     part.openings.at_rest.fetch_add(1, SeqCst);
@@ -162,10 +164,16 @@ fn answered<R: Wait>(rt: &R, gate: &Gate, ticket: Ticket) -> Result<Receipt, End
     Ok(receipt)
 }
 
-// Waits until a ticket shows its answer, or the gate is stopped.
+// Waits until a ticket shows its answer, or the gate is stopped: first without sleeping, for as long as a small file takes.
 fn await_answer<R: Wait>(rt: &R, gate: &Gate, ticket: &Ticket, note: &mut TicketNote)
     requires { IsNoteOf ticket.now note.old }
     ensures { IsNoteOf ticket.now note.new }
 {
+    'looks: for _ in 0..LOOKS {
+        if ticket.poll(note).is_some() {
+            return;
+        }
+        thread::yield_now();
+    }
     let _ = gate.wait_or_stop(rt, ticket, note);
 }

@@ -1,22 +1,34 @@
+ghost use Rattle.std.specs.Prelude.{◌≡◌, ◌↔◌, IfErr, IfSome, IsSome};
+ghost use Rattle.av_base.specs.declared.port.Port.TheVariants.{One, Two};
 ghost use Rattle.av_gate.specs.Seats.{IsSeatOf};
+ghost use Rattle.av_status.specs.Status.{IsFault, status_of_end};
 
+use crate::signal::{Signal, SignallingWriter, WatchingReader};
 use av_base::Port;
+use av_engines::End;
 use av_gate::{Gate, Seat};
 use av_loops::Sender;
 use std::alloc::Global;
-use std::io;
 use std::net::{Net, Shutdown};
 use std::os::unix::net::UnixStream;
 use std::sync::Wait;
 use std::sync::atomic::AtomicBool;
 use std::sync::atomic::Ordering::SeqCst;
 
+/// Connections that are cut where a thread can't be started.
+pub trait BreakOff {
+    /// Cuts them: the loops of both sides come to their ends.
+    fn break_off(&self);
+}
+
 /// One end of the connection between the gate and a service.
 #[derive(Drop)]
 pub struct Wire {
-    pub stream: UnixStream,
+    stream: UnixStream,
+    // What the other side gives behind each write.
+    signal: Signal,
     /// Its writing end, for all loops of this side.
-    pub sender: Sender<UnixStream>,
+    pub sender: Sender<SignallingWriter>,
     /// Nothing comes from the other side any more.
     pub is_over: AtomicBool,
     /// A thread of this side couldn't be started.
@@ -24,29 +36,51 @@ pub struct Wire {
 }
 
 impl Wire {
-    /// An end that is connected. Its loops write through a descriptor of their own, which may be refused.
-    pub fn new(alloc: Global, stream: UnixStream) -> io::Result<Wire> {
-        let sender = Sender::new(alloc, stream.try_clone()?);
+    // An end that this signal tells of what comes. Its loops write through a descriptor of their own, which may be refused, and give the
+    // other end its signal.
+    fn new(alloc: Global, stream: UnixStream, signal: Signal, other: Signal) -> Result<Wire, End>
+        ensures { IfErr result (λ end. IsFault (status_of_end end)) }
+    {
+        let Ok(own) = stream.try_clone() else {
+            return Err(End::ReadFault);
+        };
+        let writer = SignallingWriter {
+            stream: own,
+            signal: other,
+        };
         Ok(Wire {
             stream,
-            sender,
+            signal,
+            sender: Sender::new(alloc, writer),
             is_over: AtomicBool::new(false),
             lacks_thread: AtomicBool::new(false),
         })
     }
 
-    /// Both ends of a new connection, the gate's first.
-    pub fn pair<R: Net>(rt: &R, alloc: Global) -> io::Result<(Wire, Wire)> {
-        let (gate_stream, desk_stream) = UnixStream::pair(rt)?;
-        let gate_wire = Wire::new(alloc, gate_stream)?;
-        let desk_wire = Wire::new(alloc, desk_stream)?;
+    /// Both ends of a new connection, the gate's first: Memory, or ReadFault where the system refuses one.
+    pub fn pair<R: Net>(rt: &R, alloc: Global) -> Result<(Wire, Wire), End>
+        ensures { IfErr result (λ end. IsFault (status_of_end end)) }
+    {
+        let Ok((gate_stream, desk_stream)) = UnixStream::pair(rt) else {
+            return Err(End::ReadFault);
+        };
+        let Ok((to_gate, given_by_desk)) = Signal::pair(alloc) else {
+            return Err(End::Memory);
+        };
+        let Ok((to_desk, given_by_gate)) = Signal::pair(alloc) else {
+            return Err(End::Memory);
+        };
+        let gate_wire = Wire::new(alloc, gate_stream, to_gate, given_by_gate)?;
+        let desk_wire = Wire::new(alloc, desk_stream, to_desk, given_by_desk)?;
         Ok((gate_wire, desk_wire))
     }
 
-    /// Cuts the connection, since a thread can't be started: the loops of both sides come to their ends.
-    pub fn break_off(&self) {
-        self.lacks_thread.store(true, SeqCst);
-        self.cut();
+    /// Its reading end, for the one loop that reads.
+    pub fn reader(&self) -> WatchingReader<'_> {
+        WatchingReader {
+            stream: &self.stream,
+            signal: &self.signal,
+        }
     }
 
     /// Ends the other side's input.
@@ -59,9 +93,21 @@ impl Wire {
         let _ = self.stream.shutdown(Shutdown::Both);
     }
 
+    /// Whether nothing comes from the other side any more.
+    pub fn is_over(&self) -> bool {
+        self.is_over.load(SeqCst)
+    }
+
     /// Whether a thread of this side couldn't be started.
     pub fn lacks_thread(&self) -> bool {
         self.lacks_thread.load(SeqCst)
+    }
+}
+
+impl BreakOff for Wire {
+    fn break_off(&self) {
+        self.lacks_thread.store(true, SeqCst);
+        self.cut();
     }
 }
 
@@ -74,7 +120,9 @@ pub struct GateWires {
 
 impl GateWires {
     /// The connection at the first port.
-    pub fn first(&self) -> Line<'_> {
+    pub fn first(&self) -> Line<'_>
+        ensures { result.port ≡ One }
+    {
         Line {
             wires: self,
             wire: &self.first,
@@ -83,7 +131,10 @@ impl GateWires {
     }
 
     /// The spare's connection, where there is one.
-    pub fn spare(&self) -> Option<Line<'_>> {
+    pub fn spare(&self) -> Option<Line<'_>>
+        ensures port { IfSome result (λ line. line.port ≡ Two) }
+        ensures spare { IsSome result ↔ IsSome self.now.spare }
+    {
         match &self.spare {
             None => None,
             Some(wire) => Some(Line {
@@ -96,11 +147,7 @@ impl GateWires {
 
     /// Whether nothing comes from any service any more.
     pub fn are_over(&self) -> bool {
-        let is_spare_over = match &self.spare {
-            None => true,
-            Some(wire) => wire.is_over.load(SeqCst),
-        };
-        self.first.is_over.load(SeqCst) && is_spare_over
+        self.first().wire.is_over() && self.spare().is_none_or(|line| line.wire.is_over())
     }
 
     /// Whether each service was welcome or is lost. The floor is raised by a greeting that is welcome.
@@ -116,26 +163,23 @@ impl GateWires {
 
     /// Whether a thread of the gate's side couldn't be started.
     pub fn lack_thread(&self) -> bool {
-        let lacks_at_spare = match &self.spare {
-            None => false,
-            Some(wire) => wire.lacks_thread(),
-        };
-        self.first.lacks_thread() || lacks_at_spare
-    }
-
-    /// Cuts all connections, since a thread can't be started.
-    pub fn break_off(&self) {
-        self.first.break_off();
-        if let Some(wire) = &self.spare {
-            wire.break_off();
-        }
+        self.first.lacks_thread() || self.spare().is_some_and(|line| line.wire.lacks_thread())
     }
 
     /// Ends the input of all sides.
     pub fn cut(&self) {
         self.first.cut();
-        if let Some(wire) = &self.spare {
-            wire.cut();
+        if let Some(spare) = &self.spare {
+            spare.cut();
+        }
+    }
+}
+
+impl BreakOff for GateWires {
+    fn break_off(&self) {
+        self.first.break_off();
+        if let Some(spare) = &self.spare {
+            spare.break_off();
         }
     }
 }
@@ -151,6 +195,6 @@ pub struct Line<'a> {
 impl Line<'_> {
     // Whether the service was welcome or is lost.
     fn has_come<R: Wait>(&self, rt: &R, gate: &Gate) -> bool {
-        self.wire.is_over.load(SeqCst) || gate.connected(rt, self.port)
+        self.wire.is_over() || gate.connected(rt, self.port)
     }
 }
