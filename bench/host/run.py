@@ -4,7 +4,7 @@
 Files of 1 KiB, 64 KiB and 1 MiB of random bytes, no two alike, under 1,000 random signatures of 16 bytes. An open's time is the time
 of a run over many files less that over one, divided by their difference: it has the reading of the file, its way into the volume, and
 the audits of both sides. clamd (where it is installed) has the same signatures, no cache, and scans the same files by their paths, one
-session a client. clamonacc (where it is installed and the kernel lets it hold opens) holds each first open of as many such files in a
+session a client; and so do `avscan filter` and `avscan service`, two processes that meet at a socket. clamonacc (where it is installed and the kernel lets it hold opens) holds each first open of as many such files in a
 folder that it watches, until a clamd with a cache has judged it. Peak memory is that of the process beside the files' bytes. Then 20,000
 files of 512 KiB, 10 GiB in all, and the peak of memory. Also 1, 2
 and 4 openers with as many workers over files of 1 KiB, and as many clients of clamd."""
@@ -12,8 +12,11 @@ import os, random, shutil, socket, subprocess, sys, tempfile, threading, time
 
 HERE = os.path.dirname(os.path.abspath(__file__))
 ROUNDS = 5
-SIZES = ((1 << 10, 2000, 0.75), (1 << 16, 400, 0.25), (1 << 20, 60, 0.25))
-MANY, LEAST_RATE, MOST_MEMORY = 4000, 15_000, 64 << 20
+# A file's size, how many there are, and the most that an open may take, as a part of clamd's time.
+SIZES = ((1 << 10, 2000, 0.15), (1 << 16, 400, 0.12), (1 << 20, 60, 0.12))
+MANY, MOST_MEMORY = 4000, 64 << 20
+# Opens a second of four openers, as times those of clamd's four clients, and the most that two processes may take of one's time.
+LEAST_RATE, MOST_APART = 3, 1.3
 # How many first opens clamonacc holds at most.
 HELD = 200
 # Many files of this size, whose contents are those of a few: how many, and how many make more groups than one.
@@ -44,6 +47,19 @@ def host(spawn, program, rules, names, crew):
     if status != "0":
         sys.exit(f"avscan host ended with {status}")
     return float(nanoseconds) / 1e9, int(kibibytes) * 1024
+
+
+def apart(program, folder, rules, names):
+    """Seconds that a filter takes with a service in a process of its own."""
+    path = os.path.join(folder, "filter.socket")
+    quiet = {"stdout": subprocess.DEVNULL, "stdin": subprocess.DEVNULL}
+    service = subprocess.Popen([program, "service", "--wait", "20", path, rules], **quiet)
+    begun = time.perf_counter()
+    status = subprocess.run([program, "filter", "--wait", "20", "--quiet", path, *names], **quiet).returncode
+    seconds = time.perf_counter() - begun
+    if status or service.wait():
+        sys.exit(f"avscan filter ended with {status}, avscan service with {service.returncode}")
+    return seconds
 
 
 class Clamd:
@@ -163,11 +179,15 @@ def measure(folder, spawn, program, rules, chance, clamd):
         runs = [host(spawn, program, rules, names, 1) for _ in range(ROUNDS)]
         ours = (min(seconds for seconds, _ in runs) - alone) / (count - 1)
         memory = max(peak for _, peak in runs) - size * count
+        few = min(apart(program, folder, rules, names[:1]) for _ in range(ROUNDS))
+        theirs_apart = (min(apart(program, folder, rules, names) for _ in range(ROUNDS)) - few) / (count - 1)
         line = f"{size:>9,} bytes: {ours * 1e6:9.1f} us an open, {memory / (1 << 20):6.1f} MiB beside {count} files"
         if clamd:
             theirs = min(clamd.time(names, 1) for _ in range(ROUNDS)) / count
             line += f"; clamd {theirs * 1e6:9.1f} us, ratio {ours / theirs:.2f}"
         print(line)
+        print(f"{'':16} {theirs_apart * 1e6:9.1f} us an open of filter and service, {theirs_apart / ours:.2f} times host's")
+        goal(theirs_apart <= MOST_APART * ours, f"{size:,} bytes: filter and service take at most {MOST_APART} times host's")
         if clamd:
             goal(ours <= most * theirs, f"{size:,} bytes: at most {most} of clamd's time")
         goal(memory <= MOST_MEMORY, f"{size:,} bytes: at most {MOST_MEMORY >> 20} MiB beside volume and automaton")
@@ -179,10 +199,11 @@ def measure(folder, spawn, program, rules, chance, clamd):
         ours = (MANY - 1) / (min(host(spawn, program, rules, names, crew)[0] for _ in range(ROUNDS)) - alone)
         line = f"{crew} openers and workers: {ours:9,.0f} opens of 1 KiB a second"
         if clamd:
-            line += f"; clamd with {crew} clients {MANY / min(clamd.time(names, crew) for _ in range(ROUNDS)):9,.0f}"
+            theirs = MANY / min(clamd.time(names, crew) for _ in range(ROUNDS))
+            line += f"; clamd with {crew} clients {theirs:9,.0f}, {ours / theirs:.2f} times"
         print(line)
-        if crew == 4:
-            goal(ours >= LEAST_RATE, f"4 openers: at least {LEAST_RATE:,} opens a second")
+        if clamd and crew == 4:
+            goal(ours >= LEAST_RATE * theirs, f"4 openers: at least {LEAST_RATE} times clamd's 4 clients")
 
 
 def measure_groups(folder, spawn, program, rules, chance):
