@@ -8,8 +8,7 @@ use crate::serving::meeting;
 use av_files::{
     Failing, Input, MAX_FILE, add_file, conclude_opened, empty_volume, look_at, read_set,
 };
-use av_host::{Crew, Group, Hosting, host_group};
-use av_sigset::SignatureSet;
+use av_host::{Crew, Group, Hosting, Signatures, host_group};
 use av_sockets::{Contents, GROUP_BYTES, LEAST_BYTES, filter_files};
 use av_status::faults::out_of_memory;
 use av_status::{Progress, Status, Tally};
@@ -34,18 +33,21 @@ pub fn host_named<R: Hosting, W: Write, E: Write>(
     };
     let set = read_file(rt, asked.set, &mut text);
     match read_set(alloc, set, err) {
-        Ok(_) => host_under(rt, system, alloc, asked, set, out, err),
+        Ok(set) => match Signatures::build(alloc, set) {
+            Ok(signatures) => host_under(rt, system, alloc, asked, &signatures, out, err),
+            Err(_) => out_of_memory(err),
+        },
         Err(status) => status,
     }
 }
 
-// The same, under a signature file that spells a set.
+// The same, under a set.
 fn host_under<R: Hosting, W: Write, E: Write>(
     rt: &HostRuntime,
     system: &R,
     alloc: Global,
     asked: &Host<'_>,
-    set: Input<'_>,
+    signatures: &Signatures,
     out: &mut W,
     err: &mut Progress<'_, HostRuntime, E>,
 ) -> Status {
@@ -59,7 +61,7 @@ fn host_under<R: Hosting, W: Write, E: Write>(
         &mut Tally::new(),
         err,
     ) {
-        Ok(names) => host_all(rt, system, alloc, asked, set, names.as_slice(), out, err),
+        Ok(names) => host_all(rt, system, alloc, asked, signatures, names.as_slice(), out, err),
         Err(status) => status,
     }
 }
@@ -70,7 +72,7 @@ fn host_all<R: Hosting, W: Write, E: Write>(
     system: &R,
     alloc: Global,
     asked: &Host<'_>,
-    set: Input<'_>,
+    signatures: &Signatures,
     names: &[&str],
     out: &mut W,
     err: &mut Progress<'_, HostRuntime, E>,
@@ -87,7 +89,7 @@ fn host_all<R: Hosting, W: Write, E: Write>(
         system,
         alloc,
         asked,
-        set,
+        signatures,
         names,
         &mut buffer,
         &mut tally,
@@ -121,7 +123,7 @@ fn host_groups<R: Hosting, W: Write, E: Write>(
     system: &R,
     alloc: Global,
     asked: &Host<'_>,
-    set: Input<'_>,
+    signatures: &Signatures,
     names: &[&str],
     buffer: &mut [u8],
     tally: &mut Tally,
@@ -134,7 +136,7 @@ fn host_groups<R: Hosting, W: Write, E: Write>(
             break;
         }
         let (ended, count) = host_next(
-            rt, system, alloc, asked, set, names, done, buffer, tally, out, err,
+            rt, system, alloc, asked, signatures, names, done, buffer, tally, out, err,
         )?;
         if ended != Status::Done {
             return Ok(ended);
@@ -150,7 +152,7 @@ fn host_next<R: Hosting, W: Write, E: Write>(
     system: &R,
     alloc: Global,
     asked: &Host<'_>,
-    set: Input<'_>,
+    signatures: &Signatures,
     names: &[&str],
     before: usize,
     buffer: &mut [u8],
@@ -166,28 +168,9 @@ fn host_next<R: Hosting, W: Write, E: Write>(
         before,
         all: names.len(),
     };
-    match read_set(alloc, set, err) {
-        Ok(set) => host_read(rt, system, alloc, asked, set, rest, buffer, tally, out, err),
-        Err(status) => Err(status),
-    }
-}
-
-// The same of these files, under a set.
-fn host_read<R: Hosting, W: Write, E: Write>(
-    rt: &HostRuntime,
-    system: &R,
-    alloc: Global,
-    asked: &Host<'_>,
-    set: SignatureSet,
-    rest: Group<'_>,
-    buffer: &mut [u8],
-    tally: &mut Tally,
-    out: &mut W,
-    err: &mut Progress<'_, HostRuntime, E>,
-) -> Result<(Status, usize), Status> {
     match volume_with(rt, alloc, rest, buffer, err) {
         Ok((volume, count)) => host_made(
-            system, alloc, asked, set, volume, rest, count, tally, out, err,
+            system, alloc, asked, signatures, volume, rest, count, tally, out, err,
         ),
         Err(status) => Err(status),
     }
@@ -198,7 +181,7 @@ fn host_made<R: Hosting, W: Write, E: Write>(
     system: &R,
     alloc: Global,
     asked: &Host<'_>,
-    set: SignatureSet,
+    signatures: &Signatures,
     volume: Volume,
     rest: Group<'_>,
     count: usize,
@@ -217,7 +200,7 @@ fn host_made<R: Hosting, W: Write, E: Write>(
     };
     let wishes = asked.named.wishes;
     match host_group(
-        system, alloc, set, volume, group, crew, wishes, tally, out, err,
+        system, alloc, signatures, volume, group, crew, wishes, tally, out, err,
     ) {
         Ok(ended) => Ok((ended, count)),
         Err(failed) => Err(failed),
