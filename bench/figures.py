@@ -13,6 +13,7 @@ TABLES, PAGE = "SCAN-TABLES.md", "README.md"
 # A set and a file of bench/scan, with the columns of avscan and Hyperscan.
 SCANNED = r"^{0} +{1} +(?P<{2}>[\d.]+)(?: +[\d.]+){{7}} +(?P<{2}_hs>[\d.]+) "
 COLD = r"^ *([\d,]+) bytes: +(?P<{0}>[\d.]+) us an open, .* ratio (?P<{0}_part>[\d.]+)$"
+APART = r"^ *{1} bytes: .*\n +(?P<{0}>[\d.]+) us an open of filter and service"
 FIGURES = (
     ("scanning code in memory for 10, 100 and 1,000 random patterns of 16 bytes", TABLES, "Everything",
      [SCANNED.format(f"r16-{count}", "code", f"n{count}") for count in (10, 100, 1000)],
@@ -32,8 +33,11 @@ FIGURES = (
     ("a file that nobody has judged, opened through `avscan host`, of 1 KiB, 64 KiB and 1 MiB", PAGE, "bench/host",
      [COLD.format(name).replace("([\\d,]+)", size) for name, size in (("small", "1,024"), ("middle", "65,536"), ("large", "1,048,576"))],
      "{small}, {middle} and {large} us: {small_part}, {middle_part} and {large_part} of clamd's time"),
+    ("the same through `avscan filter` and `avscan service`, two processes", PAGE, "bench/host",
+     [APART.format(name, size) for name, size in (("small", "1,024"), ("middle", "65,536"), ("large", "1,048,576"))],
+     "{small}, {middle} and {large} us"),
     ("opens of 1 KiB a second, four openers", PAGE, "bench/host",
-     [r"^4 openers and workers: +(?P<ours>[\d,]+) opens .* clamd with 4 clients +(?P<theirs>[\d,]+)"], "{ours}; clamd's four clients {theirs}"),
+     [r"^4 openers and workers: +(?P<ours>[\d,]+) opens .* clamd with 4 clients +(?P<theirs>[\d,]*\d)"], "{ours}; clamd's four clients {theirs}"),
     ("20,000 files of 512 KiB, 10 GiB in all, opened through `avscan host`", PAGE, "bench/host",
      [r"^20,000 files of 524,288 bytes: (?P<seconds>[\d.]+) s, (?P<all>[\d.]+) MiB; 100 of them (?P<some>[\d.]+) MiB"],
      "{seconds} s in {all} MiB; 100 of them in {some} MiB"),
