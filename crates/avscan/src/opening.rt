@@ -61,7 +61,16 @@ fn host_under<R: Hosting, W: Write, E: Write>(
         &mut Tally::new(),
         err,
     ) {
-        Ok(names) => host_all(rt, system, alloc, asked, signatures, names.as_slice(), out, err),
+        Ok(names) => host_all(
+            rt,
+            system,
+            alloc,
+            asked,
+            signatures,
+            names.as_slice(),
+            out,
+            err,
+        ),
         Err(status) => status,
     }
 }
