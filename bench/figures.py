@@ -33,7 +33,7 @@ FIGURES = (
     ("a file that nobody has judged, opened through `avscan host`, of 1 KiB, 64 KiB and 1 MiB", PAGE, "bench/host",
      [COLD.format(name).replace("([\\d,]+)", size) for name, size in (("small", "1,024"), ("middle", "65,536"), ("large", "1,048,576"))],
      "{small}, {middle} and {large} us: {small_part}, {middle_part} and {large_part} of clamd's time"),
-    ("the same through `avscan filter` and `avscan service`, two processes", PAGE, "bench/host",
+    ("the same files, a time a file, through `avscan filter`, which submits its opens together, and `avscan service`", PAGE, "bench/host",
      [APART.format(name, size) for name, size in (("small", "1,024"), ("middle", "65,536"), ("large", "1,048,576"))],
      "{small}, {middle} and {large} us"),
     ("opens of 1 KiB a second, four openers", PAGE, "bench/host",
