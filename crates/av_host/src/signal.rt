@@ -4,46 +4,46 @@ use std::alloc::{AllocError, Global};
 use std::io::{Read, Write};
 use std::os::unix::net::UnixStream;
 use std::sync::Arc;
-use std::sync::atomic::AtomicBool;
+use std::sync::atomic::AtomicU64;
 use std::sync::atomic::Ordering::SeqCst;
 use std::{io, thread};
 
 /// How often is looked before a thread sleeps: some tens of microseconds in all, which the other side needs for an answer.
 pub const LOOKS: usize = 100;
 
-/// Whether something was written since it was last looked for. Who misses it sleeps in the read, which is slower and no fault.
+/// How many bytes one end has written. Who misses them sleeps in the read, which is slower and no fault.
 #[derive(Drop)]
 pub struct Signal {
-    is_given: Arc<AtomicBool, Global>,
+    written: Arc<AtomicU64, Global>,
 }
 
 impl Signal {
-    /// A signal that was not given, for who looks for it and for who gives it.
+    /// A signal of no byte, for who looks at it and for who writes.
     pub fn pair(alloc: Global) -> Result<(Signal, Signal), AllocError> {
-        let Ok(is_given) = Arc::new(alloc, AtomicBool::new(false)) else {
+        let Ok(written) = Arc::new(alloc, AtomicU64::new(0)) else {
             return Err(AllocError);
         };
-        let same = Arc::try_clone(&is_given)?;
-        Ok((Signal { is_given }, Signal { is_given: same }))
+        let same = Arc::try_clone(&written)?;
+        Ok((Signal { written }, Signal { written: same }))
     }
 
-    fn give(&self) {
-        self.is_given.store(true, SeqCst);
+    fn add(&self, count: usize) {
+        self.written.fetch_add(count as u64, SeqCst);
     }
 
-    // Looks for it for a while, and takes it.
-    fn await_briefly(&self) {
+    // Looks for a while whether more was written than so many bytes. It counts bytes, since who sleeps in a read has them before their
+    // writer comes to say so: a flag would then stay for the next look, which would end at once.
+    fn await_more(&self, read: u64) {
         for _ in 0..LOOKS {
-            if self.is_given.load(SeqCst) {
-                break;
+            if self.written.load(SeqCst) > read {
+                return;
             }
             thread::yield_now();
         }
-        self.is_given.store(false, SeqCst);
     }
 }
 
-/// The writing end of a stream: the other end is given a signal behind each write.
+/// The writing end of a stream: it tells the other end what was written.
 #[derive(Drop)]
 pub struct SignallingWriter {
     pub stream: UnixStream,
@@ -53,7 +53,7 @@ pub struct SignallingWriter {
 impl Write for SignallingWriter {
     fn write(&mut self, buf: &[u8]) -> io::Result<usize> {
         let count = self.stream.write(buf)?;
-        self.signal.give();
+        self.signal.add(count);
         Ok(count)
     }
 
@@ -62,17 +62,31 @@ impl Write for SignallingWriter {
     }
 }
 
-/// The reading end of a stream: before it sleeps it looks for a signal.
+/// The reading end of a stream: before it sleeps it looks whether more was written than it has read.
 #[derive(Drop)]
 pub struct WatchingReader<'w> {
-    pub stream: &'w UnixStream,
-    pub signal: &'w Signal,
+    stream: &'w UnixStream,
+    signal: &'w Signal,
+    read: u64,
+}
+
+impl<'w> WatchingReader<'w> {
+    /// Of a stream of which nothing was read yet.
+    pub fn new(stream: &'w UnixStream, signal: &'w Signal) -> WatchingReader<'w> {
+        WatchingReader {
+            stream,
+            signal,
+            read: 0,
+        }
+    }
 }
 
 impl<'w> Read for WatchingReader<'w> {
     fn read(&mut self, buf: &mut [u8]) -> io::Result<usize> {
-        self.signal.await_briefly();
+        self.signal.await_more(self.read);
         let mut stream = self.stream;
-        stream.read(buf)
+        let count = stream.read(buf)?;
+        self.read = self.read.wrapping_add(count as u64);
+        Ok(count)
     }
 }

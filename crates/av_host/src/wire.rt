@@ -25,7 +25,7 @@ pub trait BreakOff {
 #[derive(Drop)]
 pub struct Wire {
     stream: UnixStream,
-    // What the other side gives behind each write.
+    // What the other side has written.
     signal: Signal,
     /// Its writing end, for all loops of this side.
     pub sender: Sender<SignallingWriter>,
@@ -77,10 +77,7 @@ impl Wire {
 
     /// Its reading end, for the one loop that reads.
     pub fn reader(&self) -> WatchingReader<'_> {
-        WatchingReader {
-            stream: &self.stream,
-            signal: &self.signal,
-        }
+        WatchingReader::new(&self.stream, &self.signal)
     }
 
     /// Ends the other side's input.
