@@ -12,9 +12,12 @@ use av_files::streams::TURNS;
 use av_gate::{Gate, Seat};
 use av_loops::{desk_done, desk_in, gate_in, gate_out};
 use av_pool::{Giver, Taker};
-use std::alloc::Global;
+use std::alloc::{AllocError, Global};
 use std::sync::Wait;
 use std::sync::atomic::Ordering::SeqCst;
+
+// How many bytes the messages of a group take.
+const ROOM: usize = 10 * 1_048_576;
 
 /// Which way a loop carries messages: into the gate, or out of it.
 #[derive(Clone, Copy)]
@@ -41,12 +44,21 @@ pub fn carry<R: Wait>(
     }
 }
 
+// Asks for as much room as the messages of a group take, and gives it back: the first time the system's allocator learns to keep so
+// much, and the second time it takes it for this thread, whose heap would else grow by a page with each chunk that an audit keeps.
+fn make_room(alloc: Global) {
+    for _ in 0..2 {
+        let _room: Result<Vec<u8>, AllocError> = Vec::with_capacity(alloc, ROOM);
+    }
+}
+
 // From a connection into the gate, and what that gives out at its port into the connection. At its end the port's service is lost;
 // once all are, opens need not wait any more. Where opens may have been left without an answer, the other connection ends too.
 fn into_gate<R: Wait>(rt: &R, alloc: Global, line: Line<'_>, gate: &Gate, mut seat: Seat) -> End
     requires { IsSeatOf gate.now seat }
     ensures { result ≢ Done }
 {
+    make_room(alloc);
     let wire = line.wire;
     let mut reader = wire.reader();
     let end = gate_in(
@@ -96,6 +108,7 @@ pub fn into_desk<R: Wait>(
     ensures same { result.0.channel ≡ giver.channel }
     ensures end { result.1 ≢ Done }
 {
+    make_room(alloc);
     let mut reader = wire.reader();
     let end = desk_in(
         rt,
