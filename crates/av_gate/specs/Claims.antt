@@ -20,9 +20,9 @@ use Rattle.av_store.specs.Store.{Store}
 abbrev pub event_called : Store → Call → FilterEvent
 event_called v (call.Open name least) = Opens (stream_of v name) least
 event_called v (call.Write name offset bytes) = Changes (Write (stream_of v name) offset bytes)
-event_called v (call.CleanUp name) = CleansUp (stream_of v name)
+event_called v (call.Cleanup name) = CleansUp (stream_of v name)
 event_called v (call.Receive m) = Receives m
-event_called v (call.TimeOut seq) = TimesOut seq
+event_called v (call.Timeout seq) = TimesOut seq
 event_called v (call.Disconnect port) = Disconnects port
 
 -- the event at the call's place is the call, with the call's note

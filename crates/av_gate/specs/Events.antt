@@ -13,9 +13,9 @@ use Rattle.av_store.specs.Store.{Store}
 abbrev pub event_of : Event → FilterEvent
 event_of (event.Open s least) = Opens s least
 event_of (event.Write s offset bytes) = Changes (Write s offset bytes)
-event_of (event.CleanUp s) = CleansUp s
+event_of (event.Cleanup s) = CleansUp s
 event_of (event.Receive m) = Receives m
-event_of (event.TimeOut seq) = TimesOut seq
+event_of (event.Timeout seq) = TimesOut seq
 event_of (event.Disconnect port) = Disconnects port
 
 -- A call took table and volume to t' and v'. It gave out what the conduct says of an event that is not refused, or nothing

@@ -20,7 +20,7 @@ pub enum Call {
         bytes: ByteList,
     },
     /// The last of those who wrote to a stream has closed it.
-    CleanUp {
+    Cleanup {
         name: ByteList,
     },
     /// A message of the scanning service.
@@ -28,7 +28,7 @@ pub enum Call {
         message: Message,
     },
     /// The time of the question of this number is up.
-    TimeOut {
+    Timeout {
         seq: u64,
     },
     /// The service of a port is lost.
@@ -63,10 +63,10 @@ impl Call {
         })
     }
 
-    pub(crate) fn clean_up(alloc: Global, name: &[u8]) -> Result<Call, AllocError>
-        ensures { IfOk result (λ c. c ≡ call.CleanUp name.now) }
+    pub(crate) fn cleanup(alloc: Global, name: &[u8]) -> Result<Call, AllocError>
+        ensures { IfOk result (λ c. c ≡ call.Cleanup name.now) }
     {
-        Ok(Call::CleanUp {
+        Ok(Call::Cleanup {
             name: ByteList::copied(alloc, name)?,
         })
     }

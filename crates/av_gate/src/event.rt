@@ -16,7 +16,7 @@ pub enum Event {
         bytes: ByteList,
     },
     /// The last of those who wrote to a stream has closed it.
-    CleanUp {
+    Cleanup {
         stream: StreamId,
     },
     /// A message of the scanning service came.
@@ -24,7 +24,7 @@ pub enum Event {
         message: Message,
     },
     /// The time of the question of this number was up.
-    TimeOut {
+    Timeout {
         seq: u64,
     },
     /// The service of a port was lost.

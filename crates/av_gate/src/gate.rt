@@ -172,9 +172,9 @@ impl Gate {
         requires { IsSeatOf self.now seat.old }
         ensures same { IsSeatOf self.now seat.new }
         ensures later { floor_seen seat.old ≤ floor_seen seat.new }
-        ensures call { Adds seat.old seat.new (call.CleanUp name.now) result }
+        ensures call { Adds seat.old seat.new (call.Cleanup name.now) result }
     {
-        let call = self.prepare(seat, Call::clean_up(alloc, name))?;
+        let call = self.prepare(seat, Call::cleanup(alloc, name))?;
         let settled = self
             .inner
             .lock(rt)
@@ -260,9 +260,9 @@ impl Gate {
         requires { IsSeatOf self.now seat.old }
         ensures same { IsSeatOf self.now seat.new }
         ensures later { floor_seen seat.old ≤ floor_seen seat.new }
-        ensures call { Adds seat.old seat.new (call.TimeOut seq) result }
+        ensures call { Adds seat.old seat.new (call.Timeout seq) result }
     {
-        let call = self.prepare(seat, Ok(Call::TimeOut { seq }))?;
+        let call = self.prepare(seat, Ok(Call::Timeout { seq }))?;
         let settled = self
             .inner
             .lock(rt)

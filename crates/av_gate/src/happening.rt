@@ -26,9 +26,9 @@ pub(crate) fn happen(
         } => filter
             .write(alloc, volume, *stream, *offset, bytes.as_slice())
             .ok(),
-        Event::CleanUp { stream } => filter.cleanup(alloc, volume, *stream).ok(),
+        Event::Cleanup { stream } => filter.cleanup(alloc, volume, *stream).ok(),
         Event::Receive { message } => filter.message(alloc, volume, message).ok(),
-        Event::TimeOut { seq } => filter.timeout(alloc, volume, *seq).ok(),
+        Event::Timeout { seq } => filter.timeout(alloc, volume, *seq).ok(),
         Event::Disconnect { port } => filter.disconnect(alloc, volume, *port).ok(),
     }
 }

@@ -176,7 +176,7 @@ impl Locked {
             return Err(Refusal::Fault(GateFault::AuditFull));
         }
         let stream = stream_of(&self.start, name);
-        self.add(alloc, has_room, Event::CleanUp { stream })
+        self.add(alloc, has_room, Event::Cleanup { stream })
     }
 
     /// A message of the scanning service comes: AuditFull, NoMemory.
@@ -212,7 +212,7 @@ impl Locked {
         if self.is_full() {
             return Err(Refusal::Fault(GateFault::AuditFull));
         }
-        self.add(alloc, has_room, Event::TimeOut { seq })
+        self.add(alloc, has_room, Event::Timeout { seq })
     }
 
     /// The service of a port is lost: AuditFull, NoMemory.

@@ -32,16 +32,16 @@ pub(crate) fn is_called(event: &Event, call: &Call, volume: &Volume) -> bool
             let stream = stream_of(volume, name.as_slice());
             is_write(event, stream, *offset, bytes.as_slice())
         }
-        Call::CleanUp { name } => match event {
-            Event::CleanUp { stream } => *stream == stream_of(volume, name.as_slice()),
+        Call::Cleanup { name } => match event {
+            Event::Cleanup { stream } => *stream == stream_of(volume, name.as_slice()),
             _ => false,
         },
         Call::Receive { message } => match event {
             Event::Receive { message: found } => same_message(found, message),
             _ => false,
         },
-        Call::TimeOut { seq } => match event {
-            Event::TimeOut { seq: found } => found == seq,
+        Call::Timeout { seq } => match event {
+            Event::Timeout { seq: found } => found == seq,
             _ => false,
         },
         Call::Disconnect { port } => match event {

@@ -105,7 +105,7 @@ fn take<R: Wait>(
         }
         Step::Write(name, offset, bytes) => gate.write(rt, alloc, seat, name, offset, bytes),
         Step::Cleanup(name) => gate.cleanup(rt, alloc, seat, name),
-        Step::TimeOut(seq) => gate.timeout(rt, alloc, seat, seq),
+        Step::Timeout(seq) => gate.timeout(rt, alloc, seat, seq),
         Step::Disconnect(port) => gate.disconnect(rt, alloc, seat, port),
         _ => match message_of(step) {
             Some(message) => gate.message(rt, alloc, seat, &message),

@@ -54,8 +54,8 @@ fn hears_nothing(event: &GateEvent) -> bool
         GateEvent::Receive { .. } => false,
         GateEvent::Open { .. }
         | GateEvent::Write { .. }
-        | GateEvent::CleanUp { .. }
-        | GateEvent::TimeOut { .. }
+        | GateEvent::Cleanup { .. }
+        | GateEvent::Timeout { .. }
         | GateEvent::Disconnect { .. } => true,
     }
 }

@@ -36,9 +36,9 @@ event_called (call.Write s offset bytes) = Changes (change.Write s offset bytes.
 event_called (call.Cut s n) = Changes (change.Cut s n)
 event_called (call.Remove s) = Changes (change.Remove s)
 event_called (call.Open s least) = Opens s least
-event_called (call.CleanUp s) = CleansUp s
+event_called (call.Cleanup s) = CleansUp s
 event_called (call.Receive m) = Receives m.now
-event_called (call.TimeOut seq) = TimesOut seq
+event_called (call.Timeout seq) = TimesOut seq
 event_called (call.Disconnect port) = Disconnects port
 event_called call.Restart = Restarts
 
@@ -49,9 +49,9 @@ line_after (call.Write s offset bytes) v = changed_line s v
 line_after (call.Cut s n) v = changed_line s v
 line_after (call.Remove s) v = Removed s
 line_after (call.Open s least) v = Silent
-line_after (call.CleanUp s) v = Silent
+line_after (call.Cleanup s) v = Silent
 line_after (call.Receive m) v = Silent
-line_after (call.TimeOut seq) v = Silent
+line_after (call.Timeout seq) v = Silent
 line_after (call.Disconnect port) v = Silent
 line_after call.Restart v = Booted v.boot
 

@@ -51,9 +51,9 @@ pub fn asked_at_one_port()
         (world_of (start number mode limits) history).up }
 {}
 
-/// Over every list of events: a running job has judged the beginning of the content that it was asked about on its own port, and keeps
-/// the scan of that under the present version, from which its work goes on; each grant is at the floor, of the stream that its
-/// open asked for and not below the least version that it asked for; and every other answer is explained by the event that
+/// Over every list of events: a running job has judged the beginning of the content that it was asked about on its own port, and
+/// keeps the scan of that under the present version, from which its work goes on; each grant is at the floor, of the stream that
+/// its open asked for and not below the least version that it asked for; and every other answer is explained by the event that
 /// gives it, of the open that it submits or of one that waits.
 pub fn protocol_safety()
     ensures judged_bytes { (number : ℕ) (mode : Mode) (limits : LimitValues) (history : List Event)
@@ -107,10 +107,10 @@ pub fn worlds_stay_whole()
     ensures { StaysWhole }
 {}
 
-/// The protocol can always finish. Nobody promises that messages come; but from every world in which a version is
-/// published that the filter may grant under, and each service has a lease left for each chunk of its questions, a stated list of events leads to a world in
-/// which no open waits and each that waited was answered by the verdict of its stream's content. All of them happen: messages
-/// that were sent come, works that were lent are run, and both services connect anew; no timeout, no disconnection of the
+/// The protocol can always finish. Nobody promises that messages come; but from every world in which a version is published that
+/// the filter may grant under, and each service has a lease left for each chunk of its questions, a stated list of events leads to
+/// a world in which no open waits and each that waited was answered by the verdict of its stream's content. All of them happen:
+/// messages that were sent come, works that were lent are run, and both services connect anew; no timeout, no disconnection of the
 /// filter, no restart and no change of a file. Leases are left where the history isn't too long; and without such a version
 /// no such event brings a verdict. The worked examples say what stands in the way without each premise.
 pub fn progress()

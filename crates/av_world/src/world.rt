@@ -39,9 +39,9 @@ use std::alloc::{AllocError, Global};
 use std::io::Write;
 use std::marker::Model;
 
-/// One volume, the signature sets that were published, a filter, and a scanning service on each of its ports, with the history of all that happened
-/// to them, each message that they ever sent, each piece of work, and each answer. A world holds opens that are owed an
-/// answer, so it can't be let go: `close` ends it.
+/// One volume, the signature sets that were published, a filter, and a scanning service on each of its ports, with the history of
+/// all that happened to them, each message that they ever sent, each piece of work, and each answer. A world holds opens that are
+/// owed an answer, so it can't be let go: `close` ends it.
 pub struct World {
     history: Vec<Event>,
     stage: Stage,

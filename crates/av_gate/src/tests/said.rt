@@ -17,7 +17,7 @@ pub enum Step<'a> {
     Updated(Port, u64),
     // port, question, version
     Clean(Port, u64, u64),
-    TimeOut(u64),
+    Timeout(u64),
     Disconnect(Port),
 }
 

@@ -42,13 +42,13 @@ pub enum FilterCall<'a> {
         stream: StreamId,
         least: Version,
     },
-    CleanUp {
+    Cleanup {
         stream: StreamId,
     },
     Receive {
         message: &'a Message,
     },
-    TimeOut {
+    Timeout {
         seq: u64,
     },
     Disconnect {
@@ -106,9 +106,9 @@ fn answer(
         FilterCall::Cut { stream, length } => filter.cut(alloc, volume, stream, length).ok(),
         FilterCall::Remove { stream } => filter.remove(alloc, volume, stream).ok(),
         FilterCall::Open { stream, least } => filter.open(alloc, volume, stream, least).ok(),
-        FilterCall::CleanUp { stream } => filter.cleanup(alloc, volume, stream).ok(),
+        FilterCall::Cleanup { stream } => filter.cleanup(alloc, volume, stream).ok(),
         FilterCall::Receive { message } => filter.message(alloc, volume, message).ok(),
-        FilterCall::TimeOut { seq } => filter.timeout(alloc, volume, seq).ok(),
+        FilterCall::Timeout { seq } => filter.timeout(alloc, volume, seq).ok(),
         FilterCall::Disconnect { port } => filter.disconnect(alloc, volume, port).ok(),
         FilterCall::Restart => {
             if volume.boot() == u64::MAX {

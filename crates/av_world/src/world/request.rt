@@ -100,10 +100,10 @@ impl Stage {
                     .unwrap_or(StreamId::new(0)),
                 least: *least,
             },
-            Event::Cleanup { name } => FilterCall::CleanUp {
+            Event::Cleanup { name } => FilterCall::Cleanup {
                 stream: self.named(name.as_slice())?,
             },
-            Event::Timeout { seq } => FilterCall::TimeOut { seq: *seq },
+            Event::Timeout { seq } => FilterCall::Timeout { seq: *seq },
             Event::DisconnectFilter { port } => FilterCall::Disconnect { port: *port },
             Event::RestartFilter => FilterCall::Restart,
         };

@@ -22,8 +22,8 @@ use std::alloc::{AllocFailed, Global};
 use std::mem;
 
 impl Stage {
-    /// Runs the work at a place, counted from 1, and takes it back to the service that lent it, as the event behind any history. None
-    /// where that is refused: nothing has changed, and the work is there to be run.
+    /// Runs the work at a place, counted from 1, and takes it back to the service that lent it, as the event behind any history.
+    /// None where that is refused: nothing has changed, and the work is there to be run.
     pub fn run_work(&mut self, alloc: Global, place: u64) -> Option<Report>
         ensures { (h : List Event) (e : Event)
             → Takes self.old self.new h e (work_event (at_history h self.old) e place (work_at self.old.works place)) result }

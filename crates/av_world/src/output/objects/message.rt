@@ -58,8 +58,8 @@ fn put_message(
     put_told(alloc, way.name(), number, &told, message.port(), line)
 }
 
-/// Puts an object: its kind, the name of a list and a place in it, and its fields; of port Two it names the port, behind them. The
-/// digits of bytes take memory besides the line's.
+/// Puts an object: its kind, the name of a list and a place in it, and its fields; of port Two it names the port, behind them.
+/// The digits of bytes take memory besides the line's.
 pub fn put_told<'a>(
     alloc: Global,
     list: &'a str,
