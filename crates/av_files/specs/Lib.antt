@@ -1,3 +1,4 @@
+pub mod Contents
 pub mod Listed
 pub mod Opened
 pub mod Scan

@@ -7,6 +7,7 @@
 //! ```
 #![tactic(auto)]
 
+pub mod contents;
 pub mod listed;
 pub mod object;
 pub mod opened;
@@ -17,6 +18,7 @@ pub mod streams;
 mod tests;
 pub mod walk;
 
+pub use contents::{Contents, GROUP_BYTES, content_of, counted_bytes};
 pub use listed::{Failing, with_listed};
 pub use object::line_failed;
 pub use opened::{Opened, conclude_opened, count_opened, print_opened};

@@ -10,6 +10,7 @@ mod carrying;
 mod crew;
 mod desks;
 mod ends;
+pub mod groups;
 pub mod host;
 pub mod opener;
 mod service;
@@ -18,6 +19,7 @@ pub mod signatures;
 mod staffed;
 mod wire;
 
+pub use groups::host_groups;
 pub use host::{Crew, Hosting, host_files, host_group};
 pub use opener::Group;
 pub use signatures::Signatures;

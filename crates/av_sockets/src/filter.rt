@@ -7,12 +7,13 @@ ghost use Rattle.av_sockets.specs.Filter.{AreFiltered, AreOpened, AreTold, GoesO
 ghost use Rattle.av_status.specs.Status.{EndsWell, IsFault};
 
 use crate::duplex::{Duplex, Hearing, Saying};
-use crate::group::{Contents, Group};
+use crate::group::Group;
 use crate::line::Line;
 use crate::sockets::Meeting;
 use av_base::limits::MAX_JOBS;
 use av_base::{Limits, Mode, Port, StreamId, Version};
 use av_engines::{End, Watched, serve_filter};
+use av_files::contents::{Contents, content_of};
 use av_files::opened::{Opened, conclude_opened, count_opened, print_opened};
 use av_files::scanner::MAX_FILE;
 use av_files::streams::{TURNS, empty_volume};
@@ -130,12 +131,6 @@ fn open_all<R: Files + Net + Clock, F: Contents, C: Clock, W: Write, E: Write>(
     open_group(
         alloc, volume, filter, line, &mut group, wishes, tally, out, err,
     )
-}
-
-// The content of a file, where it can be read.
-fn content_of<'a, F: Contents>(files: &F, name: &str, buffer: &'a mut [u8]) -> Option<&'a [u8]> {
-    let count = files.read(name, buffer)?;
-    buffer.get(..count)
 }
 
 // Takes a file that was read into its group, and opens the group where it is full.

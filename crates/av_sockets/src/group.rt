@@ -3,6 +3,7 @@ ghost use Rattle.av_filter.specs.Fit.{Fits};
 ghost use Rattle.av_status.specs.Status.{IsFault};
 
 use av_base::StreamId;
+use av_files::contents::{GROUP_BYTES, counted_bytes};
 use av_files::scanner::Input;
 use av_files::streams::add_file;
 use av_filter::Filter;
@@ -11,18 +12,6 @@ use av_status::status::Status;
 use av_store::Volume;
 use std::alloc::Global;
 use std::io::Write;
-
-/// As many files are a group as have so many bytes together: with the last of them, of at most 1 MiB, no more than 8 MiB.
-pub const GROUP_BYTES: usize = 7 * 1_048_576;
-
-/// A file counts as so many bytes at least.
-pub const LEAST_BYTES: usize = 4_096;
-
-/// Where the contents of files come from.
-pub trait Contents {
-    /// Reads a file into a buffer, as far as one byte past the limit: how many bytes came, where it can be read.
-    fn read(&self, name: &str, buffer: &mut [u8]) -> Option<usize>;
-}
 
 // Files that were read and are to be opened together: their names, and their streams in the same order.
 #[derive(Drop)]
@@ -68,8 +57,7 @@ impl<'a> Group<'a> {
     {
         let _of_files = volume.last_created();
         add_file(alloc, volume, Input { name, content }, err)?;
-        let length = content.map_or(0, |content| content.len());
-        self.bytes = self.bytes.saturating_add(length.max(LEAST_BYTES));
+        self.bytes = self.bytes.saturating_add(counted_bytes(content));
         if self.streams.push(volume.last_created()).is_err() {
             return Err(out_of_memory(err));
         }

@@ -23,7 +23,6 @@ pub mod watch;
 pub use duplex::{Duplex, Hearing, Saying};
 pub use fault::SocketFault;
 pub use filter::filter_files;
-pub use group::{Contents, GROUP_BYTES, LEAST_BYTES};
 pub use looks::{Look, looked_at};
 pub use place::Arriving;
 pub use service::serve_at;
