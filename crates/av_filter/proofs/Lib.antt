@@ -17,3 +17,4 @@ pub mod TimesLemmas
 pub mod CountLemmas
 pub mod OnceLemmas
 pub mod OrderLemmas
+pub mod AskLemmas

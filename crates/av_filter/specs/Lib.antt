@@ -1,5 +1,6 @@
 pub mod Again
 pub mod Arriving
+pub mod Asking
 pub mod Audit
 pub mod Bounds
 pub mod Call

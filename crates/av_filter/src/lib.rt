@@ -3,6 +3,7 @@
 #![tactic(auto)]
 
 mod asking_again;
+pub mod call;
 mod changing;
 mod closing;
 mod ending;
@@ -20,6 +21,7 @@ mod running;
 mod tests;
 mod timing_out;
 
+pub use call::FilterCall;
 pub use fault::FilterFault;
 pub use filter::Filter;
 pub use note::Note;

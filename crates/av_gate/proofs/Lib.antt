@@ -1,6 +1,5 @@
 pub mod BookLemmas
 pub mod ClaimLemmas
-pub mod EventLemmas
 pub mod OpenLemmas
 pub mod OrderLemmas
 mod PortLemmas

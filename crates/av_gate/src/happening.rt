@@ -1,13 +1,14 @@
+ghost use Rattle.std.specs.Prelude.{◌≡◌};
+ghost use Rattle.av_filter.specs.Asking.{Calls, event_called};
 ghost use Rattle.av_filter.specs.Fit.{Fits};
-ghost use Rattle.av_gate.specs.Events.{Did, event_of};
+ghost use Rattle.av_gate.specs.Events.{event_of};
 
 use crate::event::Event;
-use av_filter::{Filter, Out};
+use av_filter::{Filter, FilterCall, Out};
 use av_store::Volume;
 use std::alloc::Global;
 
 /// Lets an event happen to a filter and its volume. None where that is refused: nothing has changed.
-#[tactic(auto, using(crate::proofs::EventLemmas::cleaned_up, crate::proofs::EventLemmas::disconnected, crate::proofs::EventLemmas::meets, crate::proofs::EventLemmas::received, crate::proofs::EventLemmas::timed_out), unfolding(av_filter::specs::Conduct::filter_step))]
 pub(crate) fn happen(
     filter: &mut Filter,
     volume: &mut Volume,
@@ -15,20 +16,32 @@ pub(crate) fn happen(
     event: &Event,
 ) -> Option<Out>
     requires fits { Fits filter.old volume.old }
-    ensures { Did filter.old volume.old filter.new volume.new (event_of event.now) result }
+    ensures { Calls filter.old volume.old filter.new volume.new (event_of event.now) result }
+{
+    filter.ask(alloc, volume, &call_of(event))
+}
+
+// What the filter is asked by an event.
+fn call_of(event: &Event) -> FilterCall<'_>
+    ensures { event_called result ≡ event_of event.now }
 {
     match event {
-        Event::Open { stream, least } => filter.open(alloc, volume, *stream, *least).ok(),
+        Event::Open { stream, least } => FilterCall::Open {
+            stream: *stream,
+            least: *least,
+        },
         Event::Write {
             stream,
             offset,
             bytes,
-        } => filter
-            .write(alloc, volume, *stream, *offset, bytes.as_slice())
-            .ok(),
-        Event::Cleanup { stream } => filter.cleanup(alloc, volume, *stream).ok(),
-        Event::Receive { message } => filter.message(alloc, volume, message).ok(),
-        Event::Timeout { seq } => filter.timeout(alloc, volume, *seq).ok(),
-        Event::Disconnect { port } => filter.disconnect(alloc, volume, *port).ok(),
+        } => FilterCall::Write {
+            stream: *stream,
+            offset: *offset,
+            bytes: bytes.as_slice(),
+        },
+        Event::Cleanup { stream } => FilterCall::Cleanup { stream: *stream },
+        Event::Receive { message } => FilterCall::Receive { message },
+        Event::Timeout { seq } => FilterCall::Timeout { seq: *seq },
+        Event::Disconnect { port } => FilterCall::Disconnect { port: *port },
     }
 }

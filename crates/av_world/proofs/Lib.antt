@@ -34,7 +34,6 @@ pub mod ServingLemmas
 pub mod SettleLemmas
 pub mod SoundLemmas
 pub mod SpanLemmas
-pub mod StageLemmas
 pub mod StepLemmas
 pub mod ToldLemmas
 pub mod UnionLemmas

@@ -7,7 +7,8 @@ use Rattle.av_filter.specs.Room.{most_messages}
 use Rattle.av_filter.specs.declared.out.Out.{Out}
 use Rattle.av_filter_table.specs.Table.{Table}
 use Rattle.av_store.specs.Store.{Store}
-use Rattle.av_world.specs.Stage.{Calls, IsSmallOut}
+use Rattle.av_filter.specs.Asking.{Calls}
+use Rattle.av_world.specs.Stage.{IsSmallOut}
 
 -- what a call gave out is what its event does
 small_calls : (t : Table) (v : Store) (t' : Table) (v' : Store) (f : FilterEvent) (out : Out) → Calls t v t' v' f (Some out) → IsSmallOut (most_messages t f) (length t.pended) out

@@ -16,7 +16,7 @@ use Rattle.av_world.specs.declared.fault.StepFault.{StepFault}
 use Rattle.av_world.specs.declared.report.Line.TheVariants.{Silent}
 use Rattle.av_world.specs.declared.world.request.Request.{Request}
 use Rattle.av_world.specs.Serving as serving
-use Rattle.av_world.specs.Stage as stage
+use Rattle.av_filter.specs.Asking as asking
 use Rattle.av_world.specs.declared.fault.StepFault.TheVariants as fault
 use Rattle.av_world.specs.declared.world.request.Request.TheVariants as request
 
@@ -29,7 +29,7 @@ served w e port s =
 -- what comes of a request
 abbrev pub outcome_of : WorldState → Event → Request → Outcome
 outcome_of w e (request.Publish version patterns) = published w e (set_made version patterns.now)
-outcome_of w e (request.Filter call) = filter_event w e (line_after call) (stage.event_called call)
+outcome_of w e (request.Filter call) = filter_event w e (line_after call) (asking.event_called call)
 outcome_of w e (request.Service port call) = served w e port (serving.event_called w.sets call)
 outcome_of w e (request.Down k) = down_frame w e (member w.down k)
 outcome_of w e (request.Up k) = up_frame w e (member w.up k)

@@ -1,18 +1,14 @@
 -- A stage: all of a world but its history. Its value is that of a world of which the history is empty.
 use Rattle.std.specs.Prelude.{ℕ, ◌≡◌, ◌≤◌, ◌+◌, ◌∷◌, length, List, Option, None, Some, Ok}
-use Rattle.av_filter.specs.Call.{Reacts}
-use Rattle.av_filter.specs.Conduct.{FilterEvent, Opens, Changes, CleansUp, Receives, TimesOut, Disconnects, Restarts, filter_refusal, filter_step}
+use Rattle.av_filter.specs.declared.call.FilterCall.{FilterCall}
+use Rattle.av_filter.specs.declared.call.FilterCall.TheVariants as call
 use Rattle.av_filter.specs.declared.out.Out.{Out}
-use Rattle.av_filter_table.specs.Table.{Table}
-use Rattle.av_store.specs.Files as change
 use Rattle.av_store.specs.Store.{Store}
 use Rattle.av_world.specs.World.{Outcome, WorldState, changed_line, step_of}
 use Rattle.av_world.specs.declared.event.Event.{Event}
 use Rattle.av_world.specs.declared.report.Line.{Line}
 use Rattle.av_world.specs.declared.report.Line.TheVariants.{Silent, Created, Removed, Booted}
 use Rattle.av_world.specs.declared.report.Report.{Report}
-use Rattle.av_world.specs.declared.world.filtering.FilterCall.{FilterCall}
-use Rattle.av_world.specs.declared.world.filtering.FilterCall.TheVariants as call
 
 -- the world at a history
 abbrev pub at_history : List Event → WorldState → WorldState
@@ -29,36 +25,14 @@ Happens old new h e = Takes old new h e (step_of (at_history h old) e)
 
 -- ---- the filter's part
 
--- the event of the filter that a call is
-abbrev pub event_called : FilterCall → FilterEvent
-event_called (call.Create name) = Changes (change.Create name.now)
-event_called (call.Write s offset bytes) = Changes (change.Write s offset bytes.now)
-event_called (call.Cut s n) = Changes (change.Cut s n)
-event_called (call.Remove s) = Changes (change.Remove s)
-event_called (call.Open s least) = Opens s least
-event_called (call.Cleanup s) = CleansUp s
-event_called (call.Receive m) = Receives m.now
-event_called (call.Timeout seq) = TimesOut seq
-event_called (call.Disconnect port) = Disconnects port
-event_called call.Restart = Restarts
-
 -- what is told of the volume after it
 abbrev pub line_after : FilterCall → Store → Line
 line_after (call.Create name) v = Created v.last
 line_after (call.Write s offset bytes) v = changed_line s v
 line_after (call.Cut s n) v = changed_line s v
 line_after (call.Remove s) v = Removed s
-line_after (call.Open s least) v = Silent
-line_after (call.Cleanup s) v = Silent
-line_after (call.Receive m) v = Silent
-line_after (call.Timeout seq) v = Silent
-line_after (call.Disconnect port) v = Silent
 line_after call.Restart v = Booted v.boot
-
--- the filter reacted as it is to, or nothing has changed
-abbrev pub Calls : Table → Store → Table → Store → FilterEvent → Option Out → Type 0
-Calls t v t' v' f None = (t' ≡ t) × (v' ≡ v)
-Calls t v t' v' f (Some out) = (filter_refusal t v f ≡ None) × Reacts out t' v' (filter_step t v f)
+line_after other v = Silent
 
 -- so many messages at most, and no more than one answer beside those to the n opens that wait
 pub record IsSmallOut (most : ℕ) (n : ℕ) (out : Out) : Type 0 where

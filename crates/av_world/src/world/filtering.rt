@@ -1,10 +1,10 @@
-ghost use Rattle.std.specs.Prelude.{◌≡◌, ◌≤◌, ◌+◌, ◌++◌, [], map, length, reverse, vec_len, IfSome};
+ghost use Rattle.std.specs.Prelude.{◌≡◌, ◌≤◌, ◌+◌, ◌++◌, map, length, reverse, vec_len, IfSome};
 ghost use Rattle.std.specs.Vec.{vec_capacity};
+ghost use Rattle.av_filter.specs.Asking.{Calls, event_called};
 ghost use Rattle.av_filter.specs.Fit.{Fits};
 ghost use Rattle.av_filter.specs.Room.{most_messages};
-ghost use Rattle.av_filter.specs.declared.note.Note.TheVariants.{Quiet};
 ghost use Rattle.av_store.specs.Rows.{stream_at};
-ghost use Rattle.av_world.specs.Stage.{Calls, IsSmallOut, Takes, at_history, event_called, line_after};
+ghost use Rattle.av_world.specs.Stage.{IsSmallOut, Takes, at_history, line_after};
 ghost use Rattle.av_world.specs.World.{change_line, filter_event, given_at};
 ghost use Rattle.av_world.specs.declared.event.Event.{Event};
 
@@ -12,50 +12,11 @@ use super::stage::Stage;
 use crate::event::Event;
 use crate::given::Given;
 use crate::report::{Line, Note, Report};
-use av_base::{Generation, Port, StreamId, Version};
-use av_filter::note::Note as FilterNote;
-use av_filter::{Filter, Out};
-use av_frame::Message;
+use av_base::{Generation, StreamId};
+use av_filter::{Filter, FilterCall, Out};
 use av_pend::Answer;
 use av_store::Volume;
 use std::alloc::Global;
-
-/// What is asked of the filter, or of the volume below it.
-#[derive(Clone, Copy)]
-pub enum FilterCall<'a> {
-    Create {
-        name: &'a [u8],
-    },
-    Write {
-        stream: StreamId,
-        offset: u64,
-        bytes: &'a [u8],
-    },
-    Cut {
-        stream: StreamId,
-        length: u64,
-    },
-    Remove {
-        stream: StreamId,
-    },
-    Open {
-        stream: StreamId,
-        least: Version,
-    },
-    Cleanup {
-        stream: StreamId,
-    },
-    Receive {
-        message: &'a Message,
-    },
-    Timeout {
-        seq: u64,
-    },
-    Disconnect {
-        port: Port,
-    },
-    Restart,
-}
 
 // Asks it; none where it is refused.
 #[tactic(auto, using(crate::proofs::RoomLemmas::small_if))]
@@ -69,7 +30,7 @@ fn ask(
     ensures reacts { Calls filter.old volume.old filter.new volume.new (event_called call.now) result }
     ensures few { IfSome result (IsSmallOut (most_messages filter.old (event_called call.now)) (length filter.old.pended)) }
 {
-    answer(filter, volume, alloc, call)
+    filter.ask(alloc, volume, call)
 }
 
 // How many messages it gives out at most.
@@ -79,56 +40,6 @@ fn most_messages(filter: &Filter, call: &FilterCall<'_>) -> usize
     match *call {
         FilterCall::Disconnect { .. } => filter.question_count(),
         _ => 2,
-    }
-}
-
-// What it answers.
-#[tactic(auto, using(crate::proofs::StageLemmas::cleaned_up, crate::proofs::StageLemmas::created, crate::proofs::StageLemmas::disconnected, crate::proofs::StageLemmas::meets, crate::proofs::StageLemmas::received, crate::proofs::StageLemmas::remounted, crate::proofs::StageLemmas::timed_out), unfolding(av_filter::specs::Conduct::filter_step))]
-fn answer(
-    filter: &mut Filter,
-    volume: &mut Volume,
-    alloc: Global,
-    call: &FilterCall<'_>,
-) -> Option<Out>
-    requires fits { Fits filter.old volume.old }
-    ensures { Calls filter.old volume.old filter.new volume.new (event_called call.now) result }
-{
-    match *call {
-        FilterCall::Create { name } => match volume.create(alloc, name) {
-            Ok(_) => Some(quiet(alloc)),
-            Err(_) => None,
-        },
-        FilterCall::Write {
-            stream,
-            offset,
-            bytes,
-        } => filter.write(alloc, volume, stream, offset, bytes).ok(),
-        FilterCall::Cut { stream, length } => filter.cut(alloc, volume, stream, length).ok(),
-        FilterCall::Remove { stream } => filter.remove(alloc, volume, stream).ok(),
-        FilterCall::Open { stream, least } => filter.open(alloc, volume, stream, least).ok(),
-        FilterCall::Cleanup { stream } => filter.cleanup(alloc, volume, stream).ok(),
-        FilterCall::Receive { message } => filter.message(alloc, volume, message).ok(),
-        FilterCall::Timeout { seq } => filter.timeout(alloc, volume, seq).ok(),
-        FilterCall::Disconnect { port } => filter.disconnect(alloc, volume, port).ok(),
-        FilterCall::Restart => {
-            if volume.boot() == u64::MAX {
-                return None;
-            }
-            filter.remount(alloc, volume).ok()
-        }
-    }
-}
-
-// A volume's change tells nothing more.
-fn quiet(alloc: Global) -> Out
-    ensures answers { result.answers.items ≡ [] }
-    ensures messages { result.messages.items ≡ [] }
-    ensures note { result.note ≡ Quiet }
-{
-    Out {
-        answers: Vec::new(alloc),
-        messages: Vec::new(alloc),
-        note: FilterNote::Quiet,
     }
 }
 

@@ -10,13 +10,13 @@ ghost use Rattle.av_world.specs.World.{desk_of, down_frame, member, up_frame};
 ghost use Rattle.av_world.specs.declared.event.Event.{Event};
 
 use super::delivery::delivered;
-use super::filtering::FilterCall;
 use super::request::Request;
 use super::serving::ServiceCall;
 use super::stage::Stage;
 use crate::event::Event;
 use crate::report::Report;
 use av_base::Port;
+use av_filter::FilterCall;
 use std::alloc::Global;
 
 impl Stage {

@@ -1,17 +1,17 @@
 ghost use Rattle.std.specs.Prelude.{◌≡◌, List, Some, None, is_some};
 ghost use Rattle.std.specs.Option.{option_map};
+ghost use Rattle.av_filter.specs.Asking.{event_called};
 ghost use Rattle.av_filter.specs.Conduct.{filter_refusal};
 ghost use Rattle.av_sigset.specs.Made.{set_made};
 ghost use Rattle.av_world.specs.Request.{frame_fault, outcome_of, work_fault};
 ghost use Rattle.av_base.specs.Refused.{IsFaultOf, IsRefusal};
 ghost use Rattle.av_world.specs.Serving.{service_refusal};
 ghost use Rattle.av_world.specs.Serving as serving;
-ghost use Rattle.av_world.specs.Stage.{at_history, event_called};
+ghost use Rattle.av_world.specs.Stage.{at_history};
 ghost use Rattle.av_world.specs.World.{desk_of, member, published, step_fault, step_of, work_at};
 ghost use Rattle.av_world.specs.declared.event.Event.{Event};
 ghost use Rattle.av_world.specs.declared.fault.StepFault.TheVariants as fault;
 
-use super::filtering::FilterCall;
 use super::request::Request;
 use super::serving::ServiceCall;
 use super::stage::Stage;
@@ -19,6 +19,7 @@ use crate::event::Event;
 use crate::fault::StepFault;
 use crate::pattern::Patterns;
 use av_base::{Port, Refusal, Version};
+use av_filter::FilterCall;
 use av_frame::Message;
 use av_service::{ConnectFault, Work};
 use av_sigset::SignatureSet;

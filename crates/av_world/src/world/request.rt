@@ -2,13 +2,13 @@ ghost use Rattle.std.specs.Prelude.{List};
 ghost use Rattle.av_world.specs.Request.{Asks, Names};
 ghost use Rattle.av_world.specs.declared.event.Event.{Event};
 
-use super::filtering::FilterCall;
 use super::serving::ServiceCall;
 use super::stage::Stage;
 use crate::event::Event;
 use crate::fault::StepFault;
 use crate::pattern::Patterns;
 use av_base::{Port, StreamId, Version};
+use av_filter::FilterCall;
 
 /// What an event asks for, its name looked up.
 #[derive(Clone, Copy)]

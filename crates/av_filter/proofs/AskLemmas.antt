@@ -1,4 +1,4 @@
--- What calls of the filter answer is what an event asks of it.
+-- What calls of the filter answer is what becomes of an event.
 use Rattle.std.proofs.Common.{[], ap, ◌≡◌, ◌==◌, ℕ, true, false, if◌then◌else◌, eqb-true, List, None, Some, Result, Ok, Err, refl, sym}
 use Rattle.std.specs.Option.{option_map}
 use Rattle.std.specs.Result.{result_ok, result_err}
@@ -6,6 +6,7 @@ use Rattle.std.specs.Prelude.{IfOk, OnErr}
 use Rattle.av_base.specs.declared.port.Port.{Port}
 use Rattle.av_base.specs.declared.refusal.Refusal.{Refusal}
 use Rattle.av_base.specs.declared.refusal.Refusal.TheVariants.{Fault, NoMemory}
+use Rattle.av_filter.specs.Asking.{Calls}
 use Rattle.av_filter.specs.Call.{Meets, MeetsAlways, Reacts}
 use Rattle.av_filter.specs.Changing.{changes, cleaned}
 use Rattle.av_filter.specs.Conduct.{FilterEvent, Changes, CleansUp, Disconnects, Receives, Restarts, TimesOut, disconnects, filter_refusal, filter_step, restarts}
@@ -21,7 +22,6 @@ use Rattle.av_store.specs.Files as change
 use Rattle.av_store.specs.Rows.{stream_at}
 use Rattle.av_store.specs.Seen.{change_of, kept_or, volume_of}
 use Rattle.av_store.specs.Store.{Store, create_of, greatest}
-use Rattle.av_world.specs.Stage.{Calls}
 
 pub meets : (r : Result Out (Refusal FilterFault)) (t : Table) (v : Store) (t' : Table) (v' : Store) (f : FilterEvent) → Meets t v t' v' r (filter_refusal t v f) (filter_step t v f) → Calls t v t' v' f (result_ok r)
 meets (Ok out) t v t' v' f h = h
