@@ -8,6 +8,7 @@
 //! ```
 #![tactic(auto)]
 
+mod content;
 pub mod fault;
 pub mod laws;
 mod stream;

@@ -3,6 +3,7 @@ ghost use Rattle.av_base.specs.Answers.{Reads, Steps, StepsAtOnce};
 ghost use Rattle.av_store.specs.Content.{bytes_read, written, cut_to};
 ghost use Rattle.std.specs.Result.{result_err};
 
+use crate::content::Content;
 use crate::fault::StoreFault;
 use av_base::{ByteList, Generation, Limits, Refusal};
 use std::alloc::Global;
@@ -12,7 +13,7 @@ use std::alloc::Global;
 pub struct Stream {
     pub name: ByteList,
     pub generation: Generation,
-    pub bytes: ByteList,
+    pub bytes: Content,
 }
 
 impl Stream {

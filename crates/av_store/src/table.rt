@@ -8,6 +8,7 @@ ghost use Rattle.av_store.specs.Index.{at_name};
 ghost use Rattle.av_store.specs.Rows.{is_same, stream_at};
 ghost use Rattle.av_store.specs.Store.{stepped, removed};
 
+use crate::content::Content;
 use crate::fault::StoreFault;
 use crate::stream::Stream;
 use av_base::{ByteList, Generation, Limits, Refusal};
@@ -66,7 +67,7 @@ pub fn add(
     let stream = Stream {
         name: ByteList::copied(alloc, name)?,
         generation: Generation::new(1),
-        bytes: ByteList::from_vec(Vec::new(alloc)),
+        bytes: Content::empty(alloc)?,
     };
     rows.insert(number, stream)?;
     if let Err(_refused) = names.insert(key, number) {

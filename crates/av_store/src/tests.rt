@@ -114,6 +114,7 @@ fn refused_or_not_a_volume_is_as_it_was_or_changed(rt: HostRuntime) -> Result<()
         volume.create(alloc, b"two")?;
     }
     assert_eq!(rt; volume.find(b"two"), Some(StreamId::new(2)));
+    let first = volume.copy()?;
     let before = seen(&volume);
     may_refuse(alloc);
     let written = volume.write(id, 3, b"defghijklmnop");
@@ -122,7 +123,8 @@ fn refused_or_not_a_volume_is_as_it_was_or_changed(rt: HostRuntime) -> Result<()
         assert_eq!(rt; seen(&volume), before);
         volume.write(id, 3, b"defghijklmnop")?;
     }
-    assert_eq!(rt; volume.length(id), Some(16));
+    assert_eq!(rt; volume.content(id), Some(b"abcdefghijklmnop".as_slice()));
+    assert_eq!(rt; first.content(id), Some(b"abc".as_slice()));
     may_refuse(alloc);
     let read = volume.read(alloc, id, 2, 2);
     let copy = volume.copy();

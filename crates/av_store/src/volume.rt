@@ -280,7 +280,8 @@ impl Volume {
         u64::MAX - self.opens
     }
 
-    /// A volume that is equal to this one. It costs all that the volume holds.
+    /// A volume that is equal to this one. It costs the names and numbers of its streams: the two have each content in common until
+    /// one of them writes to it.
     pub fn copy(&self) -> Result<Volume, AllocError>
         ensures { IfOk result (λ v. v ≡ self.now) }
     {

@@ -20,7 +20,7 @@ returns-in-Err-clause-refused c = (
 pub returns-clause-rows : goal.returns-clause-rows
 returns-clause-rows c =
     c.in_ok-insert.ensures.entries
-    ∙ ap (insert_entry nat_cmp c.args.rows.now.entries c.args.number) (made c.args.name.now _ _ _ c.in_ok-copied.ensures c.new.ensures (c.from_vec.ensures ∙ c.new-2.ensures.items))
+    ∙ ap (insert_entry nat_cmp c.args.rows.now.entries c.args.number) (made c.args.name.now _ _ _ c.in_ok-copied.ensures c.new.ensures c.in_ok-empty.ensures)
     ∙ insert_last _ _ _ c.requires.below
 
 -- src/table.rt:51:1
