@@ -10,7 +10,7 @@ use std::alloc::AllocError;
 use std::marker::Model;
 
 /// The fields of a message. The filter sends Scan, Chunk, NoChunk and Abort, the scanning service the others.
-#[derive(Clone, Debug, Drop)]
+#[derive(Clone, Debug, PartialEq, Eq, Drop)]
 pub enum Body {
     /// Judge this content, which has `length` bytes.
     Scan {
