@@ -3,27 +3,14 @@ use Rattle.std.specs.Prelude.{◌≡◌, ℕ, ◌+◌, ◌≤◌, ◌<◌, ◌==
 use Rattle.std.specs.List.{All, count_by, sum_by, filter}
 use Rattle.av_ends.specs.declared.ticket.Receipt.{Receipt}
 use Rattle.av_filter.specs.Audit.{FilterEntry, IsFilterAudit, Kept, answers_given, filter_end}
-use Rattle.av_filter.specs.Conduct.{FilterEvent, Opens, Changes, CleansUp, Receives, TimesOut, Disconnects}
 use Rattle.av_filter_table.specs.Table.{Table, mounted}
-use Rattle.av_gate.specs.Book.{stream_of}
+use Rattle.av_gate.specs.Calls.{event_called}
 use Rattle.av_gate.specs.declared.audit.Audit.{Audit}
-use Rattle.av_gate.specs.declared.call.Call.{Call}
-use Rattle.av_gate.specs.declared.call.Call.TheVariants as call
 use Rattle.av_gate.specs.declared.seat.Seat.{Seat}
 use Rattle.av_gate.specs.declared.seat.SeatCall.{SeatCall}
 use Rattle.av_pend.specs.Pend.{open_of}
 use Rattle.av_pend.specs.declared.answer.Answer.{Answer}
-use Rattle.av_store.specs.Files.{Write}
 use Rattle.av_store.specs.Store.{Store}
-
--- the event that a call is, its name read in this volume
-abbrev pub event_called : Store → Call → FilterEvent
-event_called v (call.Open name least) = Opens (stream_of v name) least
-event_called v (call.Write name offset bytes) = Changes (Write (stream_of v name) offset bytes)
-event_called v (call.Cleanup name) = CleansUp (stream_of v name)
-event_called v (call.Receive m) = Receives m
-event_called v (call.Timeout seq) = TimesOut seq
-event_called v (call.Disconnect port) = Disconnects port
 
 -- the event at the call's place is the call, with the call's note
 abbrev pub Matches : Store → List FilterEntry → SeatCall → Type 0

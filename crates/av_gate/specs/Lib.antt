@@ -1,6 +1,6 @@
 pub mod Book
+pub mod Calls
 pub mod Claims
-pub mod Events
 pub mod PortCounts
 pub mod Seats
 pub mod Versions

@@ -23,11 +23,11 @@ abbrev pub calls_of : Seat → List SeatCall
 calls_of s = s.calls.items
 
 -- a call of a seat, with its place among the events and its note
-abbrev pub seat_call : ℕ → Call → Note → SeatCall
+abbrev pub seat_call : ℕ → Call (List ℕ) → Note → SeatCall
 seat_call place c note = record { place = place; call = c; note = note }
 
 -- an accepted call is added, at some place and with the note that it answers; a refused one is not
-abbrev pub Adds : {E : Type 0} → Seat → Seat → Call → Result Note E → Type 0
+abbrev pub Adds : {E : Type 0} → Seat → Seat → Call (List ℕ) → Result Note E → Type 0
 Adds old new c (Ok note) = (place : ℕ) × (calls_of new ≡ calls_of old ++ seat_call place c note ∷ [])
 Adds old new c (Err why) = calls_of new ≡ calls_of old
 

@@ -1,29 +1,30 @@
 ghost use Rattle.std.specs.Prelude.{◌≡◌, IfOk};
 ghost use Rattle.av_gate.specs.declared.call.Call.TheVariants as call;
 
-use av_base::{ByteList, Port, Version};
+use av_base::{ByteList, Port, StreamId, Version};
 use av_frame::Message;
 use std::alloc::{AllocError, Global};
 
-/// What a caller asked of a gate, with its own arguments.
+/// What is asked of a gate. `S` tells its stream: a name, as the caller asks it and a seat keeps it, or a number, as it happens and
+/// an audit keeps it; a name that no stream has is number 0.
 #[derive(Debug, Drop)]
-pub enum Call {
-    /// An open of the stream of this name, with the floor that the caller had seen for its least.
+pub enum Call<S> {
+    /// A stream is opened: no version below `least`, the floor that the caller had seen, may grant it.
     Open {
-        name: ByteList,
+        stream: S,
         least: Version,
     },
-    /// Bytes to be written over those of a stream from `offset` on.
+    /// Bytes are written over those of a stream from `offset` on.
     Write {
-        name: ByteList,
+        stream: S,
         offset: u64,
         bytes: ByteList,
     },
     /// The last of those who wrote to a stream has closed it.
     Cleanup {
-        name: ByteList,
+        stream: S,
     },
-    /// A message of the scanning service.
+    /// A message of the scanning service comes.
     Receive {
         message: Message,
     },
@@ -37,13 +38,19 @@ pub enum Call {
     },
 }
 
+/// What a caller asked.
+pub type NamedCall = Call<ByteList>;
+
+/// What happened.
+pub type Event = Call<StreamId>;
+
 // Calls by copies of their arguments.
-impl Call {
-    pub(crate) fn open(alloc: Global, name: &[u8], least: Version) -> Result<Call, AllocError>
+impl Call<ByteList> {
+    pub(crate) fn open(alloc: Global, name: &[u8], least: Version) -> Result<NamedCall, AllocError>
         ensures { IfOk result (λ c. c ≡ call.Open name.now least) }
     {
         Ok(Call::Open {
-            name: ByteList::copied(alloc, name)?,
+            stream: ByteList::copied(alloc, name)?,
             least,
         })
     }
@@ -53,25 +60,25 @@ impl Call {
         name: &[u8],
         offset: u64,
         bytes: &[u8],
-    ) -> Result<Call, AllocError>
+    ) -> Result<NamedCall, AllocError>
         ensures { IfOk result (λ c. c ≡ call.Write name.now offset bytes.now) }
     {
         Ok(Call::Write {
-            name: ByteList::copied(alloc, name)?,
+            stream: ByteList::copied(alloc, name)?,
             offset,
             bytes: ByteList::copied(alloc, bytes)?,
         })
     }
 
-    pub(crate) fn cleanup(alloc: Global, name: &[u8]) -> Result<Call, AllocError>
+    pub(crate) fn cleanup(alloc: Global, name: &[u8]) -> Result<NamedCall, AllocError>
         ensures { IfOk result (λ c. c ≡ call.Cleanup name.now) }
     {
         Ok(Call::Cleanup {
-            name: ByteList::copied(alloc, name)?,
+            stream: ByteList::copied(alloc, name)?,
         })
     }
 
-    pub(crate) fn receive(message: &Message) -> Result<Call, AllocError>
+    pub(crate) fn receive(message: &Message) -> Result<NamedCall, AllocError>
         ensures { IfOk result (λ c. c ≡ call.Receive message.now) }
     {
         Ok(Call::Receive {

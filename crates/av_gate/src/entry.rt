@@ -1,7 +1,7 @@
 ghost use Rattle.std.specs.Prelude.{◌≡◌};
-ghost use Rattle.av_gate.specs.Events.{event_of};
+ghost use Rattle.av_gate.specs.Calls.{event_of};
 
-use crate::event::Event;
+use crate::call::Event;
 use av_filter::{Note, Out};
 use av_frame::Message;
 use av_pend::Answer;
@@ -16,7 +16,7 @@ pub struct Entry {
 
 impl Model for Entry {
     ghost use Rattle.av_filter.specs.Audit.{FilterEntry};
-    ghost use Rattle.av_gate.specs.Events.{event_of};
+    ghost use Rattle.av_gate.specs.Calls.{event_of};
 
     ghost Value = { FilterEntry };
 

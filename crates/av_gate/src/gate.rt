@@ -5,7 +5,7 @@ ghost use Rattle.av_gate.specs.Versions.{version_shown};
 ghost use Rattle.av_gate.specs.declared.call.Call.TheVariants as call;
 ghost use Rattle.av_store.specs.Store.{mount_of};
 
-use crate::call::Call;
+use crate::call::{Call, NamedCall};
 use crate::fault::GateFault;
 use crate::locked::Locked;
 use crate::port_waits::PortWaits;
@@ -232,7 +232,7 @@ impl Gate {
         alloc: Global,
         seat: &mut Seat,
         message: &Message,
-    ) -> Result<(Option<Call>, Settled), Refusal<GateFault>>
+    ) -> Result<(Option<NamedCall>, Settled), Refusal<GateFault>>
         requires { IsSeatOf self.now seat.old }
         ensures same { IsSeatOf self.now seat.new × (calls_of seat.new ≡ calls_of seat.old)
             × (floor_seen seat.new ≡ floor_seen seat.old) }
@@ -298,8 +298,8 @@ impl Gate {
     fn prepare(
         &self,
         seat: &mut Seat,
-        call: Result<Call, AllocError>,
-    ) -> Result<Option<Call>, Refusal<GateFault>>
+        call: Result<NamedCall, AllocError>,
+    ) -> Result<Option<NamedCall>, Refusal<GateFault>>
         requires { IsSeatOf self.now seat.old }
         ensures same { IsSeatOf self.now seat.new × (calls_of seat.new ≡ calls_of seat.old)
             × (floor_seen seat.new ≡ floor_seen seat.old) }
@@ -316,7 +316,7 @@ impl Gate {
     }
 
     // Keeps an accepted call in its seat, shows the floor after it, and wakes who waits for what it gave out.
-    fn settle(&self, seat: &mut Seat, prepared: Option<Call>, settled: Settled) -> Note
+    fn settle(&self, seat: &mut Seat, prepared: Option<NamedCall>, settled: Settled) -> Note
         requires seat { IsSeatOf self.now seat.old }
         requires prepared { IsSome prepared }
         requires room { vec_len seat.old.calls < vec_capacity seat.old.calls }

@@ -1,9 +1,9 @@
 ghost use Rattle.std.specs.Prelude.{◌≡◌};
 ghost use Rattle.av_filter.specs.Asking.{Calls, event_called};
 ghost use Rattle.av_filter.specs.Fit.{Fits};
-ghost use Rattle.av_gate.specs.Events.{event_of};
+ghost use Rattle.av_gate.specs.Calls.{event_of};
 
-use crate::event::Event;
+use crate::call::Event;
 use av_filter::{Filter, FilterCall, Out};
 use av_store::Volume;
 use std::alloc::Global;

@@ -1,21 +1,23 @@
 ghost use Rattle.std.specs.Prelude.{◌≡◌, ◌≤◌, ◌<◌, ◌↔◌, length, Ok, Err, IsOk, IfOk, IfErr, OnOk, OnErr, IsTrue, MatchBool, ◌≢◌, ◌-◌, []};
 ghost use Rattle.av_base.specs.Answers.{Answers, Reads};
+ghost use Rattle.av_base.specs.declared.refusal.Refusal.TheVariants.{Fault};
 ghost use Rattle.av_filter.specs.Conduct.{Changes, CleansUp, Disconnects, Opens, Receives, TimesOut};
 ghost use Rattle.av_filter.specs.declared.note.Note.TheVariants.{Submitted};
 ghost use Rattle.av_filter_table.specs.Ports.{is_open};
 ghost use Rattle.av_gate.specs.Book.{happens, opening, sent_at, settled_of, state_of, stream_of, taken_to, waiting_of};
 ghost use Rattle.av_gate.specs.Claims.{IsLegal, Stands};
-ghost use Rattle.av_gate.specs.Events.{event_of};
+ghost use Rattle.av_gate.specs.Calls.{event_of};
 ghost use Rattle.av_gate.specs.Versions.{version_shown};
+ghost use Rattle.av_gate.specs.declared.fault.GateFault.TheVariants.{AuditFull};
 ghost use Rattle.av_pend.specs.Pend.{open_of};
 ghost use Rattle.av_store.specs.Files.{Write};
 ghost use Rattle.av_store.specs.Store.{mount_of};
 
 use crate::answer_place::AnswerPlace;
 use crate::audit::Audit;
+use crate::call::Event;
 use crate::copying::{count_each, messages_of, quiet_ones};
 use crate::entry::Entry;
-use crate::event::Event;
 use crate::fault::GateFault;
 use crate::happening::happen;
 use crate::naming::stream_of;
@@ -112,9 +114,7 @@ impl Locked {
         ensures ticket { IfOk result (λ r. (r.1.note ≡ Submitted r.0.open_id) × (r.0.least ≡ least)) }
         ensures room { OnOk result (IsTrue has_room) }
     {
-        if self.is_full() {
-            return Err(Refusal::Fault(GateFault::AuditFull));
-        }
+        self.has_place()?;
         if self.volume.opens_left() == 0 {
             return Err(Refusal::Fault(GateFault::Filter(FilterFault::OpensSpent)));
         }
@@ -145,9 +145,7 @@ impl Locked {
             (happens self.old (Changes (Write (stream_of self.old.start name.now) offset bytes.now))) }
         ensures room { OnOk result (IsTrue has_room) }
     {
-        if self.is_full() {
-            return Err(Refusal::Fault(GateFault::AuditFull));
-        }
+        self.has_place()?;
         let stream = stream_of(&self.start, name);
         if let Some(fault) = self.volume.write_refusal(stream, offset, bytes) {
             return Err(Refusal::Fault(GateFault::Filter(FilterFault::Store(fault))));
@@ -172,9 +170,7 @@ impl Locked {
         ensures event { Answers self.old self.new result (happens self.old (CleansUp (stream_of self.old.start name.now))) }
         ensures room { OnOk result (IsTrue has_room) }
     {
-        if self.is_full() {
-            return Err(Refusal::Fault(GateFault::AuditFull));
-        }
+        self.has_place()?;
         let stream = stream_of(&self.start, name);
         self.add(alloc, has_room, Event::Cleanup { stream })
     }
@@ -191,9 +187,7 @@ impl Locked {
         ensures floor { IfOk result (λ s. version_shown message.now s.note ≤ s.floor) }
         ensures room { OnOk result (IsTrue has_room) }
     {
-        if self.is_full() {
-            return Err(Refusal::Fault(GateFault::AuditFull));
-        }
+        self.has_place()?;
         let message = message.clone()?;
         self.add(alloc, has_room, Event::Receive { message })
     }
@@ -209,9 +203,7 @@ impl Locked {
         ensures event { Answers self.old self.new result (happens self.old (TimesOut seq)) }
         ensures room { OnOk result (IsTrue has_room) }
     {
-        if self.is_full() {
-            return Err(Refusal::Fault(GateFault::AuditFull));
-        }
+        self.has_place()?;
         self.add(alloc, has_room, Event::Timeout { seq })
     }
 
@@ -226,9 +218,7 @@ impl Locked {
         ensures event { Answers self.old self.new result (happens self.old (Disconnects port)) }
         ensures room { OnOk result (IsTrue has_room) }
     {
-        if self.is_full() {
-            return Err(Refusal::Fault(GateFault::AuditFull));
-        }
+        self.has_place()?;
         self.add(alloc, has_room, Event::Disconnect { port })
     }
 
@@ -285,11 +275,15 @@ impl Locked {
         }
     }
 
-    // Whether the audit is as long as it may get.
-    fn is_full(&self) -> bool
-        ensures { IsTrue result ↔ (self.now.limits.audit ≤ length self.now.events) }
+    // AuditFull, where the audit is as long as it may get.
+    fn has_place(&self) -> Result<(), Refusal<GateFault>>
+        ensures ok { OnOk result (length self.now.events < self.now.limits.audit) }
+        ensures err { IfErr result (λ why. (why ≡ Fault AuditFull) × (self.now.limits.audit ≤ length self.now.events)) }
     {
-        self.events.len() as u64 >= self.limits.values().audit
+        if self.events.len() as u64 >= self.limits.values().audit {
+            return Err(Refusal::Fault(GateFault::AuditFull));
+        }
+        Ok(())
     }
 
     /// The messages of a port that wait, in their order; those of the other port stay. Where memory refuses, all do.

@@ -1,7 +1,7 @@
 ghost use Rattle.std.specs.Prelude.{◌≡◌};
 ghost use Rattle.av_gate.specs.Seats.{calls_of};
 
-use crate::call::Call;
+use crate::call::NamedCall;
 use av_ends::FloorSeat;
 use av_filter::Note;
 
@@ -9,7 +9,7 @@ use av_filter::Note;
 #[derive(Debug, Drop)]
 pub struct SeatCall {
     pub place: usize,
-    pub call: Call,
+    pub call: NamedCall,
     pub note: Note,
 }
 

@@ -25,12 +25,7 @@ HearsNothing e = (up : List Letter) → CameUp up e
 
 hears : (e : FilterEvent) → hears_nothing e ≡ true → HearsNothing e
 hears (filter.Receives m) h = absurd (true≢false (sym h))
-hears (filter.Opens s least) h = λ up. tt
-hears (filter.Changes c) h = λ up. tt
-hears (filter.CleansUp s) h = λ up. tt
-hears (filter.TimesOut seq) h = λ up. tt
-hears (filter.Disconnects port) h = λ up. tt
-hears filter.Restarts h = λ up. tt
+hears _ h = λ up. tt
 
 -- a call that brings the service no message and no work
 abbrev TakesNothing : Call → Type 0
@@ -40,11 +35,7 @@ TakesNothing c =
 takes : (c : Call) → takes_nothing c ≡ true → TakesNothing c
 takes (By (service.Receives m)) h = absurd (true≢false (sym h))
 takes (By (service.Finishes lease scan hit)) h = absurd (true≢false (sym h))
-takes (By service.Connects) h = (λ down. tt, λ sets works. tt)
-takes (By service.Disconnects) h = (λ down. tt, λ sets works. tt)
-takes (By (service.Publishes v)) h = (λ down. tt, λ sets works. tt)
-takes (By (service.Restarts v)) h = (λ down. tt, λ sets works. tt)
-takes (Publishes v ps) h = (λ down. tt, λ sets works. tt)
+takes _ h = (λ down. tt, λ sets works. tt)
 
 -- what passes a test, each by itself
 each_by : {X : Type 0} (P : X → Type 0) (test : X → Bool) → ((x : X) → test x ≡ true → P x) → (xs : List X) → list_all test xs ≡ true → Each P xs

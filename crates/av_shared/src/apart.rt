@@ -2,7 +2,7 @@ ghost use Rattle.std.specs.Prelude.{◌≡◌, ◌&&◌, IsTrue};
 ghost use Rattle.std.specs.List.{list_all};
 ghost use Rattle.std.specs.Option.{option_copied};
 ghost use Rattle.av_desk.specs.Entry.{call_of};
-ghost use Rattle.av_gate.specs.Events.{event_of};
+ghost use Rattle.av_gate.specs.Calls.{event_of};
 ghost use Rattle.av_shared.specs.Apart.{are_apart, hears_nothing, one_by_one, takes_nothing};
 ghost use Rattle.av_shared.specs.History.{AreOneHistory, events_of};
 
@@ -52,11 +52,7 @@ fn hears_nothing(event: &GateEvent) -> bool
 {
     match event {
         GateEvent::Receive { .. } => false,
-        GateEvent::Open { .. }
-        | GateEvent::Write { .. }
-        | GateEvent::Cleanup { .. }
-        | GateEvent::Timeout { .. }
-        | GateEvent::Disconnect { .. } => true,
+        _ => true,
     }
 }
 
@@ -71,9 +67,6 @@ fn takes_nothing(event: &DeskEvent) -> bool
 {
     match event {
         DeskEvent::Receive { .. } | DeskEvent::Finish { .. } => false,
-        DeskEvent::Connect
-        | DeskEvent::Publish { .. }
-        | DeskEvent::Disconnect
-        | DeskEvent::Restart { .. } => true,
+        _ => true,
     }
 }

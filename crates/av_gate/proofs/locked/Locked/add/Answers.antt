@@ -2,7 +2,7 @@ use Rattle.std.proofs.Common.{◌≡◌, ◌++◌, ◌∷◌, [], IsOk, subst, s
 use Rattle.av_filter.specs.Conduct.{filter_step}
 use Rattle.av_gate.proofs.BookLemmas.{kept_with_event, room_left}
 use Rattle.av_gate.specs.Book.{Book, happens, replied}
-use Rattle.av_gate.specs.Events.{event_of}
+use Rattle.av_gate.specs.Calls.{event_of}
 use Rattle.av_gate.proofs.locked.Locked.add.Goals as goal
 
 pub invariant_of-self-2 : goal.invariant_of-self-2
