@@ -1,15 +1,10 @@
 ghost use Rattle.std.specs.Prelude.{◌≡◌, ◌++◌, ◌∷◌, [], IfErr, OnOk};
-ghost use Rattle.av_filter.specs.Fit.{Fits};
 ghost use Rattle.av_status.specs.Status.{IsFault};
 
 use av_base::StreamId;
 use av_files::contents::{GROUP_BYTES, counted_bytes};
-use av_files::scanner::Input;
-use av_files::streams::add_file;
-use av_filter::Filter;
 use av_status::faults::out_of_memory;
 use av_status::status::Status;
-use av_store::Volume;
 use std::alloc::Global;
 use std::io::Write;
 
@@ -39,26 +34,19 @@ impl<'a> Group<'a> {
         self.bytes >= GROUP_BYTES
     }
 
-    // Makes a file a stream of the volume. Where it can't be one, a line to `err` says why.
-    #[tactic(auto, using(crate::proofs::AddLemmas::added_fits))]
+    // Adds a file that is this stream. A line to `err` says that there is no memory for it.
     pub(crate) fn add<E: Write>(
         &mut self,
-        alloc: Global,
-        volume: &mut Volume,
-        filter: &Filter,
         name: &'a str,
+        stream: StreamId,
         content: Option<&[u8]>,
         err: &mut E,
     ) -> Result<(), Status>
-        requires fits { Fits filter.now volume.old }
         ensures names { OnOk result (self.new.names.items ≡ self.old.names.items ++ name.entry ∷ []) }
-        ensures fits { OnOk result (Fits filter.now volume.new) }
         ensures failed { IfErr result (λ status. IsFault status) }
     {
-        let _of_files = volume.last_created();
-        add_file(alloc, volume, Input { name, content }, err)?;
         self.bytes = self.bytes.saturating_add(counted_bytes(content));
-        if self.streams.push(volume.last_created()).is_err() {
+        if self.streams.push(stream).is_err() {
             return Err(out_of_memory(err));
         }
         match self.names.push(name) {

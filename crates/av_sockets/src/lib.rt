@@ -13,6 +13,7 @@ pub mod filter;
 pub mod group;
 mod line;
 pub mod looks;
+mod opener;
 mod place;
 pub mod service;
 pub mod sockets;

@@ -7,7 +7,7 @@ use Rattle.av_sockets.proofs.filter.open_all.Goals as goal
 pub files-init : goal.files-init
 files-init g c = record {
   fits = c.requires.fits;
-  so_far = at_start _ _ _ _ c.new-group.ensures;
+  so_far = at_start _ _ _ _ c.requires.empty;
 }
 
 pub files-preserved : goal.files-preserved
