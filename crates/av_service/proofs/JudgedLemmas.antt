@@ -1,12 +1,13 @@
 -- A work that comes back leaves each job with the scan of its judged bytes.
 use Rattle.std.proofs.Common.{◌≡◌, ℕ, ◌+◌, false, not, ◌==◌, List, [], ◌∷◌, ◌++◌, Option, Some, None, if◌then◌else◌, sym, ap, ◌∙◌, subst, arith, length-append}
 use Rattle.std.proofs.lemmas.Bool.{cond_both, not-true}
+use Rattle.av_base.proofs.KeyLemmas.{same_id-refl}
 use Rattle.av_base.specs.MessageId.{same_id}
 use Rattle.av_base.specs.declared.message_id.MessageId.{MessageId}
 use Rattle.av_base.specs.declared.verdict.Verdict.{Verdict}
 use Rattle.av_match.proofs.ScanLemmas.{scan_fed}
 use Rattle.av_match.specs.Scanning.{Compiled, IsScan, ScanState, fitting, run}
-use Rattle.av_service.proofs.SoundLemmas.{each_found, id_refl}
+use Rattle.av_service.proofs.SoundLemmas.{each_found}
 use Rattle.av_service.specs.Desk.{Desk, advanced, has_lease, lent_under, loan_count, with_job, without_job}
 use Rattle.av_service.specs.Judged.{HasJudged, HaveJudged, IsOfJob, KeepsScans, judged_more}
 use Rattle.av_service.specs.Lending.{finished}
@@ -37,7 +38,7 @@ module _ (set : Compiled) (judged : MessageId → List ℕ) (j : Job) (k : WorkS
   gone_on of has scan is =
       let ran : scan ≡ run set.patterns j.scan (fitting j.scan k.chunk) = is ∙ ap (λ s. run set.patterns s (fitting s k.chunk)) of.scan in
       let fed : IsScan set j.length (judged j.id ++ k.chunk) scan = scan_fed set j.length (judged j.id) k.chunk j.scan scan has.scanned (omega (arith, has.count, of.room)) ran in
-      subst (λ b. HasJudged set (if b then judged j.id ++ k.chunk else judged j.id) (advanced scan j)) (sym (id_refl j.id))
+      subst (λ b. HasJudged set (if b then judged j.id ++ k.chunk else judged j.id) (advanced scan j)) (sym (same_id-refl j.id))
       (record { scanned = fed; count = length-append (judged j.id) k.chunk ∙ omega (arith, has.count, of.count) })
 
 finished_keeps : (d : Desk) (k : WorkState) (scan : ScanState) (hit : Option Verdict) (set : Compiled) (judged : MessageId → List ℕ) (j : Job) → HasJudged set (judged j.id) j → IsOfJob k j → scan ≡ run set.patterns k.scan (fitting k.scan k.chunk) → HaveJudged set judged d.jobs

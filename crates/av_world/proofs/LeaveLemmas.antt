@@ -1,15 +1,12 @@
 -- What an event leaves of what is counted: one walk over the filter's conduct, and one over the service's.
-use Rattle.std.proofs.Common.{◌∙◌, Bool, true, false, find, if◌then◌else◌, filter, nat_le, nat_lt, ◌≡◌, ℕ, ◌+◌, ◌-◌, ◌≤◌, not, ◌&&◌}
-use Rattle.std.proofs.Common.{List, [], ◌∷◌, ◌++◌, length, Option, Some, None, ◌==◌, refl, arith, length-append}
-use Rattle.std.proofs.lemmas.Bool.{cond_both}
+use Rattle.std.proofs.Common.{◌∙◌, Bool, true, false, find, if◌then◌else◌, filter, ◌≡◌, ℕ, ◌+◌, ◌≤◌, not}
+use Rattle.std.proofs.Common.{List, [], ◌∷◌, ◌++◌, length, Option, Some, refl, arith, length-append}
 use Rattle.std.proofs.lemmas.List.Filters.{length-filter_both}
 use Rattle.std.specs.List.{AllByRecursion as Each}
 use Rattle.av_base.specs.declared.message_id.MessageId.{MessageId}
-use Rattle.av_base.specs.declared.verdict.Verdict.{Verdict}
 use Rattle.av_base.specs.MessageId.{same_id}
 use Rattle.av_base.specs.Port.{same_port}
 use Rattle.av_base.specs.declared.port.Port.{Port}
-use Rattle.av_cache.specs.declared.entry.Entry.{Entry}
 use Rattle.av_filter.specs.Again.{again, ends}
 use Rattle.av_filter.specs.Fit.{AreInOrder}
 use Rattle.av_filter.proofs.EachLemmas.{each-filter}
@@ -25,16 +22,12 @@ use Rattle.av_filter_table.specs.declared.question.Question.{Question}
 use Rattle.av_filter.specs.Reaction.{Reaction}
 use Rattle.av_filter_table.specs.Table.{Table, without_question, on_port}
 use Rattle.av_frame.specs.Message.{Letter}
-use Rattle.av_frame.specs.declared.message.Body.{Body}
-use Rattle.av_frame.specs.declared.message.Body.TheVariants.{Scan, Chunk, NoChunk, Abort}
-use Rattle.av_match.specs.Scanning.{ScanState}
-use Rattle.av_service.specs.Conduct.{ServiceEvent, Connects, Publishes, service_step}
-use Rattle.av_service.specs.Conduct as service_events
+use Rattle.av_service.proofs.RowLemmas.{row_of as service_row_of}
+use Rattle.av_service.specs.Conduct.{ServiceEvent, service_step}
 use Rattle.av_service.specs.declared.job.Job.{Job}
-use Rattle.av_service.specs.Desk.{Desk, loan_count}
-use Rattle.av_service.specs.Lending.{finished}
+use Rattle.av_service.specs.Desk.{Desk}
 use Rattle.av_service.specs.Response.{Response}
-use Rattle.av_service.specs.Scanning.{awaits, chunk_found, dropped, most_leases, receives as service_receives, scan_cached, scan_found}
+use Rattle.av_service.specs.Rows as service
 use Rattle.av_store.specs.Store.{Store}
 
 -- ---- an event of the filter keeps the limits, and asks one question at most, but for those of a lost port
@@ -132,45 +125,14 @@ module _ (d : Desk) where
   same_lease : (d.limits ≡ d.limits) × (d.last_lease ≤ d.last_lease + 1)
   same_lease = (refl, omega arith)
 
-  scan_cached_leaves : (j : Job) (o : Option Entry) → LeavesDesk d (scan_cached d j o)
-  unfolding scan_cached
-  scan_cached_leaves j (Some e) = same_lease
-  scan_cached_leaves j None = cond_both (nat_le d.limits.jobs (length d.jobs)) _ _ (LeavesDesk d) (λ e. same_lease) (λ e. cond_both (j.length == 0) _ _ (LeavesDesk d) (λ e. same_lease) (λ e. same_lease))
-
-  scan_found_leaves : (j : Job) (o : Option Job) → LeavesDesk d (scan_found d j o)
-  unfolding scan_found
-  scan_found_leaves j (Some k) = same_lease
-  scan_found_leaves j None = scan_cached_leaves j _
-
-  chunk_leaves : (offset : ℕ) (bytes : List ℕ) (o : Option Job) → LeavesDesk d (chunk_found d offset bytes o)
-  unfolding chunk_found
-  chunk_leaves offset bytes None = same_lease
-  chunk_leaves offset bytes (Some j) = cond_both (not (awaits j offset && nat_lt d.last_lease most_leases)) _ _ (LeavesDesk d) (λ e. same_lease) (λ e. cond_both (nat_lt (j.length - offset) (length bytes)) _ _ (LeavesDesk d) (λ e. same_lease) (λ e. (refl, omega arith)))
-
-  dropped_leaves : (o : Option Job) → LeavesDesk d (dropped d o)
-  unfolding dropped
-  dropped_leaves None = same_lease
-  dropped_leaves (Some j) = same_lease
-
-  message_leaves : (m : Body) → LeavesDesk d (service_receives d m)
-  unfolding service_receives
-  message_leaves (Scan id s g l) = scan_found_leaves _ _
-  message_leaves (Chunk id offset bytes) = chunk_leaves offset bytes _
-  message_leaves (NoChunk id offset cause) = dropped_leaves _
-  message_leaves (Abort id) = dropped_leaves _
-  message_leaves _ = same_lease
-
-  finished_leaves : (scan : ScanState) (hit : Option Verdict) (o : Option Job) → LeavesDesk d (finished d scan hit o)
-  unfolding finished
-  finished_leaves scan hit None = same_lease
-  finished_leaves scan (Some r) (Some j) = same_lease
-  finished_leaves scan None (Some j) = cond_both (j.offset + loan_count j.loan == j.length) _ _ (LeavesDesk d) (λ e. same_lease) (λ e. same_lease)
+  service_row_leaves : {e : ServiceEvent} {r : Response} → service.Row d e r → LeavesDesk d r
+  service_row_leaves (service.scanned port id s g l r hears none row) = scan_leaves row
+    where
+      scan_leaves : {j : Job} {r : Response} → service.ScanRow d j r → LeavesDesk d r
+      scan_leaves (service.cached e at) = same_lease
+      scan_leaves _ = same_lease
+  service_row_leaves (service.lent port id offset bytes j hears at ready free short) = (refl, omega arith)
+  service_row_leaves _ = same_lease
 
   pub service_leaves : (e : ServiceEvent) → LeavesDesk d (service_step d e)
-  unfolding service_step
-  service_leaves Connects = same_lease
-  service_leaves service_events.Disconnects = same_lease
-  service_leaves (service_events.Receives m) = cond_both (d.connected && same_port m.port d.port) _ _ (LeavesDesk d) (λ e. message_leaves m.body) (λ e. same_lease)
-  service_leaves (service_events.Finishes lease scan hit) = finished_leaves scan hit _
-  service_leaves (Publishes version) = cond_both d.connected _ _ (LeavesDesk d) (λ e. same_lease) (λ e. same_lease)
-  service_leaves (service_events.Restarts latest) = same_lease
+  service_leaves e = service_row_leaves (service_row_of d e)
