@@ -150,6 +150,16 @@ fn bytes_are_written_over_and_past_the_end(rt: HostRuntime) -> Result<(), Fail> 
 }
 
 #[test]
+fn byte_lists_are_the_same_where_their_bytes_are(rt: HostRuntime) -> Result<(), Fail> {
+    let list = ByteList::copied(rt.alloc(), b"abc")?;
+    assert!(rt; list == ByteList::copied(rt.alloc(), b"abc")?);
+    for other in [b"".as_slice(), b"ab", b"abd", b"abcd"] {
+        assert!(rt; list != ByteList::copied(rt.alloc(), other)?);
+    }
+    Ok(())
+}
+
+#[test]
 fn an_input_is_read_whole_or_refused(rt: HostRuntime) -> Result<(), Fail> {
     let alloc = rt.alloc();
     let mut reader = b"abc".as_slice();

@@ -3,7 +3,7 @@ use Rattle.std.proofs.Common.{◌≡◌, suc, ◌-◌, ◌<◌, ◌≤◌, Bool,
 use Rattle.std.specs.Option.{option_map, option_map_or}
 use Rattle.std.specs.List.{AllByRecursion, IsDistinct}
 use Rattle.std.specs.Map.{keys_of, lookup, lookup_entry, remove_entry}
-use Rattle.std.proofs.lemmas.Bool.{eqb-true}
+use Rattle.std.proofs.lemmas.Bool.{eqb-true, and_parts}
 use Rattle.std.proofs.lemmas.List.{take-map, length-map, take_all}
 use Rattle.lru.specs.LruCache.{LruCache, promoted, put_entries}
 use Rattle.av_base.specs.declared.verdict.Verdict.{Verdict}
@@ -16,20 +16,12 @@ abbrev pub is_key : Key → Key → Bool
 is_key k x = (k.stream == x.stream) && ((k.generation == x.generation) && (k.version == x.version))
 
 -- two keys that pass the test are one
-and_left : (a b : Bool) → (a && b) ≡ true → a ≡ true
-and_left true b e = refl
-and_left false b e = e
-
-and_right : (a b : Bool) → (a && b) ≡ true → b ≡ true
-and_right true b e = e
-and_right false b e = absurd (cc)
-
 pub one_key : (k x : Key) → is_key k x ≡ true → k ≡ x
 one_key k x e =
-    let s = eqb-true k.stream x.stream (and_left _ _ e) in
-    let rest = and_right (k.stream == x.stream) _ e in
-    let g = eqb-true k.generation x.generation (and_left _ _ rest) in
-    let v = eqb-true k.version x.version (and_right (k.generation == x.generation) _ rest) in
+    let s = eqb-true k.stream x.stream (and_parts _ _ e).0 in
+    let rest = (and_parts (k.stream == x.stream) _ e).1 in
+    let g = eqb-true k.generation x.generation (and_parts _ _ rest).0 in
+    let v = eqb-true k.version x.version (and_parts (k.generation == x.generation) _ rest).1 in
     λ i. record { stream = s i; generation = g i; version = v i }
 
 -- a look-up finds the entry that the pair makes

@@ -1,47 +1,18 @@
-use Rattle.std.proofs.Common.{ℕ, zero, suc, ◌≡◌, ◌⊎◌, inl, inr, ⊎_elim, ◌<◌, ◌==◌, ◌&&◌, ◌||◌, ◌++◌, Bool, true, false, cond, List, [], ◌∷◌, length, map, Option, None, Some, is_some, is_none, slice_get, slice_set, IfSome, refl, sym, ap, ◌∙◌, subst, arith, if◌then◌else◌}
+use Rattle.std.proofs.Common.{ℕ, zero, suc, ◌≡◌, ◌⊎◌, inl, inr, ⊎_elim, ◌<◌, ◌||◌, ◌++◌, Bool, true, false, cond, List, [], ◌∷◌, length, map, Option, None, Some, is_some, is_none, slice_get, slice_set, IfSome, refl, sym, ap, ◌∙◌, subst, arith, if◌then◌else◌}
+use Rattle.std.proofs.lemmas.Bool.{and_from, and_parts}
 use Rattle.std.specs.List.{list_any}
 use Rattle.std.specs.Option.{option_map}
-use Rattle.std.proofs.lemmas.Bool.Decides.{nat_tests}
 use Rattle.std.proofs.lemmas.List.{length-map, map-set}
 use Rattle.std.proofs.lemmas.Option.{slice_get-map, slice_get_within}
+use Rattle.av_base.proofs.KeyLemmas.{same_id-refl, same_id-true, same_port-refl, same_port-true}
 use Rattle.av_base.specs.MessageId.{same_id}
 use Rattle.av_base.specs.declared.message_id.MessageId.{MessageId}
 use Rattle.av_base.specs.Port.{same_port}
 use Rattle.av_base.specs.declared.port.Port.{Port}
-use Rattle.av_base.specs.declared.port.Port.TheVariants.{One, Two}
 use Rattle.av_chart.specs.Life.{IsIndexed, Life, life_of, lives_of, LivesAs, ended, ended_at, ends, ends_at, lives_as, lives_at, with_end}
 use Rattle.av_chart.specs.Living.{HasNone, Index, Writes, same_life}
 use Rattle.av_chart.specs.declared.life.Bar.{Bar}
 use Rattle.av_chart.specs.declared.life.End.{End}
-
--- both parts of a test
-pub both : (s t : Bool) → (s && t) ≡ true → (s ≡ true) × (t ≡ true)
-both true true h = (refl, refl)
-both true false h = (refl, h)
-both false t h = absurd (cc)
-
-pub both_are : (s t : Bool) → s ≡ true → t ≡ true → (s && t) ≡ true
-both_are true true h k = refl
-both_are true false h k = k
-both_are false t h k = h
-
--- ids that are the same are equal
-pub num_is : (a b : ℕ) → (a == b) ≡ true → a ≡ b
-num_is a b h = grind (arith, nat_tests)
-
-pub num_same : (a : ℕ) → (a == a) ≡ true
-num_same a = grind (arith, nat_tests)
-
-pub id_is : (i j : MessageId) → same_id i j ≡ true → i ≡ j
-id_is i j h =
-    let parts = both (i.boot == j.boot) (i.seq == j.seq) h in
-    let boot : i.boot ≡ j.boot = num_is _ _ parts.0 in
-    let seq : i.seq ≡ j.seq = num_is _ _ parts.1 in
-    let both_to : (a b c d : ℕ) → a ≡ c → b ≡ d → (let m : MessageId = record { boot = a; seq = b } in let n : MessageId = record { boot = c; seq = d } in m ≡ n) = λ a b c d p q. cc in
-    both_to _ _ _ _ boot seq
-
-pub id_same : (i : MessageId) → same_id i i ≡ true
-id_same i = both_are (i.boot == i.boot) (i.seq == i.seq) (num_same i.boot) (num_same i.seq)
 
 -- what an element is under a map
 pub mapped : {A B : Type 0} (f : A → B) (xs : List A) (k : ℕ) (x : A) → slice_get xs k ≡ Some x → slice_get (map f xs) k ≡ Some (f x)
@@ -76,17 +47,6 @@ set_is_map p f (a ∷ bs) (suc k) b is this one =
     let rest = set_is_map p f bs k b is this (λ j c at passes. let next : suc j ≡ suc k = one (suc j) c at passes in omega arith) in
     cc
 
--- what a test of a life tells
-pub port_is : (p q : Port) → same_port p q ≡ true → p ≡ q
-port_is One One h = refl
-port_is One Two h = absurd (cc)
-port_is Two One h = absurd (cc)
-port_is Two Two h = refl
-
-pub port_same : (p : Port) → same_port p p ≡ true
-port_same One = refl
-port_same Two = refl
-
 -- a life that has no end, at this port, of this id
 record IsOne (p : Port) (id : MessageId) (c : Life) : Type 0 where
   free : is_none c.end ≡ true
@@ -95,22 +55,22 @@ record IsOne (p : Port) (id : MessageId) (c : Life) : Type 0 where
 
 is_one : (p : Port) (id : MessageId) (c : Life) → lives_as p id c ≡ true → IsOne p id c
 is_one p id c h =
-    let parts = both (same_id id c.id) (lives_at p c) h in
-    let rest = both (is_none c.end) (same_port p c.port) parts.1 in
-    record { free = rest.0; port = port_is p c.port rest.1; id_is = id_is id c.id parts.0 }
+    let parts = and_parts (same_id id c.id) (lives_at p c) h in
+    let rest = and_parts (is_none c.end) (same_port p c.port) parts.1 in
+    record { free = rest.0; port = same_port-true p c.port rest.1; id_is = same_id-true id c.id parts.0 }
 
 lives_own : (c : Life) → is_none c.end ≡ true → lives_as c.port c.id c ≡ true
-lives_own c free = both_are (same_id c.id c.id) (lives_at c.port c) (id_same c.id) (both_are (is_none c.end) (same_port c.port c.port) free (port_same c.port))
+lives_own c free = and_from (same_id c.id c.id) (lives_at c.port c) (same_id-refl c.id) (and_from (is_none c.end) (same_port c.port c.port) free (same_port-refl c.port))
 
 lives_so : (p : Port) (id : MessageId) (c : Life) → is_none c.end ≡ true → c.port ≡ p → c.id ≡ id → lives_as p id c ≡ true
 lives_so p id c free port own = subst (λ q. lives_as q id c ≡ true) port (subst (λ j. lives_as c.port j c ≡ true) own (lives_own c free))
 
 -- and of two of them
 pub life_is : (p q : Port) (id j : MessageId) → same_life p id q j ≡ true → (p ≡ q) × (id ≡ j)
-life_is p q id j h = let parts = both (same_port p q) (same_id id j) h in (port_is p q parts.0, id_is id j parts.1)
+life_is p q id j h = let parts = and_parts (same_port p q) (same_id id j) h in (same_port-true p q parts.0, same_id-true id j parts.1)
 
 pub life_same : (p : Port) (id : MessageId) → same_life p id p id ≡ true
-life_same p id = both_are (same_port p p) (same_id id id) (port_same p) (id_same id)
+life_same p id = and_from (same_port p p) (same_id id id) (same_port-refl p) (same_id-refl id)
 
 told_lives : (p : Port) (id : MessageId) (o : Option Life) → LivesAs p id o → (b : Life) × (o ≡ Some b) × (lives_as p id b ≡ true)
 told_lives p id None h = absurd h
@@ -272,16 +232,16 @@ begun_indexed bars at new b i apart free so =
 pub all_ended : (bars : List Life) (at : Index) (p : Port) (e : End) → IsIndexed bars at → HasNone at p → bars ≡ ends_at p e bars
 all_ended bars at p e i none =
     sym (none_passes (lives_at p) (with_end e) bars (λ j c at_j lives.
-    let parts = both (is_none c.end) (same_port p c.port) lives in
+    let parts = and_parts (is_none c.end) (same_port p c.port) lives in
     let there : at c.port c.id ≡ Some j = i.each j c at_j parts.0 in
-    let nowhere : at c.port c.id ≡ None = ap (λ q. at q c.id) (sym (port_is p c.port parts.1)) ∙ none c.id in
+    let nowhere : at c.port c.id ≡ None = ap (λ q. at q c.id) (sym (same_port-true p c.port parts.1)) ∙ none c.id in
     let wrong : Some j ≡ None = sym there ∙ nowhere in
     absurd (cc)))
 
 -- and what ends all of a port ends what had ended by it
 end_twice : (p : Port) (id : MessageId) (e : End) (b : Life) (v : Bool) → lives_as p id b ≡ v → ended_at p e (ended p id e b) ≡ ended_at p e b
 end_twice p id e b true lives =
-    let parts = both (same_id id b.id) (lives_at p b) lives in
+    let parts = and_parts (same_id id b.id) (lives_at p b) lives in
     let now : ended p id e b ≡ with_end e b = rw lives refl in
     let by_all : ended_at p e b ≡ with_end e b = rw parts.1 refl in
     ap (ended_at p e) now ∙ sym by_all

@@ -1,6 +1,6 @@
 -- Each open of a run has one bar, and at most one answer.
-use Rattle.std.proofs.Common.{ℕ, ◌≡◌, ◌≤◌, ◌+◌, ◌==◌, ◌&&◌, ◌||◌, ◌++◌, Bool, true, false, cond, List, [], ◌∷◌, length, fold, Option, None, Some, Ok, Err, refl, sym, ap, ◌∙◌, subst, arith, if◌then◌else◌}
-use Rattle.std.proofs.lemmas.Bool.{cond_both}
+use Rattle.std.proofs.Common.{ℕ, ◌≡◌, ◌≤◌, ◌+◌, ◌==◌, ◌&&◌, ◌||◌, ◌++◌, Bool, true, false, cond, List, [], ◌∷◌, length, fold, Option, None, Some, Ok, Err, refl, sym, ap, ◌∙◌, subst, arith, if◌then◌else◌, eqb-true, eq-eqb}
+use Rattle.std.proofs.lemmas.Bool.{cond_both, and_parts, and_right, or_parts}
 use Rattle.std.proofs.lemmas.Bool.Decides.{nat_tests}
 use Rattle.std.proofs.lemmas.List.Sums.{sum_by-cons, sum_by_push}
 use Rattle.std.specs.List.{count_by, list_any}
@@ -12,7 +12,7 @@ use Rattle.av_filter.proofs.TimesLemmas.{times_map-append}
 use Rattle.av_filter.specs.Once.{once_up_to, times}
 use Rattle.av_pend.specs.Pend.{open_of}
 use Rattle.av_world.proofs.OnceLemmas.{Counted, counted_keeps, counted_start}
-use Rattle.av_world.proofs.StepLemmas.{step_keeps}
+use Rattle.av_world.proofs.StepLemmas.{step_keeps, Unrefused}
 use Rattle.av_world.specs.Held.{pended}
 use Rattle.av_world.specs.Objects.{said_world}
 use Rattle.av_world.specs.Script.{ScriptText}
@@ -26,8 +26,7 @@ use Rattle.av_world.specs.declared.given.Given.{Given}
 use Rattle.av_world.specs.declared.report.Judged.{Judged}
 use Rattle.av_world.specs.declared.script.command.Command.TheVariants.{Step, Judge}
 use Rattle.std.specs.Prelude.{Result}
-use Rattle.av_chart.proofs.LifeLemmas.{both, num_is, num_same}
-use Rattle.av_chart.proofs.NumberLemmas.{MayGo, Takes, answered_in, step_goes, taken_as}
+use Rattle.av_chart.proofs.NumberLemmas.{Takes, answered_in, step_goes, taken_as, Goes}
 use Rattle.av_chart.proofs.StoryLemmas.{fold_append}
 use Rattle.av_chart.specs.Chart.{begun}
 use Rattle.av_chart.specs.Life.{Life, begins, ended, ends, lives_as, lives_at, with_end}
@@ -77,25 +76,17 @@ never : (a : Bool) (x : ℕ) → x ≡ 0 → x ≡ cond a 0 x
 never true x none = none
 never false x none = refl
 
-nor : (a b : Bool) → (a || b) ≡ false → (a ≡ false) × (b ≡ false)
-nor true b h = absurd (cc)
-nor false b h = (refl, h)
-
-and_not : (a : Bool) → (a && false) ≡ false
-and_not true = refl
-and_not false = refl
-
 other_lives : (n m boot seq : ℕ) → ((0 == boot) && (m == seq)) ≡ true → (m == n) ≡ false → ((0 == boot) && (n == seq)) ≡ false
 other_lives n m boot seq own other = grind (arith, nat_tests)
 
 own_lives : (n m boot seq : ℕ) (alive : Bool) → (((0 == boot) && (m == seq)) && alive) ≡ false → (m == n) ≡ true → (((0 == boot) && (n == seq)) && alive) ≡ false
-own_lives n m boot seq alive none same = let is : m ≡ n = num_is m n same in subst (λ k. (((0 == boot) && (k == seq)) && alive) ≡ false) is none
+own_lives n m boot seq alive none same = let is : m ≡ n = eqb-true m n same in subst (λ k. (((0 == boot) && (k == seq)) && alive) ≡ false) is none
 
 module _ (n m : ℕ) (e : End) (l : Life) where
   by_other : (c : Bool) → (m == n) ≡ c → lives_as One (number_id m) l ≡ true → once_if (lives_as One (number_id n) (with_end e l)) ≡ cond c 0 (once_if (lives_as One (number_id n) l))
-  by_other true is own = rw (and_not (same_id (number_id n) l.id)) refl
+  by_other true is own = rw (and_right (same_id (number_id n) l.id) false refl) refl
   by_other false is own =
-      let not_it : same_id (number_id n) l.id ≡ false = other_lives n m l.id.boot l.id.seq (both (same_id (number_id m) l.id) (lives_at One l) own).0 is in
+      let not_it : same_id (number_id n) l.id ≡ false = other_lives n m l.id.boot l.id.seq (and_parts (same_id (number_id m) l.id) (lives_at One l) own).0 is in
       rw not_it refl
 
   by_own : (c : Bool) → (m == n) ≡ c → lives_as One (number_id m) l ≡ false → once_if (lives_as One (number_id n) l) ≡ cond c 0 (once_if (lives_as One (number_id n) l))
@@ -137,7 +128,7 @@ one_begins n id = grind (arith, nat_tests)
 none_given : (n : ℕ) (given : List Given) → is_answered n given ≡ false → times n (answered_in given) ≡ 0
 none_given n [] none = refl
 none_given n (g ∷ given) none =
-    let parts = nor (open_of g.answer == n) (is_answered n given) none in
+    let parts = or_parts (open_of g.answer == n) (is_answered n given) none in
     let first : once_if (open_of g.answer == n) ≡ 0 = rw parts.0 refl in
     omega (arith, first, none_given n given parts.1)
 
@@ -174,7 +165,7 @@ module _ (k id next step line : ℕ) (name : List ℕ) (given : List Given) (liv
   bars_after bars n =
       cond_both ((id == 0) || is_answered id given) left (begins new left) (λ ls. times n (numbers_of ls) ≤ once_up_to next n)
       (λ h. omega (arith, ap (times n) (answers_stay step line given lives), bars n, takes n))
-      (λ h. omega (arith, more_bars n, bars n, takes n, own_taken id n (nor (id == 0) (is_answered id given) h).0))
+      (λ h. omega (arith, more_bars n, bars n, takes n, own_taken id n (or_parts (id == 0) (is_answered id given) h).0))
 
   module _ (waiting waiting' : List ℕ) (lived : (n : ℕ) → living n lives ≡ times n waiting) (few : (n : ℕ) → times n waiting ≤ once_up_to k n)
       (moves : (n : ℕ) → times n waiting' + times n (answered_in given) ≡ times n waiting + taken_as id n) where
@@ -196,7 +187,7 @@ module _ (k id next step line : ℕ) (name : List ℕ) (given : List Given) (liv
         not_taken true c is_zero same none = rw is_zero refl
         not_taken false false some other none = rw (some, other) refl
         not_taken false true some same none =
-            let is : id ≡ n = num_is id n same in
+            let is : id ≡ n = eqb-true id n same in
             let was : is_answered id given ≡ true = rw some at h in
             let wrong : true ≡ false = sym was ∙ ap (λ i. is_answered i given) is ∙ none in
             absurd (cc)
@@ -208,8 +199,8 @@ module _ (k id next step line : ℕ) (name : List ℕ) (given : List Given) (liv
     -- an open begins to wait
     one_waits : ((id == 0) || is_answered id given) ≡ false → (n : ℕ) → living n (begins new left) ≡ times n waiting'
     one_waits h n =
-        let parts = nor (id == 0) (is_answered id given) h in
-        let own : once_if (id == id) ≡ 1 = rw (num_same id) refl in
+        let parts = or_parts (id == 0) (is_answered id given) h in
+        let own : once_if (id == id) ≡ 1 = rw (eq-eqb id id refl) refl in
         let none : living id left ≡ 0 =
         left_living id ∙ ap (λ a. cond a 0 (times id waiting)) parts.1 ∙ omega (arith, few id, takes id, at_most_once next id, own_taken id id parts.0, own) in
         let begin : begins new left ≡ left ++ new ∷ [] = rw (none_passes (lives_as One (number_id id)) left none) refl in
@@ -223,7 +214,7 @@ module _ (k id next step line : ℕ) (name : List ℕ) (given : List Given) (liv
         by true false is other none = refl
         by false c is same none = refl
         by true true is same none =
-            let wrong : true ≡ false = sym is ∙ ap (λ i. is_answered i given) (sym (num_is id n same)) ∙ none in
+            let wrong : true ≡ false = sym is ∙ ap (λ i. is_answered i given) (sym (eqb-true id n same)) ∙ none in
             absurd (cc)
 
     waits_after : (n : ℕ) → living n (opened step name id given left) ≡ times n waiting'
@@ -242,7 +233,7 @@ world_counted : (w : WorldState) → Counted w → (e : Event) → Counted (afte
 world_counted w c e = step_keeps (λ e. Counted) w (λ e. c) (counted_keeps w c) e
 
 module _ (w : WorldState) (s : Story) (known : Known w s) (t : Told) where
-  event_known : (e : Event) (o : Outcome) → MayGo w.volume.opens (pended w) o → Counted (world_or w o) → Known (world_or w o) (did_after s t (Steps e o))
+  event_known : (e : Event) (o : Outcome) → Unrefused (Goes w.volume.opens (pended w)) o → Counted (world_or w o) → Known (world_or w o) (did_after s t (Steps e o))
   event_known e (Err f) goes counted = record { counted = known.counted; bars = known.bars; waits = known.waits }
   event_known e (Ok p) goes counted =
       let at = length s.steps in

@@ -49,10 +49,6 @@ silent_connect (Ok out) d d' h = silent out d d' Connects tt h.1
 silent_connect (Err (Fault f)) d d' h = tt
 silent_connect (Err NoMemory) d d' h = tt
 
-pub silent_always : {E : Type 0} (r : Result ServiceOut E) (d d' : Desk) (e : ServiceEvent) → IsSilent e → MeetsAlways d d' r (service_step d e) → IfOk r (λ out. out.work ≡ None)
-silent_always (Ok out) d d' e quiet h = silent out d d' e quiet h
-silent_always (Err f) d d' e quiet h = tt
-
 pub silent_if : {E : Type 0} (r : Result ServiceOut E) (d d' : Desk) (e : ServiceEvent) → IsSilent e → IfOk r (λ out. Responds out d' (service_step d e)) → IfOk r (λ out. out.work ≡ None)
 silent_if (Ok out) d d' e quiet h = silent out d d' e quiet h
 silent_if (Err f) d d' e quiet h = tt

@@ -1,11 +1,11 @@
 -- How much a call of the filter answers: no more than opens wait, and one. And that an open takes a number.
-use Rattle.std.proofs.Common.{ℕ, ◌≡◌, ◌+◌, ◌≤◌, length, arith, ap, ◌∙◌}
+use Rattle.std.proofs.Common.{ℕ, ◌≡◌, ◌+◌, ◌≤◌, length, ap, ◌∙◌}
 use Rattle.std.specs.Prelude.{Result, Ok, Err, IfOk}
 use Rattle.av_base.specs.declared.port.Port.{Port}
 use Rattle.av_filter.proofs.BoundLemmas.{leads_to}
-use Rattle.av_filter.proofs.RoomLemmas.{small_reaction}
+use Rattle.av_filter.proofs.RoomLemmas.{few}
 use Rattle.av_filter.specs.Call.{MeetsAlways, Reacts}
-use Rattle.av_filter.specs.Conduct.{FilterEvent, Disconnects, Opens, Receives, disconnects, filter_step}
+use Rattle.av_filter.specs.Conduct.{Disconnects, Opens, Receives, disconnects, filter_step}
 use Rattle.av_filter.specs.Opening.{opened}
 use Rattle.av_filter.specs.Receiving.{receives}
 use Rattle.av_filter.specs.declared.out.Out.{Out}
@@ -13,17 +13,10 @@ use Rattle.av_filter_table.specs.Table.{Table}
 use Rattle.av_frame.specs.Message.{Letter}
 use Rattle.av_store.specs.Store.{Store}
 
-few : (out : Out) (t t' : Table) (v v' : Store) (e : FilterEvent) → Reacts out t' v' (filter_step t v e) → length out.answers.items ≤ length t.pended + 1
-few out t t' v v' e reacts = let small = small_reaction t v e in let same = ap length reacts.answers in omega (arith, small.answers, same)
-
 -- the same of the events by their own names
 pub few_received : (out : Out) (t t' : Table) (v v' : Store) (m : Letter) → Reacts out t' v' (receives t v m) → length out.answers.items ≤ length t.pended + 1
 unfolding filter_step
 few_received out t t' v v' m reacts = few out t t' v v' (Receives m) reacts
-
-pub few_opened : (out : Out) (t t' : Table) (v v' : Store) (s least : ℕ) → Reacts out t' v' (opened t v s least) → length out.answers.items ≤ length t.pended + 1
-unfolding filter_step
-few_opened out t t' v v' s least reacts = few out t t' v v' (Opens s least) reacts
 
 pub few_disconnected : (out : Out) (t t' : Table) (v v' : Store) (port : Port) → Reacts out t' v' (disconnects t v port) → length out.answers.items ≤ length t.pended + 1
 unfolding filter_step

@@ -335,7 +335,7 @@ fn submit(
 }
 
 // An open of a stream comes to the filter.
-#[tactic(auto, using(crate::proofs::EventLemmas::few_opened, crate::proofs::EventLemmas::opens_taken), unfolding(av_filter::specs::Conduct::filter_step, av_filter::specs::Conduct::filter_refusal))]
+#[tactic(auto, using(av_filter::proofs::RoomLemmas::few_opened, crate::proofs::EventLemmas::opens_taken), unfolding(av_filter::specs::Conduct::filter_step, av_filter::specs::Conduct::filter_refusal))]
 fn open(
     alloc: Global,
     volume: &mut Volume,

@@ -19,10 +19,7 @@ abbrev pub volume_after : Store → FilterEvent → Store
 volume_after v (Opens s least) = taken v
 volume_after v (Changes c) = changed_volume v c
 volume_after v Restarts = booted v
-volume_after v (CleansUp s) = v
-volume_after v (Receives m) = v
-volume_after v (TimesOut seq) = v
-volume_after v (Disconnects port) = v
+volume_after v _ = v
 
 -- a row leaves it so
 open_stays : {t : Table} {v : Store} {s least : ℕ} {r : Reaction} → OpenRow t v s least r → r.volume ≡ v
@@ -43,11 +40,8 @@ in_after : (t : Table) (v : Store) (e : FilterEvent) → AreInBounds v → filte
 unfolding filter_refusal
 in_after t v (Opens s least) a ok = record { limits = a.limits; streams = a.streams }
 in_after t v (Changes c) a ok = change_in v (changed_volume v c) c a (accepted v c ok)
-in_after t v (CleansUp s) a ok = a
-in_after t v (Receives m) a ok = a
-in_after t v (TimesOut seq) a ok = a
-in_after t v (Disconnects port) a ok = a
 in_after t v Restarts a ok = record { limits = a.limits; streams = a.streams }
+in_after t v _ a ok = a
 
 event_in : (t : Table) (v : Store) (e : FilterEvent) → AreInBounds v → filter_refusal t v e ≡ None → AreInBounds (filter_step t v e).volume
 event_in t v e a ok = subst AreInBounds (sym (leads_to t v e)) (in_after t v e a ok)

@@ -1,34 +1,12 @@
 -- Questions that end: their opens are out, and the others are left.
-use Rattle.std.proofs.Common.{◌≡◌, true, false, Bool, cond, List, [], ◌∷◌, Option, IfSome, refl, sym, ap, ◌∙◌, subst}
-use Rattle.av_base.specs.declared.message_id.MessageId.{MessageId}
+use Rattle.std.proofs.Common.{◌≡◌, Option, IfSome, sym, ap, ◌∙◌, subst}
 use Rattle.av_context.specs.declared.context_state.ContextState.{ContextState}
 use Rattle.av_filter.specs.Ready.{IsRunning}
+use Rattle.av_filter_table.proofs.TableLemmas.{all-others, none-of_others}
 use Rattle.av_filter_table.specs.Asking.{ended}
 use Rattle.av_filter_table.specs.FilterTable.{id_of}
-use Rattle.av_filter_table.specs.Table.{Table, opens_of, other_opens, question_at, waits_for}
-use Rattle.av_filter_table.specs.declared.pended.Pended.{Pended}
+use Rattle.av_filter_table.specs.Table.{Table, other_opens, question_at}
 use Rattle.av_filter_table.specs.declared.question.Question.{Question}
-
--- where no open waits for a question, all are others
-pub all_others : (id : MessageId) (ps : List Pended) → opens_of id ps ≡ [] → other_opens id ps ≡ ps
-all_others id [] none = refl
-all_others id (p ∷ ps) none = go (waits_for id p) refl (all_others id ps)
-  where
-    no_cons : (xs : List Pended) → p ∷ xs ≡ [] → ⊥
-    no_cons xs e = absurd (cc)
-
-    go : (b : Bool) → waits_for id p ≡ b → (opens_of id ps ≡ [] → other_opens id ps ≡ ps) → other_opens id (p ∷ ps) ≡ p ∷ ps
-    go true h rest = absurd (no_cons (opens_of id ps) (sym (ap (λ b. cond b (p ∷ opens_of id ps) (opens_of id ps)) h) ∙ none))
-    go false h rest = rw (h) (ap (λ xs. p ∷ xs) (rest (sym (ap (λ b. cond b (p ∷ opens_of id ps) (opens_of id ps)) h) ∙ none)))
-
--- and of the others none waits for it
-pub none_of_others : (id : MessageId) (ps : List Pended) → opens_of id (other_opens id ps) ≡ []
-none_of_others id [] = refl
-none_of_others id (p ∷ ps) = go (waits_for id p) refl (none_of_others id ps)
-  where
-    go : (b : Bool) → waits_for id p ≡ b → opens_of id (other_opens id ps) ≡ [] → opens_of id (other_opens id (p ∷ ps)) ≡ []
-    go true h rest = rw (h) rest
-    go false h rest = rw (h, h) rest
 
 -- the id of a question that runs, from its number
 pub own_id : (t : Table) (q : Question) → IsRunning t q → id_of t.boot q.id.seq ≡ q.id
@@ -42,4 +20,4 @@ ends t t1 t2 q c runs left holds =
     let mid : Table = record t { pended = other_opens (id_of t.boot q.id.seq) t.pended } in
     let at_mid : IfSome (question_at (id_of mid.boot q.id.seq) mid.questions) (λ k. t2 ≡ ended mid k c) = subst (λ (u : Table). IfSome (question_at (id_of u.boot q.id.seq) u.questions) (λ k. t2 ≡ ended u k c)) left holds in
     let here : t2 ≡ ended mid q c = subst (λ o. IfSome o (λ k. t2 ≡ ended mid k c)) (ap (λ i. question_at i t.questions) id ∙ runs.found) at_mid in
-    here ∙ ap (λ ps. record (ended t q c) { pended = ps }) (ap (λ i. other_opens q.id (other_opens i t.pended)) id ∙ all_others q.id (other_opens q.id t.pended) (none_of_others q.id t.pended))
+    here ∙ ap (λ ps. record (ended t q c) { pended = ps }) (ap (λ i. other_opens q.id (other_opens i t.pended)) id ∙ all-others q.id (other_opens q.id t.pended) (none-of_others q.id t.pended))

@@ -4,6 +4,7 @@ use Rattle.std.proofs.Common.{filter, Option, Some, None, Result, Ok, Err, refl,
 use Rattle.std.proofs.lemmas.Bool.{and_right, cond_both, ltb-false, ne_eqb, not-true, true≢false}
 use Rattle.std.specs.List.{AllByRecursion as Each}
 use Rattle.std.specs.Option.{option_map}
+use Rattle.av_base.proofs.KeyLemmas.{same_id-refl, same_id-true}
 use Rattle.av_base.specs.MessageId.{same_id}
 use Rattle.av_base.specs.declared.limits.LimitValues.{LimitValues}
 use Rattle.av_base.specs.declared.message_id.MessageId.{MessageId}
@@ -14,7 +15,7 @@ use Rattle.av_context.specs.declared.context_state.ContextState.{ContextState}
 use Rattle.av_context.specs.declared.context_state.ContextState.TheVariants as context
 use Rattle.av_filter.proofs.EachLemmas.{each_weaker, each-append, each-filter, each-filter_passed, each-map, find_each, find_passes}
 use Rattle.av_filter.proofs.MapLemmas.{at-set, at-set_other, each-set, rises-set}
-use Rattle.av_filter.proofs.QuestionLemmas.{apart-filter, apart-push, away_none, away_without, found_more, found_new, found_own, found_without, order-filter, order-push, same_id-refl, same_id-true}
+use Rattle.av_filter.proofs.QuestionLemmas.{apart-filter, apart-push, away_none, away_without, found_more, found_new, found_own, found_without, order-filter, order-push}
 use Rattle.av_filter.proofs.RowLemmas.{again_row, again_volume, open_row, row_of}
 use Rattle.av_filter.proofs.VolumeLemmas.{Leaves, SameBut, changed_same, left_by, stays_there, there_after}
 use Rattle.av_filter.specs.Again.{again, again_at, ends}

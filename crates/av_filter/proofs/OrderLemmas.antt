@@ -6,7 +6,7 @@ use Rattle.std.proofs.lemmas.List.Sorted.{All-permutation, IsPermutation-sym, su
 use Rattle.std.proofs.lemmas.List.Sums.{sum_by-cons}
 use Rattle.std.specs.List.{AllByRecursion as Each, slice_index_or, sum_by}
 use Rattle.std.specs.List.Sorted.{IsNonDecreasingBy, IsPermutation}
-use Rattle.av_filter.proofs.EachLemmas.{each_weaker}
+use Rattle.av_filter.proofs.EachLemmas.{each_weaker, each_both}
 use Rattle.av_filter.proofs.CountLemmas.{each_balanced, order_times}
 use Rattle.av_filter.specs.Conduct.{again_each, in_order, placed}
 use Rattle.av_filter.specs.Once.{times}
@@ -19,10 +19,6 @@ use Rattle.av_store.specs.Store.{Store}
 
 below : (m n : ℕ) → m ≤ n → m ≢ n → m < n
 below m n low apart = elim (cases_eq m n) [ inl same ↦ absurd (apart same) | inr differs ↦ omega (arith, low, differs) ]
-
-each_both : {A : Type 0} (P Q R : A → Type 0) → ((x : A) → P x → Q x → R x) → (xs : List A) → Each P xs → Each Q xs → Each R xs
-each_both P Q R f [] p q = tt
-each_both P Q R f (x ∷ xs) p q = (f x p.0 q.0, each_both P Q R f xs p.1 q.1)
 
 -- one where it holds
 abbrev counted : Bool → ℕ

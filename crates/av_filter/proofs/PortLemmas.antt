@@ -2,11 +2,11 @@
 use Rattle.std.proofs.Common.{◌≡◌, ℕ, Bool, true, false, not, ◌&&◌, ◌||◌, if◌then◌else◌, nat_lt, List, [], ◌∷◌, length, Some, None, refl, sym, ◌∙◌, subst}
 use Rattle.std.proofs.lemmas.Bool.{true≢false}
 use Rattle.std.specs.List.{AllByRecursion as Each, list_any}
+use Rattle.av_base.proofs.KeyLemmas.{same_id-refl}
 use Rattle.av_base.specs.MessageId.{same_id}
 use Rattle.av_base.specs.declared.message_id.MessageId.{MessageId}
 use Rattle.av_store.specs.Store.{Store}
 use Rattle.av_filter.proofs.EachLemmas.{each-append, each-filter, each_weaker}
-use Rattle.av_filter.proofs.QuestionLemmas.{same_id-refl}
 use Rattle.av_filter.proofs.RowLemmas.{again_row, row_of}
 use Rattle.av_filter.specs.Rows
 use Rattle.av_filter.specs.Rows.{AgainRow, OpenRow, Row, without}

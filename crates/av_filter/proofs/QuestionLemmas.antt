@@ -1,7 +1,8 @@
 -- Questions: their ids, and what stays of them when one goes or comes.
-use Rattle.std.proofs.Common.{◌≡◌, ◌≢◌, ℕ, ◌<◌, ◌≤◌, Bool, true, false, cond, not, ◌&&◌, ◌==◌, if◌then◌else◌, List, [], ◌∷◌, ◌++◌, filter, find, Option, Some, None, refl, sym, ap, ◌∙◌, subst, arith, eq-eqb, eqb-true}
-use Rattle.std.proofs.lemmas.Bool.{and_parts, and_from, and_right, eqb-false, ne_eqb}
+use Rattle.std.proofs.Common.{◌≡◌, ◌≢◌, ℕ, ◌<◌, ◌≤◌, Bool, true, false, cond, not, ◌&&◌, ◌==◌, if◌then◌else◌, List, [], ◌∷◌, ◌++◌, filter, find, Option, Some, None, refl, sym, ap, ◌∙◌, subst, arith}
+use Rattle.std.proofs.lemmas.Bool.{and_right, eqb-false, ne_eqb}
 use Rattle.std.specs.List.{AllByRecursion as Each}
+use Rattle.av_base.proofs.KeyLemmas.{same_id-refl, same_id-true}
 use Rattle.av_base.specs.MessageId.{same_id}
 use Rattle.av_base.specs.Port.{same_port}
 use Rattle.av_base.specs.declared.port.Port.{Port}
@@ -10,16 +11,6 @@ use Rattle.av_filter.proofs.EachLemmas.{each_weaker, each-append, each-filter, f
 use Rattle.av_filter.specs.Fit.{AreApart, AreInOrder, IsGiven}
 use Rattle.av_filter_table.specs.Table.{question_at, question_of, question_on, without_question}
 use Rattle.av_filter_table.specs.declared.question.Question.{Question}
-
-pub same_id-refl : (i : MessageId) → same_id i i ≡ true
-same_id-refl i = and_from (i.boot == i.boot) (i.seq == i.seq) (eq-eqb i.boot i.boot refl) (eq-eqb i.seq i.seq refl)
-
-pub same_id-true : (i j : MessageId) → same_id i j ≡ true → i ≡ j
-same_id-true i j h =
-    let p = and_parts (i.boot == j.boot) (i.seq == j.seq) h in
-    let b : i.boot ≡ j.boot = eqb-true i.boot j.boot p.0 in
-    let s : i.seq ≡ j.seq = eqb-true i.seq j.seq p.1 in
-    λ k. record { boot = b k; seq = s k }
 
 pub apart-filter : (t : Question → Bool) (qs : List Question) → AreApart qs → AreApart (filter t qs)
 apart-filter t [] a = tt

@@ -1,5 +1,5 @@
 -- What events rest on, at one stream and at one question.
-use Rattle.std.proofs.Common.{◌≡◌, ℕ, ◌+◌, ◌&&◌, Result, Ok, Err, OnOk, ◌≤◌, ◌<◌, ◌^◌, ◌==◌, Bool, true, false, cond, find, List, [], ◌∷◌, Option, Some, None, IfSome, length, refl, sym, ap, ◌∙◌, subst, arith}
+use Rattle.std.proofs.Common.{◌≡◌, ℕ, ◌+◌, Result, Ok, Err, OnOk, ◌≤◌, ◌<◌, ◌^◌, ◌==◌, Bool, true, false, cond, find, List, [], ◌∷◌, Option, Some, None, IfSome, length, refl, sym, ap, ◌∙◌, subst, arith}
 use Rattle.std.proofs.lemmas.Bool.{eqb-true}
 use Rattle.std.proofs.lemmas.Bool.Decides.{nat_tests}
 use Rattle.std.specs.List.{AllByRecursion as Each}
@@ -100,21 +100,7 @@ content_small v s bytes bounds is = go (stream_at s v.streams) refl is
         let equal : length bytes ≡ length x.bytes = ap length same in
         omega arith
 
--- one generation more can be counted
-pub next_generation : (v : Store) (s : ℕ) → AreInBounds v → present_generation v s + 1 < 2 ^ 64
-next_generation v s bounds = go (stream_at s v.streams) refl
-  where
-    go : (o : Option Stream) → stream_at s v.streams ≡ o → stream_generation o + 1 < 2 ^ 64
-    go None there = omega arith
-    go (Some x) there =
-        let high : x.generation ≤ v.limits.generation = (stream_in v s x bounds there).high in
-        let most = (generation_in v.limits bounds.limits).1 in
-        omega arith
-
 -- what holds of the question that runs under its own number
-pub if_running : (t : Table) (q : Question) (P : Question → Type 0) → IsRunning t q → P q → IfSome (question_at (id_of t.boot q.id.seq) t.questions) P
-if_running t q P runs p = subst (λ o. IfSome o P) (sym (ap (λ i. question_at i t.questions) (own_id t q runs) ∙ runs.found)) p
-
 pub its_own : (t : Table) (q : Question) (P : Question → Type 0) → IsRunning t q → IfSome (question_at (id_of t.boot q.id.seq) t.questions) P → P q
 its_own t q P runs some = subst (λ o. IfSome o P) (ap (λ i. question_at i t.questions) (own_id t q runs) ∙ runs.found) some
 
@@ -122,10 +108,6 @@ its_own t q P runs some = subst (λ o. IfSome o P) (ap (λ i. question_at i t.qu
 pub there_by : (v w : Store) (s : ℕ) (r : Rewriting) → change_of v (change_by s r) ≡ Ok w → IsThere w.streams s
 there_by v w s (rewriting.Write offset bytes) h = there_after v w (Write s offset bytes.now) s refl (λ e. absurd (cc (e))) h
 there_by v w s (rewriting.Cut n) h = there_after v w (Cut s n) s refl (λ e. absurd (cc (e))) h
-
-pub and_left : (a b : Bool) → (a && b) ≡ true → a ≡ true
-and_left true b e = refl
-and_left false b e = e
 
 -- what holds where a call was accepted
 pub on_ok : {A E : Type 0} (r : Result A E) (P Q : Type 0) → (P → Q) → OnOk r P → OnOk r Q

@@ -1,6 +1,6 @@
 -- How much an event gives out: two messages at most, and where a port is lost one for each question; and no more than one answer
 -- beside those to the opens that wait.
-use Rattle.std.proofs.Common.{◌≡◌, refl, ℕ, ◌+◌, ◌≤◌, not, nat_le, Bool, true, false, cond, List, [], ◌∷◌, length, map, Option, arith}
+use Rattle.std.proofs.Common.{◌≡◌, refl, ℕ, ◌+◌, ◌≤◌, not, nat_le, Bool, true, false, cond, List, [], ◌∷◌, length, map, Option, arith, ap}
 use Rattle.std.specs.Prelude.{filter}
 use Rattle.std.proofs.lemmas.Bool.{cond_both}
 use Rattle.std.proofs.lemmas.List.{length-append, length-map}
@@ -10,11 +10,14 @@ use Rattle.av_base.specs.declared.cause.Cause.TheVariants.{Unsettled}
 use Rattle.av_base.specs.declared.port.Port.{Port}
 use Rattle.av_filter.proofs.RowLemmas.{again_row, row_of}
 use Rattle.av_filter.specs.Again.{again, again_at, ends, scan_message}
-use Rattle.av_filter.specs.Conduct.{FilterEvent, again_each, filter_step, in_order, loses_all, moves, placed, restarts}
+use Rattle.av_filter.specs.Call.{Reacts}
+use Rattle.av_filter.specs.Conduct.{FilterEvent, again_each, filter_step, in_order, loses_all, moves, placed, restarts, Opens}
+use Rattle.av_filter.specs.Opening.{opened}
 use Rattle.av_filter.specs.Reaction.{Reaction}
 use Rattle.av_filter.specs.Room.{most_messages}
 use Rattle.av_filter.specs.Rows
 use Rattle.av_filter.specs.Rows.{AgainRow, OpenRow, Row, without}
+use Rattle.av_filter.specs.declared.out.Out.{Out}
 use Rattle.av_filter_table.specs.Answering.{refused_now}
 use Rattle.av_filter_table.specs.Asking.{again_cause, asks, ended, is_lost, moved}
 use Rattle.av_filter_table.specs.Ports.{least_port}
@@ -125,3 +128,11 @@ small_row _ = record { messages = omega arith; answers = omega arith }
 
 pub small_reaction : (t : Table) (v : Store) (f : FilterEvent) → IsSmall (most_messages t f) (length t.pended) (filter_step t v f)
 small_reaction t v f = small_row (row_of t v f)
+
+-- an event that a call meets answers no more than that
+pub few : (out : Out) (t t' : Table) (v v' : Store) (e : FilterEvent) → Reacts out t' v' (filter_step t v e) → length out.answers.items ≤ length t.pended + 1
+few out t t' v v' e reacts = let small = small_reaction t v e in let same = ap length reacts.answers in omega (arith, small.answers, same)
+
+pub few_opened : (out : Out) (t t' : Table) (v v' : Store) (s least : ℕ) → Reacts out t' v' (opened t v s least) → length out.answers.items ≤ length t.pended + 1
+unfolding filter_step
+few_opened out t t' v v' s least reacts = few out t t' v v' (Opens s least) reacts

@@ -2,10 +2,6 @@
 use Rattle.std.proofs.Common.{◌≡◌, ℕ, ◌+◌, Bool, true, false, cond, not, List, [], ◌∷◌, ◌++◌, map, filter, if◌then◌else◌, ◌==◌, refl, arith}
 use Rattle.av_filter.specs.Once.{times}
 
-pub times-append : (n : ℕ) (xs ys : List ℕ) → times n (xs ++ ys) ≡ times n xs + times n ys
-times-append n [] ys = omega arith
-times-append n (x ∷ xs) ys = omega (arith, times-append n xs ys)
-
 -- those that pass and those that don't are all
 pub times-parts : {A : Type 0} (f : A → ℕ) (p : A → Bool) (n : ℕ) (xs : List A) → times n (map f xs) ≡ times n (map f (filter p xs)) + times n (map f (filter (λ x. not (p x)) xs))
 times-parts f p n [] = refl

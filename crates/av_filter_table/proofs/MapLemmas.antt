@@ -5,20 +5,12 @@ use Rattle.std.specs.Ordering.{nat_cmp, match_ordering, is_eq}
 use Rattle.std.specs.List.{AllByRecursion}
 use Rattle.std.specs.List.Sorted.{IsStrictlySortedBy}
 use Rattle.std.specs.Map.{keys_of}
-use Rattle.std.specs.declared.cmp.Ordering.TheVariants.{Less, Equal, Greater}
+use Rattle.std.specs.declared.cmp.Ordering.TheVariants.{Less, Equal}
 use Rattle.std.proofs.lemmas.Bool.{cases_eq, cases_lt}
 use Rattle.std.proofs.lemmas.Bool.Decides.{nat_tests}
+use Rattle.av_context.proofs.RowsLemmas.{cmp-same, cmp-below, cmp-above}
 use Rattle.av_context.specs.Contexts.{at, with, without, PutsAt}
 use Rattle.av_filter_table.specs.Numbered.{IsAscending, placed, joined}
-
-pub cmp-same : (k : ℕ) → nat_cmp k k ≡ Equal
-cmp-same k = grind (arith, nat_tests)
-
-pub cmp-below : (k n : ℕ) → k < n → nat_cmp k n ≡ Less
-cmp-below k n below = grind (arith, nat_tests)
-
-pub cmp-above : (k n : ℕ) → n < k → nat_cmp k n ≡ Greater
-cmp-above k n above = grind (arith, nat_tests)
 
 pub below-cmp : (k n : ℕ) → nat_cmp k n ≡ Less → k < n
 below-cmp k n less = grind (arith, nat_tests)

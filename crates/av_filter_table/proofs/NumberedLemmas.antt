@@ -30,11 +30,6 @@ module _ {R V : Type 0} where
   value-there (Some r) None same some = absurd (cc)
   value-there (Some r) (Some v) same some = refl
 
-  pub value-none : (row : Option R) (value : Option V) → AreMatched row value → row ≡ None → value ≡ None
-  value-none None None same none = refl
-  value-none None (Some v) same none = absurd (cc)
-  value-none (Some r) value same none = absurd (cc)
-
   both-there : (row : Option R) (value : Option V) → AreMatched row value → IsSome row → IsSome (both row value)
   both-there None value same some = absurd (cc)
   both-there (Some r) None same some = absurd (cc)

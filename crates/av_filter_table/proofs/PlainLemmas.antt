@@ -159,10 +159,6 @@ pub push-front : {A : Type 0} (ys : List A) (x : A) (zs : List A) → (ys ++ x �
 push-front [] x zs = refl
 push-front (y ∷ ys) x zs = ap (λ l. y ∷ l) (push-front ys x zs)
 
-pub no-more : {A : Type 0} (ys : List A) → ys ++ [] ≡ ys
-no-more [] = refl
-no-more (y ∷ ys) = ap (λ l. y ∷ l) (no-more ys)
-
 pub some-of : (n : ℕ) (xs : List (ℕ × Waiting)) (x : ℕ × Waiting) → of n xs ≡ [] → first_waiting n xs ≡ Some x → ⊥
 some-of n [] x none first = none_some first
 some-of n (y ∷ xs) x none first = go (y.0 == n) refl (some-of n xs x)

@@ -9,6 +9,7 @@ use Rattle.std.specs.BTreeMap.{is_at}
 use Rattle.std.specs.List.Sorted.{IsStrictlySortedBy}
 use Rattle.std.specs.Ordering.{nat_cmp}
 use Rattle.std.specs.declared.cmp.Ordering.TheVariants.{Less}
+use Rattle.av_base.proofs.KeyLemmas.{same_id-true}
 use Rattle.av_base.specs.declared.message_id.MessageId.{MessageId}
 use Rattle.av_base.specs.MessageId.{same_id}
 use Rattle.av_base.specs.declared.port.Port.{Port}
@@ -324,23 +325,12 @@ ends_gone boot sequence n q q' p k k' x key consistent up found gone put =
     }
 
 -- what is found by an id has it
-both-left : (a b : Bool) → (a && b) ≡ true → a ≡ true
-both-left true b h = refl
-both-left false b h = h
-
-both-right : (a b : Bool) → (a && b) ≡ true → b ≡ true
-both-right true b h = h
-both-right false b h = absurd (cc)
-
 pub found-id : (id : MessageId) (qs : List Question) (q : Question) → question_at id qs ≡ Some q → q.id ≡ id
 found-id id [] q found = none_some found
 found-id id (x ∷ qs) q found = go (same_id x.id id) refl (found-id id qs q)
   where
-    same_parts : (a b : MessageId) → same_id a b ≡ true → a ≡ b
-    same_parts a b same = λ i. record { boot = eqb-true a.boot b.boot (both-left (a.boot == b.boot) (a.seq == b.seq) same) i; seq = eqb-true a.seq b.seq (both-right (a.boot == b.boot) (a.seq == b.seq) same) i }
-
     go : (b : Bool) → same_id x.id id ≡ b → (question_at id qs ≡ Some q → q.id ≡ id) → q.id ≡ id
-    go true h rest = ap (λ y. y.id) (some_same q x (sym found ∙ ap (λ b. cond b (Some x) (question_at id qs)) h)) ∙ same_parts x.id id h
+    go true h rest = ap (λ y. y.id) (some_same q x (sym found ∙ ap (λ b. cond b (Some x) (question_at id qs)) h)) ∙ same_id-true x.id id h
     go false h rest = rest (sym (ap (λ b. cond b (Some x) (question_at id qs)) h) ∙ found)
 
 pub none-of_others : (id : MessageId) (ps : List Pended) → opens_of id (other_opens id ps) ≡ []

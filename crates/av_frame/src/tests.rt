@@ -47,6 +47,27 @@ fn is_written(alloc: Global, body: &[u8]) -> Result<bool, Fail> {
 }
 
 #[test]
+fn bodies_are_the_same_where_their_bytes_are(rt: HostRuntime) -> Result<(), Fail> {
+    for one in BODIES.lines() {
+        for other in BODIES.lines() {
+            assert!(rt; compares_as_its_bytes(rt.alloc(), one, other)?, "{one} and {other}");
+        }
+    }
+    Ok(())
+}
+
+fn compares_as_its_bytes(alloc: Global, one: &str, other: &str) -> Result<bool, Fail> {
+    let (one, _) = parts(alloc, one)?;
+    let (other, _) = parts(alloc, other)?;
+    let (Ok(first), Ok(second)) = (decode(alloc, &one), decode(alloc, &other)) else {
+        return Ok(true);
+    };
+    // The second byte is the port, which is no part of a body.
+    let same = one[..1] == other[..1] && one[2..] == other[2..];
+    Ok((first.body() == second.body()) == same)
+}
+
+#[test]
 fn a_frame_comes_once_it_is_whole_however_it_is_cut(rt: HostRuntime) -> Result<(), Fail> {
     for line in BODIES.lines() {
         assert!(rt; comes_whole(rt.alloc(), line)?, "of {line}");

@@ -10,6 +10,8 @@ use Rattle.std.specs.Ordering.{is_eq, match_ordering, nat_cmp}
 use Rattle.std.specs.Prelude.{MatchBool, ◌||◌, nat_lt}
 use Rattle.std.specs.Set.{remove_key}
 use Rattle.std.specs.declared.cmp.Ordering.TheVariants.{Less, Equal, Greater}
+use Rattle.av_base.proofs.AmongLemmas.{among_left}
+use Rattle.av_base.specs.Among.{Among}
 use Rattle.av_base.specs.declared.port.Port.{Port}
 use Rattle.av_base.specs.declared.port.Port.TheVariants.{One, Two}
 use Rattle.av_base.specs.declared.refusal.Refusal.TheVariants.{Fault, NoMemory}
@@ -20,7 +22,6 @@ use Rattle.av_frame.specs.Message.{Letter}
 use Rattle.av_guard.proofs.AskLemmas.{kept_story}
 use Rattle.av_guard.proofs.CallLemmas.{asked_now, first_story, step, still_each, taken_among}
 use Rattle.av_guard.proofs.OnceLemmas.{Adds, Here, IsIn, asks-append, happened, one_here, open_asks, opened_counts, still_counts, told-append}
-use Rattle.av_guard.proofs.PastLemmas.{among_left}
 use Rattle.av_guard.proofs.SoundLemmas.{free_name, number_free}
 use Rattle.av_guard.proofs.StoryLemmas.{Story, later}
 use Rattle.av_guard.specs.Answering.{AsksAreAnsweredOnce, Stays, asks_of, one_if, told_of}
@@ -28,7 +29,7 @@ use Rattle.av_guard.specs.Asking.{Asked, AskedNow, GivesNothing, IsRefused, IsTh
 use Rattle.av_guard.specs.Asking as refused_so
 use Rattle.av_guard.specs.Beginning.{begun}
 use Rattle.av_guard.specs.Place.{Held, Missing, Spot, Unused}
-use Rattle.av_guard.specs.Run.{Among, Call, Client, ClientLost, Asks, NextInLine, Message, ServiceLost, TimeUp, Does, Lead, asks_in, first_table, first_volume, given_by, taken_by, told_in}
+use Rattle.av_guard.specs.Run.{Call, Client, ClientLost, Asks, NextInLine, Message, ServiceLost, TimeUp, Does, Lead, asks_in, first_table, first_volume, given_by, taken_by, told_in}
 use Rattle.av_guard.specs.State.{Gives, State, Turn, happens, hears_at, rests}
 use Rattle.av_guard.specs.Telling.{is_here}
 use Rattle.av_guard.specs.declared.ask.Ask.{Ask}
@@ -204,13 +205,8 @@ module _ (client tag : ℕ) (t0 : Table) (v0 : Store) (asks : List Ask) (told : 
     step_counts (TimeUp seq (Err e)) new d stays = same old new d h
 
 stays_first : (client : ℕ) (c : Call) (cs : List Call) → Stays client (c ∷ cs) → Stays client (c ∷ []) × Stays client cs
-stays_first client (Client n) cs all = (tt, all)
 stays_first client (ClientLost c) cs all = ((all.0, tt), all.1)
-stays_first client (Asks c t b r) cs all = (tt, all)
-stays_first client (NextInLine r) cs all = (tt, all)
-stays_first client (Message m r) cs all = (tt, all)
-stays_first client (ServiceLost r) cs all = (tt, all)
-stays_first client (TimeUp q r) cs all = (tt, all)
+stays_first client _ cs all = (tt, all)
 
 run_counts : (client tag : ℕ) (t0 : Table) (v0 : Store) (calls : List Call) (asks : List Ask) (told : List Told) (sent : List Letter) (history : List FilterEntry) (old new : State) → Story t0 v0 asks told sent history old → Lead calls old new → Stays client calls → IsIn client tag old
     → told_of client tag (told_in calls) + open_asks client tag new ≡ asks_of client tag (asks_in calls) + open_asks client tag old

@@ -1,7 +1,8 @@
 -- Asks, as events of a guard's filter.
-use Rattle.std.proofs.Common.{◌≡◌, ℕ, ◌+◌, ◌==◌, Bool, true, false, List, [], ◌∷◌, ◌++◌, map, Option, Some, None, if◌then◌else◌, refl, ap, ◌∙◌, sym, subst}
+use Rattle.std.proofs.Common.{◌≡◌, ℕ, ◌+◌, ◌==◌, Bool, true, false, List, [], ◌∷◌, ◌++◌, map, Option, Some, None, if◌then◌else◌, refl, ap, ◌∙◌, sym, subst, append-nil}
 use Rattle.std.specs.Option.{option_map}
 use Rattle.std.specs.Result.{result_err}
+use Rattle.av_base.specs.Among.{Among}
 use Rattle.av_filter.proofs.EachLemmas.{each-append, each_weaker}
 use Rattle.av_filter.proofs.FitLemmas.{event_fits}
 use Rattle.av_filter.specs.Audit.{FilterEntry}
@@ -18,7 +19,7 @@ use Rattle.av_guard.proofs.LawLemmas.{opens_its_bytes}
 use Rattle.av_guard.proofs.PairLemmas.{of_two}
 use Rattle.av_guard.proofs.OnePortLemmas.{IsOfGuard}
 use Rattle.av_guard.proofs.PastLemmas.{Past, entry_of, past_more, present}
-use Rattle.av_guard.proofs.RunLemmas.{Made, append_none, made_of, undone_step, write_taken}
+use Rattle.av_guard.proofs.RunLemmas.{Made, made_of, undone_step, write_taken}
 use Rattle.av_guard.proofs.SoundLemmas.{IsNameOf, free_name, written_more, written_same}
 use Rattle.av_guard.proofs.StoryLemmas.{Story, opens_story}
 use Rattle.av_guard.proofs.TellLemmas.{IsAsking, asking_more, founded_more}
@@ -26,7 +27,7 @@ use Rattle.av_guard.specs.Asking.{IsRefused, IsThere, asked, ask_fault, kept, pl
 use Rattle.av_guard.specs.Asking as refused_so
 use Rattle.av_guard.specs.Keeping.{IsStored}
 use Rattle.av_guard.specs.Place.{Held, Missing, Spot, Unused}
-use Rattle.av_guard.specs.Run.{Among, IsFounded, all_held}
+use Rattle.av_guard.specs.Run.{IsFounded, all_held}
 use Rattle.av_guard.specs.State.{State}
 use Rattle.av_guard.specs.Waiting.{ArePaired}
 use Rattle.av_guard.specs.Written.{AreWritten}
@@ -77,7 +78,7 @@ module _ (t0 : Table) (v0 : Store) (asks : List Ask) (told : List Told) (sent : 
 
     past_first : Past t0 v0 g.table made.volume sent (history ++ x ∷ [])
     past_first =
-        subst (λ ms. Past t0 v0 g.table made.volume ms (history ++ x ∷ [])) (append_none sent)
+        subst (λ ms. Past t0 v0 g.table made.volume ms (history ++ x ∷ [])) (append-nil sent)
         (subst (λ (r : Reaction). Past t0 v0 r.table r.volume (sent ++ r.messages) (history ++ x ∷ [])) is (past_more t0 v0 g.table g.volume sent history first s.past (creation_taken g.table g.volume made.volume name made.id made.ok)))
 
     fits_first : Fits g.table made.volume
@@ -98,7 +99,7 @@ module _ (t0 : Table) (v0 : Store) (asks : List Ask) (told : List Told) (sent : 
         let quiet : (filter_step g.table made.volume second).messages ≡ [] = ap (λ (r : Reaction). r.messages) whole ∙ kept_so.messages in
         let past : Past t0 v0 (stored g.table g.volume name c).table (stored g.table g.volume name c).volume sent (history ++ x ∷ [] ++ y ∷ []) =
         subst (λ (r : Reaction). Past t0 v0 r.table r.volume sent (history ++ x ∷ [] ++ y ∷ [])) whole
-        (subst (λ ms. Past t0 v0 (filter_step g.table made.volume second).table (filter_step g.table made.volume second).volume ms (history ++ x ∷ [] ++ y ∷ [])) (ap (λ ms. sent ++ ms) quiet ∙ append_none sent)
+        (subst (λ ms. Past t0 v0 (filter_step g.table made.volume second).table (filter_step g.table made.volume second).volume ms (history ++ x ∷ [] ++ y ∷ [])) (ap (λ ms. sent ++ ms) quiet ∙ append-nil sent)
         (past_more t0 v0 g.table made.volume sent (history ++ x ∷ []) second past_first here)) in
         let fits : Fits (stored g.table g.volume name c).table (stored g.table g.volume name c).volume = subst (λ (r : Reaction). Fits r.table r.volume) whole (event_fits g.table made.volume second fits_first here) in
         let pended : (stored g.table g.volume name c).table.pended ≡ g.table.pended = sym (ap (λ (t : Table). t.pended) kept_so.table) ∙ kept_so.pended in
@@ -125,7 +126,7 @@ module _ (t0 : Table) (v0 : Store) (asks : List Ask) (told : List Told) (sent : 
         let done = undone_step g.table g.volume name made s.fits away in
         let y = entry_of g.table made.volume second in
         let past : Past t0 v0 g.table (record g.volume { last = g.volume.last + 1 }) sent (history ++ x ∷ [] ++ y ∷ []) =
-        subst (λ ms. Past t0 v0 g.table (record g.volume { last = g.volume.last + 1 }) ms (history ++ x ∷ [] ++ y ∷ [])) (append_none sent)
+        subst (λ ms. Past t0 v0 g.table (record g.volume { last = g.volume.last + 1 }) ms (history ++ x ∷ [] ++ y ∷ [])) (append-nil sent)
         (subst (λ (r : Reaction). Past t0 v0 r.table r.volume (sent ++ r.messages) (history ++ x ∷ [] ++ y ∷ [])) done.1 (past_more t0 v0 g.table made.volume sent (history ++ x ∷ []) second past_first done.0)) in
         let fits : Fits g.table (record g.volume { last = g.volume.last + 1 }) = subst (λ (r : Reaction). Fits r.table r.volume) done.1 (event_fits g.table made.volume second fits_first done.0) in
         (history ++ x ∷ [] ++ y ∷ [], two_more history x y g g.table (record g.volume { last = g.volume.last + 1 }) tt tt s past fits s.written refl)
@@ -164,7 +165,7 @@ module _ (t0 : Table) (v0 : Store) (asks : List Ask) (told : List Told) (sent : 
 
       go : (spot : Spot) → place_of g ask.content ≡ spot → IsThere g ask.content spot
           → (h : List FilterEntry) × Story t0 v0 asks (told ++ (asked g ask.client ask.tag ask.content spot).told) (sent ++ (asked g ask.client ask.tag ask.content spot).messages) h (asked g ask.client ask.tag ask.content spot).state
-      go Missing is there = (history, subst (λ ms. Story t0 v0 asks (told ++ []) ms history g) (sym (append_none sent)) (subst (λ ts. Story t0 v0 asks ts sent history g) (sym (append_none told)) s))
+      go Missing is there = (history, subst (λ ms. Story t0 v0 asks (told ++ []) ms history g) (sym (append-nil sent)) (subst (λ ts. Story t0 v0 asks ts sent history g) (sym (append-nil told)) s))
       go (Held n) is there =
           let w : Waiter = record { client = ask.client; tag = ask.tag; stream = n } in
           let x = bytes_of (stream_at n g.volume.streams) ask.content (opens_its_bytes g ask.content n is) in

@@ -1,9 +1,11 @@
 -- Every call of a guard, and every list of calls, leaves a history on which all rests that was told.
-use Rattle.std.proofs.Common.{◌≡◌, ℕ, Bool, true, false, not, List, [], ◌∷◌, ◌++◌, length, Some, None, Ok, Err, if◌then◌else◌, refl, arith, ap, ◌∙◌, sym, subst, inl, inr, append_assoc}
+use Rattle.std.proofs.Common.{◌≡◌, ℕ, Bool, true, false, not, List, [], ◌∷◌, ◌++◌, length, Some, None, Ok, Err, if◌then◌else◌, refl, arith, ap, ◌∙◌, sym, subst, inl, inr, append_assoc, append-nil}
 use Rattle.std.proofs.lemmas.Grind.{flat_map-append}
 use Rattle.std.proofs.lemmas.List.Elements.{All-from_recursion}
 use Rattle.std.specs.List.{AllByRecursion as Each, flat_map}
 use Rattle.std.specs.Prelude.{MatchBool, nat_lt}
+use Rattle.av_base.proofs.AmongLemmas.{among_left, among_right}
+use Rattle.av_base.specs.Among.{Among}
 use Rattle.av_base.specs.declared.mode.Mode.{Mode}
 use Rattle.av_base.specs.declared.port.Port.{Port}
 use Rattle.av_base.specs.declared.port.Port.TheVariants.{One, Two}
@@ -18,13 +20,12 @@ use Rattle.av_filter_table.specs.Table.{Table}
 use Rattle.av_frame.specs.Message.{Letter}
 use Rattle.av_guard.proofs.AskLemmas.{asked_story, refused_story}
 use Rattle.av_guard.proofs.FirstLemmas.{IsFirst, audit_first}
-use Rattle.av_guard.proofs.PastLemmas.{among_left, among_right, entry_of}
-use Rattle.av_guard.proofs.RunLemmas.{append_none}
+use Rattle.av_guard.proofs.PastLemmas.{entry_of}
 use Rattle.av_guard.proofs.SoundLemmas.{written_removed, written_same}
 use Rattle.av_guard.proofs.StoryLemmas.{Story, later, quiet_story}
 use Rattle.av_guard.specs.Asking.{Asked, AskedNow, GivesNothing, IsThere, LetGo, Nexts, Ordered, Refuses, Takes, ask_fault, asked, behind, in_line, must_stand, place_of, refusal_of, skipped, still_here}
 use Rattle.av_guard.specs.Beginning.{begun, limits_of}
-use Rattle.av_guard.specs.Run.{Among, Call, Client, ClientLost, Asks, NextInLine, Message, ServiceLost, TimeUp, Does, GuardsHaveHistory, IsFounded, Lead, asks_in, first_table, first_volume, given_by, sent_in, taken_by, told_in}
+use Rattle.av_guard.specs.Run.{Call, Client, ClientLost, Asks, NextInLine, Message, ServiceLost, TimeUp, Does, GuardsHaveHistory, IsFounded, Lead, asks_in, first_table, first_volume, given_by, sent_in, taken_by, told_in}
 use Rattle.av_guard.specs.State.{Gives, State, Turn, happens, hears_at, rests}
 use Rattle.av_guard.specs.Telling.{is_here}
 use Rattle.av_guard.specs.Written.{AreWritten}
@@ -67,7 +68,7 @@ module _ (t0 : Table) (v0 : Store) (asks : List Ask) (told : List Told) (sent : 
   Left g ts ms = (h : List FilterEntry) × Story t0 v0 asks (told ++ ts) (sent ++ ms) h g
 
   idle : (h : List FilterEntry) (g : State) → Story t0 v0 asks told sent h g → Left g [] []
-  idle h g s = (h, subst (λ ms. Story t0 v0 asks (told ++ []) ms h g) (sym (append_none sent)) (subst (λ ts. Story t0 v0 asks ts sent h g) (sym (append_none told)) s))
+  idle h g s = (h, subst (λ ms. Story t0 v0 asks (told ++ []) ms h g) (sym (append-nil sent)) (subst (λ ts. Story t0 v0 asks ts sent h g) (sym (append-nil told)) s))
 
   idle_some : (g : State) → (h : List FilterEntry) × Story t0 v0 asks told sent h g → Left g [] []
   idle_some g s = idle s.0 g s.1
@@ -75,8 +76,8 @@ module _ (t0 : Table) (v0 : Store) (asks : List Ask) (told : List Told) (sent : 
   gives : (given : Given) (new : State) (turn : Turn) → Gives given new turn → Left turn.state turn.told turn.messages → Left new (given.told.items ++ []) (given.messages.items ++ [])
   gives given new turn g s = (
     s.0,
-    subst (λ ts. Story t0 v0 asks (told ++ ts) (sent ++ (given.messages.items ++ [])) s.0 new) (sym (append_none given.told.items ∙ g.told))
-        (subst (λ ms. Story t0 v0 asks (told ++ turn.told) (sent ++ ms) s.0 new) (sym (append_none given.messages.items ∙ g.messages)) (subst (Story t0 v0 asks (told ++ turn.told) (sent ++ turn.messages) s.0) (sym g.state) s.1)),
+    subst (λ ts. Story t0 v0 asks (told ++ ts) (sent ++ (given.messages.items ++ [])) s.0 new) (sym (append-nil given.told.items ∙ g.told))
+        (subst (λ ms. Story t0 v0 asks (told ++ turn.told) (sent ++ ms) s.0 new) (sym (append-nil given.messages.items ∙ g.messages)) (subst (Story t0 v0 asks (told ++ turn.told) (sent ++ turn.messages) s.0) (sym g.state) s.1)),
   )
 
   nothing : (given : Given) (new : State) → GivesNothing given → Left new [] [] → Left new (given.told.items ++ []) (given.messages.items ++ [])
@@ -173,7 +174,7 @@ run : (t0 : Table) (v0 : Store) (calls : List Call) (asks : List Ask) (told : Li
 run t0 v0 [] asks told sent history old new s is = (
   history,
   subst (Story t0 v0 (asks ++ []) (told ++ []) (sent ++ []) history) (sym is)
-      (subst (λ x. Story t0 v0 x (told ++ []) (sent ++ []) history old) (sym (append_none asks)) (subst (λ x. Story t0 v0 asks x (sent ++ []) history old) (sym (append_none told)) (subst (λ x. Story t0 v0 asks told x history old) (sym (append_none sent)) s))),
+      (subst (λ x. Story t0 v0 x (told ++ []) (sent ++ []) history old) (sym (append-nil asks)) (subst (λ x. Story t0 v0 asks x (sent ++ []) history old) (sym (append-nil told)) (subst (λ x. Story t0 v0 asks told x history old) (sym (append-nil sent)) s))),
 )
 run t0 v0 (c ∷ cs) asks told sent history old new s (mid, does, rest) =
     let more = taken_by c in

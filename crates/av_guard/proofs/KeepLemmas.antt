@@ -1,5 +1,5 @@
 -- A content comes to be kept, and one is let go.
-use Rattle.std.proofs.Common.{◌≡◌, ◌<◌, ℕ, zero, suc, ◌+◌, true, false, cond, List, [], ◌∷◌, ◌++◌, length, drop, Option, Some, None, Result, Ok, Err, refl, arith, ap, ◌∙◌, sym, subst}
+use Rattle.std.proofs.Common.{◌≡◌, ℕ, ◌+◌, true, false, cond, List, [], ◌∷◌, ◌++◌, length, drop, Option, Some, None, Result, Ok, Err, refl, arith, ap, ◌∙◌, sym, subst}
 use Rattle.std.proofs.lemmas.List.{append-nil}
 use Rattle.std.proofs.lemmas.Bool.Decides.{nat_tests}
 use Rattle.std.specs.Option.{option_map}
@@ -36,8 +36,7 @@ use Rattle.av_store.specs.Files.{Create, Write}
 use Rattle.av_store.specs.declared.fault.StoreFault.{StoreFault}
 use Rattle.av_store.specs.declared.fault.StoreFault.TheVariants.{NoStream}
 use Rattle.av_store.specs.Rows.{Streams, is_number, number_named, replaced, stream_at, without}
-use Rattle.av_store.specs.Seen.{change_of, kept_or, stream_of, volume_of}
-use Rattle.av_store.specs.Sound.{IsOfFiles}
+use Rattle.av_store.specs.Seen.{change_of, kept_or, volume_of}
 use Rattle.av_store.specs.Store.{Store, create_of, greatest, is_name, remove_of, with_streams}
 use Rattle.av_store.specs.declared.stream.Stream.{Stream}
 

@@ -7,12 +7,12 @@ use Rattle.std.specs.Ordering.{is_eq, match_ordering, nat_cmp}
 use Rattle.std.specs.declared.cmp.Ordering.TheVariants.{Less, Equal, Greater}
 use Rattle.av_context.specs.Contexts.{at, with, without}
 use Rattle.av_filter.proofs.CountLemmas.{filter_balanced, opens_after}
-use Rattle.av_filter.proofs.EachLemmas.{each_weaker}
-use Rattle.av_filter.proofs.MapLemmas.{at-without_other}
+use Rattle.av_filter.proofs.EachLemmas.{each_weaker, each_both}
 use Rattle.av_filter.specs.Conduct.{FilterEvent, filter_step}
 use Rattle.av_filter.specs.Fit.{Fits, IsPresent}
 use Rattle.av_filter.specs.Once.{once_up_to, times}
 use Rattle.av_filter.specs.Reaction.{Reaction}
+use Rattle.av_filter_table.proofs.MapLemmas.{at-without_other}
 use Rattle.av_filter_table.specs.Table.{Table}
 use Rattle.av_filter_table.specs.declared.pended.Pended.{Pended}
 use Rattle.av_filter_table.specs.declared.question.Question.{Question}
@@ -117,10 +117,6 @@ counted [] = tt
 counted (p ∷ ps) =
     (grind (arith, nat_tests), each_weaker (λ o. 1 ≤ times o.held.open_id (ids ps)) (λ o. 1 ≤ times o.held.open_id (ids (p ∷ ps))) (λ o h. omega (arith, h)) ps (counted ps))
 
-each_two : {A : Type 0} (P Q R : A → Type 0) → ((x : A) → P x → Q x → R x) → (xs : List A) → Each P xs → Each Q xs → Each R xs
-each_two P Q R f [] p q = tt
-each_two P Q R f (x ∷ xs) p q = (f x p.0 q.0, each_two P Q R f xs p.1 q.1)
-
 -- no open has a number that was not taken
 pub times_above : (ps : List Pended) (k : ℕ) → Each (λ p. p.held.open_id ≤ k) ps → times (k + 1) (ids ps) ≡ 0
 times_above [] k all = refl
@@ -158,6 +154,6 @@ module _ (t : Table) (v : Store) (m : Waiters) (e : FilterEvent) (fits : Fits t 
     each = left_keys (λ n. times n (ids r.table.pended)) r.answers m parts;
     once = λ n. omega (arith, parts n, once n);
     streams =
-        each_two (λ p. IsAwaited m p.held.open_id p.held.stream) (λ p. 1 ≤ times p.held.open_id (ids r.table.pended)) (λ p. IsAwaited (left_by m r.answers) p.held.open_id p.held.stream)
+        each_both (λ p. IsAwaited m p.held.open_id p.held.stream) (λ p. 1 ≤ times p.held.open_id (ids r.table.pended)) (λ p. IsAwaited (left_by m r.answers) p.held.open_id p.held.stream)
         (λ p w some. (w.0, left_same r.answers m p.held.open_id (omega (arith, parts p.held.open_id, once p.held.open_id, some)) ∙ w.1, w.2)) r.table.pended stays.pended (counted r.table.pended);
   }

@@ -1,23 +1,20 @@
 -- A history that grows by an event.
-use Rattle.std.proofs.Common.{◌≡◌, ℕ, List, [], ◌∷◌, ◌++◌, length, map, Option, Some, None, Ok, refl, ap, sym, subst, ◌∙◌, append_assoc, inl, inr}
-use Rattle.std.specs.List.{AllByRecursion as Each}
-use Rattle.av_base.specs.Refused.{unless}
+use Rattle.std.proofs.Common.{◌≡◌, ℕ, List, [], ◌∷◌, ◌++◌, map, Option, Some, None, refl, ap, sym, subst, ◌∙◌, append_assoc, append-nil}
 use Rattle.av_filter.proofs.BoundLemmas.{leads_to, volume_after}
-use Rattle.av_filter.proofs.EachLemmas.{each_weaker}
 use Rattle.av_filter.proofs.FitLemmas.{accepted}
 use Rattle.av_filter.specs.Audit.{FilterEntry, IsFilterAudit, IsReply, Kept, answers_given, filter_end, sent_down}
 use Rattle.av_filter.specs.Changing.{changed_volume}
-use Rattle.av_filter.specs.Conduct.{FilterEvent, Changes, CleansUp, Disconnects, Opens, Receives, Restarts, TimesOut, filter_refusal, filter_step}
+use Rattle.av_filter.specs.Conduct.{FilterEvent, Changes, Opens, Restarts, filter_refusal, filter_step}
 use Rattle.av_filter_table.specs.Table.{Table}
 use Rattle.av_frame.specs.Message.{Letter}
-use Rattle.av_guard.specs.Run.{Among, all_held, held_after}
+use Rattle.av_guard.specs.Run.{all_held, held_after}
 use Rattle.av_store.proofs.HistoryLemmas.{remembers}
-use Rattle.av_store.proofs.SeenLemmas.{follows}
+use Rattle.av_store.proofs.SeenLemmas.{follows, kept_change}
 use Rattle.std.specs.Option.{option_map}
-use Rattle.av_store.specs.Files.{Change, File, change_refusal, file_of, files_after}
-use Rattle.av_store.specs.History.{StreamHistory, content, histories_after, now}
+use Rattle.av_store.specs.Files.{File, file_of}
+use Rattle.av_store.specs.History.{StreamHistory, content, now}
 use Rattle.av_store.specs.Rows.{stream_at}
-use Rattle.av_store.specs.Seen.{Keeps, change_of, seen, stream_of}
+use Rattle.av_store.specs.Seen.{Keeps, stream_of}
 use Rattle.av_store.specs.declared.stream.Stream.{Stream}
 use Rattle.av_store.specs.Store.{Store}
 
@@ -43,57 +40,21 @@ pub held_more : (hs : List StreamHistory) (xs : List FilterEntry) (x : FilterEnt
 held_more hs [] x = refl
 held_more hs (y ∷ ys) x = held_more (held_after hs y.event) ys x
 
-append_none : {A : Type 0} (xs : List A) → xs ++ [] ≡ xs
-append_none [] = refl
-append_none (x ∷ xs) = ap (λ ys. x ∷ ys) (append_none xs)
-
 pub answers_more : (xs : List FilterEntry) (x : FilterEntry) → answers_given (xs ++ x ∷ []) ≡ answers_given xs ++ x.answers
-answers_more [] x = append_none x.answers
+answers_more [] x = append-nil x.answers
 answers_more (y ∷ ys) x = ap (λ rest. y.answers ++ rest) (answers_more ys x) ∙ sym (append_assoc y.answers (answers_given ys) x.answers)
-
-pub among_left : {A : Type 0} (x : A) (xs ys : List A) → Among x xs → Among x (xs ++ ys)
-among_left x [] ys a = absurd a
-among_left x (z ∷ zs) ys (inl e) = inl e
-among_left x (z ∷ zs) ys (inr a) = inr (among_left x zs ys a)
-
-pub among_right : {A : Type 0} (x : A) (xs ys : List A) → Among x ys → Among x (xs ++ ys)
-among_right x [] ys a = a
-among_right x (z ∷ zs) ys a = inr (among_right x zs ys a)
-
-pub each_self : {A : Type 0} (xs : List A) → Each (λ x. Among x xs) xs
-each_self [] = tt
-each_self (x ∷ xs) = (inl refl, each_weaker (λ y. Among y xs) (λ y. Among y (x ∷ xs)) (λ y h. inr h) xs (each_self xs))
-
--- a change of the volume is the change of what its streams have held
-kept_change : (v w : Store) (hs : List StreamHistory) (c : Change) → Keeps v (map now hs) → change_of v c ≡ Ok w → Keeps w (map now (histories_after hs c))
-kept_change v w hs c k h =
-    let fs = files_after (map now hs) c in
-    let next : Store = record v { streams = seen fs; last = length fs } in
-    subst (Keeps w) (sym (remembers.present hs c))
-    ((elim (change_refusal v.limits (map now hs) c) as (λ o. unless o next ≡ Ok w → Keeps w fs) [
-      | None ↦ λ g. let same : next ≡ w = cc in subst (λ x. Keeps x fs) same (record { streams = refl; last = refl })
-      | Some f ↦ λ g. absurd cc
-    ]) (sym (follows.changes v (map now hs) c k) ∙ h))
 
 keeps_after : (t : Table) (v : Store) (hs : List StreamHistory) (e : FilterEvent) → Keeps v (map now hs) → filter_refusal t v e ≡ None → Keeps (volume_after v e) (map now (held_after hs e))
 unfolding filter_refusal
 keeps_after t v hs (Opens s least) k ok = record { streams = k.streams; last = k.last }
 keeps_after t v hs (Changes c) k ok = kept_change v (changed_volume v c) hs c k (accepted v c ok)
-keeps_after t v hs (CleansUp s) k ok = k
-keeps_after t v hs (Receives m) k ok = k
-keeps_after t v hs (TimesOut seq) k ok = k
-keeps_after t v hs (Disconnects port) k ok = k
 keeps_after t v hs Restarts k ok = record { streams = k.streams; last = k.last }
+keeps_after t v hs _ k ok = k
 
 -- no event takes a content away
 pub held_stays : (hs : List StreamHistory) (e : FilterEvent) (s g : ℕ) (c : List ℕ) → content hs s g ≡ Some c → content (held_after hs e) s g ≡ Some c
-held_stays hs (Opens s least) u g c h = h
 held_stays hs (Changes ch) u g c h = remembers.stays hs ch u g c h
-held_stays hs (CleansUp s) u g c h = h
-held_stays hs (Receives m) u g c h = h
-held_stays hs (TimesOut seq) u g c h = h
-held_stays hs (Disconnects port) u g c h = h
-held_stays hs Restarts u g c h = h
+held_stays hs _ u g c h = h
 
 -- where a history leads from a first table and volume, and what it sent
 pub record Past (t0 : Table) (v0 : Store) (t : Table) (v : Store) (sent : List Letter) (history : List FilterEntry) : Type 0 where

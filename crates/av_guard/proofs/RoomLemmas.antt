@@ -1,7 +1,7 @@
 -- How much an event of the filter answers: no more than opens wait, and one.
 use Rattle.std.proofs.Common.{ℕ, ◌+◌, ◌≤◌, length, arith, ap}
 use Rattle.av_base.specs.declared.port.Port.{Port}
-use Rattle.av_filter.proofs.RoomLemmas.{small_reaction}
+use Rattle.av_filter.proofs.RoomLemmas.{small_reaction, few}
 use Rattle.std.specs.Prelude.{Result, Ok, Err, IfOk}
 use Rattle.av_filter.specs.Call.{MeetsAlways, Reacts}
 use Rattle.av_filter.specs.Conduct.{FilterEvent, Changes, Disconnects, Opens, Receives, disconnects, filter_step}
@@ -13,9 +13,6 @@ use Rattle.av_filter.specs.declared.out.Out.{Out}
 use Rattle.av_filter_table.specs.Table.{Table}
 use Rattle.av_frame.specs.Message.{Letter}
 use Rattle.av_store.specs.Store.{Store}
-
-pub few : (out : Out) (t t' : Table) (v v' : Store) (e : FilterEvent) → Reacts out t' v' (filter_step t v e) → length out.answers.items ≤ length t.pended + 1
-few out t t' v v' e reacts = let small = small_reaction t v e in let same = ap length reacts.answers in omega (arith, small.answers, same)
 
 -- the same of what a call answers
 pub few_given : {E : Type 0} (r : Result Out E) (t t' : Table) (v v' : Store) (e : FilterEvent) → MeetsAlways t v t' v' r (filter_step t v e) → IfOk r (λ out. length out.answers.items ≤ length t.pended + 1)
@@ -30,10 +27,6 @@ few_received r t t' v v' m meets = few_given r t t' v v' (Receives m) meets
 pub few_disconnected : {E : Type 0} (r : Result Out E) (t t' : Table) (v v' : Store) (port : Port) → MeetsAlways t v t' v' r (disconnects t v port) → IfOk r (λ out. length out.answers.items ≤ length t.pended + 1)
 unfolding filter_step
 few_disconnected r t t' v v' port meets = few_given r t t' v v' (Disconnects port) meets
-
-pub few_opened : (out : Out) (t t' : Table) (v v' : Store) (s least : ℕ) → Reacts out t' v' (opened t v s least) → length out.answers.items ≤ length t.pended + 1
-unfolding filter_step
-few_opened out t t' v v' s least reacts = few out t t' v v' (Opens s least) reacts
 
 pub few_changed : (out : Out) (t t' : Table) (v v' : Store) (c : Change) → Reacts out t' v' (changes t v c) → length out.answers.items ≤ length t.pended + 1
 unfolding filter_step

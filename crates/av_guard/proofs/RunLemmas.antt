@@ -28,10 +28,6 @@ use Rattle.av_store.specs.Store.{Store, create_of, remove_of, write_of}
 use Rattle.av_store.specs.declared.fault.StoreFault.{StoreFault}
 use Rattle.av_store.specs.declared.stream.Stream.{Stream}
 
-pub append_none : {A : Type 0} (xs : List A) → xs ++ [] ≡ xs
-append_none [] = refl
-append_none (x ∷ xs) = ap (λ ys. x ∷ ys) (append_none xs)
-
 -- a stream can be created
 pub record Made (v : Store) (name : List ℕ) : Type 0 where
   pub id : ℕ

@@ -3,10 +3,12 @@ use Rattle.std.proofs.Common.{◌≡◌, ℕ, ◌+◌, ◌≤◌, List, [], ◌�
 use Rattle.std.specs.List.{AllByRecursion as Each}
 use Rattle.std.specs.Ordering.{match_ordering, nat_cmp}
 use Rattle.std.specs.declared.cmp.Ordering.TheVariants.{Less, Equal, Greater}
+use Rattle.av_base.proofs.AmongLemmas.{among_right, each_self}
+use Rattle.av_base.specs.Among.{Among}
 use Rattle.av_context.specs.Contexts.{at, with, without}
 use Rattle.av_filter.proofs.BoundLemmas.{leads_to}
 use Rattle.av_filter.proofs.CountLemmas.{opens_after}
-use Rattle.av_filter.proofs.EachLemmas.{each-append, each_weaker}
+use Rattle.av_filter.proofs.EachLemmas.{each-append, each_weaker, each_both}
 use Rattle.av_filter.proofs.FitLemmas.{event_fits}
 use Rattle.av_filter.proofs.MapLemmas.{each-without}
 use Rattle.av_filter.specs.Audit.{FilterEntry, answers_given}
@@ -18,12 +20,12 @@ use Rattle.av_filter_table.specs.Table.{Table}
 use Rattle.av_frame.specs.Message.{Letter}
 use Rattle.av_guard.proofs.PairLemmas.{at_new, ids, key_more, keys, paired, stays}
 use Rattle.av_guard.proofs.OnePortLemmas.{IsOfGuard}
-use Rattle.av_guard.proofs.PastLemmas.{Past, among_right, answers_more, each_self, entry_of, past_more}
+use Rattle.av_guard.proofs.PastLemmas.{Past, answers_more, entry_of, past_more}
 use Rattle.av_guard.proofs.SoundLemmas.{at_most, number_free, one_more, still_awaited, written_same}
 use Rattle.av_guard.proofs.StayLemmas.{Comes, IsOf}
 use Rattle.av_guard.proofs.TellLemmas.{IsAsking, IsMeant, asking_later, asking_more, founded_later, founded_more, told_founded}
 use Rattle.av_guard.specs.Asking.{opens}
-use Rattle.av_guard.specs.Run.{Among, IsFounded}
+use Rattle.av_guard.specs.Run.{IsFounded}
 use Rattle.av_guard.specs.State.{State, happens}
 use Rattle.av_guard.specs.Telling.{Waiters, left_by}
 use Rattle.av_guard.specs.Waiting.{ArePaired, IsAwaited}
@@ -65,10 +67,6 @@ left_each : (P : ℕ × Waiter → Type 0) (answers : List Answer) (m : Waiters)
 unfolding left_by
 left_each P [] m all = all
 left_each P (a ∷ rest) m all = left_each P rest (without m (open_of a)) (each-without P m (open_of a) all)
-
-each_two : {A : Type 0} (P Q R : A → Type 0) → ((x : A) → P x → Q x → R x) → (xs : List A) → Each P xs → Each Q xs → Each R xs
-each_two P Q R f [] p q = tt
-each_two P Q R f (x ∷ xs) p q = (f x p.0 q.0, each_two P Q R f xs p.1 q.1)
 
 with_each : (P : Waiter → Type 0) (m : Waiters) (k : ℕ) (w : Waiter) → Each (λ e. P e.1) m → P w → Each (λ e. P e.1) (with m k w)
 with_each P [] k w all h = (h, tt)
@@ -122,7 +120,7 @@ module _ (t0 : Table) (v0 : Store) (asks : List Ask) (told : List Told) (sent : 
     founded =
         each-append (IsFounded asks longer) told (happens g e).told (each_weaker (IsFounded asks history) (IsFounded asks longer) (founded_more history x asks) told founded)
         (told_founded g.clients r.table asks longer r.answers g.waiting waits_on once
-        (each_two (IsOf (IsAwaited g.waiting) 2) (λ a. Among a r.answers) (IsMeant longer g.waiting) meant r.answers (stays g.table g.volume g.waiting e fits written counts once streams comes).answers (each_self r.answers)));
+        (each_both (IsOf (IsAwaited g.waiting) 2) (λ a. Among a r.answers) (IsMeant longer g.waiting) meant r.answers (stays g.table g.volume g.waiting e fits written counts once streams comes).answers (each_self r.answers)));
   }
 
 -- an event that submits no open

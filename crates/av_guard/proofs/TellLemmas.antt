@@ -5,21 +5,24 @@ use Rattle.std.proofs.lemmas.Bool.Decides.{nat_tests}
 use Rattle.std.specs.BTreeMap.{is_at}
 use Rattle.std.specs.List.{AllByRecursion as Each}
 use Rattle.std.specs.Ordering.{nat_cmp}
+use Rattle.av_base.proofs.AmongLemmas.{among_left}
+use Rattle.av_base.specs.Among.{Among}
 use Rattle.av_base.specs.declared.cause.Cause.{Cause}
 use Rattle.av_base.specs.declared.cause.Cause.TheVariants as cause
 use Rattle.av_base.specs.declared.verdict.Verdict.{Verdict}
 use Rattle.av_base.specs.declared.verdict.Verdict.TheVariants as verdict
 use Rattle.av_context.specs.Contexts.{at, without}
 use Rattle.av_filter.proofs.EachLemmas.{each-append, each_weaker}
-use Rattle.av_filter.proofs.MapLemmas.{at-without_other, each-without}
+use Rattle.av_filter.proofs.MapLemmas.{each-without}
 use Rattle.av_filter.specs.Audit.{FilterEntry, answers_given}
 use Rattle.av_filter.specs.Once.{times}
 use Rattle.av_filter.specs.Verdict.{verdict_of}
+use Rattle.av_filter_table.proofs.MapLemmas.{at-without_other}
 use Rattle.av_filter_table.specs.Table.{Table, context_of}
 use Rattle.av_guard.proofs.CountLemmas.{without_none}
 use Rattle.av_guard.proofs.PairLemmas.{at_none, key_less, keys}
-use Rattle.av_guard.proofs.PastLemmas.{among_left, answers_more, held_more, held_stays}
-use Rattle.av_guard.specs.Run.{Among, IsFounded, IsGrantOf, RestsOn, all_held}
+use Rattle.av_guard.proofs.PastLemmas.{answers_more, held_more, held_stays}
+use Rattle.av_guard.specs.Run.{IsFounded, IsGrantOf, RestsOn, all_held}
 use Rattle.av_guard.specs.Telling.{Waiters, answered, denied_as, is_here, told_by, told_one}
 use Rattle.av_guard.specs.declared.answered.Answered.{Answered}
 use Rattle.av_guard.specs.declared.answered.Answered.TheVariants as told

@@ -1,7 +1,8 @@
 -- The calls of a guard one after the other, what they told, and the history of its filter.
-use Rattle.std.specs.Prelude.{◌≡◌, ◌⊎◌, ℕ, List, [], ◌∷◌, All, Option, Some, None, Result, Ok, Err}
+use Rattle.std.specs.Prelude.{◌≡◌, ℕ, List, [], ◌∷◌, All, Option, Some, None, Result, Ok, Err}
 use Rattle.std.specs.List.{flat_map}
 use Rattle.std.specs.declared.alloc.AllocError.{AllocError}
+use Rattle.av_base.specs.Among.{Among}
 use Rattle.av_base.specs.declared.cause.Cause.{Cause}
 use Rattle.av_base.specs.declared.mode.Mode.{Mode}
 use Rattle.av_base.specs.declared.port.Port.TheVariants.{One}
@@ -73,11 +74,6 @@ sent_in cs = flat_map (λ given. given.messages.items) (flat_map given_by cs)
 
 abbrev pub asks_in : List Call → List Ask
 asks_in cs = flat_map taken_by cs
-
--- x is a member
-abbrev pub Among : {A : Type 0} → A → List A → Type 0
-Among x [] = ⊥
-Among x (y ∷ ys) = (x ≡ y) ⊎ Among x ys
 
 -- what streams have held, after an event of the filter, and after all of a history
 abbrev pub held_after : List StreamHistory → FilterEvent → List StreamHistory

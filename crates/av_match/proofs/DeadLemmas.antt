@@ -1,4 +1,4 @@
-use Rattle.std.proofs.Common.{ℕ, zero, suc, ◌≡◌, inl, inr, ◌<◌, ◌≤◌, ◌+◌, ◌-◌, ◌*◌, ◌==◌, Bool, true, false, cond, List, [], ◌∷◌, ◌++◌, length, map, take, drop, slice_index, Option, None, Some, IfSome, refl, sym, ◌∙◌, ap, ap₂, subst, arith, append_assoc, append-nil, eq-eqb, length-take, length-take-le, length-drop, length-append, drop-drop, get_or-drop, get_or-take, take-append-drop}
+use Rattle.std.proofs.Common.{ℕ, zero, suc, ◌≡◌, inl, inr, ◌<◌, ◌≤◌, ◌+◌, ◌-◌, ◌*◌, ◌==◌, Bool, true, false, cond, List, [], ◌∷◌, ◌++◌, length, map, take, drop, slice_index, Option, None, IfSome, refl, sym, ◌∙◌, ap, ap₂, subst, arith, append_assoc, append-nil, eq-eqb, length-take, length-take-le, length-drop, length-append, drop-drop, get_or-drop, get_or-take, take-append-drop}
 use Rattle.std.proofs.lemmas.Bool.{cases_lt}
 use Rattle.std.proofs.lemmas.List.{take_all, take-take, take-append-le, drop-take, drop-append-le, get_or-map}
 use Rattle.memchr.specs.Find.{OccursAt}
@@ -19,7 +19,7 @@ use Rattle.av_match.specs.declared.tables.Tables.{Tables}
 use Rattle.av_match.proofs.LaneLemmas.{reach_split, part_bytes, ends_through}
 use Rattle.av_match.proofs.OccursLemmas.{end_is, is_end-from, occurs-is_end, index-longest}
 use Rattle.av_match.proofs.ReachLemmas.{gives_at, root_leads, root_silent, longest_self, leads_self, leads_on, through_leads, reach_shifted}
-use Rattle.av_match.proofs.RunLemmas.{index_found}
+use Rattle.av_match.proofs.RunLemmas.{index_found, number_none}
 use Rattle.av_match.proofs.WindowLemmas.{none_of, longest-short, word_begins}
 use Rattle.av_match.proofs.WordLemmas.{is_word-at, false_from, begins, longest-length}
 
@@ -34,10 +34,6 @@ NoShorter ps m w = (j : ℕ) → j < length ps → length (word_at ps j) < m →
 
 clash : (b : Bool) → b ≡ true → b ≡ false → ⊥
 clash b is not = cc
-
-no_number : (o : Option ℕ) → number_of o ≡ 0 → o ≡ None
-no_number None h = refl
-no_number (Some i) h = absurd (omega (arith, h))
 
 -- no pattern that ends there, no index
 pub index_none : (i : ℕ) (ps : List (List ℕ)) (c : List ℕ) (e : ℕ) → ((j : ℕ) → j < length ps → occurs_at (word_at ps j) c e ≡ false) → index_at i ps c e ≡ None
@@ -82,7 +78,7 @@ module _ (ps : List (List ℕ)) (next outputs : List ℕ) (auto : IsAutomaton ps
   silent_ends : (c : List ℕ) (s j : ℕ) → Leads words c s → slice_index outputs s ≡ 0 → j < length ps → is_end (word_at ps j) c ≡ true → ⊥
   silent_ends c s j there silent l ends =
       let out : number_of (index_at 0 ps c (length c)) ≡ 0 = sym (out_is c) ∙ (ap (output_of ps) (sym there.word) ∙ (sym (gives_at ps next outputs auto s there.inside) ∙ silent)) in
-      none_of 0 ps c (length c) (no_number (index_at 0 ps c (length c)) out) j l (occurs_end c j ∙ ends)
+      none_of 0 ps c (length c) (number_none (index_at 0 ps c (length c)) out) j l (occurs_end c j ∙ ends)
 
   -- and where no pattern does, the state gives nothing out
   ends_silent : (c : List ℕ) (s : ℕ) → Leads words c s → ((j : ℕ) → j < length ps → is_end (word_at ps j) c ≡ true → ⊥) → slice_index outputs s ≡ 0

@@ -1,6 +1,6 @@
 -- A walk that passes what is no find, and the stops that tell it.
-use Rattle.std.proofs.Common.{ℕ, suc, ◌≡◌, ◌≤◌, ◌<◌, ◌+◌, ◌-◌, ◌*◌, ◌==◌, Bool, true, false, List, [], ◌∷◌, ◌++◌, length, take, drop, slice_index, Option, None, Some, refl, sym, ◌∙◌, ap, ap₂, arith, eqb-true, if◌then◌else◌, drop-drop, inl, inr, ◌&&◌, nat_lt, slice_index_or, lt-ltb, le-ltb, length-drop, length-take-le, take-append-drop}
-use Rattle.std.proofs.lemmas.Bool.{and_parts, and_from, cases_lt, true≢false}
+use Rattle.std.proofs.Common.{ℕ, suc, ◌≡◌, ◌≤◌, ◌<◌, ◌+◌, ◌-◌, ◌*◌, ◌==◌, Bool, true, false, List, [], ◌∷◌, ◌++◌, length, take, drop, slice_index, None, Some, refl, sym, ◌∙◌, ap, ap₂, arith, eqb-true, if◌then◌else◌, drop-drop, inl, inr, ◌&&◌, nat_lt, slice_index_or, lt-ltb, le-ltb, length-drop, length-take-le, take-append-drop}
+use Rattle.std.proofs.lemmas.Bool.{and_parts, and_from, cases_lt, true≢false, and_right}
 use Rattle.std.proofs.lemmas.Bool.Decides.{nat_tests}
 use Rattle.std.proofs.lemmas.List.{take_all, length-map, get_or-map}
 use Rattle.av_base.specs.declared.verdict.Verdict.TheVariants.{Infected}
@@ -15,10 +15,10 @@ use Rattle.av_match.specs.Words.{word_at, is_word, AllBytes}
 use Rattle.av_match.specs.declared.cells.Reached.{Reached}
 use Rattle.av_match.specs.declared.cells.Reached.TheVariants.{Through, Hit}
 use Rattle.av_match.proofs.DeadLemmas.{index_none}
-use Rattle.av_match.proofs.OccursLemmas.{end_is, is_end-from, occurs-is_end, find_same, find_silent}
+use Rattle.av_match.proofs.OccursLemmas.{end_is, is_end-from, occurs-is_end, find_same, find_silent, same_from}
 use Rattle.av_match.proofs.ReachLemmas.{gives_at}
-use Rattle.av_match.proofs.RunLemmas.{index_found, moved_is, rests_bound, step_open}
-use Rattle.av_match.proofs.SpanLemmas.{open_before}
+use Rattle.av_match.proofs.RunLemmas.{index_found, moved_is, rests_bound, step_open, number_none}
+use Rattle.av_match.proofs.SpanLemmas.{open_before, and_true}
 use Rattle.av_match.proofs.TableLemmas.{landed_at, rested_run, run_found, searching, found}
 use Rattle.av_match.proofs.WordLemmas.{false_from, is_word-at}
 
@@ -45,10 +45,6 @@ finds_stay ps cells fed (b ∷ v) w s k p i h =
       | Some j ↦ λ e. e
     ]) h
 
-silent_none : (o : Option ℕ) → number_of o ≡ 0 → o ≡ None
-silent_none None e = refl
-silent_none (Some i) e = absurd (omega arith)
-
 module _ (ps : List Pattern) (cells : List ℕ) (part : IsPart (state_words ps) cells (length (state_words ps))) where
   abbrev words : List (List ℕ)
   words = state_words ps
@@ -72,7 +68,7 @@ module _ (ps : List Pattern) (cells : List ℕ) (part : IsPart (state_words ps) 
       → reach_find ps cells fed s j (b ∷ w) ≡ Through t) [
         | true ↦ λ z e.
             let none : slice_index outputs n ≡ 0 = eqb-true _ _ z in
-            let bare : index_at 0 (bytes_of ps) v (length v) ≡ None = silent_none (index_at 0 (bytes_of ps) v (length v)) (sym (gives_at (bytes_of ps) next outputs auto n inside) ∙ none) in
+            let bare : index_at 0 (bytes_of ps) v (length v) ≡ None = number_none (index_at 0 (bytes_of ps) v (length v)) (sym (gives_at (bytes_of ps) next outputs auto n inside) ∙ none) in
             let rest = finds_through next outputs auto w fed n (k + 1) (j + 1) t (λ i g. small (suc i) (omega arith)) inside none e in
             ap (λ q. found_or (find_at 0 ps (word_at words q) (length (word_at words q)) (fed + (j + 1))) (j + 1) (reach_find ps cells fed q (j + 1) w)) same
             ∙ ap (λ o. found_or o (j + 1) (reach_find ps cells fed n (j + 1) w)) (find_silent 0 ps v (length v) (fed + (j + 1)) bare) ∙ rest
@@ -140,11 +136,6 @@ shorter_end p q w e f short =
 
 whole_end : (p w : List ℕ) → occurs_at p w (length w) ≡ is_end p w
 whole_end p w = occurs-is_end p w (length w) (omega arith) ∙ ap (is_end p) (take_all (length w) w (omega arith))
-
-same_from : (a b : Bool) → (a ≡ true → b ≡ true) → (b ≡ true → a ≡ true) → a ≡ b
-same_from true b there back = sym (there refl)
-same_from false true there back = back refl
-same_from false false there back = refl
 
 -- the longest pattern that ends a word has the word's finds
 pub longest_stop : (ps : List Pattern) (p w : List ℕ) (e : ℕ) → occurs_at p w (length w) ≡ true
@@ -222,7 +213,7 @@ best_stop ps w i best longest solid whole b =
 
 -- a state whose stop is 0 has no find
 pub stop_none : (ps : List Pattern) (w : List ℕ) (n e : ℕ) → IsStop ps w n → n ≡ 0 → find_at 0 ps w (length w) e ≡ None
-stop_none ps w n e stop none = find_silent 0 ps w (length w) e (silent_none (index_at 0 (bytes_of ps) w (length w)) (stop.none none))
+stop_none ps w n e stop none = find_silent 0 ps w (length w) e (number_none (index_at 0 (bytes_of ps) w (length w)) (stop.none none))
 
 -- ---- the horizon
 
@@ -233,7 +224,7 @@ behind_both h last e r m up down =
           let is : m ≡ last = up less in
           elim (cases_lt last e) [
             | inl before ↦ rw (is, lt-ltb _ _ before, lt-ltb h e (omega arith)) refl
-            | inr after ↦ rw (is, le-ltb _ _ after) (and_none (nat_lt h e))
+            | inr after ↦ rw (is, le-ltb _ _ after) (and_right (nat_lt h e) false refl)
           ]
       | inr most ↦
           let is : m ≡ h = down most in
@@ -242,10 +233,6 @@ behind_both h last e r m up down =
             | inr after ↦ rw (is, le-ltb _ _ after) refl
           ]
     ]
-  where
-    and_none : (b : Bool) → (b && false) ≡ false
-    and_none true = refl
-    and_none false = refl
 
 -- one pattern more, whose matches have an end
 pub horizon_more : (ps : List Pattern) (p : Pattern) (h m e : ℕ) → p.span.high < 1048575 → (h < p.span.high + length p.bytes → m ≡ p.span.high + length p.bytes) → (p.span.high + length p.bytes ≤ h → m ≡ h)
@@ -256,19 +243,11 @@ horizon_more ps p h m e near up down = rw (lt-ltb _ _ near) (behind_both h (p.sp
 -- one whose matches have none
 pub horizon_none : (ps : List Pattern) (p : Pattern) (h e : ℕ) → 1048575 ≤ p.span.high → (nat_lt h e && is_past (p ∷ ps) e) ≡ false
 unfolding is_past
-horizon_none ps p h e far = rw (le-ltb _ _ far) (none (nat_lt h e))
-  where
-    none : (b : Bool) → (b && false) ≡ false
-    none true = refl
-    none false = refl
+horizon_none ps p h e far = rw (le-ltb _ _ far) (and_right (nat_lt h e) false refl)
 
 pub horizon_all : (h e : ℕ) → (nat_lt h e && is_past [] e) ≡ nat_lt h e
 unfolding is_past
-horizon_all h e = whole (nat_lt h e)
-  where
-    whole : (b : Bool) → (b && true) ≡ b
-    whole true = refl
-    whole false = refl
+horizon_all h e = and_true (nat_lt h e)
 
 pub horizon_open : (ps : List Pattern) (h e : ℕ) → IsHorizon ps (Some h) → 0 < h → e ≤ h → is_past ps e ≡ false
 horizon_open ps h e far some low = open_before ps e h low (far h some ∙ le-ltb h h (omega arith))

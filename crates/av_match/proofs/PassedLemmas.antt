@@ -37,10 +37,6 @@ walk_more cells outputs w at place m low high so_far silent =
     ap (λ n. reach cells outputs 0 0 (take n (drop at w))) (sym count) ∙ more ∙ ap (λ b. Through (slice_index cells (256 * m + b))) byte
 
 module _ (t : Tables) (w : List ℕ) where
-  -- no place at all
-  pub over_none : (a : ℕ) → AreOver t w a a
-  over_none a i low high = absurd (omega arith)
-
   -- the window moves on
   pub over_more : (lo a p : ℕ) → AreOver t w lo a → a + t.window ≤ length w → p ≡ shift_at t.shifts.now t.window w a → AreOver t w lo (a + p)
   over_more lo a p so_far room is i low high =
@@ -73,9 +69,6 @@ module _ (t : Tables) (w : List ℕ) where
   pub over_passed : (lo hi : ℕ) → AreOver t w lo hi → ArePassed t w lo hi
   over_passed lo hi over i low high = inl (over i low high)
 
-  pub passed_none : (a : ℕ) → ArePassed t w a a
-  passed_none a i low high = absurd (omega arith)
-
   -- what is passed from a place no further on
   pub passed_joined : (lo mid hi from : ℕ) → ArePassed t w lo mid → ArePassed t w from hi → from ≤ mid → ArePassed t w lo hi
   passed_joined lo mid hi from one two l i low high =
@@ -86,9 +79,6 @@ module _ (t : Tables) (w : List ℕ) where
 
   pub passed_on : (lo mid hi : ℕ) → ArePassed t w lo mid → ArePassed t w mid hi → ArePassed t w lo hi
   passed_on lo mid hi one two = passed_joined lo mid hi mid one two (omega arith)
-
-  pub all_none : (p : Places) → AreAllPassed t w p p
-  all_none p = record { a = passed_none p.a; b = passed_none p.b; c = passed_none p.c; d = passed_none p.d; e = passed_none p.e; f = passed_none p.f }
 
   -- six parts go on
   pub all_joined : (p q r s : Places) → AreAllPassed t w p q → AreAllOver t w q r → AreAllPassed t w r s → AreAllPassed t w p s

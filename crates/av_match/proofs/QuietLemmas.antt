@@ -118,10 +118,6 @@ module _ (ps : List Pattern) (cells : List ℕ) (part : IsPart (state_words ps) 
         let fourth = find_next step (4 * step) (5 * step + 64) d e (omega arith) (omega arith) third five in
         find_next step (5 * step) (6 * step + 64) e f (omega arith) (omega arith) fourth six
 
-    -- a way without a find keeps to the states
-    pub quiet_inside : (n t : ℕ) → n ≤ length chunk → reach_find ps cells fed from k (take n chunk) ≡ Through t → t < length words
-    quiet_inside n t room h = (finds_lead (take n chunk) (word_at words from) from k t (part_bytes chunk 0 n small (omega arith)) (own from inside) h).inside
-
 -- one byte more of a part
 pub quiet_on : (ps : List Pattern) (cells : List ℕ) (fed : ℕ) (w : List ℕ) (x : Reached) (s t k i : ℕ) → i < length w → x ≡ reach_find ps cells fed s (k + i) (drop i w)
     → ((v : List ℕ) → reach_find ps cells fed s (k + i) (slice_index w i ∷ v) ≡ reach_find ps cells fed t (k + i + 1) v) → x ≡ reach_find ps cells fed t (k + (i + 1)) (drop (i + 1) w)

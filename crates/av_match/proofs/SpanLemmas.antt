@@ -1,6 +1,6 @@
 -- Patterns that are bound to spans: where none is, and where no match can end any more.
-use Rattle.std.proofs.Common.{ℕ, ◌≡◌, ◌≤◌, ◌+◌, ◌-◌, ◌&&◌, ◌||◌, Bool, true, false, List, [], ◌∷◌, length, nat_le, nat_lt, None, Some, refl, sym, ◌∙◌, ap, ap₂, arith, if◌then◌else◌}
-use Rattle.std.proofs.lemmas.Bool.{and_parts, and_from}
+use Rattle.std.proofs.Common.{ℕ, ◌≡◌, ◌≤◌, ◌+◌, ◌-◌, ◌&&◌, Bool, true, false, List, [], ◌∷◌, length, nat_le, nat_lt, None, Some, refl, sym, ◌∙◌, ap, ap₂, arith, if◌then◌else◌}
+use Rattle.std.proofs.lemmas.Bool.{and_parts, and_from, and_right, or_parts}
 use Rattle.std.proofs.lemmas.Bool.Decides.{nat_tests}
 use Rattle.av_sigset.specs.declared.signature.Pattern.{Pattern}
 use Rattle.av_sigset.specs.declared.signature.Span.{Span}
@@ -8,15 +8,7 @@ use Rattle.av_match.specs.Match.{begins_in}
 use Rattle.av_match.specs.Scanning.{are_bound, ends_before, is_bound, is_past}
 use Rattle.av_match.specs.Search.{bytes_of, find_at, index_at, occurs_at}
 
-or_parts : (x y : Bool) → (x || y) ≡ false → (x ≡ false) × (y ≡ false)
-or_parts true y h = absurd cc
-or_parts false y h = (refl, h)
-
-and_false : (b : Bool) → (b && false) ≡ false
-and_false true = refl
-and_false false = refl
-
-and_true : (b : Bool) → (b && true) ≡ b
+pub and_true : (b : Bool) → (b && true) ≡ b
 and_true true = refl
 and_true false = refl
 
@@ -69,7 +61,7 @@ begins_past p e h =
     let before : nat_lt (p.span.high + length p.bytes) e ≡ true = parts.1 in
     let near : nat_le 1048575 p.span.high ≡ false = grind (arith, nat_tests) in
     let late : nat_le (e - length p.bytes) p.span.high ≡ false = grind (arith, nat_tests) in
-    rw (near, late) (and_false (nat_le p.span.low (e - length p.bytes)))
+    rw (near, late) (and_right (nat_le p.span.low (e - length p.bytes)) false refl)
 
 pub past_none : (i : ℕ) (ps : List Pattern) (c : List ℕ) (n e : ℕ) → is_past ps e ≡ true → find_at i ps c n e ≡ None
 unfolding is_past
@@ -77,5 +69,5 @@ past_none i [] c n e h = refl
 past_none i (p ∷ ps) c n e h =
     let parts = and_parts (ends_before e p) (is_past ps e) h in
     let test : (occurs_at p.bytes c n && begins_in p.span (e - length p.bytes)) ≡ false =
-    ap (λ b. occurs_at p.bytes c n && b) (begins_past p e parts.0) ∙ and_false (occurs_at p.bytes c n) in
+    ap (λ b. occurs_at p.bytes c n && b) (begins_past p e parts.0) ∙ and_right (occurs_at p.bytes c n) false refl in
     ap (λ a. if a then Some i else find_at (i + 1) ps c n e) test ∙ past_none (i + 1) ps c n e parts.1

@@ -8,14 +8,7 @@ use Rattle.crossbeam_channel.specs.declared.flavors.array.Rows.{Rows}
 use Rattle.av_pool.specs.Channel.{Channel, channel_of, IsLike}
 
 module _ {X V : Type 0} where
-  pub like_channel : (p q : Pass X V) → IsLike p q → channel_of q ≡ channel_of p
-  like_channel p q h = λ i. record { table = h.0 i; key = h.1 i }
-
   module _ {Q M L A : Type 0} (c : Rows (Badge (Key X)) (Doing X V) Q M (Key X) L A) where
     -- two passes that sit at one channel
     pub one_channel : (p q : Pass X V) → IsSeatAt c p → IsSeatAt c q → channel_of q ≡ channel_of p
     one_channel p q a b = λ i. record { table = (b.0 ∙ sym a.0) i; key = (b.1 ∙ sym a.1) i }
-
-    -- a pass of the same channel sits there too
-    pub sits_too : (p q : Pass X V) → channel_of q ≡ channel_of p → IsSeatAt c p → q.me.1 ≡ [] → IsSeatAt c q
-    sits_too p q e a none = (ap (λ (k : Channel X). k.table) e ∙ a.0, ap (λ (k : Channel X). k.key) e ∙ a.1, none, a.3)

@@ -3,6 +3,7 @@ use Rattle.std.proofs.Common.{◌≡◌, ◌⊎◌, ℕ, List, [], ◌∷◌, �
 use Rattle.std.specs.List.{AllByRecursion as Each}
 use Rattle.std.proofs.lemmas.List.Elements.{All-from_recursion, recursion_from_All}
 use Rattle.std.specs.Prelude.{All}
+use Rattle.av_base.specs.Among.{Among}
 use Rattle.av_base.specs.declared.limits.LimitValues.{LimitValues}
 use Rattle.av_base.specs.declared.mode.Mode.{Mode}
 use Rattle.av_base.specs.declared.port.Port.{Port}
@@ -11,7 +12,7 @@ use Rattle.av_base.specs.declared.verdict.Verdict.TheVariants.{Clean}
 use Rattle.av_filter.specs.Audit.{FilterEntry, IsFilterAudit, answers_given}
 use Rattle.av_filter.specs.Conduct.{FilterEvent, Changes, CleansUp, Disconnects, Opens, Receives, Restarts, TimesOut}
 use Rattle.av_guard.specs.Beginning.{limits_of}
-use Rattle.av_guard.specs.Run.{Among, Call, IsFounded, IsHistoryOf, RestsOn, all_held, asks_in, first_volume, held_after, told_in}
+use Rattle.av_guard.specs.Run.{Call, IsFounded, IsHistoryOf, RestsOn, all_held, asks_in, first_volume, held_after, told_in}
 use Rattle.av_guard.specs.State.{State}
 use Rattle.av_guard.specs.declared.answered.Answered.{Answered}
 use Rattle.av_guard.specs.declared.answered.Answered.TheVariants as told
@@ -79,13 +80,8 @@ just_answer mode a (OfService port x ∷ es) p among all = just_answer mode a es
 
 -- what streams have held is the filter's alone
 held_filter : (p : Past) (e : FilterEvent) → (past_filter p e).streams ≡ held_after p.streams e
-held_filter p (Opens s least) = refl
 held_filter p (Changes c) = refl
-held_filter p (CleansUp s) = refl
-held_filter p (Receives m) = refl
-held_filter p (TimesOut seq) = refl
-held_filter p (Disconnects port) = refl
-held_filter p Restarts = refl
+held_filter p _ = refl
 
 held_call : (p : Past) (call : ServiceCall) → (past_call p call).streams ≡ p.streams
 held_call p (By e) = refl

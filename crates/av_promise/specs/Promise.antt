@@ -1,5 +1,6 @@
 -- The calls of a guard, and the audit of the one service that it has, at the first port, put together.
 use Rattle.std.specs.Prelude.{◌≡◌, ◌≢◌, ℕ, List, [], All, Some}
+use Rattle.av_base.specs.Among.{Among}
 use Rattle.av_base.specs.declared.limits.LimitValues.{LimitValues}
 use Rattle.av_base.specs.declared.mode.Mode.{Mode}
 use Rattle.av_base.specs.declared.mode.Mode.TheVariants.{FailClosed}
@@ -8,7 +9,7 @@ use Rattle.av_base.specs.declared.port.Port.TheVariants.{One, Two}
 use Rattle.av_base.specs.declared.verdict.Verdict.TheVariants.{Clean}
 use Rattle.av_filter.specs.Audit.{FilterEntry}
 use Rattle.av_guard.specs.Beginning.{begun}
-use Rattle.av_guard.specs.Run.{Among, Call, IsHistoryOf, Lead, asks_in, told_in}
+use Rattle.av_guard.specs.Run.{Call, IsHistoryOf, Lead, asks_in, told_in}
 use Rattle.av_guard.specs.State.{State}
 use Rattle.av_guard.specs.declared.answered.Answered.{Answered}
 use Rattle.av_guard.specs.declared.answered.Answered.TheVariants as told

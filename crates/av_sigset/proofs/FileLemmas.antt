@@ -1,5 +1,5 @@
 use Rattle.std.proofs.Common.{ℕ, ◌≡◌, ◌≤◌, ◌<◌, ◌+◌, Bool, true, false, cond, ◌&&◌, ◌||◌, List, [], ◌∷◌, ◌++◌, length, Option, None, Some, Result, Ok, Err, IsTrue, codes, refl, sym, ap, subst, nat_eq, nat_le, nat_lt, arith, ◌∙◌, append_assoc, length-append, le-leb, leb-true, ◌==◌, not, slice_index, ◌⊎◌, inl, inr}
-use Rattle.std.proofs.lemmas.Bool.{and_parts, true≢false}
+use Rattle.std.proofs.lemmas.Bool.{and_parts, true≢false, or_parts}
 use Rattle.std.proofs.lemmas.Bool.Decides.{nat_tests}
 use Rattle.std.proofs.lemmas.Slice.Eq.{bytes_eq-Decides}
 use Rattle.std.proofs.lemmas.List.{map-append, append-nil, length-map}
@@ -166,10 +166,6 @@ pub record IsJoined (before : List Signature) (s : Signature) : Type 0 where
   pub new : list_any (λ t. bytes_eq t.name s.name) before ≡ false
   pub few : length before < 1024
   pub short : byte_count (patterns_of before) + length s.pattern.bytes ≤ 16384
-
-or_parts : (x y : Bool) → (x || y) ≡ false → (x ≡ false) × (y ≡ false)
-or_parts true y h = absurd cc
-or_parts false y h = (refl, h)
 
 within_parts : (before ss : List Signature) (s : Signature) (x y : Bool) → nat_le 1024 (length before) ≡ x → nat_lt 16384 (byte_count (patterns_of before) + length s.pattern.bytes) ≡ y
     → cond (x || y) (Err TooMany) (Ok (before ++ s ∷ [])) ≡ Ok ss → (length before < 1024) × (byte_count (patterns_of before) + length s.pattern.bytes ≤ 16384) × (ss ≡ before ++ s ∷ [])

@@ -1,4 +1,5 @@
-use Rattle.std.proofs.Common.{ℕ, ◌≡◌, ◌≤◌, ◌+◌, ◌||◌, ◌==◌, Bool, true, false, cond, List, [], ◌∷◌, length, Option, None, Some, nat_le, nat_lt, nat_eq, refl, arith}
+use Rattle.std.proofs.Common.{ℕ, ◌≡◌, ◌≤◌, ◌+◌, ◌==◌, Bool, true, false, cond, List, [], ◌∷◌, length, Option, None, Some, nat_le, nat_lt, nat_eq, refl, arith}
+use Rattle.std.proofs.lemmas.Bool.{or_parts}
 use Rattle.std.proofs.lemmas.Bool.Decides.{nat_tests}
 use Rattle.std.proofs.lemmas.List.Sums.{sum_by-cons}
 use Rattle.std.specs.List.{AllByRecursion}
@@ -16,10 +17,6 @@ none_holds true y z a b c r h = absurd cc
 none_holds false true z a b c r h = absurd cc
 none_holds false false true a b c r h = absurd cc
 none_holds false false false a b c r h = (refl, refl, refl, h)
-
-or_parts : (x y : Bool) → (x || y) ≡ false → (x ≡ false) × (y ≡ false)
-or_parts true y h = absurd cc
-or_parts false y h = (refl, h)
 
 -- what patterns without a fault have, behind so many with so many bytes
 record Fit (count bytes i : ℕ) (ps : List Pattern) : Type 0 where

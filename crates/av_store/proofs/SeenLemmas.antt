@@ -1,4 +1,4 @@
-use Rattle.std.proofs.Common.{ℕ, ◌≡◌, ◌<◌, ◌+◌, zero, suc, List, [], ◌∷◌, ◌++◌, length, take, Bool, true, false, cond, not, ◌&&◌, ◌||◌, nat_lt, nat_le, nat_eq, Some, None, Ok, Err, refl, sym, ◌∙◌, ap, subst, arith, count_by, Result, ◌≤◌}
+use Rattle.std.proofs.Common.{ℕ, ◌≡◌, ◌<◌, ◌+◌, zero, suc, List, [], ◌∷◌, ◌++◌, length, take, Bool, true, false, cond, not, ◌&&◌, ◌||◌, nat_lt, nat_le, nat_eq, Some, None, Ok, Err, refl, sym, ◌∙◌, ap, subst, arith, count_by, Result, ◌≤◌, map}
 use Rattle.std.specs.Prelude.{is_some}
 use Rattle.std.specs.List.{list_any}
 use Rattle.std.specs.Option.{option_map, unwrap_or}
@@ -8,6 +8,8 @@ use Rattle.std.proofs.lemmas.Bool.{eqb-true}
 use Rattle.std.proofs.lemmas.Cmp.{nat_cmp_total, nat_eq_equiv}
 use Rattle.std.proofs.lemmas.List.{length_push}
 use Rattle.std.proofs.lemmas.List.Sums.{sum_by-cons}
+use Rattle.av_store.proofs.HistoryLemmas.{remembers}
+use Rattle.av_store.specs.History.{StreamHistory, histories_after, now}
 use Rattle.av_store.specs.declared.stream.Stream.{Stream}
 use Rattle.av_store.specs.declared.fault.StoreFault.TheVariants.{BadName, Exists, Full, NoStream, Hole, TooLarge, GenerationSpent}
 use Rattle.av_store.specs.Content.{new_stream, cut_to}
@@ -423,3 +425,14 @@ pub next_free : (v : Store) → IsOfFiles v → stream_at (v.last + 1) v.streams
 next_free v (fs, keeps) =
     let past : numbered fs (v.last + 1) ≡ None = none_past fs (v.last + 1) (omega (arith, keeps.last)) in
     ap (λ ss. stream_at (v.last + 1) ss) keeps.streams ∙ stream_seen fs (v.last + 1) ∙ ap (λ o. option_map stream_of (if_here o)) past
+
+-- a change of the volume is the change of what its streams have held
+pub kept_change : (v w : Store) (hs : List StreamHistory) (c : Change) → Keeps v (map now hs) → change_of v c ≡ Ok w → Keeps w (map now (histories_after hs c))
+kept_change v w hs c k h =
+    let fs = files_after (map now hs) c in
+    let next : Store = record v { streams = seen fs; last = length fs } in
+    subst (Keeps w) (sym (remembers.present hs c))
+    ((elim (change_refusal v.limits (map now hs) c) as (λ o. unless o next ≡ Ok w → Keeps w fs) [
+      | None ↦ λ g. let same : next ≡ w = cc in subst (λ x. Keeps x fs) same (record { streams = refl; last = refl })
+      | Some f ↦ λ g. absurd cc
+    ]) (sym (follows.changes v (map now hs) c k) ∙ h))

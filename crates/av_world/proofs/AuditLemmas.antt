@@ -3,6 +3,7 @@ use Rattle.std.proofs.Common.{All, append-nil, ◌<◌, ◌≡◌, ℕ, true, Li
 use Rattle.std.specs.List.{AllByRecursion as Each}
 use Rattle.std.proofs.lemmas.List.Elements.{All-from_recursion}
 use Rattle.std.proofs.lemmas.Bool.{true≢false}
+use Rattle.av_base.proofs.AmongLemmas.{among_each}
 use Rattle.av_base.specs.declared.limits.LimitValues.{LimitValues}
 use Rattle.av_base.specs.declared.mode.Mode.{Mode}
 use Rattle.av_base.specs.declared.port.Port.{Port}
@@ -35,7 +36,7 @@ use Rattle.av_store.specs.Store.{Store}
 use Rattle.av_world.proofs.DeskLemmas.{DeskFits, IsSolid, Told, connects_told, desk_grows, disconnects_told, finished_told, latest_published, message_told, publishes_told, restarts_told}
 use Rattle.av_world.proofs.FilterLemmas.{Comes}
 use Rattle.av_world.proofs.FitLemmas.{Grown, DownFits, UpFits, same_past}
-use Rattle.av_world.proofs.SceneLemmas.{Lawful, among_each, answers_just, heard_desks, heard_works, held_right, lawful_filter, lawful_heard, published_before, sets_same, works_more, works_one, works_two}
+use Rattle.av_world.proofs.SceneLemmas.{Lawful, answers_just, heard_desks, heard_works, held_right, lawful_filter, lawful_heard, published_before, sets_same, works_more, works_one, works_two}
 use Rattle.av_world.proofs.StepLemmas.{after_filter}
 use Rattle.av_world.proofs.UnionLemmas.{catalogue_after, catalogue_falls, catalogue_solid, first_published, is_first, joined_has, joined_keeps, joined_only, joined_solid, later_published, published_then, union_first, union_only, union_second, union_solid}
 use Rattle.av_world.specs.Audits.{AreLegal, AreOneSets, AuditsGrantOnlyClean, AuditsHoldOneVerdict, AuditsJudgeRightly, CameDown, CameUp, FinishesItsWorks, IsDelivered, IsOfWorks, OfFilter, OfService, SideEntry, all_up, answers_in, filter_side, past_end, service_side, sets_end}
@@ -70,12 +71,8 @@ record Audited (mode : Mode) (one two : List Publication) (p : Past) (w : WorldS
 
 filter_comes : (p : Past) (w : WorldState) (f : FilterEvent) → filter_refusal w.table w.volume f ≡ None → Each (UpFits p w.down) w.up → CameUp w.up f → Comes p w.down w.table w.volume f
 filter_comes p w (filter_events.Receives m) ok up came = among_each (UpFits p w.down) w.up m up came
-filter_comes p w (Opens s n) ok up came = tt
 filter_comes p w (Changes ch) ok up came = ok
-filter_comes p w (CleansUp s) ok up came = tt
-filter_comes p w (TimesOut q) ok up came = tt
-filter_comes p w (filter_events.Disconnects port) ok up came = tt
-filter_comes p w filter_events.Restarts ok up came = tt
+filter_comes p w _ ok up came = tt
 
 audited_filter : (mode : Mode) (one two : List Publication) (p : Past) (w : WorldState) → Audited mode one two p w → (f : FilterEvent) → filter_refusal w.table w.volume f ≡ None → CameUp w.up f → Audited mode one two (past_filter p f) (after_filter w RestartFilter f)
 audited_filter mode one two p w h f ok came =

@@ -1,31 +1,33 @@
 -- The invariant of the service's side, and that each event of the service keeps it.
-use Rattle.std.proofs.Common.{◌≡◌, ℕ, suc, ◌+◌, ◌-◌, ◌≤◌, Bool, true, false, not, ◌&&◌, List, [], ◌∷◌, ◌++◌, length, take, drop, map, filter, Option, Some, None, is_some, if◌then◌else◌, ◌==◌, nat_lt, nat_le, refl, sym, ap, ◌∙◌, subst, arith, eq-eqb, eqb-true, length-append, append_assoc, append-nil}
+use Rattle.std.proofs.Common.{◌≡◌, ℕ, suc, ◌+◌, ◌≤◌, Bool, true, false, not, List, [], ◌∷◌, ◌++◌, length, take, drop, map, filter, Option, Some, None, is_some, if◌then◌else◌, ◌==◌, nat_le, refl, sym, ap, ◌∙◌, subst, arith, eq-eqb, eqb-true, length-append, append_assoc, append-nil}
 use Rattle.std.specs.List.{AllByRecursion as Each}
 use Rattle.std.proofs.lemmas.List.{take-append-drop, drop_at, nil_from_length}
-use Rattle.std.proofs.lemmas.Bool.{and_parts, true≢false, cond_both, eqb-false, not-false, lt-leb}
+use Rattle.std.proofs.lemmas.Bool.{and_parts, true≢false, cond_both, eqb-false, lt-leb}
+use Rattle.av_base.proofs.KeyLemmas.{same_id-true, same_port-true}
 use Rattle.av_base.specs.MessageId.{same_id}
 use Rattle.av_base.specs.Port.{same_port}
 use Rattle.av_base.specs.declared.limits.LimitValues.{LimitValues}
 use Rattle.av_base.specs.declared.message_id.MessageId.{MessageId}
-use Rattle.av_base.specs.declared.port.Port.TheVariants.{One, Two}
 use Rattle.av_base.specs.declared.port.Port.{Port}
 use Rattle.av_base.specs.declared.verdict.Verdict.{Verdict}
 use Rattle.av_base.specs.declared.verdict.Verdict.TheVariants.{Clean, Infected}
-use Rattle.av_cache.specs.Cache.{has_key, look, in_front}
+use Rattle.av_cache.specs.Cache.{has_key, in_front}
 use Rattle.av_cache.specs.declared.entry.Entry.{Entry}
 use Rattle.av_frame.specs.Message.{Letter, via}
-use Rattle.av_frame.specs.declared.message.Body.TheVariants.{Scan, Chunk, NoChunk, Abort}
-use Rattle.av_frame.specs.declared.message.Body.{Body}
 use Rattle.av_match.proofs.Verdicts.{hit_stays}
 use Rattle.av_match.proofs.RunLemmas.{scanner_meets as laws}
 use Rattle.av_match.proofs.ScanLemmas.{scan_fed}
 use Rattle.av_match.specs.Match.{verdict, verdict_at, verdict_to, if_hit}
 use Rattle.av_match.specs.Scanning.{AreSolid, ScanState, begin, scan_of, scanner, Compiled, IsScan, fitting}
-use Rattle.av_service.specs.Conduct.{Connects, Disconnects, Receives, Publishes, Restarts, connect_refusal, service_step}
+use Rattle.av_service.proofs.RowLemmas.{row_of}
+use Rattle.av_service.proofs.SoundLemmas.{each_with}
+use Rattle.av_service.specs.Conduct.{Connects, Disconnects, Finishes, Receives, Publishes, Restarts, connect_refusal, service_step}
 use Rattle.av_service.specs.Desk.{Desk, advanced, afresh, has_lease, job_at, lent_out, lent_under, loan_count, new_job, with_job}
-use Rattle.av_service.specs.Lending.{closes, finished}
+use Rattle.av_service.specs.Lending.{closes}
 use Rattle.av_service.specs.Response.{Response, read_message, says}
-use Rattle.av_service.specs.Scanning.{awaits, chunk_found, dropped, most_leases, receives, scan_cached, scan_found}
+use Rattle.av_service.specs.Rows
+use Rattle.av_service.specs.Rows.{Row, ScanRow}
+use Rattle.av_service.specs.Scanning.{awaits, lends}
 use Rattle.av_service.specs.declared.fault.ConnectFault.TheVariants.{NoSignatures, AlreadyConnected}
 use Rattle.av_service.specs.declared.job.Job.{Job}
 use Rattle.av_service.specs.declared.job.Loan.{Loan}
@@ -35,11 +37,10 @@ use Rattle.av_service.specs.Work.{WorkState}
 use Rattle.av_sigset.specs.Publication.{Publication, latest_as, published_as}
 use Rattle.av_sigset.specs.declared.signature.Pattern.{Pattern}
 use Rattle.av_store.specs.History.{content}
-use Rattle.av_filter.proofs.QuestionLemmas.{same_id-true}
 use Rattle.av_world.proofs.AskedLemmas.{asked_more}
 use Rattle.av_filter.proofs.EachLemmas.{each_weaker, each-append, each-filter, each-map, find_each, find_passes}
 use Rattle.av_world.proofs.FilterLemmas.{look_right, front_right, put_right}
-use Rattle.av_world.proofs.FitLemmas.{Grown, BodyFits, DownFits, UpFits, ScanFits, ChunkFits, about, right_grows}
+use Rattle.av_world.proofs.FitLemmas.{Grown, DownFits, UpFits, ScanFits, ChunkFits, about, right_grows}
 use Rattle.av_world.specs.Held.{Asked, asked}
 use Rattle.av_world.specs.Past.{Past, IsVerdictOf, IsRightEntry}
 use Rattle.av_world.specs.Safety.{JudgesItsContent as JobFits, LoanFits, IsWorkOf, IsFront}
@@ -158,45 +159,33 @@ module _ (p : Past) (down : List Letter) (works : List WorkState) (d : Desk) (f 
   cached cache h = subst (λ ws. DeskFits p down ws (record d { cache = cache })) (sym (append-nil works))
       record { jobs = f.jobs; cache = h; published = f.published; versioned = f.versioned; idle = f.idle; leases = f.leases }
 
-  scan_told : (id : MessageId) (s g l : ℕ) → d.connected ≡ true → ScanFits p down d.port id s g l → (o : Option Entry) → look s g d.version d.cache ≡ o → Told p down works (scan_cached d (new_job d.version id s g l) o)
-  unfolding scan_cached verdict verdict_to
-  scan_told id s g l on h (Some e) at = record {
+  scan_told : (id : MessageId) (s g l : ℕ) → d.connected ≡ true → ScanFits p down d.port id s g l → {r : Response} → ScanRow d (new_job d.version id s g l) r → Told p down works r
+  unfolding verdict verdict_to
+  scan_told id s g l on h (Rows.cached e at) = record {
     fits = cached (in_front e d.cache) (front_right p e d.cache (find_each (IsRightEntry p) (has_key s g d.version) d.cache e f.cache at) f.cache);
     up = (record { of = about d.port s g l; told = h.told; there = refl; right = look_right p s g d.version d.cache e f.cache at }, tt);
   }
-  scan_told id s g l on h None at =
-      cond_both (nat_le d.limits.jobs (length d.jobs)) _ _ (Told p down works) (λ e. record { fits = same; up = (tt, tt) })
-      (λ e. cond_both (l == 0) _ _ (Told p down works)
-      (λ e.
+  scan_told id s g l on h (Rows.full room) = record { fits = same; up = (tt, tt) }
+  scan_told id s g l on h (Rows.empty is) =
       let set = present_set on in
-      let empty : h.bytes ≡ [] = nil_from_length h.bytes (h.size ∙ eqb-true l 0 e) in
+      let empty : h.bytes ≡ [] = nil_from_length h.bytes (h.size ∙ eqb-true l 0 is) in
       let clean : Clean ≡ verdict set.0 h.bytes = subst (λ bs. Clean ≡ verdict set.0 bs) (sym empty) (sym (nothing_clean 0 set.0 (set_solid p.sets d.version set.0 solid set.1))) in
       let right : IsVerdictOf p s g d.version Clean = record { patterns = set.0; bytes = h.bytes; published = set.1; held = h.held; right = clean } in
       record {
         fits = cached _ (put_right p d.limits.cache _ d.cache right f.cache);
         up = (record { of = about d.port s g l; told = h.told; there = refl; right = right }, tt);
-      })
-      (λ e. record {
-        fits = subst (λ ws. DeskFits p down ws (record d { jobs = d.jobs ++ new_job d.version id s g l ∷ [] })) (sym (append-nil works)) record {
-          jobs = each-append Fit d.jobs (new_job d.version id s g l ∷ []) f.jobs (begins (new_job d.version id s g l) h.told h.bytes h.held h.size (present_set on) refl refl refl, tt);
-          cache = f.cache;
-          published = f.published;
-          versioned = f.versioned;
-          idle = λ off. absurd (true≢false (sym on ∙ off));
-          leases = f.leases;
-        };
-        up = (tt, tt);
-      }))
-
-  scan_found_told : (id : MessageId) (s g l : ℕ) → d.connected ≡ true → ScanFits p down d.port id s g l → (o : Option (Job)) → Told p down works (scan_found d (new_job d.version id s g l) o)
-  unfolding scan_found
-  scan_found_told id s g l on h (Some k) = saying Repeat
-  scan_found_told id s g l on h None = scan_told id s g l on h _ refl
-
-  dropped_told : (o : Option (Job)) → Told p down works (dropped d o)
-  unfolding dropped
-  dropped_told None = saying Ignored
-  dropped_told (Some j) = record { fits = fewer (λ (k : Job). not (same_id k.id j.id)) d.cache f.cache; up = tt }
+      }
+  scan_told id s g l on h (Rows.begins room some) = record {
+    fits = subst (λ ws. DeskFits p down ws (record d { jobs = d.jobs ++ new_job d.version id s g l ∷ [] })) (sym (append-nil works)) record {
+      jobs = each-append Fit d.jobs (new_job d.version id s g l ∷ []) f.jobs (begins (new_job d.version id s g l) h.told h.bytes h.held h.size (present_set on) refl refl refl, tt);
+      cache = f.cache;
+      published = f.published;
+      versioned = f.versioned;
+      idle = λ off. absurd (true≢false (sym on ∙ off));
+      leases = f.leases;
+    };
+    up = (tt, tt);
+  }
 
   -- what follows the judged bytes is lent
   next_front : (j : Job) (h : Fit j) (id : MessageId) (o : ℕ) (b : List ℕ) → ChunkFits p down id o b → j.id ≡ id → o ≡ j.offset → IsFront b h.rest
@@ -210,17 +199,11 @@ module _ (p : Past) (down : List Letter) (works : List WorkState) (d : Desk) (f 
       let part : take (length b) h.rest ≡ b = sym (ap (take (length b)) rest) ∙ c.part in
       (drop (length b) h.rest, ap (λ xs. xs ++ drop (length b) h.rest) (sym part) ∙ take-append-drop (length b) h.rest)
 
-  chunk_told : (id : MessageId) (o : ℕ) (b : List ℕ) → d.connected ≡ true → ChunkFits p down id o b → (k : Option (Job)) → job_at id d.jobs ≡ k → Told p down works (chunk_found d o b k)
-  unfolding chunk_found
-  chunk_told id o b on c None at = saying Ignored
-  chunk_told id o b on c (Some j) at =
-      cond_both (not (awaits j o && nat_lt d.last_lease most_leases)) _ _ (Told p down works) (λ e. saying Ignored)
-      (λ e. cond_both (nat_lt (j.length - o) (length b)) _ _ (Told p down works) (λ e. record { fits = fewer (λ (k : Job). not (same_id k.id j.id)) d.cache f.cache; up = (tt, tt) })
-      (λ w.
+  lent_told : (id : MessageId) (o : ℕ) (b : List ℕ) → d.connected ≡ true → ChunkFits p down id o b → (j : Job) → job_at id d.jobs ≡ Some j → awaits j o ≡ true → Told p down works (lends d b j)
+  lent_told id o b on c j at ready =
       let fits : Fit j = find_each Fit (λ (k : Job). same_id k.id id) d.jobs j f.jobs at in
       let same : j.id ≡ id = same_id-true j.id id (find_passes (λ (k : Job). same_id k.id id) d.jobs j at) in
-      let tests = and_parts (awaits j o) (nat_lt d.last_lease most_leases) (not-false _ e) in
-      let awaits = and_parts (not (is_some j.loan)) (o == j.offset) tests.0 in
+      let awaits = and_parts (not (is_some j.loan)) (o == j.offset) ready in
       let front : IsFront b fits.rest = next_front j fits id o b c same (eqb-true o j.offset awaits.1) in
       let inside : length b ≤ length fits.rest = omega (arith, ap length front.1, length-append b front.0) in
       let loan : Loan = record { lease = d.last_lease + 1; count = length b } in
@@ -244,7 +227,7 @@ module _ (p : Past) (down : List Letter) (works : List WorkState) (d : Desk) (f 
       } in
       record {
         fits = record {
-          jobs = replaced (JobFits p down d.port (works ++ work ∷ []) (d.last_lease + 1) d.version) lent_job known d.jobs (each_weaker Fit (JobFits p down d.port (works ++ work ∷ []) (d.last_lease + 1) d.version) (job_later work refl) d.jobs f.jobs);
+          jobs = each_with (JobFits p down d.port (works ++ work ∷ []) (d.last_lease + 1) d.version) lent_job known d.jobs (each_weaker Fit (JobFits p down d.port (works ++ work ∷ []) (d.last_lease + 1) d.version) (job_later work refl) d.jobs f.jobs);
           cache = f.cache;
           published = f.published;
           versioned = f.versioned;
@@ -252,12 +235,8 @@ module _ (p : Past) (down : List Letter) (works : List WorkState) (d : Desk) (f 
           leases = each-append (λ (k : WorkState). k.lease ≤ d.last_lease + 1) works (work ∷ []) (each_weaker (λ (k : WorkState). k.lease ≤ d.last_lease) (λ (k : WorkState). k.lease ≤ d.last_lease + 1) (λ k le. omega arith) works f.leases) (omega arith, tt);
         };
         up = tt;
-      }))
+      }
     where
-      replaced : (P : Job → Type 0) (k : Job) → P k → (js : List Job) → Each P js → Each P (with_job k js)
-      replaced P k h [] all = tt
-      replaced P k h (j ∷ js) all = (cond_both (same_id j.id k.id) k j P (λ e. h) (λ e. all.0), replaced P k h js all.1)
-
       loan_later : (work : WorkState) → work.lease ≡ d.last_lease + 1 → (scan : ScanState) (rest : List ℕ) (l : Option Loan) → LoanFits works d.last_lease d.version scan rest l → LoanFits (works ++ work ∷ []) (d.last_lease + 1) d.version scan rest l
       loan_later work new scan rest None h = tt
       loan_later work new scan rest (Some l) h = (omega (arith, h.0), h.1, each-append (IsWorkOf d.version scan rest l) works (work ∷ []) h.2 ((λ e. absurd (omega (arith, h.0))), tt))
@@ -278,13 +257,15 @@ module _ (p : Past) (down : List Letter) (works : List WorkState) (d : Desk) (f 
         loan = loan_later work new j.scan h.rest j.loan h.loan;
       }
 
-  receives_told : (m : Body) → d.connected ≡ true → BodyFits p down d.port m → Told p down works (receives d m)
-  unfolding receives
-  receives_told (Scan id s g l) on h = scan_found_told id s g l on h _
-  receives_told (Chunk id o b) on h = chunk_told id o b on h _ refl
-  receives_told (NoChunk id o reason) on h = dropped_told _
-  receives_told (Abort id) on h = dropped_told _
-  receives_told _ on h = saying Ignored
+  message_row_told : {m : Letter} {r : Response} → Row d (Receives m) r → DownFits p down m → Told p down works r
+  message_row_told (Rows.ignored m) h = saying Ignored
+  message_row_told (Rows.repeated m) h = saying Repeat
+  message_row_told (Rows.scanned port id s g l r hears none row) h =
+      let here = and_parts d.connected (same_port port d.port) hears in
+      scan_told id s g l here.0 (subst (λ port. ScanFits p down port id s g l) (same_port-true port d.port here.1) h) row
+  message_row_told (Rows.past_length port id o b j hears at ready long) h = record { fits = fewer (λ (k : Job). not (same_id k.id j.id)) d.cache f.cache; up = (tt, tt) }
+  message_row_told (Rows.lent port id o b j hears at ready free short) h = lent_told id o b (and_parts d.connected (same_port port d.port) hears).0 h j at ready
+  message_row_told (Rows.dropped port m id j hears is at) h = record { fits = fewer (λ (k : Job). not (same_id k.id j.id)) d.cache f.cache; up = tt }
 
 -- a hit of a front is the verdict of the whole
 pub hit_whole : (set : List Pattern) (c rest : List ℕ) (r : Verdict) → Some r ≡ if_hit (verdict set c) → r ≡ verdict set (c ++ rest)
@@ -302,12 +283,6 @@ no_hit (Infected i f) e = absurd (cc (e))
 module _ (p : Past) (down : List Letter) (works : List WorkState) (d : Desk) (f : DeskFits p down works d) (solid : Each IsSolid p.sets) (w : WorkState) (among : (P : WorkState → Type 0) → Each P works → P w) where
   abbrev after : ScanState
   after = scan_after p.sets w
-
-  record Continues (j : Job) (fits : JobFits p down d.port works d.last_lease d.version j) : Type 0 where
-    scan : w.scan ≡ j.scan
-    version : w.version ≡ d.version
-    count : length w.chunk ≡ loan_count j.loan
-    front : IsFront w.chunk fits.rest
 
   loan_is : (scan : ScanState) (rest : List ℕ) (o : Option Loan) → has_lease w.lease o ≡ true → LoanFits works d.last_lease d.version scan rest o → (w.scan ≡ scan) × (w.version ≡ d.version) × (length w.chunk ≡ loan_count o) × IsFront w.chunk rest
   loan_is scan rest None has h = absurd (true≢false (sym has))
@@ -383,35 +358,24 @@ module _ (p : Past) (down : List Letter) (works : List WorkState) (d : Desk) (f 
       loan = tt;
     }
 
-    ends : (hit : Option Verdict) → hit ≡ scanner.hit after → Told p down works (finished d after hit (Some j))
-    unfolding finished
-    ends (Some r) is = closed r (hit_whole job.patterns now_judged loan.3.0 r (is ∙ found_is) ∙ ap (verdict job.patterns) now_front)
-    ends None is =
-        cond_both (j.offset + loan_count j.loan == j.length) _ _ (Told p down works) (λ e. closed Clean (no_hit (verdict job.patterns now_judged) (is ∙ found_is) ∙ ap (verdict job.patterns) (whole (eqb-true _ j.length e))))
-        (λ e. record {
-          fits = subst (λ ws. DeskFits p down ws (record d { jobs = with_job (advanced after j) d.jobs })) (sym (append-nil works)) record {
-            jobs = put_in (JobFits p down d.port works d.last_lease d.version) further d.jobs f.jobs;
-            cache = f.cache;
-            published = f.published;
-            versioned = f.versioned;
-            idle = λ off. absurd (true≢false (sym (on j at) ∙ off));
-            leases = f.leases;
-          };
-          up = (tt, tt);
-        })
-      where
-        put_in : (P : Job → Type 0) → P (advanced after j) → (js : List Job) → Each P js → Each P (with_job (advanced after j) js)
-        put_in P h [] all = tt
-        put_in P h (k ∷ js) all = (cond_both (same_id k.id j.id) (advanced after j) k P (λ e. h) (λ e. all.0), put_in P h js all.1)
-
-  finished_with : (o : Option (Job)) → lent_under w.lease d.jobs ≡ o → Told p down works (finished d after (scanner.hit after) o)
-  unfolding finished
-  finished_with None at = saying p down works d f solid Orphan
-  finished_with (Some j) at = ends j at (scanner.hit after) refl
+  row_told : (hit : Option Verdict) → hit ≡ scanner.hit after → {r : Response} → Row d (Finishes w.lease after hit) r → Told p down works r
+  row_told _ is (Rows.orphaned lease scan _) = saying p down works d f solid Orphan
+  row_told _ is (Rows.hit lease scan r j at) = closed j at r (hit_whole (job j at).patterns (now_judged j at) (loan j at).3.0 r (is ∙ found_is j at) ∙ ap (verdict (job j at).patterns) (now_front j at))
+  row_told _ is (Rows.clean lease scan j at whole_is) = closed j at Clean (no_hit (verdict (job j at).patterns (now_judged j at)) (is ∙ found_is j at) ∙ ap (verdict (job j at).patterns) (whole j at (eqb-true _ j.length whole_is)))
+  row_told _ is (Rows.goes_on lease scan j at part) = record {
+    fits = subst (λ ws. DeskFits p down ws (record d { jobs = with_job (advanced after j) d.jobs })) (sym (append-nil works)) record {
+      jobs = each_with (JobFits p down d.port works d.last_lease d.version) (advanced after j) (further j at) d.jobs f.jobs;
+      cache = f.cache;
+      published = f.published;
+      versioned = f.versioned;
+      idle = λ off. absurd (true≢false (sym (on j at) ∙ off));
+      leases = f.leases;
+    };
+    up = (tt, tt);
+  }
 
   pub finished_told : Told p down works (service_step d (done p.sets w))
-  unfolding service_step
-  finished_told = finished_with _ refl
+  finished_told = row_told (scanner.hit after) refl (row_of d (done p.sets w))
 
 -- the other events, at one past
 pub connects_told : (p : Past) (down : List Letter) (works : List WorkState) (d : Desk) → DeskFits p down works d → connect_refusal d ≡ None → Told p down works (service_step d Connects)
@@ -426,21 +390,8 @@ connects_told p down works d f ok = record {
     some_version true e ok = λ z. absurd (cc (ok))
     some_version false e ok = eqb-false d.version 0 e
 
--- ports that pass the test are one
-pub one_port : (p q : Port) → same_port p q ≡ true → p ≡ q
-one_port One One e = refl
-one_port One Two e = absurd cc
-one_port Two One e = absurd cc
-one_port Two Two e = refl
-
 pub message_told : (p : Past) (down : List Letter) (works : List WorkState) (d : Desk) → DeskFits p down works d → Each IsSolid p.sets → (m : Letter) → DownFits p down m → Told p down works (service_step d (Receives m))
-unfolding service_step
-message_told p down works d f solid m h =
-    cond_both (d.connected && same_port m.port d.port) (receives d m.body) (says d Ignored) (Told p down works)
-    (λ e.
-    let here = and_parts d.connected (same_port m.port d.port) e in
-    receives_told p down works d f solid m.body here.0 (subst (λ port. BodyFits p down port m.body) (one_port m.port d.port here.1) h))
-    (λ e. saying p down works d f solid Ignored)
+message_told p down works d f solid m h = message_row_told p down works d f solid (row_of d (Receives m)) h
 
 -- with no job
 jobless : (p : Past) (down : List Letter) (works : List WorkState) (d : Desk) → DeskFits p down works d → (version : ℕ) (cache : List Entry) → Each (IsRightEntry p) cache → ((version ≡ 0 → ⊥) → (set : List Pattern) × (published_as p.sets version ≡ Some set)) → (n : Note) → Told p down works (says (record d { version = version; connected = false; jobs = []; cache = cache }) n)

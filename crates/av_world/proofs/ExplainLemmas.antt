@@ -4,6 +4,9 @@ use Rattle.std.proofs.Common.{Some, None, if◌then◌else◌, ◌==◌, nat_lt,
 use Rattle.std.specs.List.{AllByRecursion as Each, list_any}
 use Rattle.std.specs.Option.{option_map}
 use Rattle.std.proofs.lemmas.Bool.{and_parts, and_cases, and_from, or_right, true≢false, ltb-true, ltb-false, leb-true}
+use Rattle.av_base.proofs.AmongLemmas.{among_each, each_self}
+use Rattle.av_base.proofs.KeyLemmas.{same_id-true}
+use Rattle.av_base.specs.Among.{Among}
 use Rattle.av_base.specs.MessageId.{same_id}
 use Rattle.av_base.specs.declared.cause.Cause.{Cause}
 use Rattle.av_base.specs.declared.cause.Cause.TheVariants.{NotConnected, Busy, TimedOut, PortDisconnected, ScanFailed, Unsettled, StreamRemoved, FilterRestart}
@@ -42,14 +45,14 @@ use Rattle.av_store.specs.History.{generation_of}
 use Rattle.av_store.specs.Rows.{stream_at}
 use Rattle.av_store.specs.Store.{Store, greatest}
 use Rattle.av_store.specs.declared.stream.Stream.{Stream}
-use Rattle.av_filter.proofs.QuestionLemmas.{same_id-true, order-filter}
+use Rattle.av_filter.proofs.QuestionLemmas.{order-filter}
 use Rattle.av_world.proofs.ContentLemmas.{present_content}
 use Rattle.av_filter.proofs.EachLemmas.{each_weaker, each-append, each-filter, each-filter_passed, each-map, find_each, find_passes}
 use Rattle.av_world.proofs.FilterLemmas.{Comes, Runs, order_just, current_right, look_right, past_filter, runs}
 use Rattle.av_world.proofs.FitLemmas.{Fits as FilterFits, core, OutcomeFits, about}
 use Rattle.av_world.specs.Held.{Asked, asked}
 use Rattle.av_world.specs.Past.{Past, IsVerdictOf}
-use Rattle.av_world.specs.Safety.{Among, Waits, Explains, IsByMode, IsExplained, Moves, Submission, next_open}
+use Rattle.av_world.specs.Safety.{Waits, Explains, IsByMode, IsExplained, Moves, Submission, next_open}
 use Rattle.av_filter.specs.Fit.{AreInOrder, Fits, IsGiven, RunOnOpen}
 
 -- what the open of each number asked for
@@ -75,10 +78,6 @@ pub record Fair (wanted : Wanted) (p : Past) (t : Table) (v : Store) (f : Filter
 
 raised_floor : (wanted : Wanted) (m n : ℕ) → m ≤ n → (ps : List Pended) → Stand wanted m ps → Stand wanted n ps
 raised_floor wanted m n le = each_weaker (Stands wanted m) (Stands wanted n) (λ o h. (h.0, omega (arith, h.1, le)))
-
-each_self : {A : Type 0} (xs : List A) → Each (λ x. Among x xs) xs
-each_self [] = tt
-each_self (x ∷ xs) = (inl refl, each_weaker (λ y. Among y xs) (λ y. Among y (x ∷ xs)) (λ y h. inr h) xs (each_self xs))
 
 explained-refused : (wanted : Wanted) (p : Past) (t : Table) (v : Store) (f : FilterEvent) (floor : ℕ) (mode : Mode) (g : ℕ) (c : Cause) (o : Waiting) → wanted o.open_id ≡ Some (record { stream = o.stream; least = o.least }) → IsByMode c → Explains p t v f o.open_id c
     → IsExplained wanted p t v f floor (refused mode g c o)
@@ -118,11 +117,6 @@ opens_get : (P : Answer → Type 0) (t : Table) (id : MessageId) (f : Pended →
 opens_get P t id f h =
     each-map P (λ (o : Pended). Among o t.pended × (waits_for id o ≡ true)) f (λ o k. h o k.0 k.1) (opens_of id t.pended)
     (each-filter_passed (λ (o : Pended). Among o t.pended) (λ (o : Pended). Among o t.pended × (waits_for id o ≡ true)) (waits_for id) (λ o e a. (a, e)) t.pended (each_self t.pended))
-
-among_each : {A : Type 0} (P : A → Type 0) (xs : List A) (x : A) → Each P xs → Among x xs → P x
-among_each P [] x all a = absurd a
-among_each P (y ∷ ys) x all (inl e) = subst P (sym e) all.0
-among_each P (y ∷ ys) x all (inr a) = among_each P ys x all.1 a
 
 any_from : {A : Type 0} (test : A → Bool) (xs : List A) (x : A) → Among x xs → test x ≡ true → list_any test xs ≡ true
 any_from test [] x a e = absurd a

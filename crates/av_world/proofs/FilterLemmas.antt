@@ -4,6 +4,7 @@ use Rattle.std.proofs.Common.{Ok, if◌then◌else◌, ◌==◌, nat_le, min, re
 use Rattle.std.specs.List.{AllByRecursion as Each}
 use Rattle.std.proofs.lemmas.List.{length-take, take_min}
 use Rattle.std.proofs.lemmas.Bool.{and_parts, cond_both}
+use Rattle.av_base.proofs.KeyLemmas.{same_id-true}
 use Rattle.av_base.specs.MessageId.{same_id}
 use Rattle.av_base.specs.declared.cause.Cause.{Cause}
 use Rattle.av_base.specs.declared.cause.Cause.TheVariants.{TimedOut, PortDisconnected, ScanFailed, Unsettled, StreamRemoved, FilterRestart}
@@ -39,15 +40,16 @@ use Rattle.av_frame.specs.declared.outcome.Outcome.TheVariants.{Judged}
 use Rattle.av_pend.specs.Pend.{denied, open_of, refused}
 use Rattle.av_pend.specs.Waiting.{Waiting}
 use Rattle.av_pend.specs.declared.answer.Answer.{Answer}
+use Rattle.av_store.proofs.SeenLemmas.{kept_change}
 use Rattle.av_store.specs.Files.{Change, Create, Remove}
 use Rattle.av_store.specs.History.{IsOf, content, generation_of, now}
 use Rattle.av_store.specs.Rows.{Streams, stream_at}
 use Rattle.av_store.specs.Seen.{Keeps, change_of}
 use Rattle.av_store.specs.Store.{Store}
 use Rattle.av_store.specs.declared.stream.Stream.{Stream}
-use Rattle.av_filter.proofs.QuestionLemmas.{same_id-true, order-filter}
+use Rattle.av_filter.proofs.QuestionLemmas.{order-filter}
 use Rattle.av_world.proofs.AskedLemmas.{asked_more, IsPlain, plain_nil, plain_abort, plain_chunk, plain_no_chunk}
-use Rattle.av_world.proofs.ContentLemmas.{kept_change, present_content, stream_written}
+use Rattle.av_world.proofs.ContentLemmas.{present_content, stream_written}
 use Rattle.av_filter.proofs.EachLemmas.{each_weaker, each-append, each-filter, each-filter_passed, each-map, each-take, find_each, find_passes, each_mapped}
 use Rattle.av_filter.proofs.VolumeLemmas.{changed_same}
 use Rattle.av_filter.proofs.FitLemmas.{Runs as RunsIn, accepted, all_found, all_run, no_question, rewrites_of}

@@ -6,6 +6,9 @@ use Rattle.std.proofs.lemmas.List.{length-map}
 use Rattle.std.proofs.lemmas.List.Filters.{length-filter_both}
 use Rattle.std.specs.Int.{div_ceil}
 use Rattle.std.specs.List.{AllByRecursion as Each}
+use Rattle.av_base.proofs.AmongLemmas.{among_left, among_right}
+use Rattle.av_base.proofs.KeyLemmas.{same_id-refl, same_id-true, same_port-refl, same_port-true}
+use Rattle.av_base.specs.Among.{Among}
 use Rattle.av_base.specs.declared.limits.LimitValues.{LimitValues}
 use Rattle.av_base.specs.declared.mode.Mode.{Mode}
 use Rattle.av_base.specs.Port.{same_port}
@@ -13,23 +16,19 @@ use Rattle.av_base.specs.declared.port.Port.{Port}
 use Rattle.av_base.specs.declared.port.Port.TheVariants.{One, Two}
 use Rattle.av_base.specs.declared.verdict.Verdict.{Verdict}
 use Rattle.av_base.specs.MessageId.{same_id}
-use Rattle.av_filter.proofs.EachLemmas.{each_weaker, each-append, each-filter_passed, map_same}
-use Rattle.av_filter.proofs.QuestionLemmas.{same_id-refl, same_id-true}
-use Rattle.av_filter_table.specs.Asking.{ended}
+use Rattle.av_filter.proofs.EachLemmas.{each_weaker, each-append, each-filter_passed, map_same, each_both}
+use Rattle.av_filter_table.specs.Asking.{ended, settled}
 use Rattle.av_filter_table.specs.declared.pended.Pended.{Pended}
 use Rattle.av_filter_table.specs.declared.question.Question.{Question}
 use Rattle.av_filter.specs.Fit.{AreInOrder, IsAsked}
 use Rattle.av_filter_table.specs.Answering.{judged as answer_for, present_bytes, present_generation, stream_generation}
-use Rattle.av_filter_table.specs.Asking.{settled}
 use Rattle.av_filter_table.specs.Table.{Table, on_port, opens_of, other_opens, question_at, question_on, waits_for, without_question}
 use Rattle.av_pend.specs.declared.answer.Answer.{Answer}
 use Rattle.av_service.specs.Desk.{Desk, job_at}
 use Rattle.av_service.specs.Scanning.{most_leases}
 use Rattle.av_sigset.specs.Catalogue.{latest}
-use Rattle.av_world.proofs.DeskLemmas.{one_port}
 use Rattle.av_world.proofs.FilterLemmas.{Runs}
 use Rattle.av_world.proofs.PlaceLemmas.{by_port}
-use Rattle.av_world.proofs.SceneLemmas.{own_port}
 use Rattle.av_world.proofs.PathLemmas as path
 use Rattle.av_world.proofs.ProgressLemmas.{Steady, back_onto, onward-append, past_kept, steady_onward}
 use Rattle.av_world.proofs.SettleLemmas.{Settled, question_settled, verdict_is, found_verdict}
@@ -38,27 +37,13 @@ use Rattle.av_world.specs.declared.given.Given.{Given}
 use Rattle.av_world.specs.Past.{IsVerdictOf, past}
 use Rattle.av_world.specs.Path.{IsReady}
 use Rattle.av_world.specs.Progress.{GetsVerdict, IsCarrying, all_chunks, chunks, is_reply, last_up, onward, round, scan_comes, settling, settling_all, to_reply}
-use Rattle.av_world.specs.Safety.{Among}
 use Rattle.av_world.specs.World.{WorldState, after, desk_of, given_at, member}
 
 -- ---- lists
 
-among_front : {A : Type 0} (x : A) (xs ys : List A) → Among x xs → Among x (xs ++ ys)
-among_front x [] ys a = absurd a
-among_front x (y ∷ xs) ys (inl e) = inl e
-among_front x (y ∷ xs) ys (inr a) = inr (among_front x xs ys a)
-
-among_back : {A : Type 0} (x : A) (xs ys : List A) → Among x ys → Among x (xs ++ ys)
-among_back x [] ys a = a
-among_back x (y ∷ xs) ys a = inr (among_back x xs ys a)
-
 each_among : {A B : Type 0} (f : A → B) (xs : List A) → Each (λ x. Among (f x) (map f xs)) xs
 each_among f [] = tt
 each_among f (x ∷ xs) = (inl refl, each_weaker (λ y. Among (f y) (map f xs)) (λ y. Among (f y) (f x ∷ map f xs)) (λ y h. inr h) xs (each_among f xs))
-
-each_both : {A : Type 0} (P Q R : A → Type 0) → ((x : A) → P x → Q x → R x) → (xs : List A) → Each P xs → Each Q xs → Each R xs
-each_both P Q R f [] p q = tt
-each_both P Q R f (x ∷ xs) p q = (f x p.0 q.0, each_both P Q R f xs p.1 q.1)
 
 -- what those have that pass, and those that don't, each has
 each_parts : {A : Type 0} (P : A → Type 0) (t : A → Bool) (xs : List A) → Each P (filter t xs) → Each P (filter (λ x. not (t x)) xs) → Each P xs
@@ -86,7 +71,7 @@ first_found : (q : Question) (qs : List Question) → question_at q.id (q ∷ qs
 first_found q qs = rw (same_id-refl q.id) refl
 
 first_on : (q : Question) (qs : List Question) → question_on q.port q.id (q ∷ qs) ≡ Some q
-first_on q qs = cond-true (same_id q.id q.id && same_port q.port q.port) (Some q) (question_on q.port q.id qs) (and_from (same_id q.id q.id) (same_port q.port q.port) (same_id-refl q.id) (own_port q.port))
+first_on q qs = cond-true (same_id q.id q.id && same_port q.port q.port) (Some q) (question_on q.port q.id qs) (and_from (same_id q.id q.id) (same_port q.port q.port) (same_id-refl q.id) (same_port-refl q.port))
 
 -- where no question runs no open waits
 pub none_waits : (qs : List Question) (ps : List Pended) → qs ≡ [] → Each (IsAsked qs) ps → ps ≡ []
@@ -135,12 +120,12 @@ same_turned Two Two e = e
 of_each : (P : Port → Type 0) (port : Port) → P port → ((at : Port) → same_port at port ≡ false → P at) → (at : Port) → P at
 of_each P port here others at =
     (elim (same_port at port) as (λ b. same_port at port ≡ b → P at) [
-      | true ↦ λ e. subst P (sym (one_port at port e)) here
+      | true ↦ λ e. subst P (sym (same_port-true at port e)) here
       | false ↦ λ e. others at e
     ]) refl
 
 on_own : (q : Question) (qs : List Question) → on_port q.port (q ∷ qs) ≡ q ∷ on_port q.port qs
-on_own q qs = cond-true (same_port q.port q.port) (q ∷ on_port q.port qs) (on_port q.port qs) (own_port q.port)
+on_own q qs = cond-true (same_port q.port q.port) (q ∷ on_port q.port qs) (on_port q.port qs) (same_port-refl q.port)
 
 on_other : (q : Question) (qs : List Question) (at : Port) → same_port at q.port ≡ false → on_port at (q ∷ qs) ≡ on_port at qs
 on_other q qs at e = cond-false (same_port q.port at) (q ∷ on_port at qs) (on_port at qs) (same_turned at q.port e)
@@ -290,7 +275,7 @@ module _ (mode : Mode) (w : WorldState) (st : Idle mode w) (q : Question) (qs : 
     event = one.event;
     given = subst (λ v. Among (given_at one.event (answer_for r (present_generation w.volume p.held.stream) v p.held)) (given ++ more)) (st.version q.port)
         (subst (λ s. Among (given_at one.event (answer_for r (present_generation w.volume s) home.version p.held)) (given ++ more)) same
-        (subst (λ g. Among (given_at one.event (answer_for r g home.version p.held)) (given ++ more)) generation (among_front (given_at one.event (answer p)) given more among)));
+        (subst (λ g. Among (given_at one.event (answer_for r g home.version p.held)) (given ++ more)) generation (among_left (given_at one.event (answer p)) given more among)));
   }
 
   own_gets : (more : List Given) → Each (GetsVerdict w (given ++ more)) (opens_of q.id w.table.pended)
@@ -310,7 +295,7 @@ module _ (mode : Mode) (w : WorldState) (st : Idle mode w) (q : Question) (qs : 
         (subst (λ v. IsVerdictOf (past w.history) p.held.stream (present_generation v p.held.stream) (latest next.sets) h.verdict) one.volume
         (subst (λ x. IsVerdictOf x p.held.stream (present_generation next.volume p.held.stream) (latest next.sets) h.verdict) next_past h.right));
     event = h.event;
-    given = among_back _ given more (subst (λ ss. Among (given_at h.event (answer_for h.verdict (present_generation w.volume p.held.stream) (latest ss) p.held)) more) one.same_sets
+    given = among_right _ given more (subst (λ ss. Among (given_at h.event (answer_for h.verdict (present_generation w.volume p.held.stream) (latest ss) p.held)) more) one.same_sets
         (subst (λ v. Among (given_at h.event (answer_for h.verdict (present_generation v p.held.stream) (latest next.sets) p.held)) more) one.volume h.given));
   }
 

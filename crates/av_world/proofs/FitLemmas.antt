@@ -2,6 +2,7 @@
 use Rattle.std.proofs.Common.{◌≡◌, ◌≢◌, ℕ, ◌+◌, ◌<◌, Bool, false, not, ◌==◌, List, [], ◌∷◌, ◌++◌, length, take, drop, map, find, Option, Some, None, Ok, refl, sym, ap, ◌∙◌, subst, arith, inl, inr, ◌⊎◌, true, is_some}
 use Rattle.std.specs.List.{AllByRecursion as Each}
 use Rattle.std.proofs.lemmas.Bool.{cases_eq, ne_eqb, and_left, and_right}
+use Rattle.av_base.proofs.KeyLemmas.{same_id-true}
 use Rattle.av_base.specs.MessageId.{same_id}
 use Rattle.av_base.specs.declared.message_id.MessageId.{MessageId}
 use Rattle.av_base.specs.declared.verdict.Verdict.{Verdict}
@@ -25,15 +26,16 @@ use Rattle.av_frame.specs.declared.outcome.Outcome.TheVariants.{Judged, Failed}
 use Rattle.av_sigset.specs.Publication.{published_as}
 use Rattle.av_sigset.specs.declared.signature.Pattern.{Pattern}
 use Rattle.av_store.proofs.HistoryLemmas.{content_grows}
+use Rattle.av_store.proofs.SeenLemmas.{kept_change}
 use Rattle.av_store.specs.Files.{Change, Create}
 use Rattle.av_store.specs.History.{IsOf, content, now}
 use Rattle.av_store.specs.Rows.{Streams, stream_at}
 use Rattle.av_store.specs.Seen.{Keeps, change_of, seen}
 use Rattle.av_store.specs.Store.{Store}
 use Rattle.av_store.specs.declared.stream.Stream.{Stream}
-use Rattle.av_filter.proofs.QuestionLemmas.{apart-filter, apart-push, away_none, away_without, same_id-true}
+use Rattle.av_filter.proofs.QuestionLemmas.{apart-filter, apart-push, away_none, away_without}
 use Rattle.av_world.proofs.AskedLemmas.{asked_more, asked_new, once-append, one_once, plain_once, some_none, asked_scan, asked_scan_other, IsPlain}
-use Rattle.av_world.proofs.ContentLemmas.{kept_change, present_content, stream_away, stream_stays}
+use Rattle.av_world.proofs.ContentLemmas.{present_content, stream_away, stream_stays}
 use Rattle.av_filter.proofs.EachLemmas.{each_weaker, each-append, each-filter}
 use Rattle.av_world.specs.Whole.{ScanOnce}
 use Rattle.av_world.specs.Held.{Asked, asked}

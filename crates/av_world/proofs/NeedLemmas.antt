@@ -1,5 +1,5 @@
 -- While no version is published that the filter may grant under, no message makes it give a verdict.
-use Rattle.std.proofs.Common.{length, slice_get, ◌≡◌, ◌≢◌, ℕ, zero, suc, ◌<◌, ◌≤◌, Bool, true, false, cond, List, [], ◌∷◌, ◌++◌, map, Option, Some, None, if◌then◌else◌, ◌==◌, refl, sym, ap, ◌∙◌, subst, arith, append_assoc, append-nil, eqb-true}
+use Rattle.std.proofs.Common.{length, slice_get, ◌≡◌, ◌≢◌, ℕ, zero, suc, ◌<◌, ◌≤◌, true, false, List, [], ◌∷◌, ◌++◌, map, Option, Some, None, if◌then◌else◌, refl, sym, ap, ◌∙◌, subst, arith, append_assoc, append-nil}
 use Rattle.std.proofs.lemmas.Bool.{ltb-false}
 use Rattle.std.specs.List.{AllByRecursion as Each}
 use Rattle.av_base.specs.declared.cause.Cause.{Cause}
@@ -32,32 +32,20 @@ use Rattle.av_service.specs.Conduct.{connect_refusal, service_step}
 use Rattle.av_service.specs.declared.fault.ConnectFault.{ConnectFault}
 use Rattle.av_service.specs.Work.{WorkState}
 use Rattle.av_sigset.specs.Catalogue.{latest}
-use Rattle.av_sigset.specs.declared.signature.Pattern.{Pattern}
 use Rattle.av_store.specs.Store.{Store}
 use Rattle.av_world.proofs.FitLemmas.{UpBody, UpFits}
 use Rattle.av_world.proofs.ProgressLemmas.{Steady, steady, steady_onward}
 use Rattle.av_world.proofs.PublishLemmas.{latest_same}
-use Rattle.av_world.proofs.SceneLemmas.{Falling}
+use Rattle.av_world.proofs.SceneLemmas.{published_before}
 use Rattle.av_world.specs.declared.event.Event.{Event}
-use Rattle.av_world.specs.declared.event.Event.TheVariants.{Publish, Create, Write, Cut, Remove, Open, Cleanup, Down, Up, Run, Timeout, Connect, DisconnectFilter, DisconnectService, RestartFilter, RestartService}
+use Rattle.av_world.specs.declared.event.Event.TheVariants.{Down, Up, Run, Connect, DisconnectService}
 use Rattle.av_world.specs.declared.given.Given.{Given}
 use Rattle.av_world.specs.Past.{past}
 use Rattle.av_world.specs.Progress.{GaveNoVerdict, IsCarrying, IsNoVerdict, onward}
-use Rattle.av_sigset.specs.Publication.{Publication, latest_as, publication_of, published_as}
+use Rattle.av_sigset.specs.Publication.{latest_as, publication_of}
 use Rattle.av_world.specs.World.{WorldState, after, back_at, connected, done, down_frame, given_at, member, reacted, responded, start, step_of, up_frame, work_at, work_event, world_of, world_or, desk_of}
 use Rattle.av_filter.specs.Conduct as filter_events
 use Rattle.av_service.specs.Conduct as service_events
-
--- what was published has at most the latest version
-published_below : (sets : List Publication) (v : ℕ) (ps : List Pattern) → Falling sets → published_as sets v ≡ Some ps → v ≤ latest_as sets
-unfolding published_as
-published_below [] v ps f h = absurd (cc (h))
-published_below (p ∷ sets) v ps f h =
-    let go : (b : Bool) → (p.version == v) ≡ b → cond b (Some p.patterns) (published_as sets v) ≡ Some ps → v ≤ p.version = elim [
-      | true ↦ λ e k. let same : p.version ≡ v = eqb-true p.version v e in omega (arith, same)
-      | false ↦ λ e k. let less : v ≤ latest_as sets = published_below sets v ps f.1 k in omega (arith, less, f.0)
-    ] in
-    go (p.version == v) refl h
 
 no_refusal : (mode : Mode) (g : ℕ) (c : Cause) (o : Waiting) → c ≢ Infected → IsNoVerdict (refused mode g c o)
 no_refusal FailClosed g c o h = h
@@ -121,7 +109,7 @@ module _ (mode : Mode) (w : WorldState) (s : Steady mode w) (h : IsAbove w) wher
   -- what was sent up tells no later version
   may_hear : (port : Port) (m : Body) → UpBody (past w.history) w.down port m → MayHear w.table m
   may_hear port (Reply id (Judged version r)) fits =
-      let below : version ≤ latest_as (past w.history).sets = published_below (past w.history).sets version fits.right.patterns s.sound.falling fits.right.published in
+      let below : version ≤ latest_as (past w.history).sets = published_before (past w.history).sets version fits.right.patterns s.sound.falling fits.right.published in
       omega (arith, below, h, latest_same w.sets, ap latest_as s.sound.sets)
   may_hear port (Reply id (Failed why)) fits = tt
   may_hear port _ fits = tt
@@ -172,17 +160,7 @@ module _ (mode : Mode) (w : WorldState) (s : Steady mode w) (h : IsAbove w) wher
   one_event (Run k) c = by_work k (work_at w.works k)
   one_event (Connect port) c = by_connection port (connect_refusal (desk_of w port))
   one_event (DisconnectService port) c = nothing_given w (responded w (DisconnectService port) port (service_step (desk_of w port) service_events.Disconnects)) h refl refl refl
-  one_event (Publish v ps) c = absurd c
-  one_event (Create n) c = absurd c
-  one_event (Write n o b) c = absurd c
-  one_event (Cut n l) c = absurd c
-  one_event (Remove n) c = absurd c
-  one_event (Open n l) c = absurd c
-  one_event (Cleanup n) c = absurd c
-  one_event (Timeout q) c = absurd c
-  one_event (DisconnectFilter port) c = absurd c
-  one_event RestartFilter c = absurd c
-  one_event (RestartService port) c = absurd c
+  one_event _ c = absurd c
 
 none_given : (mode : Mode) (es : List Event) (w : WorldState) → Steady mode w → IsAbove w → Each IsCarrying es → GaveNoVerdict w (onward es w)
 unfolding onward

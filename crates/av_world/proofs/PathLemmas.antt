@@ -3,6 +3,7 @@ use Rattle.std.proofs.Common.{◌≡◌, ◌≢◌, ℕ, zero, suc, ◌+◌, ◌
 use Rattle.std.specs.List.{AllByRecursion as Each}
 use Rattle.std.proofs.lemmas.List.{take-append-drop, drop_at, length-take, length-drop, nil_from_length}
 use Rattle.std.proofs.lemmas.Bool.{cond-true, cond-false, cond_both, eqb-false, lt-leb, ne_eqb, and_from}
+use Rattle.av_base.proofs.KeyLemmas.{same_id-refl, same_port-refl}
 use Rattle.av_base.specs.MessageId.{same_id}
 use Rattle.av_base.specs.declared.limits.LimitValues.{LimitValues}
 use Rattle.av_base.specs.declared.message_id.MessageId.{MessageId}
@@ -39,12 +40,10 @@ use Rattle.av_sigset.specs.Publication.{Publication, publication_of, published_a
 use Rattle.av_sigset.specs.declared.signature.Pattern.{Pattern}
 use Rattle.av_store.specs.History.{content}
 use Rattle.av_store.specs.Store.{Store}
-use Rattle.av_filter.proofs.QuestionLemmas.{same_id-refl}
 use Rattle.av_world.proofs.DeskLemmas.{hit_whole, no_hit, nothing_clean, set_solid}
 use Rattle.av_filter.proofs.EachLemmas.{each_weaker, each-append}
 use Rattle.av_world.proofs.FilterLemmas.{Runs, runs, look_right}
 use Rattle.av_world.proofs.FitLemmas.{core}
-use Rattle.av_world.proofs.SceneLemmas.{own_port}
 use Rattle.av_world.proofs.SoundLemmas.{Sound, sound}
 use Rattle.av_world.proofs.PlaceLemmas.{at_ports, by_port}
 use Rattle.av_world.specs.Past.{IsVerdictOf, past}
@@ -158,7 +157,7 @@ module _ (t : Table) (v : Store) (sets : List Publication) (q : Question) (bytes
         let fits : nat_lt (j.length - j.offset) (length part) ≡ false = le-ltb (j.length - j.offset) (length part) (omega (arith, part_size, w.size)) in
         let ready : not (awaits j (j.offset) && nat_lt d.last_lease most_leases) ≡ false =
         ap not (and_from (awaits j (j.offset)) (nat_lt d.last_lease most_leases) (and_from (not (is_some j.loan)) (j.offset == j.offset) (ap (λ o. not (is_some o)) w.free) (eq-eqb (j.offset) (j.offset) refl)) (lt-ltb d.last_lease most_leases numbered)) in
-        cond-true (d.connected && same_port d.port d.port) (chunk_found d (j.offset) part (job_at j.id d.jobs)) (says d Ignored) (and_from d.connected (same_port d.port d.port) w.on (own_port d.port))
+        cond-true (d.connected && same_port d.port d.port) (chunk_found d (j.offset) part (job_at j.id d.jobs)) (says d Ignored) (and_from d.connected (same_port d.port d.port) w.on (same_port-refl d.port))
         ∙ (ap (chunk_found d (j.offset) part) at ∙ (cond-false (not (awaits j (j.offset) && nat_lt d.last_lease most_leases)) _ _ ready ∙ cond-false (nat_lt (j.length - j.offset) (length part)) _ _ fits))
 
     -- the job that was lent is found by its lease
@@ -307,7 +306,7 @@ module _ (mode : Mode) (w : WorldState) (s : Sound mode w) (q : Question) (n : �
 
   pub first : service_step home (service_events.Receives (scan_for w q)) ≡ scan_cached home new (look q.stream q.generation home.version home.cache)
   unfolding service_step receives scan_found
-  first = cond-true (home.connected && same_port q.port home.port) _ _ (and_from home.connected (same_port q.port home.port) ready.connected (subst (λ at. same_port q.port at ≡ true) (sym placed) (own_port q.port))) ∙ ap (scan_found home new) ready.no_job
+  first = cond-true (home.connected && same_port q.port home.port) _ _ (and_from home.connected (same_port q.port home.port) ready.connected (subst (λ at. same_port q.port at ≡ true) (sym placed) (same_port-refl q.port))) ∙ ap (scan_found home new) ready.no_job
 
   -- a verdict that is right for the question is the one
   pub the_verdict : (r : Verdict) → IsVerdictOf (past w.history) q.stream q.generation home.version r → r ≡ verdict present_set.0 bytes

@@ -3,12 +3,12 @@ use Rattle.std.proofs.Common.{◌≡◌, ℕ, suc, Bool, true, false, List, [], 
 use Rattle.std.proofs.lemmas.List.{reverse-append}
 use Rattle.std.specs.List.{AllByRecursion as Each}
 use Rattle.std.specs.Option.{option_or}
+use Rattle.av_base.proofs.KeyLemmas.{same_id-true}
 use Rattle.av_base.specs.declared.message_id.MessageId.{MessageId}
 use Rattle.av_base.specs.declared.mode.Mode.{Mode}
 use Rattle.av_base.specs.MessageId.{same_id}
 use Rattle.av_base.specs.declared.port.Port.{Port}
 use Rattle.av_world.proofs.PlaceLemmas.{AtPorts, at_keeps}
-use Rattle.av_filter.proofs.QuestionLemmas.{same_id-true}
 use Rattle.av_filter.specs.Conduct.{filter_refusal, filter_step}
 use Rattle.av_frame.specs.Message.{Letter, via}
 use Rattle.av_frame.specs.declared.message.Body.TheVariants.{Scan}
@@ -18,7 +18,7 @@ use Rattle.av_service.specs.Work.{WorkState}
 use Rattle.av_world.proofs.SoundLemmas.{Sound, sound_filter, sound_service, sound_publish, sound_work, sound_start}
 use Rattle.av_world.proofs.StepLemmas.{Preserves, history_keeps, step_keeps}
 use Rattle.av_world.specs.declared.event.Event.{Event}
-use Rattle.av_world.specs.declared.event.Event.TheVariants.{Publish, Create, Write, Cut, Remove, Open, Cleanup, Down, Up, Run, Timeout, Connect, DisconnectFilter, DisconnectService, RestartFilter, RestartService}
+use Rattle.av_world.specs.declared.event.Event.TheVariants.{Down, Up, Run, Connect, DisconnectService}
 use Rattle.av_world.specs.Held.{Asked, asked, asked_at}
 use Rattle.av_world.specs.Past.{past}
 use Rattle.av_world.specs.Progress.{IsCarrying, before_scan, onward}
@@ -100,17 +100,7 @@ past_still (Up k) h c = refl
 past_still (Run k) h c = refl
 past_still (Connect port) h c = refl
 past_still (DisconnectService port) h c = refl
-past_still (Publish v ps) h c = absurd c
-past_still (Create n) h c = absurd c
-past_still (Write n o b) h c = absurd c
-past_still (Cut n l) h c = absurd c
-past_still (Remove n) h c = absurd c
-past_still (Open n l) h c = absurd c
-past_still (Cleanup n) h c = absurd c
-past_still (Timeout q) h c = absurd c
-past_still (DisconnectFilter port) h c = absurd c
-past_still RestartFilter h c = absurd c
-past_still (RestartService port) h c = absurd c
+past_still _ h c = absurd c
 
 pub past_kept : (es h : List Event) → Each IsCarrying es → past (reverse es ++ h) ≡ past h
 past_kept [] h all = refl

@@ -3,6 +3,7 @@ use Rattle.std.proofs.Common.{◌*◌, ◌≡◌, ℕ, zero, suc, ◌+◌, ◌�
 use Rattle.std.proofs.Common.{map, reverse, Some, None, ◌==◌, min, refl, sym, ap, ◌∙◌, subst, arith, eq-eqb, append-nil}
 use Rattle.std.proofs.lemmas.Bool.{cond_both, cond-true, cond-false, ne_eqb}
 use Rattle.std.specs.List.{AllByRecursion as Each}
+use Rattle.av_base.specs.Among.{Among}
 use Rattle.av_base.specs.declared.limits.LimitValues.{LimitValues}
 use Rattle.av_base.specs.declared.mode.Mode.{Mode}
 use Rattle.av_base.specs.declared.port.Port.{Port}
@@ -46,7 +47,6 @@ use Rattle.av_world.specs.declared.given.Given.{Given}
 use Rattle.av_world.specs.Past.{IsVerdictOf, past}
 use Rattle.av_world.specs.Progress.{CanFinish, Finishes, GetsVerdict, IsCarrying, IsWaiting, all_chunks, finishing, finishing_of, onward, reconnecting, settling_all}
 use Rattle.av_sigset.specs.Publication.{Publication, publication_of}
-use Rattle.av_world.specs.Safety.{Among}
 use Rattle.av_service.specs.Audit.{IsNew}
 use Rattle.av_world.specs.World.{WorldState, after, all_told, at_port, back_at, desk_of, done, given_at, member, responded, start, with_set, world_of}
 
@@ -118,11 +118,7 @@ record IsAtRest (r : Response) : Type 0 where
 step_resting : (d : Desk) (e : ServiceEvent) → (e ≡ Connects → ⊥) → IsAtRest (service_step (resting d) e)
 unfolding service_step finished
 step_resting d Connects h = absurd (h refl)
-step_resting d service_events.Disconnects h = record { off = refl; jobs = refl; silent = refl }
-step_resting d (service_events.Receives m) h = record { off = refl; jobs = refl; silent = refl }
-step_resting d (service_events.Finishes lease scan hit) h = record { off = refl; jobs = refl; silent = refl }
-step_resting d (Publishes version) h = record { off = refl; jobs = refl; silent = refl }
-step_resting d (service_events.Restarts latest) h = record { off = refl; jobs = refl; silent = refl }
+step_resting d _ h = record { off = refl; jobs = refl; silent = refl }
 
 service_resting : (d : Desk) (e : ServiceEvent) → (e ≡ Connects → ⊥) → d.connected ≡ false → d.jobs ≡ [] → IsAtRest (service_step d e)
 service_resting d e h off none =
@@ -148,30 +144,16 @@ record Standing (limits : LimitValues) (w : WorldState) : Type 0 where
   pub before : latest w.sets ≡ 0 → IsUntouched w
 
 no_message : (w : WorldState) (e : Event) (f : FilterEvent) → IsFilterEvent w e f → w.up ≡ [] → IsNoMessage f
-no_message w _ _ is none = (elim is as (λ e f i. IsNoMessage f) [
-  | IsFilterEvent.creates name ↦ tt
-  | IsFilterEvent.writes name o b s n ↦ tt
-  | IsFilterEvent.cuts name l s n ↦ tt
-  | IsFilterEvent.removes name s n ↦ tt
-  | IsFilterEvent.opens name least ↦ tt
-  | IsFilterEvent.cleans name s n ↦ tt
-  | IsFilterEvent.comes_up k m h ↦ no_member k m (subst (λ (ms : List Letter). member ms k ≡ Some m) none h)
-  | IsFilterEvent.times_out seq ↦ tt
-  | IsFilterEvent.disconnects port ↦ tt
-  | IsFilterEvent.restarts ↦ tt
-])
+no_message w _ _ (IsFilterEvent.comes_up k m h) none = no_member k m (subst (λ (ms : List Letter). member ms k ≡ Some m) none h)
   where
     no_member : (k : ℕ) (m : Letter) → member [] k ≡ Some m → ⊥
     no_member zero m h = absurd (cc (h))
     no_member (suc k) m h = absurd (cc (h))
+no_message w _ _ _ none = tt
 
 version_kept : (w : WorldState) (e : Event) (port : Port) (x : ServiceEvent) → IsServiceEvent w e port x → (desk_of w port).version ≡ latest w.sets → version_after (desk_of w port).version x ≡ latest w.sets
-version_kept w _ _ _ is = elim is as (λ e p x i. (desk_of w p).version ≡ latest w.sets → version_after (desk_of w p).version x ≡ latest w.sets) [
-  | IsServiceEvent.connects port ok ↦ λ h. h
-  | IsServiceEvent.comes_down k m at ↦ λ h. h
-  | IsServiceEvent.disconnects port ↦ λ h. h
-  | IsServiceEvent.restarts port ↦ λ h. refl
-]
+version_kept w _ _ _ (IsServiceEvent.restarts port) h = refl
+version_kept w _ _ _ _ h = h
 
 -- without a version there is no connection
 no_connection : (w : WorldState) (e : Event) (port : Port) (x : ServiceEvent) → IsServiceEvent w e port x → (desk_of w port).version ≡ 0 → x ≡ Connects → ⊥

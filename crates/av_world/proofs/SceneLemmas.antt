@@ -1,6 +1,7 @@
 -- What holds of the three sides at every moment, over a past: of a world, and of audits that are put together.
-use Rattle.std.proofs.Common.{if◌then◌else◌, ◌≡◌, ℕ, zero, suc, ◌<◌, ◌≤◌, Bool, true, false, cond, List, [], ◌∷◌, ◌++◌, map, flat_map, Option, Some, None, ◌==◌, refl, sym, ap, ◌∙◌, subst, arith, inl, inr, eqb-true, append-nil, All, slice_get, slice_set}
+use Rattle.std.proofs.Common.{if◌then◌else◌, ◌≡◌, ℕ, zero, suc, ◌<◌, ◌≤◌, Bool, true, false, cond, List, [], ◌∷◌, ◌++◌, map, flat_map, Option, Some, None, ◌==◌, refl, sym, ap, ◌∙◌, subst, arith, eqb-true, append-nil, All, slice_get, slice_set}
 use Rattle.std.proofs.lemmas.Bool.{cond_both}
+use Rattle.av_base.proofs.KeyLemmas.{same_port-refl}
 use Rattle.av_service.specs.Work.{WorkState}
 use Rattle.av_sigset.specs.Publication.{Publication, latest_as, published_as}
 use Rattle.av_filter.specs.Conduct.{FilterEvent, Opens, Changes, filter_refusal, filter_step}
@@ -13,7 +14,7 @@ use Rattle.av_service.specs.Desk.{Desk}
 use Rattle.av_world.specs.Whole.{BodyAskedThere}
 use Rattle.av_world.specs.Headline.{IsJustified}
 use Rattle.av_world.specs.Held.{held_among, held_body, held_by, held_contexts, held_in, held_reply}
-use Rattle.av_world.specs.Safety.{Among, IsWorkOf, JudgesItsContent as JobFits, LoanFits, works_of}
+use Rattle.av_world.specs.Safety.{IsWorkOf, JudgesItsContent as JobFits, LoanFits, works_of}
 use Rattle.av_world.specs.Scene.{past_filter}
 use Rattle.av_world.specs.World.{WorldState, desk_of, heard, lent_at}
 use Rattle.av_world.proofs.DeskLemmas.{DeskFits, IsSolid, Told, desk_grows}
@@ -64,11 +65,6 @@ pub record Lawful (mode : Mode) (p : Past) (w : WorldState) : Type 0 where
   pub solid : Each IsSolid p.sets
   pub desks : (port : Port) → DeskFits p w.down (works_of port w.works) (desk_of w port)
   pub up : Each (UpFits p w.down) w.up
-
-pub among_each : {A : Type 0} (P : A → Type 0) (xs : List A) (x : A) → Each P xs → Among x xs → P x
-among_each P [] x all a = absurd a
-among_each P (y ∷ ys) x all (inl e) = subst P (sym e) all.0
-among_each P (y ∷ ys) x all (inr a) = among_each P ys x all.1 a
 
 pub filter_grows : (p : Past) (f : FilterEvent) → Grown p (past_filter p f)
 filter_grows p (Changes c) = change_grows p c
@@ -225,17 +221,13 @@ works_less P port (Some x ∷ ws) rest (suc k) all =
       | false ↦ λ h. works_less P port ws rest k h
     ]) all
 
-pub own_port : (port : Port) → same_port port port ≡ true
-own_port One = refl
-own_port Two = refl
-
 pub among_work : (P : WorkState → Type 0) (ws : List (Option (Port × WorkState))) (k : ℕ) (x : Port × WorkState) → slice_get ws k ≡ Some (Some x) → Each P (works_of x.0 ws) → P x.1
 among_work P [] k x at all = absurd cc
 among_work P (None ∷ ws) zero x at all = absurd (cc (at))
 among_work P (Some y ∷ ws) zero x at all =
     let same : y ≡ x = cc (at) in
     let here : Each P (if same_port x.0 x.0 then x.1 ∷ works_of x.0 ws else works_of x.0 ws) = subst (λ (z : Port × WorkState). Each P (if same_port z.0 x.0 then z.1 ∷ works_of x.0 ws else works_of x.0 ws)) same all in
-    let first : Each P (x.1 ∷ works_of x.0 ws) = subst (λ b. Each P (if b then x.1 ∷ works_of x.0 ws else works_of x.0 ws)) (own_port x.0) here in
+    let first : Each P (x.1 ∷ works_of x.0 ws) = subst (λ b. Each P (if b then x.1 ∷ works_of x.0 ws else works_of x.0 ws)) (same_port-refl x.0) here in
     first.0
 among_work P (None ∷ ws) (suc k) x at all = among_work P ws k x at all
 among_work P (Some y ∷ ws) (suc k) x at all = among_work P ws k x at (go (same_port y.0 x.0) all)

@@ -3,6 +3,7 @@ use Rattle.std.proofs.Common.{◌≡◌, ◌≢◌, ℕ, zero, suc, ◌+◌, ◌
 use Rattle.std.proofs.lemmas.Bool.{true≢false, cond-true, cond-false, eqb-false, lt-leb}
 use Rattle.std.proofs.lemmas.List.{nil_from_length}
 use Rattle.std.specs.List.{AllByRecursion as Each}
+use Rattle.av_base.proofs.KeyLemmas.{same_id-refl}
 use Rattle.av_base.specs.declared.mode.Mode.{Mode}
 use Rattle.av_base.specs.Port.{same_port}
 use Rattle.av_base.specs.declared.port.Port.{Port}
@@ -13,7 +14,6 @@ use Rattle.av_base.specs.MessageId.{same_id}
 use Rattle.av_cache.specs.Cache.{look}
 use Rattle.av_cache.specs.declared.entry.Entry.{Entry}
 use Rattle.av_filter.proofs.EachLemmas.{each_weaker, each-append}
-use Rattle.av_filter.proofs.QuestionLemmas.{same_id-refl}
 use Rattle.av_filter.specs.Conduct.{filter_step}
 use Rattle.av_filter.specs.Conduct as filter_events
 use Rattle.av_filter.specs.declared.note.Note.TheVariants as filter_note

@@ -1,6 +1,8 @@
 -- The first two parts of the headline, of every world over two ports: what is held is right, and grants are of clean contents.
 use Rattle.std.proofs.Common.{slice_index_or, ◌≡◌, ℕ, zero, suc, ◌≤◌, List, [], ◌∷◌, ◌++◌, length, map, Option, Some, None, refl, sym, ap, ◌∙◌, subst, arith, inl, inr, eq-eqb, append-nil, slice_get, slice_set, le-leb}
 use Rattle.std.proofs.lemmas.Bool.{true≢false, ne_eqb, lt-leb}
+use Rattle.av_base.proofs.AmongLemmas.{among_each}
+use Rattle.av_base.specs.Among.{Among}
 use Rattle.av_service.specs.Work.{WorkState}
 use Rattle.av_sigset.specs.Publication.{Publication, latest_as, published_as, publication_of}
 use Rattle.av_store.specs.Files as change
@@ -16,7 +18,7 @@ use Rattle.av_world.specs.Whole.{IsAskedThere, ScanOnce}
 use Rattle.av_world.specs.Cores.{IsFilterEvent, IsServiceEvent, Names}
 use Rattle.av_world.specs.Headline.{GrantsOnlyClean, HoldsOneVerdict, IsJustified, NeverDiffers}
 use Rattle.av_world.specs.Held.{asked, held, history_at}
-use Rattle.av_world.specs.Safety.{Among, works_of}
+use Rattle.av_world.specs.Safety.{works_of}
 use Rattle.av_world.specs.Scene.{past_filter}
 use Rattle.av_world.specs.World.{WorldState, after_set, back_at, desk_of, done, given_at, heard, if_there, lent_at, member, start, with_set, work_at, world_of}
 use Rattle.av_world.proofs.DeskLemmas.{DeskFits, IsSolid, Told, desk_grows, connects_told, message_told, disconnects_told, restarts_told, publishes_told, finished_told, latest_published}
@@ -24,7 +26,7 @@ use Rattle.av_filter.proofs.EachLemmas.{each_weaker, each-append, each-map}
 use Rattle.av_world.proofs.FilterLemmas.{Comes}
 use Rattle.av_filter.proofs.FitLemmas.{keeps_fit}
 use Rattle.av_world.proofs.FitLemmas.{Grown, DownFits, UpFits, same_past}
-use Rattle.av_world.proofs.SceneLemmas.{Falling, Lawful, among_each, among_work, answers_just, body_there, held_right, lawful_fewer, lawful_filter, lawful_heard, published_before, rewrap, sets_same, works_less}
+use Rattle.av_world.proofs.SceneLemmas.{Falling, Lawful, among_work, answers_just, body_there, held_right, lawful_fewer, lawful_filter, lawful_heard, published_before, rewrap, sets_same, works_less}
 use Rattle.av_world.proofs.StepLemmas.{IsPublished, Preserves, after_filter, after_service, history_keeps}
 use Rattle.av_base.specs.declared.limits.LimitValues.{LimitValues}
 use Rattle.av_base.specs.declared.mode.Mode.{Mode}
@@ -56,27 +58,15 @@ named_then w name s k n = sym (follows.names w.volume (map now (past w.history).
 -- the past after an event of the filter
 pub past_of : (w : WorldState) (e : Event) (f : FilterEvent) → Keeps w.volume (map now (past w.history).streams) → IsFilterEvent w e f → past (e ∷ w.history) ≡ past_filter (past w.history) f
 unfolding past
-past_of w _ _ k is = elim is as (λ e f i. past (e ∷ w.history) ≡ past_filter (past w.history) f) [
-  | IsFilterEvent.creates name ↦ refl
-  | IsFilterEvent.writes name o b s n ↦ ap (λ m. changes (past w.history) (change.Write m o b)) (named_then w name s k n)
-  | IsFilterEvent.cuts name l s n ↦ ap (λ m. changes (past w.history) (change.Cut m l)) (named_then w name s k n)
-  | IsFilterEvent.removes name s n ↦ ap (λ m. changes (past w.history) (change.Remove m)) (named_then w name s k n)
-  | IsFilterEvent.opens name least ↦ refl
-  | IsFilterEvent.cleans name s n ↦ refl
-  | IsFilterEvent.comes_up k m h ↦ refl
-  | IsFilterEvent.times_out seq ↦ refl
-  | IsFilterEvent.disconnects port ↦ refl
-  | IsFilterEvent.restarts ↦ refl
-]
+past_of w _ _ k (IsFilterEvent.writes name o b s n) = ap (λ m. changes (past w.history) (change.Write m o b)) (named_then w name s k n)
+past_of w _ _ k (IsFilterEvent.cuts name l s n) = ap (λ m. changes (past w.history) (change.Cut m l)) (named_then w name s k n)
+past_of w _ _ k (IsFilterEvent.removes name s n) = ap (λ m. changes (past w.history) (change.Remove m)) (named_then w name s k n)
+past_of w _ _ k _ = refl
 
 pub past_of_service : (w : WorldState) (e : Event) (port : Port) (s : ServiceEvent) → IsServiceEvent w e port s → past (e ∷ w.history) ≡ past w.history
 unfolding past
-past_of_service w _ _ _ is = elim is as (λ e port s i. past (e ∷ w.history) ≡ past w.history) [
-  | IsServiceEvent.connects port h ↦ refl
-  | IsServiceEvent.comes_down k m h ↦ refl
-  | IsServiceEvent.disconnects port ↦ refl
-  | IsServiceEvent.restarts port ↦ refl
-]
+past_of_service w _ _ _ (IsServiceEvent.connects port h) = refl
+past_of_service w _ _ _ _ = refl
 
 -- a frame that is named was sent
 get_among : {A : Type 0} (xs : List A) (k : ℕ) (x : A) → slice_get xs k ≡ Some x → Among x xs
@@ -115,18 +105,12 @@ pub record Sound (mode : Mode) (w : WorldState) : Type 0 where
 
 -- ---- one event of the filter
 pub comes : (mode : Mode) (p : Past) (w : WorldState) (e : Event) (f : FilterEvent) → Lawful mode p w → IsFilterEvent w e f → filter_refusal w.table w.volume f ≡ None → Comes p w.down w.table w.volume f
-comes mode p w _ _ l is = elim is as (λ e f i. filter_refusal w.table w.volume f ≡ None → Comes p w.down w.table w.volume f) [
-  | IsFilterEvent.creates name ↦ λ ok. ok
-  | IsFilterEvent.writes name o b s n ↦ λ ok. ok
-  | IsFilterEvent.cuts name l s n ↦ λ ok. ok
-  | IsFilterEvent.removes name s n ↦ λ ok. ok
-  | IsFilterEvent.opens name least ↦ λ ok. tt
-  | IsFilterEvent.cleans name s n ↦ λ ok. tt
-  | IsFilterEvent.comes_up k m h ↦ λ ok. among_each (UpFits p w.down) w.up m l.up (frame_among w.up k m h)
-  | IsFilterEvent.times_out seq ↦ λ ok. tt
-  | IsFilterEvent.disconnects port ↦ λ ok. tt
-  | IsFilterEvent.restarts ↦ λ ok. tt
-]
+comes mode p w _ _ l (IsFilterEvent.creates name) ok = ok
+comes mode p w _ _ l (IsFilterEvent.writes name o b s n) ok = ok
+comes mode p w _ _ l (IsFilterEvent.cuts name n s at) ok = ok
+comes mode p w _ _ l (IsFilterEvent.removes name s n) ok = ok
+comes mode p w _ _ l (IsFilterEvent.comes_up k m h) ok = among_each (UpFits p w.down) w.up m l.up (frame_among w.up k m h)
+comes mode p w _ _ l _ ok = tt
 
 pub sound_filter : (mode : Mode) (w : WorldState) → Sound mode w → (e : Event) (f : FilterEvent) → IsFilterEvent w e f → filter_refusal w.table w.volume f ≡ None → Sound mode (after_filter w e f)
 sound_filter mode w s e f is ok =

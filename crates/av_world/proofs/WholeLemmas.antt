@@ -12,7 +12,7 @@ use Rattle.av_filter.proofs.EachLemmas.{each_weaker}
 use Rattle.av_filter.proofs.FitLemmas.{accepted, event_fits, mounted_fits}
 use Rattle.av_filter.proofs.PortLemmas.{keeps_ports}
 use Rattle.av_filter.specs.Fit.{Fits, RunOnOpen}
-use Rattle.av_filter.specs.Conduct.{FilterEvent, Opens, Changes, CleansUp, Receives, TimesOut, Disconnects, Restarts, filter_refusal, filter_step}
+use Rattle.av_filter.specs.Conduct.{FilterEvent, Opens, Changes, Restarts, filter_refusal, filter_step}
 use Rattle.av_filter_table.specs.Table.{Table}
 use Rattle.av_service.specs.Audit.{IsNew}
 use Rattle.av_service.proofs.LendLemmas.{lends}
@@ -28,12 +28,11 @@ use Rattle.av_sigset.specs.Catalogue.{latest, set_at}
 use Rattle.av_sigset.specs.Publication.{Publication, publication_of}
 use Rattle.av_sigset.specs.Set.{NumberedSet}
 use Rattle.av_sigset.specs.declared.signature.Pattern.{Pattern}
-use Rattle.av_store.proofs.SeenLemmas.{follows}
+use Rattle.av_store.proofs.SeenLemmas.{follows, kept_change}
 use Rattle.av_store.specs.Bounds.{AreInBounds}
 use Rattle.av_store.specs.History.{now}
 use Rattle.av_store.specs.Seen.{Keeps}
 use Rattle.av_store.specs.Store.{Store}
-use Rattle.av_world.proofs.ContentLemmas.{kept_change}
 use Rattle.av_world.proofs.PublishLemmas.{is_new, made_of}
 use Rattle.av_world.proofs.SceneLemmas.{sets_same}
 use Rattle.av_world.proofs.SoundLemmas.{past_of, past_of_service}
@@ -53,11 +52,8 @@ kept_after : (p : Past) (t : Table) (v : Store) (f : FilterEvent) → Keeps v (m
 unfolding filter_refusal
 kept_after p t v (Opens s least) k ok = record { streams = k.streams; last = k.last }
 kept_after p t v (Changes c) k ok = kept_change v _ p.streams c k (accepted v c ok)
-kept_after p t v (CleansUp s) k ok = k
-kept_after p t v (Receives m) k ok = k
-kept_after p t v (TimesOut seq) k ok = k
-kept_after p t v (Disconnects port) k ok = k
 kept_after p t v Restarts k ok = record { streams = k.streams; last = k.last }
+kept_after p t v _ k ok = k
 
 filter_whole : (w : WorldState) → IsWhole w → (e : Event) (f : FilterEvent) → IsFilterEvent w e f → filter_refusal w.table w.volume f ≡ None → IsWhole (after_filter w e f)
 filter_whole w h e f is ok =

@@ -1,5 +1,6 @@
 -- The audits of a filter and of the services of its ports, each legal by itself, and the headline of the three put together.
 use Rattle.std.specs.Prelude.{◌≡◌, ℕ, List, [], ◌∷◌, ◌++◌, map, Some, All, if◌then◌else◌}
+use Rattle.av_base.specs.Among.{Among}
 use Rattle.av_base.specs.declared.limits.LimitValues.{LimitValues}
 use Rattle.av_base.specs.declared.mode.Mode.{Mode}
 use Rattle.av_filter.specs.Audit.{FilterEntry, IsFilterAudit, filter_end, sent_down}
@@ -21,7 +22,7 @@ use Rattle.av_store.specs.Store.{Store}
 use Rattle.av_world.specs.Headline.{IsJustified}
 use Rattle.av_world.specs.Held.{held_among}
 use Rattle.av_world.specs.Past.{Past, IsRightEntry}
-use Rattle.av_world.specs.Safety.{Among, JudgesItsContent}
+use Rattle.av_world.specs.Safety.{JudgesItsContent}
 use Rattle.av_world.specs.Scene.{Answered, Started, desk_at_first, opening_past, past_call, past_filter, told_at}
 use Rattle.av_world.specs.World.{done}
 

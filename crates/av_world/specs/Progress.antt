@@ -2,6 +2,7 @@
 use Rattle.std.specs.Prelude.{ℕ, ◌≡◌, ◌≢◌, zero, suc, ◌+◌, ◌*◌, ◌≤◌, Bool, true, false, min, List, [], ◌∷◌, ◌++◌, length, reverse, Option, Some, None, is_some, if◌then◌else◌}
 use Rattle.std.specs.Int.{div_ceil}
 use Rattle.std.specs.List.{AllByRecursion}
+use Rattle.av_base.specs.Among.{Among}
 use Rattle.av_base.specs.declared.cause.Cause.TheVariants.{Infected}
 use Rattle.av_base.specs.declared.message_id.MessageId.{MessageId}
 use Rattle.av_base.specs.declared.port.Port.{Port}
@@ -20,7 +21,6 @@ use Rattle.av_service.specs.Scanning.{most_leases}
 use Rattle.av_sigset.specs.Catalogue.{latest}
 use Rattle.av_world.specs.Held.{asked_by}
 use Rattle.av_world.specs.Past.{IsVerdictOf, past}
-use Rattle.av_world.specs.Safety.{Among}
 use Rattle.av_world.specs.World.{WorldState, after, desk_of, given_at, member}
 use Rattle.av_world.specs.declared.event.Event.{Event}
 use Rattle.av_world.specs.declared.event.Event.TheVariants.{Down, Up, Run, Connect, DisconnectService}

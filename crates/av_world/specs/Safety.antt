@@ -1,7 +1,8 @@
 -- The protocol's safety, beyond the headline: what jobs judge, at which floor opens are granted, and why others are not.
-use Rattle.std.specs.Prelude.{◌≡◌, ◌≢◌, ℕ, ◌+◌, ◌==◌, ◌<◌, ◌≤◌, ◌⊎◌, List, [], ◌∷◌, ◌++◌, length, drop, Option, Some, None, All, if◌then◌else◌}
+use Rattle.std.specs.Prelude.{◌≡◌, ◌≢◌, ℕ, ◌+◌, ◌==◌, ◌<◌, ◌≤◌, List, [], ◌∷◌, ◌++◌, length, drop, Option, Some, None, All, if◌then◌else◌}
 use Rattle.std.specs.Option.{option_map}
 use Rattle.std.specs.List.{AllByRecursion}
+use Rattle.av_base.specs.Among.{Among}
 use Rattle.av_base.specs.declared.cause.Cause.{Cause}
 use Rattle.av_base.specs.declared.cause.Cause.TheVariants.{NoStream, NotConnected, Busy, TimedOut, PortDisconnected, ScanFailed, Unsettled, StreamRemoved, FilterRestart}
 use Rattle.av_base.specs.declared.cause.Cause.TheVariants as cause
@@ -93,11 +94,6 @@ JudgesRightly w port j =
 -- all jobs of both do
 abbrev pub JobsJudgeRightly : WorldState → Type 0
 JobsJudgeRightly w = (port : Port) → All (JudgesRightly w port) (desk_of w port).jobs
-
--- x is a member
-abbrev pub Among : {A : Type 0} → A → List A → Type 0
-Among x [] = ⊥
-Among x (y ∷ ys) = (x ≡ y) ⊎ Among x ys
 
 -- the open waits for the question of this id
 pub record Waits (t : Table) (id : MessageId) (n : ℕ) : Type 0 where

@@ -1,4 +1,4 @@
-use Rattle.std.proofs.Common.{true, ◌≡◌, ◌+◌, ◌++◌, ◌∷◌, length, arith, refl, sym, ap, subst, ◌∙◌}
+use Rattle.std.proofs.Common.{true, ◌≡◌, ◌+◌, ◌++◌, ◌∷◌, length, arith, refl, sym, ap, subst, ◌∙◌, append-nil}
 use Rattle.std.specs.Option.{option_map}
 use Rattle.av_base.specs.declared.cause.Cause.TheVariants.{Unsettled}
 use Rattle.av_filter_table.specs.Chains.{plains, of, first_waiting, is_spent}
@@ -6,7 +6,7 @@ use Rattle.av_filter_table.specs.Moving.{overs, refusal, refusals}
 use Rattle.av_filter_table.specs.Answering.{present_generation}
 use Rattle.av_pend.specs.Pend.{refused}
 use Rattle.av_filter_table.proofs.MapLemmas.{some_same}
-use Rattle.av_filter_table.proofs.PlainLemmas.{there-kept, fresh-behind, first-of, Outs, outs, Ins, ins, all-moved, none-over, told_some, told_none, push-front, no-more, some-of}
+use Rattle.av_filter_table.proofs.PlainLemmas.{there-kept, fresh-behind, first-of, Outs, outs, Ins, ins, all-moved, none-over, told_some, told_none, push-front, some-of}
 use Rattle.av_filter_table.proofs.moving.move_opens.Goals as goal
 
 pub opens-init : goal.opens-init
@@ -99,7 +99,7 @@ opens-preserved c =
 pub returns-clause-answers : goal.returns-clause-answers
 returns-clause-answers c =
     let none = told_none is_spent (first_waiting c.args.old (plains c.opens.pended)) c.in_default.ensures in
-    sym (no-more c.opens.answers.items) ∙ (ap (λ ys. c.opens.answers.items ++ refusals c.args.mode c.args.volume.now Unsettled ys) (sym (none-over c.args.old (plains c.opens.pended) none)) ∙ c.opens.invariant.answers)
+    sym (append-nil c.opens.answers.items) ∙ (ap (λ ys. c.opens.answers.items ++ refusals c.args.mode c.args.volume.now Unsettled ys) (sym (none-over c.args.old (plains c.opens.pended) none)) ∙ c.opens.invariant.answers)
 
 pub returns-clause-moved : goal.returns-clause-moved
 returns-clause-moved c =

@@ -1,6 +1,6 @@
+use Rattle.av_filter.proofs.RoomLemmas.{few_opened}
 use Rattle.av_filter.specs.Conduct.{Opens, filter_step}
 use Rattle.av_guard.proofs.OnePortLemmas.{alone_given}
-use Rattle.av_guard.proofs.RoomLemmas.{few_opened}
 use Rattle.av_guard.proofs.events.open.Goals as goal
 
 pub returns-in-Ok-clause-few : goal.returns-in-Ok-clause-few
