@@ -54,6 +54,8 @@ echo "gate: the layout of the tests"
 step layout sh tests/layout.sh
 echo "gate: the rows of tests, as the cases have them"
 step rows-of-tests python3 tests/row_tables.py --check
+echo "gate: each lemma is cited, and none of more than four lines stands twice"
+step lemmas python3 tests/lemmas.py
 echo "gate: proving every crate from nothing (rt ci)"
 mkdir "$room/whole"
 tested="av_cache av_context av_store"

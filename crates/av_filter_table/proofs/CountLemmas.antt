@@ -1,36 +1,18 @@
 -- A table in which each context is attached once has as many contexts as attachments.
-use Rattle.std.proofs.Common.{◌≡◌, ◌≢◌, ℕ, ◌+◌, ◌==◌, length, List, [], ◌∷◌, is_some, Option, Some, None, unwrap_or, cond, refl, sym, ap, subst, ◌∙◌, inl, inr, arith}
-use Rattle.std.specs.List.{sum_by}
+use Rattle.std.proofs.Common.{◌≡◌, ◌≢◌, ℕ, ◌+◌, ◌==◌, length, List, [], ◌∷◌, is_some, Option, Some, None, cond, refl, sym, ap, subst, ◌∙◌, inl, inr, arith}
 use Rattle.std.specs.Map.{values_of}
 use Rattle.std.specs.Option.{option_map}
-use Rattle.std.specs.Ordering.{nat_cmp}
-use Rattle.std.specs.BTreeMap.{is_at}
 use Rattle.std.proofs.lemmas.Bool.{cases_eq}
 use Rattle.std.proofs.lemmas.Bool.Decides.{nat_tests}
 use Rattle.std.proofs.lemmas.List.Sums.{sum_by-cons}
-use Rattle.std.proofs.lemmas.Map.Entries.{sum_by-remove_entry}
 use Rattle.av_context.specs.declared.context.Context.{Context}
 use Rattle.av_context.specs.Contexts.{Contexts, at, without, attachments_to, CountsAgree}
+use Rattle.av_filter_table.proofs.RoomLemmas.{length-without}
 use Rattle.av_filter_table.specs.Numbered.{IsAscending}
 use Rattle.av_filter_table.specs.StreamContexts.{known, known_at, known_of, AreAttached}
 use Rattle.av_filter_table.proofs.ContextLemmas.{context-of}
 use Rattle.av_filter_table.proofs.MapLemmas.{if_some_at, is_there, at-same, at-without, at-without_other, without-ascends}
 use Rattle.av_filter_table.proofs.BoundedLemmas.{length-joined}
-
-abbrev one : {X : Type 0} → X → ℕ
-one x = 1
-
-length-ones : {X : Type 0} (m : List (ℕ × X)) → sum_by one (values_of m) ≡ length m
-length-ones [] = refl
-length-ones (d ∷ m) = sum_by-cons one d.1 (values_of m) ∙ (ap (λ n. 1 + n) (length-ones m) ∙ one-more d m)
-  where
-    one-more : {Y : Type 0} (y : Y) (ys : List Y) → 1 + length ys ≡ length (y ∷ ys)
-    one-more y ys = omega arith
-
-length-without : {X : Type 0} (m : List (ℕ × X)) (k : ℕ) (x : X) → at m k ≡ Some x → length (without m k) + 1 ≡ length m
-length-without m k x found =
-    let sum = subst (λ o. sum_by one (values_of (without m k)) + unwrap_or (option_map one o) 0 ≡ sum_by one (values_of m)) found (sum_by-remove_entry one (is_at (nat_cmp k)) m) in
-    sym (ap (λ n. n + 1) (length-ones (without m k))) ∙ (sum ∙ length-ones m)
 
 abbrev is_key : ℕ → ℕ → ℕ
 is_key k key = cond (key == k) 1 0

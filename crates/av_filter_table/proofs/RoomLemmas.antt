@@ -20,7 +20,7 @@ pub still-few : (q q' : Questions) (most : ℕ) → essences q' ≡ essences q �
 still-few q q' most same few = subst (λ n. n ≤ most) (sym (same-count q q' same)) few
 
 -- one is gone
-length-without : {X : Type 0} (m : List (ℕ × X)) (n : ℕ) (x : X) → at m n ≡ Some x → length (without m n) + 1 ≡ length m
+pub length-without : {X : Type 0} (m : List (ℕ × X)) (n : ℕ) (x : X) → at m n ≡ Some x → length (without m n) + 1 ≡ length m
 length-without [] n x found = none_some found
 length-without (p ∷ m) n x found = elim (cases_eq n p.0) [
   | inl same ↦ let gone : length (without (p ∷ m) n) ≡ length m = ap length (without-here m p.0 n p.1 same) in omega arith

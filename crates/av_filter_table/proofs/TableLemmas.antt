@@ -234,41 +234,48 @@ known-at boot sequence n q p k x key consistent found =
     if_some_at (λ y. at k y.0 ≡ Some (record { key = y.1.1; state = Scanning (id_of boot n); held = 1 })) (at (essences q) n) (essence (x, key)) (consistent.scanned n)
     (lookup-map_values essence (is_at (nat_cmp n)) q ∙ ap (option_map essence) found)
 
+-- a question is gone, and its stream's context is one of which no reference is out
+gone_consistent : (boot sequence n : ℕ) (q q' : Questions) (p : Opens) (k k' : List (ℕ × Known)) (x : Asked) (key : ℕ) (o : Option Known) → held_out o ≡ 0 → IsConsistent boot sequence q p k
+    → at q n ≡ Some (x, key) → PutsAt q q' n None → PutsAt k k' x.stream o → IsConsistent boot sequence q' p k'
+gone_consistent boot sequence n q q' p k k' x key o out consistent found gone put =
+    let here = known-at boot sequence n q p k x key consistent found in
+    record {
+      chained = record {
+        linked = consistent.chained.linked;
+        ends = λ m. if_some (λ z. IsChain z.0 m p) (at q' m) (λ z at_m. elim (cases_eq m n) [
+          | inl same ↦ none_some (sym gone.here ∙ (ap (at q') (sym same) ∙ at_m))
+          | inr apart ↦ if_some_at (λ y. IsChain y.0 m p) (at q m) z (consistent.chained.ends m) (sym (gone.others m apart) ∙ at_m)
+        ]);
+      };
+      numbered = consistent.numbered;
+      asked = subst (λ m. AllByRecursion (λ j. j ≤ sequence) (keys_of m)) (sym gone.whole) (all-without (λ j. j ≤ sequence) q n consistent.asked);
+      unasked = consistent.unasked;
+      free = λ s none. elim (cases_eq s x.stream) [
+        | inl same ↦ ap (λ j. held_out (at k' j)) same ∙ (ap held_out put.here ∙ out)
+        | inr apart ↦ ap held_out (put.others s apart) ∙ consistent.free s (λ m. elim (cases_eq m n) [
+          | inl same ↦ subst (λ o. IfSome o (λ y. y.0 ≢ s)) (sym (ap (at (essences q)) same ∙ (lookup-map_values essence (is_at (nat_cmp n)) q ∙ ap (option_map essence) found))) (λ e. apart (sym e))
+          | inr differs ↦ subst (λ o. IfSome o (λ y. y.0 ≢ s)) (lookup-map_values essence (is_at (nat_cmp m)) q' ∙ (ap (option_map essence) (gone.others m differs) ∙ sym (lookup-map_values essence (is_at (nat_cmp m)) q))) (none m)
+        ])
+      ];
+      scanned = λ m. if_some (λ y. at k' y.0 ≡ Some (record { key = y.1.1; state = Scanning (id_of boot m); held = 1 })) (at (essences q') m) (λ y at_m.
+          let at_m' : option_map essence (at q' m) ≡ Some y = sym (lookup-map_values essence (is_at (nat_cmp m)) q') ∙ at_m in
+          elim (cases_eq m n) [
+            | inl same ↦ none_some (sym (ap (λ j. option_map essence (at q' j)) same ∙ ap (option_map essence) gone.here) ∙ at_m')
+            | inr apart ↦
+                let old : at k y.0 ≡ Some (record { key = y.1.1; state = Scanning (id_of boot m); held = 1 }) =
+                if_some_at (λ z. at k z.0 ≡ Some (record { key = z.1.1; state = Scanning (id_of boot m); held = 1 })) (at (essences q) m) y (consistent.scanned m)
+                (lookup-map_values essence (is_at (nat_cmp m)) q ∙ (sym (ap (option_map essence) (gone.others m apart)) ∙ at_m')) in
+                put.others y.0 (λ same. apart (scans-apart boot m n y.1.1 key (sym old ∙ (ap (at k) same ∙ here)))) ∙ old
+          ]);
+    }
+
 pub ends : (boot sequence n : ℕ) (q q' : Questions) (p : Opens) (k k' : List (ℕ × Known)) (state : ContextState) (x : Asked) (key : ℕ) → IsConsistent boot sequence q p k → IsAscending q → IsAscending k
     → at q n ≡ Some (x, key) → PutsAt q q' n None → PutsAt k k' x.stream (option_map (given_back state) (at k x.stream)) → Ends boot sequence n x q q' p k k' state
 ends boot sequence n q q' p k k' state x key consistent up up_k found gone puts =
     let here = known-at boot sequence n q p k x key consistent found in
     let put : PutsAt k k' x.stream (Some (record { key = key; state = state; held = 0 })) = subst (PutsAt k k' x.stream) (ap (option_map (given_back state)) here) puts in
     record {
-      consistent = record {
-        chained = record {
-          linked = consistent.chained.linked;
-          ends = λ m. if_some (λ z. IsChain z.0 m p) (at q' m) (λ z at_m. elim (cases_eq m n) [
-            | inl same ↦ none_some (sym gone.here ∙ (ap (at q') (sym same) ∙ at_m))
-            | inr apart ↦ if_some_at (λ y. IsChain y.0 m p) (at q m) z (consistent.chained.ends m) (sym (gone.others m apart) ∙ at_m)
-          ]);
-        };
-        numbered = consistent.numbered;
-        asked = subst (λ m. AllByRecursion (λ j. j ≤ sequence) (keys_of m)) (sym gone.whole) (all-without (λ j. j ≤ sequence) q n consistent.asked);
-        unasked = consistent.unasked;
-        free = λ s none. elim (cases_eq s x.stream) [
-          | inl same ↦ ap (λ j. held_out (at k' j)) same ∙ ap held_out put.here
-          | inr apart ↦ ap held_out (put.others s apart) ∙ consistent.free s (λ m. elim (cases_eq m n) [
-            | inl same ↦ subst (λ o. IfSome o (λ y. y.0 ≢ s)) (sym (ap (at (essences q)) same ∙ (lookup-map_values essence (is_at (nat_cmp n)) q ∙ ap (option_map essence) found))) (λ e. apart (sym e))
-            | inr differs ↦ subst (λ o. IfSome o (λ y. y.0 ≢ s)) (lookup-map_values essence (is_at (nat_cmp m)) q' ∙ (ap (option_map essence) (gone.others m differs) ∙ sym (lookup-map_values essence (is_at (nat_cmp m)) q))) (none m)
-          ])
-        ];
-        scanned = λ m. if_some (λ y. at k' y.0 ≡ Some (record { key = y.1.1; state = Scanning (id_of boot m); held = 1 })) (at (essences q') m) (λ y at_m.
-            let at_m' : option_map essence (at q' m) ≡ Some y = sym (lookup-map_values essence (is_at (nat_cmp m)) q') ∙ at_m in
-            elim (cases_eq m n) [
-              | inl same ↦ none_some (sym (ap (λ j. option_map essence (at q' j)) same ∙ ap (option_map essence) gone.here) ∙ at_m')
-              | inr apart ↦
-                  let old : at k y.0 ≡ Some (record { key = y.1.1; state = Scanning (id_of boot m); held = 1 }) =
-                  if_some_at (λ z. at k z.0 ≡ Some (record { key = z.1.1; state = Scanning (id_of boot m); held = 1 })) (at (essences q) m) y (consistent.scanned m)
-                  (lookup-map_values essence (is_at (nat_cmp m)) q ∙ (sym (ap (option_map essence) (gone.others m apart)) ∙ at_m')) in
-                  put.others y.0 (λ same. apart (scans-apart boot m n y.1.1 key (sym old ∙ (ap (at k) same ∙ here)))) ∙ old
-            ]);
-      };
+      consistent = gone_consistent boot sequence n q q' p k k' x key _ refl consistent found gone put;
       contexts = states-puts k k' x.stream (record { key = key; state = state; held = 0 }) up_k put;
       questions = ap (questions_of boot) gone.whole ∙ questions-without boot n q up;
     }
@@ -289,37 +296,8 @@ pub record EndsGone (boot sequence n : ℕ) (x : Asked) (q q' : Questions) (p : 
 pub ends_gone : (boot sequence n : ℕ) (q q' : Questions) (p : Opens) (k k' : List (ℕ × Known)) (x : Asked) (key : ℕ) → IsConsistent boot sequence q p k → IsAscending q
     → at q n ≡ Some (x, key) → PutsAt q q' n None → PutsAt k k' x.stream None → EndsGone boot sequence n x q q' p k k'
 ends_gone boot sequence n q q' p k k' x key consistent up found gone put =
-    let here = known-at boot sequence n q p k x key consistent found in
     record {
-      consistent = record {
-        chained = record {
-          linked = consistent.chained.linked;
-          ends = λ m. if_some (λ z. IsChain z.0 m p) (at q' m) (λ z at_m. elim (cases_eq m n) [
-            | inl same ↦ none_some (sym gone.here ∙ (ap (at q') (sym same) ∙ at_m))
-            | inr apart ↦ if_some_at (λ y. IsChain y.0 m p) (at q m) z (consistent.chained.ends m) (sym (gone.others m apart) ∙ at_m)
-          ]);
-        };
-        numbered = consistent.numbered;
-        asked = subst (λ m. AllByRecursion (λ j. j ≤ sequence) (keys_of m)) (sym gone.whole) (all-without (λ j. j ≤ sequence) q n consistent.asked);
-        unasked = consistent.unasked;
-        free = λ s none. elim (cases_eq s x.stream) [
-          | inl same ↦ ap (λ j. held_out (at k' j)) same ∙ ap held_out put.here
-          | inr apart ↦ ap held_out (put.others s apart) ∙ consistent.free s (λ m. elim (cases_eq m n) [
-            | inl same ↦ subst (λ o. IfSome o (λ y. y.0 ≢ s)) (sym (ap (at (essences q)) same ∙ (lookup-map_values essence (is_at (nat_cmp n)) q ∙ ap (option_map essence) found))) (λ e. apart (sym e))
-            | inr differs ↦ subst (λ o. IfSome o (λ y. y.0 ≢ s)) (lookup-map_values essence (is_at (nat_cmp m)) q' ∙ (ap (option_map essence) (gone.others m differs) ∙ sym (lookup-map_values essence (is_at (nat_cmp m)) q))) (none m)
-          ])
-        ];
-        scanned = λ m. if_some (λ y. at k' y.0 ≡ Some (record { key = y.1.1; state = Scanning (id_of boot m); held = 1 })) (at (essences q') m) (λ y at_m.
-            let at_m' : option_map essence (at q' m) ≡ Some y = sym (lookup-map_values essence (is_at (nat_cmp m)) q') ∙ at_m in
-            elim (cases_eq m n) [
-              | inl same ↦ none_some (sym (ap (λ j. option_map essence (at q' j)) same ∙ ap (option_map essence) gone.here) ∙ at_m')
-              | inr apart ↦
-                  let old : at k y.0 ≡ Some (record { key = y.1.1; state = Scanning (id_of boot m); held = 1 }) =
-                  if_some_at (λ z. at k z.0 ≡ Some (record { key = z.1.1; state = Scanning (id_of boot m); held = 1 })) (at (essences q) m) y (consistent.scanned m)
-                  (lookup-map_values essence (is_at (nat_cmp m)) q ∙ (sym (ap (option_map essence) (gone.others m apart)) ∙ at_m')) in
-                  put.others y.0 (λ same. apart (scans-apart boot m n y.1.1 key (sym old ∙ (ap (at k) same ∙ here)))) ∙ old
-            ]);
-      };
+      consistent = gone_consistent boot sequence n q q' p k k' x key None refl consistent found gone put;
       contexts = ap states put.whole ∙ states-without x.stream k;
       questions = ap (questions_of boot) gone.whole ∙ questions-without boot n q up;
     }

@@ -8,6 +8,7 @@ use Rattle.av_base.specs.declared.limits.LimitField.{LimitField}
 use Rattle.av_base.specs.declared.limits.LimitField.TheVariants.{Streams, Length, Generation, Questions, Pended, Jobs, Cache, Chunk, Audit}
 use Rattle.av_base.specs.declared.mode.Mode.{Mode}
 use Rattle.av_base.specs.declared.mode.Mode.TheVariants.{FailClosed, FailOpen}
+use Rattle.av_sigset.proofs.SpellingLemmas.{decimal_read}
 use Rattle.av_world.specs.Script.Grammar.{Limit, Volume, Says, content_in, cut_line, is_content, is_pattern, least_of, limit_line, limit_of, line_of, number_line, pattern_in, publish_line, when, write_line}
 use Rattle.av_world.specs.Script.Words.{one_word, three_words, two_words, with_first}
 use Rattle.av_world.specs.World.{WorldState}
@@ -15,7 +16,7 @@ use Rattle.av_world.specs.declared.event.Event.TheVariants as event
 use Rattle.av_world.specs.declared.script.command.Command.{Command}
 use Rattle.av_world.specs.declared.script.command.Command.TheVariants as command
 use Rattle.av_generate.proofs.HexLemmas.{bytes_are_content, bytes_are_pattern, bytes_lack, content_lacks}
-use Rattle.av_generate.proofs.NumberLemmas.{decimal_lacks, decimal_read}
+use Rattle.av_generate.proofs.NumberLemmas.{decimal_lacks}
 use Rattle.av_generate.proofs.PieceLemmas.{Lacks, first_piece, one_piece}
 use Rattle.av_generate.specs.Course.{carried_drawn, fresh_words, in_spell, next_words, verb_words, words_after}
 use Rattle.av_generate.specs.Draws.{below}

@@ -1,12 +1,11 @@
-use Rattle.std.proofs.Common.{ℕ, zero, suc, ◌≡◌, ◌<◌, ◌^◌, true, false, nat_eq, nat_le, List, [], ◌∷◌, length, get_or, Some, refl, ap, sym, arith, decimal}
+use Rattle.std.proofs.Common.{ℕ, ◌≡◌, ◌<◌, ◌^◌, true, nat_le, List, [], ◌∷◌, refl, arith, decimal}
 use Rattle.std.proofs.lemmas.Bool.{and_parts, leb-true, le-leb}
 use Rattle.std.proofs.lemmas.Grind.{common_steps}
-use Rattle.std.proofs.lemmas.Fmt.{decimal_digit, decimal_nonempty, first_decimal, digits_decimal, digits_value-decimal}
+use Rattle.std.proofs.lemmas.Fmt.{digits_decimal}
 use Rattle.std.proofs.lemmas.Str.Parse.{IsDigitsTest, FoldsDigits, IsNumeralModel, numerals_by_fold}
 use Rattle.std.specs.Int.{IsInRange}
 use Rattle.std.specs.List.{list_all}
-use Rattle.av_base.proofs.DecimalLemmas.{whole}
-use Rattle.av_base.specs.Decimal.{decimal_of, is_digit, value_from}
+use Rattle.av_base.specs.Decimal.{is_digit, value_from}
 use Rattle.av_generate.proofs.PieceLemmas.{Lacks}
 
 -- a digit in range
@@ -44,14 +43,3 @@ digits_lack (c ∷ cs) e =
 -- the digits of a number have no blank
 pub decimal_lacks : (n : ℕ) → n < 2 ^ 64 → Lacks 32 (decimal n)
 decimal_lacks n h = digits_lack (decimal n) (digits_decimal model n h)
-
--- and spell it
-pub decimal_read : (n : ℕ) → n < 2 ^ 64 → decimal_of (decimal n) ≡ Some n
-decimal_read zero h = ap decimal_of (decimal_digit 0 (omega arith))
-decimal_read (suc m) h =
-    let n : ℕ = suc m in
-    let some = decimal_nonempty n h in
-    let first = first_decimal n (omega arith) h in
-    let not_empty : nat_eq (length (decimal n)) 0 ≡ false = grind (arith, common_steps) in
-    let no_zero : nat_eq (get_or (decimal n) 0 0) 48 ≡ false = grind (arith, common_steps) in
-    rw (not_empty, no_zero) (whole (decimal n) n (sym (digits_value-decimal model n h)) h (digits_decimal model n h))

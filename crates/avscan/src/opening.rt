@@ -11,7 +11,7 @@ use av_host::{Crew, Hosting, Signatures, host_groups};
 use av_sockets::filter_files;
 use av_status::faults::out_of_memory;
 use av_status::{Progress, Status, Tally};
-use av_words::{Filter, Host};
+use av_words::{Filter, Host, Named};
 use std::alloc::Global;
 use std::collections::BTreeSet;
 use std::io::Write;
@@ -50,15 +50,7 @@ fn host_under<R: Hosting, W: Write, E: Write>(
     err: &mut Progress<'_, HostRuntime, E>,
 ) -> Status {
     let mut text = Vec::new(alloc);
-    match names_of(
-        rt,
-        alloc,
-        &asked.named,
-        &mut text,
-        Failing::Ends,
-        &mut Tally::new(),
-        err,
-    ) {
+    match all_names(rt, alloc, &asked.named, &mut text, err) {
         Ok(names) => host_all(
             rt,
             system,
@@ -134,15 +126,7 @@ pub fn filter_named<R: Hosting, W: Write, E: Write>(
     err: &mut Progress<'_, HostRuntime, E>,
 ) -> Status {
     let mut text = Vec::new(alloc);
-    match names_of(
-        rt,
-        alloc,
-        &asked.named,
-        &mut text,
-        Failing::Ends,
-        &mut Tally::new(),
-        err,
-    ) {
+    match all_names(rt, alloc, &asked.named, &mut text, err) {
         Ok(names) => filter_all(rt, system, alloc, asked, names.as_slice(), out, err),
         Err(status) => status,
     }
@@ -189,4 +173,25 @@ impl<'a> Contents for Disk<'a> {
             None => None,
         }
     }
+}
+
+// The names of all files: a line of a list that is no name ends it.
+fn all_names<'a, 'b: 'a, E: Write>(
+    rt: &HostRuntime,
+    alloc: Global,
+    named: &Named<'b>,
+    text: &'a mut Vec<u8>,
+    err: &mut E,
+) -> Result<Vec<&'a str>, Status>
+    ensures { IfErr result (λ status. IsFault status) }
+{
+    names_of(
+        rt,
+        alloc,
+        named,
+        text,
+        Failing::Ends,
+        &mut Tally::new(),
+        err,
+    )
 }
