@@ -50,7 +50,10 @@ fn is_written(alloc: Global, body: &[u8]) -> Result<bool, Fail> {
 fn bodies_are_the_same_where_their_bytes_are(rt: HostRuntime) -> Result<(), Fail> {
     for one in BODIES.lines() {
         for other in BODIES.lines() {
-            assert!(rt; compares_as_its_bytes(rt.alloc(), one, other)?, "{one} and {other}");
+            assert!(rt;
+                compares_as_its_bytes(rt.alloc(), one, other)?,
+                "{one} and {other}"
+            );
         }
     }
     Ok(())
