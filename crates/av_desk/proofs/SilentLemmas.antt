@@ -7,7 +7,7 @@ use Rattle.av_base.specs.declared.refusal.Refusal.{Refusal}
 use Rattle.av_base.specs.declared.refusal.Refusal.TheVariants.{Fault, NoMemory}
 use Rattle.av_base.specs.declared.verdict.Verdict.{Verdict}
 use Rattle.av_match.specs.Scanning.{ScanState}
-use Rattle.av_service.specs.Call.{Meets, MeetsAlways, Responds}
+use Rattle.av_service.specs.Call.{Meets, Responds}
 use Rattle.av_service.specs.Conduct.{Connects, Disconnects, Finishes, Publishes, Receives, Restarts, ServiceEvent, connect_refusal, service_step}
 use Rattle.av_service.specs.Desk.{Desk, lent_under, loan_count}
 use Rattle.av_service.specs.Lending.{finished}

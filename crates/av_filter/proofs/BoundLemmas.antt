@@ -4,7 +4,7 @@ use Rattle.av_filter.proofs.FitLemmas.{accepted}
 use Rattle.av_filter.proofs.RowLemmas.{again_row, again_volume, row_of}
 use Rattle.av_filter.specs.Bounds.{KeepsBounds}
 use Rattle.av_filter.specs.Changing.{changed_volume}
-use Rattle.av_filter.specs.Conduct.{FilterEvent, Opens, Changes, CleansUp, Receives, TimesOut, Disconnects, Restarts, booted, filter_refusal, filter_step, loses_all, moves, restarts}
+use Rattle.av_filter.specs.Conduct.{FilterEvent, Opens, Changes, Restarts, booted, filter_refusal, filter_step, loses_all, moves, restarts}
 use Rattle.av_filter.specs.Opening.{taken}
 use Rattle.av_filter.specs.Reaction.{Reaction}
 use Rattle.av_filter.specs.Rows

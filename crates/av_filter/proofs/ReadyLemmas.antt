@@ -1,5 +1,5 @@
 -- What events rest on, at one stream and at one question.
-use Rattle.std.proofs.Common.{◌≡◌, ℕ, ◌+◌, Result, Ok, Err, OnOk, ◌≤◌, ◌<◌, ◌^◌, ◌==◌, Bool, true, false, cond, find, List, [], ◌∷◌, Option, Some, None, IfSome, length, refl, sym, ap, ◌∙◌, subst, arith}
+use Rattle.std.proofs.Common.{◌≡◌, ℕ, Result, Ok, Err, OnOk, ◌≤◌, ◌<◌, ◌^◌, ◌==◌, Bool, true, false, cond, find, List, [], ◌∷◌, Option, Some, None, IfSome, length, refl, sym, ap, ◌∙◌, subst, arith}
 use Rattle.std.proofs.lemmas.Bool.{eqb-true}
 use Rattle.std.proofs.lemmas.Bool.Decides.{nat_tests}
 use Rattle.std.specs.List.{AllByRecursion as Each}
@@ -7,7 +7,7 @@ use Rattle.std.specs.Option.{option_map}
 use Rattle.std.specs.Ordering.{nat_cmp, is_eq}
 use Rattle.std.specs.declared.cmp.Ordering.{Ordering}
 use Rattle.std.specs.declared.cmp.Ordering.TheVariants.{Less, Equal, Greater}
-use Rattle.av_base.proofs.LimitLemmas.{generation_in, length_in}
+use Rattle.av_base.proofs.LimitLemmas.{length_in}
 use Rattle.av_base.specs.declared.message_id.MessageId.{MessageId}
 use Rattle.av_context.specs.declared.context_state.ContextState.{ContextState}
 use Rattle.av_context.specs.declared.context_state.ContextState.TheVariants.{Scanning}
@@ -17,7 +17,6 @@ use Rattle.av_filter.proofs.VolumeLemmas.{there_after}
 use Rattle.av_filter.proofs.QuestionLemmas.{found_own}
 use Rattle.av_filter.specs.Fit.{AreInOrder, Fits, IsGiven, IsPresent, IsScanned, IsThere}
 use Rattle.av_filter.specs.Ready.{IsRunning}
-use Rattle.av_filter_table.specs.Answering.{present_generation, stream_generation}
 use Rattle.av_filter_table.specs.FilterTable.{id_of}
 use Rattle.av_filter_table.specs.Rewriting.{change_by}
 use Rattle.av_filter_table.specs.declared.rewriting.Rewriting.{Rewriting}

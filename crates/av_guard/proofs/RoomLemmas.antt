@@ -1,12 +1,11 @@
 -- How much an event of the filter answers: no more than opens wait, and one.
-use Rattle.std.proofs.Common.{ℕ, ◌+◌, ◌≤◌, length, arith, ap}
+use Rattle.std.proofs.Common.{◌+◌, ◌≤◌, length}
 use Rattle.av_base.specs.declared.port.Port.{Port}
-use Rattle.av_filter.proofs.RoomLemmas.{small_reaction, few}
+use Rattle.av_filter.proofs.RoomLemmas.{few}
 use Rattle.std.specs.Prelude.{Result, Ok, Err, IfOk}
 use Rattle.av_filter.specs.Call.{MeetsAlways, Reacts}
-use Rattle.av_filter.specs.Conduct.{FilterEvent, Changes, Disconnects, Opens, Receives, disconnects, filter_step}
+use Rattle.av_filter.specs.Conduct.{FilterEvent, Changes, Disconnects, Receives, disconnects, filter_step}
 use Rattle.av_filter.specs.Changing.{changes}
-use Rattle.av_filter.specs.Opening.{opened}
 use Rattle.av_filter.specs.Receiving.{receives}
 use Rattle.av_store.specs.Files.{Change}
 use Rattle.av_filter.specs.declared.out.Out.{Out}

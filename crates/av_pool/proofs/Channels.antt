@@ -1,11 +1,11 @@
 -- Passes of one channel.
-use Rattle.std.proofs.Common.{◌≡◌, [], sym, ap, ◌∙◌}
+use Rattle.std.proofs.Common.{◌≡◌, sym, ◌∙◌}
 use Rattle.atomic_table.specs.declared.badge.Badge.{Badge}
 use Rattle.crossbeam_channel.specs.Claims.{Pass, IsSeatAt}
 use Rattle.crossbeam_channel.specs.declared.flavors.array.Doing.{Doing}
 use Rattle.crossbeam_channel.specs.declared.flavors.array.Key.{Key}
 use Rattle.crossbeam_channel.specs.declared.flavors.array.Rows.{Rows}
-use Rattle.av_pool.specs.Channel.{Channel, channel_of, IsLike}
+use Rattle.av_pool.specs.Channel.{channel_of}
 
 module _ {X V : Type 0} where
   module _ {Q M L A : Type 0} (c : Rows (Badge (Key X)) (Doing X V) Q M (Key X) L A) where

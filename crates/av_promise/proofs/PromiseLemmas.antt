@@ -10,7 +10,7 @@ use Rattle.av_base.specs.declared.port.Port.{Port}
 use Rattle.av_base.specs.declared.port.Port.TheVariants.{One, Two}
 use Rattle.av_base.specs.declared.verdict.Verdict.TheVariants.{Clean}
 use Rattle.av_filter.specs.Audit.{FilterEntry, IsFilterAudit, answers_given}
-use Rattle.av_filter.specs.Conduct.{FilterEvent, Changes, CleansUp, Disconnects, Opens, Receives, Restarts, TimesOut}
+use Rattle.av_filter.specs.Conduct.{FilterEvent, Changes}
 use Rattle.av_guard.specs.Beginning.{limits_of}
 use Rattle.av_guard.specs.Run.{Call, IsFounded, IsHistoryOf, RestsOn, all_held, asks_in, first_volume, held_after, told_in}
 use Rattle.av_guard.specs.State.{State}

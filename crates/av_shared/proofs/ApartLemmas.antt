@@ -11,7 +11,7 @@ use Rattle.av_filter.specs.Conduct.{FilterEvent}
 use Rattle.av_filter.specs.Conduct as filter
 use Rattle.av_frame.specs.Message.{Letter}
 use Rattle.av_gate.specs.declared.audit.Audit.{Audit as GateAudit}
-use Rattle.av_service.specs.Audit.{By, Call, Publishes, ServiceEntry, sets_after}
+use Rattle.av_service.specs.Audit.{By, Call, ServiceEntry, sets_after}
 use Rattle.av_service.specs.Conduct as service
 use Rattle.av_service.specs.Work.{WorkState}
 use Rattle.av_shared.specs.Apart.{are_apart, hears_nothing, one_by_one, takes_nothing}

@@ -1,7 +1,6 @@
 -- A filter fits its volume, though files became streams of it beside the filter.
-use Rattle.std.proofs.Common.{◌≡◌, ◌≢◌, ◌<◌, ◌≤◌, ℕ, zero, suc, ◌+◌, ◌++◌, not, ◌||◌, nat_le, List, [], ◌∷◌, length, Option, Some, None, Result, Ok, refl, sym, ap, ◌∙◌, subst, arith}
+use Rattle.std.proofs.Common.{◌≡◌, ◌≢◌, ◌≤◌, ℕ, ◌+◌, ◌++◌, not, ◌||◌, nat_le, List, [], ◌∷◌, length, Option, Some, None, Result, Ok, refl, sym, ap, ◌∙◌, subst}
 use Rattle.std.proofs.lemmas.Bool.{cond_both}
-use Rattle.std.specs.Option.{option_map}
 use Rattle.std.specs.Prelude.{is_some}
 use Rattle.av_files.specs.Streams.{HasFile}
 use Rattle.av_filter.proofs.EachLemmas.{each_weaker}
@@ -12,7 +11,7 @@ use Rattle.av_store.specs.Content.{new_stream}
 use Rattle.av_store.proofs.SeenLemmas.{next_free}
 use Rattle.av_store.specs.Files.{Create, Write}
 use Rattle.av_store.specs.Rows.{number_named, stream_at}
-use Rattle.av_store.specs.Seen.{change_of, kept_or, stream_of, volume_of}
+use Rattle.av_store.specs.Seen.{change_of, kept_or, volume_of}
 use Rattle.av_store.specs.Sound.{IsOfFiles}
 use Rattle.av_store.specs.Store.{Store, create_of, greatest, is_name, write_of}
 use Rattle.av_store.specs.declared.fault.StoreFault.{StoreFault}

@@ -11,7 +11,7 @@ use Rattle.av_base.specs.declared.port.Port.TheVariants.{One, Two}
 use Rattle.av_filter.proofs.EachLemmas.{each_weaker, each-append, each-map}
 use Rattle.av_filter.proofs.FitLemmas.{keeps_fit}
 use Rattle.av_filter.specs.Audit.{IsFilterAudit, Kept, filter_end, sent_down}
-use Rattle.av_filter.specs.Conduct.{FilterEvent, Opens, Changes, CleansUp, TimesOut, filter_refusal, filter_step}
+use Rattle.av_filter.specs.Conduct.{FilterEvent, Changes, filter_refusal, filter_step}
 use Rattle.av_filter.specs.Conduct as filter_events
 use Rattle.av_filter.specs.Fit.{Rises}
 use Rattle.av_filter.specs.Reaction.{Reaction}
