@@ -2,7 +2,8 @@
 use Rattle.std.specs.Prelude.{ℕ, List, [], ◌∷◌, ◌++◌}
 use Rattle.json.specs.Print.{print}
 use Rattle.json.specs.Token.{Token}
+use Rattle.av_json.specs.Shown.{shown}
 
--- tokens as JSON, and the end of their line
+-- tokens as JSON with its hidden characters as escapes, and the end of their line
 abbrev pub object_line : List Token → List ℕ
-object_line ts = print ts ++ 10 ∷ []
+object_line ts = shown (print ts) ++ 10 ∷ []

@@ -12,6 +12,7 @@ pub mod cause;
 pub mod file;
 pub mod line;
 pub mod member;
+mod shown;
 #[cfg(test)]
 mod tests;
 
