@@ -1,4 +1,4 @@
-use Rattle.std.specs.Prelude.{ℕ, ◌≡◌, ◌==◌, ◌&&◌, Bool, true, false, List, ◌++◌, length, drop, Option, None, Some, Result, Ok, Err, IsOk, not, if◌then◌else◌}
+use Rattle.std.specs.Prelude.{ℕ, ◌≡◌, ◌==◌, ◌&&◌, ◌+◌, nat_lt, Bool, true, false, List, ◌++◌, length, drop, Option, None, Some, Result, Ok, Err, IsOk, not, if◌then◌else◌}
 use Rattle.av_base.specs.declared.refusal.Refusal.{Refusal}
 use Rattle.av_base.specs.declared.refusal.Refusal.TheVariants.{Fault, NoMemory}
 use Rattle.av_asks.specs.declared.head.Side.TheVariants.{Asks}
@@ -6,7 +6,7 @@ use Rattle.av_asks.specs.declared.head.Head.{Head}
 use Rattle.av_asks.specs.declared.head.Head.TheVariants as head
 use Rattle.av_asks.specs.declared.fault.AskFault.{AskFault}
 use Rattle.av_asks.specs.declared.ask.Ask.{Ask}
-use Rattle.av_asks.specs.Spelling.{Asked, asked}
+use Rattle.av_asks.specs.Spelling.{Asked, asked, number4}
 use Rattle.av_asks.specs.Head.{head_of}
 
 -- a feed: the bytes that came and were not taken off yet, and whether a fault was met
@@ -51,6 +51,10 @@ waits (head.Whole size) = false
 -- a frame of an ask has begun, nothing is wrong with it so far, and it is not whole
 abbrev pub within : Fed → Bool
 within fed = not fed.broken && not (length fed.rest == 0) && waits (head_of Asks fed.rest)
+
+-- the bytes that came of the frame at the front, and its length, where that has come
+abbrev pub begun : Fed → ℕ × ℕ
+begun fed = (length fed.rest, (if nat_lt (length fed.rest) 4 then 0 else number4 fed.rest + 4))
 
 -- what a body was read as, where memory was not refused
 abbrev pub IsBody : Result Ask (Refusal AskFault) → Result Asked AskFault → Type 0

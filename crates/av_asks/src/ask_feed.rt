@@ -2,17 +2,20 @@ ghost use Rattle.std.specs.Prelude.{◌≡◌, ◌+◌, ◌<◌, ◌≤◌, ◌+
 ghost use Rattle.av_base.specs.Answers.{Steps};
 ghost use Rattle.av_asks.specs.Spelling.{IsAsk, ask_frame, asked};
 ghost use Rattle.av_asks.specs.Reading.{ask_front, ask_of};
-ghost use Rattle.av_asks.specs.Feed.{GivesAsk, IsFront, IsBody, given, pushed, within};
+ghost use Rattle.av_asks.specs.Feed.{GivesAsk, IsFront, IsBody, begun, given, pushed, within};
 
 use crate::ask::Ask;
 use crate::fault::AskFault;
-use crate::fields::u64_at;
+use crate::fields::{u32_first, u64_at};
 use crate::head::{Head, Side, read_head};
 use crate::sizes::{ASK_HEAD, MAX_ASK, MAX_CONTENT};
 use av_base::{ByteList, Refusal};
 use bytes::BytesMut;
 use std::alloc::Global;
 use std::marker::Model;
+
+// The most bytes of a frame whose room is used again.
+const LARGE: usize = 8_192;
 
 /// A client's stream of asks, which comes in pieces cut anywhere. A feed holds what was pushed and not taken, and asks for
 /// no memory ahead of it.
@@ -68,6 +71,9 @@ impl AskFeed {
         match front(self.alloc, self.rest.as_slice()) {
             Ok(Some((ask, size))) => {
                 self.rest.advance(size);
+                if size > LARGE {
+                    self.give_room_back();
+                }
                 Ok(Some(ask))
             }
             Ok(None) => Ok(None),
@@ -77,6 +83,27 @@ impl AskFeed {
             }
             Err(Refusal::NoMemory) => Err(Refusal::NoMemory),
         }
+    }
+
+    // Moves what is left into room of its own, so that none stays as large as a frame that was taken off. Without memory it stays.
+    fn give_room_back(&mut self)
+        ensures { self.new ≡ self.old }
+    {
+        let mut rest = BytesMut::new(self.alloc);
+        if rest.extend_from_slice(self.rest.as_slice()).is_ok() {
+            self.rest = rest;
+        }
+    }
+
+    /// How many bytes have come of the frame at the front, and how many it has: 0 as long as its length has not come.
+    pub fn begun(&self) -> (usize, usize)
+        ensures { result ≡ begun self.now }
+    {
+        let came = self.rest.len();
+        if came < 4 {
+            return (came, 0);
+        }
+        (came, u32_first(self.rest.as_slice()) as usize + 4)
     }
 
     /// Whether a frame has begun that is not whole yet.

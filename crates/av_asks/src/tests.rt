@@ -353,3 +353,19 @@ fn the_room_of_asks_that_were_taken_is_used_again(rt: HostRuntime) -> Result<(),
     assert!(rt; feed.is_within() && feed.room() < 1_000);
     Ok(())
 }
+
+#[test]
+fn the_room_of_a_large_ask_is_given_back(rt: HostRuntime) -> Result<(), Fail> {
+    let mut feed = AskFeed::new(rt.alloc());
+    assert!(rt; feed.begun() == (0, 0));
+    feed.push(b"\0\x01\0")?;
+    assert!(rt; feed.begun() == (3, 0));
+    feed.push(b"\0\x01")?;
+    assert!(rt; feed.begun() == (5, 65_540));
+    let rest = vec![in rt.alloc(); 0u8; 65_535]?;
+    feed.push(&rest)?;
+    feed.push(&ASK[..7])?;
+    assert!(rt; feed.room() > 65_000 && feed.next()?.is_some());
+    assert!(rt; feed.room() < 1_000 && feed.begun() == (7, ASK.len()));
+    Ok(())
+}

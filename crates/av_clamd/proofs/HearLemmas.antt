@@ -62,9 +62,9 @@ piece_front : (xs more : List ℕ) (left : ℕ) (d : Opened) → d.reading ≡ P
 piece_front [] more left d is some few = absurd (omega (arith, some))
 piece_front (b ∷ xs) more left d is some few = piece_all b xs more left d is few
 
-pub piece_heard : (rest : List ℕ) (n left : ℕ) (d new : Opened) (hs : List Told) → d.reading ≡ Piece left → 1 ≤ n → n ≤ left → n ≤ length rest → new ≡ pieced left (take n rest) d → before hs (heard_of (drop n rest) new) ≡ before hs (heard_of rest d)
-piece_heard rest n left d new hs is some few there same =
+pub piece_heard : (rest : List ℕ) (n left : ℕ) (d new : Opened) → d.reading ≡ Piece left → 1 ≤ n → n ≤ left → n ≤ length rest → new ≡ pieced left (take n rest) d → heard_of (drop n rest) new ≡ heard_of rest d
+piece_heard rest n left d new is some few there same =
     let len : length (take n rest) ≡ n = length-take-le n rest there in
-    ap (λ x. before hs (heard_of (drop n rest) x)) same
-    ∙ ap (before hs) (sym (piece_front (take n rest) (drop n rest) left d is (omega (arith, len, some)) (omega (arith, len, few))))
-    ∙ ap (λ bs. before hs (heard_of bs d)) (take-append-drop n rest)
+    ap (heard_of (drop n rest)) same
+    ∙ sym (piece_front (take n rest) (drop n rest) left d is (omega (arith, len, some)) (omega (arith, len, few)))
+    ∙ ap (λ bs. heard_of bs d) (take-append-drop n rest)

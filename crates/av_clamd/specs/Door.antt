@@ -140,3 +140,14 @@ is_nothing Command = false
 is_nothing Size = false
 is_nothing (Piece left) = false
 is_nothing Nothing = true
+
+-- how many bytes are kept of what has begun
+abbrev pub kept_by : Reading → List ℕ → List ℕ → Option ℕ
+kept_by Command [] content = None
+kept_by Command (b ∷ bs) content = Some (length (b ∷ bs) + length content)
+kept_by Size begun content = Some (length begun + length content)
+kept_by (Piece left) begun content = Some (length begun + length content)
+kept_by Nothing begun content = None
+
+abbrev pub kept_of : Opened → Option ℕ
+kept_of d = kept_by d.reading d.begun d.content

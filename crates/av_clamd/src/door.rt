@@ -1,8 +1,7 @@
-ghost use Rattle.std.specs.Prelude.{◌≡◌, ◌≤◌, drop, length, map, IfOk, IfSome, OnErr, OnOk};
+ghost use Rattle.std.specs.Prelude.{◌≡◌, ◌≤◌, drop, length, IfOk, IfSome, None, OnErr, OnOk};
 ghost use Rattle.av_clamd.specs.declared.door.Reading.TheVariants.{Nothing, Piece};
 ghost use Rattle.av_clamd.specs.Text.{answered};
-ghost use Rattle.av_clamd.specs.Laws.{before};
-ghost use Rattle.av_clamd.specs.Door.{Steps, after_reply, answers, commanded, finished, fresh, heard_of, in_command, in_size, is_nothing, obeyed, option_told, pieced, says, sized, step, told};
+ghost use Rattle.av_clamd.specs.Door.{Steps, after_reply, answers, commanded, finished, fresh, heard_of, in_command, in_size, is_nothing, kept_of, obeyed, onto, option_told, pieced, says, sized, step};
 
 use crate::text::{answered, end_of, is_marked, line_of, word_of};
 use std::alloc::{AllocError, Global};
@@ -80,15 +79,17 @@ impl Door {
         }
     }
 
-    /// Takes the next bytes that the client sent, cut anywhere, at a cost of so many steps. Where memory is refused the
-    /// client is to be left: nothing more is read of it, and what these bytes gave is lost.
-    pub fn hear(&mut self, piece: &[u8]) -> Result<Vec<Heard>, AllocError>
-        ensures ok { IfOk result (λ all. (self.new, map told all.items) ≡ heard_of piece.now self.old) }
+    /// Takes bytes that the client sent, cut anywhere, up to the first of which something came. It answers how many bytes it took,
+    /// all of them where nothing came, and what came. The cost is so many steps. Where memory is refused the client is to be left:
+    /// nothing more is read of it, and what these bytes gave is lost.
+    pub fn hear(&mut self, piece: &[u8]) -> Result<(usize, Option<Heard>), AllocError>
+        ensures within { IfOk result (λ r. r.0 ≤ length piece.now) }
+        ensures whole { IfOk result (λ r. r.1 ≡ None → r.0 ≡ length piece.now) }
+        ensures heard { IfOk result (λ r. onto (option_told r.1) (heard_of (drop r.0 piece.now) self.new) ≡ heard_of piece.now self.old) }
         ensures err { OnErr result (self.new.reading ≡ Nothing) }
     {
-        let mut heard = Vec::new(self.alloc);
-        match hear_all(self, piece, &mut heard) {
-            Ok(()) => Ok(heard),
+        match hear_until(self, piece) {
+            Ok(heard) => Ok(heard),
             Err(refused) => {
                 self.reading = Reading::Nothing;
                 Err(refused)
@@ -101,6 +102,18 @@ impl Door {
         ensures { result ≡ is_nothing self.now.reading }
     {
         matches!(self.reading, Reading::Nothing)
+    }
+
+    /// How many bytes are kept of what has begun, a command or a content. None where the next command has not begun.
+    pub fn begun(&self) -> Option<usize>
+        ensures { result ≡ kept_of self.now }
+    {
+        let kept = self.begun.len() + self.content.len();
+        match self.reading {
+            Reading::Command if self.begun.is_empty() => None,
+            Reading::Nothing => None,
+            Reading::Command | Reading::Size | Reading::Piece(_) => Some(kept),
+        }
     }
 
     /// How the client's last command ended, LF before the first: the end of `put_timed_out`'s line.
@@ -281,33 +294,34 @@ impl Door {
     }
 }
 
-// Takes bytes one after another, and puts what came of them behind what came before.
-fn hear_all(door: &mut Door, piece: &[u8], heard: &mut Vec<Heard>) -> Result<(), AllocError>
-    ensures { OnOk result ((door.new, map told heard.new.items)
-        ≡ before (map told heard.old.items) (heard_of piece.now door.old)) }
+// Takes bytes one after another, until something came of one.
+fn hear_until(door: &mut Door, piece: &[u8]) -> Result<(usize, Option<Heard>), AllocError>
+    ensures within { IfOk result (λ r. r.0 ≤ length piece.now) }
+    ensures whole { IfOk result (λ r. r.1 ≡ None → r.0 ≡ length piece.now) }
+    ensures heard { IfOk result (λ r. onto (option_told r.1) (heard_of (drop r.0 piece.now) door.new) ≡ heard_of piece.now door.old) }
 {
-    let mut rest = piece;
-    'bytes: while !rest.is_empty() {
-        let taken = hear_some(door, rest, heard)?;
-        rest = &rest[taken..];
+    let mut taken = 0;
+    'bytes: while taken < piece.len() {
+        let (count, one) = hear_some(door, &piece[taken..])?;
+        taken += count;
+        if one.is_some() {
+            return Ok((taken, one));
+        }
     }
-    Ok(())
+    Ok((taken, None))
 }
 
-// Takes what stands at the front: all of a piece that is there, or one byte. It answers how many bytes that were.
-fn hear_some(door: &mut Door, rest: &[u8], heard: &mut Vec<Heard>) -> Result<usize, AllocError>
+// Takes what stands at the front: all of a piece that is there, or one byte. It answers how many bytes that were, and what came.
+fn hear_some(door: &mut Door, rest: &[u8]) -> Result<(usize, Option<Heard>), AllocError>
     requires { 1 ≤ length rest.now }
-    ensures some { IfOk result (λ n. (1 ≤ n) × (n ≤ length rest.now)) }
-    ensures heard { IfOk result (λ n. before (map told heard.new.items) (heard_of (drop n rest.now) door.new)
-        ≡ before (map told heard.old.items) (heard_of rest.now door.old)) }
+    ensures some { IfOk result (λ r. (1 ≤ r.0) × (r.0 ≤ length rest.now)) }
+    ensures heard { IfOk result (λ r. onto (option_told r.1) (heard_of (drop r.0 rest.now) door.new) ≡ heard_of rest.now door.old) }
 {
     if let Some(left) = door.left() {
         let count = rest.len().min(left as usize);
         door.piece_bytes(left, &rest[..count])?;
-        return Ok(count);
+        return Ok((count, None));
     }
-    if let Some(one) = door.step(rest[0])? {
-        heard.push(one)?;
-    }
-    Ok(1)
+    let one = door.step(rest[0])?;
+    Ok((1, one))
 }

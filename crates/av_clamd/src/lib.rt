@@ -3,8 +3,8 @@
 //! README.md has the commands. No socket stands here: bytes go in, bytes come out.
 //!
 //! ```text
-//! let heard = door.hear(b"zPING\0")?;
-//! assert!(matches!(heard.as_slice(), [Heard::Say(line)] if line.as_slice() == b"PONG\0"));
+//! let (taken, heard) = door.hear(b"zPING\0zPING\0")?;                  // 6 bytes, and PONG: the rest is for the next call
+//! assert!(matches!(heard, Some(Heard::Say(line)) if line.as_slice() == b"PONG\0"));
 //! ```
 #![tactic(auto)]
 

@@ -4,7 +4,7 @@ use crate::door::{Door, Heard};
 use crate::reply::{Spoken, put_reply, put_timed_out};
 use crate::tests::rows::{REPLIES, ROWS};
 use av_fakes::{may_refuse, refuse_no_more};
-use std::alloc::Global;
+use std::alloc::{AllocError, Global};
 use std::test::Fail;
 
 // Writes what was heard: S and a line, or A, a number, an end and a content, each with a bar behind it.
@@ -29,15 +29,29 @@ fn write_down(all: &[Heard], out: &mut Vec<u8>) -> Result<(), Fail> {
     Ok(())
 }
 
+// All that a door hears of a piece, one thing after the other.
+fn hear_all(alloc: Global, door: &mut Door, piece: &[u8]) -> Result<Vec<Heard>, AllocError> {
+    let mut all = Vec::new(alloc);
+    let mut rest = piece;
+    'things: while !rest.is_empty() {
+        let (taken, one) = door.hear(rest)?;
+        rest = rest.get(taken..).unwrap_or(b"".as_slice());
+        if let Some(one) = one {
+            all.push(one)?;
+        }
+    }
+    Ok(all)
+}
+
 // What a new door hears of these bytes, cut at these places, and D where it is done, else O.
 fn heard(alloc: Global, bytes: &[u8], first: usize, second: usize) -> Result<Vec<u8>, Fail> {
     let mut door = Door::new(alloc);
     let mut out = Vec::new(alloc);
     let (front, rest) = bytes.split_at(first.min(bytes.len()));
     let (middle, back) = rest.split_at(second.min(rest.len()));
-    write_down(&door.hear(front)?, &mut out)?;
-    write_down(&door.hear(middle)?, &mut out)?;
-    write_down(&door.hear(back)?, &mut out)?;
+    write_down(&hear_all(alloc, &mut door, front)?, &mut out)?;
+    write_down(&hear_all(alloc, &mut door, middle)?, &mut out)?;
+    write_down(&hear_all(alloc, &mut door, back)?, &mut out)?;
     out.push(if door.is_done() { b'D' } else { b'O' })?;
     Ok(out)
 }
@@ -112,9 +126,9 @@ fn a_command_has_1024_bytes_with_its_end(rt: HostRuntime) -> Result<(), Fail> {
 fn a_content_of_1048576_bytes_is_asked_about(rt: HostRuntime) -> Result<(), Fail> {
     let content = vec![in rt.alloc(); b'x'; 1_048_576]?;
     let mut door = Door::new(rt.alloc());
-    assert!(rt; door.hear(b"zINSTREAM\0\x00\x10\x00\x00")?.is_empty());
-    assert!(rt; door.hear(&content)?.is_empty() && !door.is_done());
-    let all = door.hear(b"\0\0\0\0zPING\0")?;
+    assert!(rt; hear_all(rt.alloc(), &mut door, b"zINSTREAM\0\x00\x10\x00\x00")?.is_empty());
+    assert!(rt; hear_all(rt.alloc(), &mut door, &content)?.is_empty() && !door.is_done());
+    let all = hear_all(rt.alloc(), &mut door, b"\0\0\0\0zPING\0")?;
     assert!(rt;
         matches!(all.as_slice(), [Heard::Ask { content, .. }] if content.len() == 1_048_576)
     );
@@ -130,13 +144,17 @@ fn what_is_too_long_is_told_and_dropped(rt: HostRuntime) -> Result<(), Fail> {
     let mut door = Door::new(rt.alloc());
     let mut out = Vec::new(rt.alloc());
     write_down(
-        &door.hear(b"zIDSESSION\0zINSTREAM\0\x00\x10\x00\x01")?,
+        &hear_all(
+            rt.alloc(),
+            &mut door,
+            b"zIDSESSION\0zINSTREAM\0\x00\x10\x00\x01",
+        )?,
         &mut out,
     )?;
     assert_eq!(rt; out.as_slice(), TOO_LONG);
-    assert!(rt; door.hear(&content)?.is_empty());
-    assert!(rt; door.hear(b"\0\0\0\x04more\0\0\0\0")?.is_empty());
-    let all = door.hear(b"zINSTREAM\0\0\0\0\x03one\0\0\0\0")?;
+    assert!(rt; hear_all(rt.alloc(), &mut door, &content)?.is_empty());
+    assert!(rt; hear_all(rt.alloc(), &mut door, b"\0\0\0\x04more\0\0\0\0")?.is_empty());
+    let all = hear_all(rt.alloc(), &mut door, b"zINSTREAM\0\0\0\0\x03one\0\0\0\0")?;
     assert!(rt;
         matches!(all.as_slice(), [Heard::Ask { number: 2, end: 0, content }] if content.len() == 3)
     );
@@ -150,15 +168,19 @@ fn what_grows_too_long_ends_a_connection_once_it_was_read(rt: HostRuntime) -> Re
     let mut door = Door::new(rt.alloc());
     let mut out = Vec::new(rt.alloc());
     write_down(
-        &door.hear(b"nINSTREAM\n\0\0\0\x03abc\x00\x0f\xff\xfe")?,
+        &hear_all(
+            rt.alloc(),
+            &mut door,
+            b"nINSTREAM\n\0\0\0\x03abc\x00\x0f\xff\xfe",
+        )?,
         &mut out,
     )?;
     assert_eq!(rt;
         out.as_slice(),
         b"Sstream: INSTREAM size limit exceeded. ERROR\n|".as_slice()
     );
-    assert!(rt; door.hear(&content)?.is_empty() && !door.is_done());
-    assert!(rt; door.hear(b"\0\0\0\0")?.is_empty() && door.is_done());
+    assert!(rt; hear_all(rt.alloc(), &mut door, &content)?.is_empty() && !door.is_done());
+    assert!(rt; hear_all(rt.alloc(), &mut door, b"\0\0\0\0")?.is_empty() && door.is_done());
     Ok(())
 }
 
@@ -177,7 +199,7 @@ fn each_verdict_is_spoken_as_clamd_speaks_it(rt: HostRuntime) -> Result<(), Fail
 fn who_says_nothing_is_told_with_the_last_commands_end(rt: HostRuntime) -> Result<(), Fail> {
     let mut door = Door::new(rt.alloc());
     assert_eq!(rt; door.end(), b'\n');
-    assert!(rt; door.hear(b"zIDSESSION\0nPI")?.is_empty());
+    assert!(rt; hear_all(rt.alloc(), &mut door, b"zIDSESSION\0nPI")?.is_empty());
     let mut out = Vec::new(rt.alloc());
     put_timed_out(&mut out, door.end())?;
     assert_eq!(rt; out.as_slice(), b"COMMAND READ TIMED OUT\0".as_slice());
@@ -190,11 +212,13 @@ const SPOKEN: &[u8] = b"zIDSESSION\0zPING\0zINSTREAM\0\0\0\0\x03abc\0\0\0\0zSCAN
 fn refused_or_not_bytes_are_heard(rt: HostRuntime) -> Result<(), Fail> {
     let mut door = Door::new(rt.alloc());
     may_refuse(rt.alloc());
-    let first = door.hear(SPOKEN);
+    let first = hear_all(rt.alloc(), &mut door, SPOKEN);
     refuse_no_more(rt.alloc());
     match first {
         Ok(all) => assert!(rt; all.len() == 3 && !door.is_done()),
-        Err(_) => assert!(rt; door.is_done() && door.hear(SPOKEN)?.is_empty()),
+        Err(_) => assert!(rt;
+            door.is_done() && hear_all(rt.alloc(), &mut door, SPOKEN)?.is_empty()
+        ),
     }
     Ok(())
 }
