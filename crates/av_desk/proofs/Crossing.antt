@@ -8,14 +8,15 @@ use Rattle.av_desk.specs.contracts.entry.Entry as Entry
 use Rattle.av_desk.specs.contracts.given.Given as Given
 use Rattle.av_desk.specs.contracts.locked.Locked as Locked
 use Rattle.av_frame.proofs.message.Message.TheSendSync as message
+use Rattle.av_service.proofs.content_scan.ContentScan.TheSendSync as scan
 use Rattle.av_service.proofs.service.Service.TheSendSync as service
 use Rattle.av_sigset.proofs.catalogue.Catalogue.TheSendSync as catalogue
 
 given_send : IsSend Given.the_row
-given_send = search (sendable, crosses) depth 20
+given_send = search (sendable, crosses, scan.the_send) depth 40
 
 entry_send : IsSend Entry.the_row
-entry_send = search (sendable, crosses, message.the_send, given_send) depth 60
+entry_send = search (sendable, crosses, message.the_send, given_send, scan.the_send) depth 60
 
 locked_send : IsSend Locked.the_row
 locked_send = search (sendable, crosses, entry_send, service.the_send, catalogue.the_send, automaton.the_send) depth 40

@@ -1,14 +1,14 @@
-ghost use Rattle.std.specs.Prelude.{◌≡◌, ◌++◌, ◌∷◌, ◌<◌, [], map, vec_len, None};
+ghost use Rattle.std.specs.Prelude.{◌≡◌, ◌++◌, ◌∷◌, ◌<◌, [], map, vec_len, IfSome, None};
 ghost use Rattle.std.specs.Option.{option_to_list};
 ghost use Rattle.std.specs.Vec.{vec_capacity};
 ghost use Rattle.av_desk.specs.Book.{given};
-ghost use Rattle.av_desk.specs.Entry.{call_of};
+ghost use Rattle.av_desk.specs.Entry.{IsLentAs, call_of};
 
 use crate::event::Event;
 use crate::given::Given;
-use av_base::Lease;
+use av_base::{Lease, Version};
 use av_frame::Message;
-use av_service::{Note, ServiceOut, Work};
+use av_service::{ContentScan, Note, ServiceOut, Work};
 use std::marker::Model;
 
 /// One event of an audit, with what it gave out.
@@ -55,6 +55,16 @@ impl Entry {
     {
         match &self.given {
             Some(given) => Some(given.lease()),
+            None => None,
+        }
+    }
+
+    /// The work that it gave out, if it gave one: its lease, the version of its set, and its scan so far.
+    pub fn lent(&self) -> Option<(Lease, Version, ContentScan)>
+        ensures { IfSome result (λ r. IsLentAs self.now.works r.0 r.1 r.2) }
+    {
+        match &self.given {
+            Some(given) => Some((given.lease(), given.version(), given.scan())),
             None => None,
         }
     }

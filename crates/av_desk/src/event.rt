@@ -1,6 +1,6 @@
-use av_base::{Lease, Verdict, Version};
+use av_base::{Lease, Version};
 use av_frame::Message;
-use av_service::Done;
+use av_service::ContentScan;
 use av_sigset::SignatureSet;
 use std::snapshot::Snapshot;
 
@@ -13,11 +13,10 @@ pub enum Event {
     Receive {
         message: Message,
     },
-    /// A work came back under its lease, with its hit or none.
+    /// A work came back under its lease, with its scan after the run.
     Finish {
         lease: Lease,
-        hit: Option<Verdict>,
-        done: Snapshot<Done>,
+        scan: ContentScan,
     },
     /// A set was published as this version.
     Publish {

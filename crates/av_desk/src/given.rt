@@ -1,15 +1,20 @@
 ghost use Rattle.std.specs.Prelude.{◌≡◌};
 
-use av_base::Lease;
-use av_service::Work;
+use av_base::{Lease, Version};
+use av_service::{ContentScan, Work};
 use std::snapshot::Snapshot;
 
-/// What an audit keeps of a work that was given out: its lease. Clauses see the whole work.
+/// What an audit keeps of a work that was given out, but for its bytes, which are those of the message that came. Clauses see the
+/// whole work.
 #[derive(Drop)]
 pub struct Given {
     lease: Lease,
+    version: Version,
+    scan: ContentScan,
     pub(crate) work: Snapshot<Work>,
-    ghost same: { lease ≡ work.value.lease },
+    ghost same_lease: { lease ≡ work.value.lease },
+    ghost same_version: { version ≡ work.value.version },
+    ghost same_scan: { scan ≡ work.value.scan },
 }
 
 impl Given {
@@ -23,6 +28,8 @@ impl Given {
         match work {
             Some(work) => Some(Given {
                 lease: work.lease(),
+                version: work.version(),
+                scan: work.scan(),
                 work: Snapshot::of(work),
             }),
             None => None,
@@ -34,5 +41,19 @@ impl Given {
         ensures { result ≡ self.now.work.value.lease }
     {
         self.lease
+    }
+
+    /// The version of the set that it wanted.
+    pub fn version(&self) -> Version
+        ensures { result ≡ self.now.work.value.version }
+    {
+        self.version
+    }
+
+    /// Its scan so far.
+    pub fn scan(&self) -> ContentScan
+        ensures { result ≡ self.now.work.value.scan }
+    {
+        self.scan
     }
 }

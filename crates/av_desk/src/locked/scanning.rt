@@ -17,7 +17,6 @@ use av_base::Refused;
 use av_frame::Message;
 use av_service::{Done, Note, Service, ServiceOut};
 use std::alloc::{AllocError, AllocFailed, Global};
-use std::snapshot::Snapshot;
 
 impl Locked {
     /// Handles a message of the filter, which goes into the audit. A refusal hands it back. A work that the service gives
@@ -64,8 +63,7 @@ impl Locked {
         }
         let event = Event::Finish {
             lease: done.lease(),
-            hit: done.hit(),
-            done: Snapshot::of(&done),
+            scan: done.scan(),
         };
         match finish(&mut self.service, alloc, done) {
             Ok(out) => Ok(keep_silent(&mut self.events, event, out)),

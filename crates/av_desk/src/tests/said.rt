@@ -55,7 +55,7 @@ fn call_of(event: &Event) -> Asked {
     match event {
         Event::Connect => Asked::Connect,
         Event::Receive { message } => Asked::Receive(told(message)),
-        Event::Finish { lease, hit, .. } => Asked::Finish(lease.get(), *hit),
+        Event::Finish { lease, scan } => Asked::Finish(lease.get(), scan.hit()),
         Event::Publish { version, .. } => Asked::Publish(version.get()),
         Event::Disconnect => Asked::Disconnect,
         Event::Restart { latest } => Asked::Restart(latest.get()),
