@@ -1,17 +1,16 @@
 -- The counts of asks over each call, and over all.
-use Rattle.std.proofs.Common.{◌≡◌, ℕ, ◌+◌, ◌==◌, Bool, true, false, cond, not, List, [], ◌∷◌, ◌++◌, length, Some, None, Ok, Err, if◌then◌else◌, refl, arith, ap, ◌∙◌, sym, subst, inl, inr}
+use Rattle.std.proofs.Common.{◌≡◌, ℕ, ◌+◌, ◌==◌, Bool, true, false, cond, List, [], ◌∷◌, ◌++◌, Some, None, Ok, Err, if◌then◌else◌, refl, arith, ap, ◌∙◌, sym, subst, inl, inr}
 use Rattle.std.proofs.lemmas.Bool.Decides.{nat_tests}
 use Rattle.std.proofs.lemmas.Bool.{or_cases, or_left, or_right}
 use Rattle.std.proofs.lemmas.Grind.{flat_map-append}
 use Rattle.std.specs.BTreeMap.{is_at}
 use Rattle.std.specs.BTreeSet.{insert_key}
-use Rattle.std.specs.List.{AllByRecursion as Each, flat_map, list_any}
+use Rattle.std.specs.List.{flat_map, list_any}
 use Rattle.std.specs.Ordering.{is_eq, match_ordering, nat_cmp}
-use Rattle.std.specs.Prelude.{MatchBool, ◌||◌, nat_lt}
+use Rattle.std.specs.Prelude.{◌||◌}
 use Rattle.std.specs.Set.{remove_key}
 use Rattle.std.specs.declared.cmp.Ordering.TheVariants.{Less, Equal, Greater}
 use Rattle.av_base.proofs.AmongLemmas.{among_left}
-use Rattle.av_base.specs.Among.{Among}
 use Rattle.av_base.specs.declared.port.Port.{Port}
 use Rattle.av_base.specs.declared.port.Port.TheVariants.{One, Two}
 use Rattle.av_base.specs.declared.refusal.Refusal.TheVariants.{Fault, NoMemory}
@@ -20,20 +19,22 @@ use Rattle.av_filter.specs.Conduct.{FilterEvent, Changes, Disconnects, Receives,
 use Rattle.av_filter_table.specs.Table.{Table}
 use Rattle.av_frame.specs.Message.{Letter}
 use Rattle.av_guard.proofs.AskLemmas.{kept_story}
-use Rattle.av_guard.proofs.CallLemmas.{asked_now, first_story, step, still_each, taken_among}
-use Rattle.av_guard.proofs.OnceLemmas.{Adds, Here, IsIn, asks-append, happened, one_here, open_asks, opened_counts, still_counts, told-append}
+use Rattle.av_guard.proofs.CallLemmas.{asked_now, first_story, step, taken_among}
+use Rattle.av_guard.proofs.KnownLemmas.{client_here}
+use Rattle.av_guard.proofs.OnceLemmas.{Adds, IsIn, asks-append, happened, open_asks, opened_counts, told-append}
 use Rattle.av_guard.proofs.SoundLemmas.{free_name, number_free}
 use Rattle.av_guard.proofs.StoryLemmas.{Story, later}
 use Rattle.av_guard.specs.Answering.{AsksAreAnsweredOnce, Stays, asks_of, one_if, told_of}
-use Rattle.av_guard.specs.Asking.{Asked, AskedNow, GivesNothing, IsRefused, IsThere, LetGo, Nexts, Ordered, Takes, ask_fault, asked, behind, in_line, kept, must_stand, place_fault, place_of, refusal_of, skipped, still_here}
+use Rattle.av_guard.specs.Asking.{IsRefused, IsThere, Takes, ask_fault, asked, kept, place_fault, place_of, refusal_of}
 use Rattle.av_guard.specs.Asking as refused_so
-use Rattle.av_guard.specs.Beginning.{begun}
+use Rattle.av_guard.specs.Beginning.{begun, first_table, first_volume}
 use Rattle.av_guard.specs.Place.{Held, Missing, Spot, Unused}
-use Rattle.av_guard.specs.Run.{Call, Client, ClientLost, Asks, NextInLine, Message, ServiceLost, TimeUp, Does, Lead, asks_in, first_table, first_volume, given_by, taken_by, told_in}
+use Rattle.av_guard.specs.Run.{Call, Client, ClientLost, Asks, MakeRoom, Message, ServiceLost, TimeUp, Does, Lead, asks_in, given_by, taken_by, told_in}
+use Rattle.av_guard.specs.Room.{LetGo, MakesRoom, Ordered}
 use Rattle.av_guard.specs.State.{Gives, State, Turn, happens, hears_at, rests}
 use Rattle.av_guard.specs.Telling.{is_here}
-use Rattle.av_guard.specs.declared.ask.Ask.{Ask}
-use Rattle.av_guard.specs.declared.fault.AskFault.TheVariants.{NoClient, OpensSpent, TooLarge}
+use Rattle.av_guard.specs.Ask.{Ask}
+use Rattle.av_guard.specs.declared.fault.AskFault.TheVariants.{OpensSpent}
 use Rattle.av_guard.specs.declared.given.Given.{Given}
 use Rattle.av_guard.specs.declared.given.Told.{Told}
 use Rattle.av_store.specs.Files.{Remove}
@@ -69,22 +70,6 @@ go_on (x ∷ xs) n c ne here =
       ]
     ]) refl here
 
--- the first in line is of a client that is there
-first_here : (clients : List ℕ) (line rest : List Ask) (a : Ask) → still_here clients line ≡ a ∷ rest → is_here clients a.client ≡ true
-first_here clients [] rest a e = absurd cc
-first_here clients (x ∷ line) rest a e = go (is_here clients x.client) refl e (first_here clients line rest a)
-  where
-    go : (b : Bool) → is_here clients x.client ≡ b → (if b then x ∷ line else still_here clients line) ≡ a ∷ rest → (still_here clients line ≡ a ∷ rest → is_here clients a.client ≡ true) → is_here clients a.client ≡ true
-    go true here is ih = let same : x ≡ a = cc in subst (λ (y : Ask). is_here clients y.client ≡ true) same here
-    go false gone is ih = ih is
-
-client_here : (g : State) (client : ℕ) (c : List ℕ) → refusal_of g client c ≡ None → is_here g.clients client ≡ true
-client_here g client c none = go (is_here g.clients client) refl none
-  where
-    go : (b : Bool) → is_here g.clients client ≡ b → (if not b then Some NoClient else (if nat_lt 1048576 (length c) then Some TooLarge else (if must_stand g then None else ask_fault g c))) ≡ None → is_here g.clients client ≡ true
-    go true e n = e
-    go false e n = absurd cc
-
 no_place : (g : State) (c : List ℕ) → ask_fault g c ≡ None → place_of g c ≡ Missing → ⊥
 no_place g c none missing = go (g.volume.opens == greatest) none
   where
@@ -117,61 +102,23 @@ module _ (client tag : ℕ) (t0 : Table) (v0 : Store) (asks : List Ask) (told : 
       go : (spot : Spot) → place_of g bytes ≡ spot → IsThere g bytes spot → Counts g (asked g c t bytes spot).state (asked g c t bytes spot).told (one_if client tag c t)
       go (Held n) place is_there = opened_counts client tag g n c t (number_free g.table g.volume g.waiting s.fits s.paired) here h
       go (Unused name) place is_there =
-          let k = kept_story t0 v0 asks told sent history g s name is_there.0 bytes (free_name g.volume bytes name place) is_there in
+          let k = kept_story t0 v0 asks told sent history g s name is_there.0 bytes (free_name g.key g.volume bytes name place) is_there in
           let done = opened_counts client tag (kept g name bytes) (g.volume.last + 1) c t (number_free (kept g name bytes).table (kept g name bytes).volume g.waiting k.1.fits k.1.paired) here h in
           record { sum = done.sum; here = done.here }
       go Missing place is_there = absurd (no_place g bytes none place)
 
   module _ (old : State) (s : Story t0 v0 asks told sent history old) (h : IsIn client tag old) where
-    line_here : Here client tag old.clients (asks_of client tag old.line)
-    line_here = elim h [ inl here ↦ inl here | inr none ↦ inr (omega (arith, none)) ]
-
-    passed : Counts old (skipped old) [] 0
-    passed =
-        let count = still_counts client tag old.clients old.line line_here in
-        record { sum = omega (arith, count); here = elim h [ inl here ↦ inl here | inr none ↦ inr (omega (arith, none, count)) ] }
-
-    -- an ask that is asked now, with this line behind it
-    asked_behind : (new : State) (given : Given) (a : Ask) (line : List Ask) → Each (λ x. Among x asks) line → is_here old.clients a.client ≡ true → IsIn client tag (behind old line) → AskedNow (behind old line) new a.client a.tag a.content (Ok given)
-        → Counts (behind old line) new (given.told.items ++ []) (one_if client tag a.client a.tag)
-    asked_behind new given a line all here h_line (none, there, g) =
-        let s_line : Story t0 v0 asks told sent history (behind old line) = record { past = s.past; fits = s.fits; written = s.written; paired = s.paired; line = all; waiting = s.waiting; founded = s.founded; events = s.events } in
-        gives (behind old line) new given (asked (behind old line) a.client a.tag a.content (place_of (behind old line) a.content)) (one_if client tag a.client a.tag) g (asked_counts (behind old line) a.client a.tag a.content s_line none there here h_line)
-
     taken : (new : State) (given : Given) (c t : ℕ) (bytes : List ℕ) → refusal_of old c bytes ≡ None → Takes old new given c t bytes → Counts old new (given.told.items ++ []) (one_if client tag c t + 0)
-    taken new given c t bytes none takes = go (must_stand old) refl takes
-      where
-        here : is_here old.clients c ≡ true
-        here = client_here old c bytes none
+    taken new given c t bytes none (there, g) =
+        let done = gives old new given (asked old c t bytes (place_of old bytes)) (one_if client tag c t) g (asked_counts old c t bytes s (asked_now old c bytes none) there (client_here old c bytes none) h) in
+        record { sum = omega (arith, done.sum); here = done.here }
 
-        go : (b : Bool) → must_stand old ≡ b → MatchBool b (GivesNothing given × (new ≡ in_line old (record { client = c; tag = t; content = bytes }))) (IsThere old bytes (place_of old bytes) × Gives given new (asked old c t bytes (place_of old bytes)))
-            → Counts old new (given.told.items ++ []) (one_if client tag c t + 0)
-        go true e (nothing, is) =
-            let longer = asks-append client tag old.line (record { client = c; tag = t; content = bytes } ∷ []) in
-            let count : open_asks client tag (in_line old (record { client = c; tag = t; content = bytes })) ≡ one_if client tag c t + open_asks client tag old = omega (arith, longer) in
-            record {
-              sum = omega (arith, told-append client tag given.told.items [], ap (told_of client tag) nothing.told, ap (open_asks client tag) is, count);
-              here = subst (IsIn client tag) (sym is) (subst (Here client tag old.clients) (sym count) (one_here client tag old.clients c t (open_asks client tag old) here h));
-            }
-        go false e (there, g) =
-            let done = gives old new given (asked old c t bytes (place_of old bytes)) (one_if client tag c t) g (asked_counts old c t bytes s (asked_now old c bytes none e) there here h) in
-            record { sum = omega (arith, done.sum); here = done.here }
-
-    next : (new : State) (given : Given) → Nexts old new given → Counts old new (given.told.items ++ []) 0
-    next new given (LetGo stream crowded free ok g) = gives old new given (happens old (Changes (Remove stream))) 0 g (happened client tag old (Changes (Remove stream)) h)
-    next new given (Ordered crowded nothing is) = gives old new given (rests new) 0 (record { told = nothing.told; messages = nothing.messages; state = refl }) (same old new is h)
-    next new given (Asked a line may first so) =
-        let all : Each (λ x. Among x asks) (a ∷ line) = subst (Each (λ x. Among x asks)) first (still_each (λ x. Among x asks) old.clients old.line s.line) in
-        let count : asks_of client tag old.line ≡ one_if client tag a.client a.tag + asks_of client tag line = sym (still_counts client tag old.clients old.line line_here) ∙ ap (asks_of client tag) first in
-        let h_line : IsIn client tag (behind old line) = elim h [ inl here ↦ inl here | inr none ↦ inr (omega (arith, none, count)) ] in
-        let done = asked_behind new given a line all.1 (first_here old.clients old.line line a first) h_line so in
-        record { sum = omega (arith, done.sum, count); here = done.here }
+    makes_room : (new : State) (given : Given) → MakesRoom old new given → Counts old new (given.told.items ++ []) 0
+    makes_room new given (LetGo stream crowded free ok g) = gives old new given (happens old (Changes (Remove stream))) 0 g (happened client tag old (Changes (Remove stream)) h)
+    makes_room new given (Ordered crowded nothing is) = gives old new given (rests new) 0 (record { told = nothing.told; messages = nothing.messages; state = refl }) (same old new is h)
 
     heard : (new : State) (given : Given) (e : FilterEvent) → Gives given new (happens old e) → Counts old new (given.told.items ++ []) 0
     heard new given e g = gives old new given (happens old e) 0 g (happened client tag old e h)
-
-    skipped_so : (new : State) → new ≡ skipped old → Counts old new [] 0
-    skipped_so new is = record { sum = omega (arith, passed.sum, ap (open_asks client tag) is); here = subst (IsIn client tag) (sym is) passed.here }
 
     step_counts : (call : Call) (new : State) → Does call old new → Stays client (call ∷ []) → Counts old new (flat_map (λ g. g.told.items) (given_by call)) (asks_of client tag (taken_by call))
     step_counts (Client None) new d stays = same old new d h
@@ -186,13 +133,9 @@ module _ (client tag : ℕ) (t0 : Table) (v0 : Store) (asks : List Ask) (told : 
     step_counts (Asks c t bytes (Ok given)) new d stays = taken new given c t bytes d.0 d.1
     step_counts (Asks c t bytes (Err (Fault f))) new d stays = same old new d.1 h
     step_counts (Asks c t bytes (Err NoMemory)) new d stays = refused old new bytes d h
-    step_counts (NextInLine (Ok (Some given))) new d stays = next new given d
-    step_counts (NextInLine (Ok None)) new d stays = skipped_so new d.0
-    step_counts (NextInLine (Err (Fault f))) new d stays = skipped_so new d
-    step_counts (NextInLine (Err NoMemory)) new (inl is) stays = same old new is h
-    step_counts (NextInLine (Err NoMemory)) new (inr held) stays =
-        let done = refused (skipped old) new held.ask.content held.left passed.here in
-        record { sum = omega (arith, done.sum, passed.sum); here = done.here }
+    step_counts (MakeRoom (Ok (Some given))) new d stays = makes_room new given d
+    step_counts (MakeRoom (Ok None)) new d stays = same old new d h
+    step_counts (MakeRoom (Err e)) new d stays = same old new d h
     step_counts (Message m (Ok given)) new d stays = came m.port refl
       where
         came : (port : Port) → m.port ≡ port → Counts old new (given.told.items ++ []) 0
@@ -223,6 +166,6 @@ run_counts client tag t0 v0 (c ∷ cs) asks told sent history old new s (mid, do
     omega (arith, all, count.sum, told_parts, asks-append client tag more (asks_in cs))
 
 pub asks_are_answered_once : AsksAreAnsweredOnce
-asks_are_answered_once mode keep questions calls g client tag leads stays =
-    let all = run_counts client tag (first_table mode questions) (first_volume questions) calls [] [] [] [] (begun mode keep questions) g (first_story mode keep questions) leads stays (inr refl) in
+asks_are_answered_once settings calls g client tag leads stays =
+    let all = run_counts client tag (first_table settings) (first_volume settings) calls [] [] [] [] (begun settings) g (first_story settings) leads stays (inr refl) in
     omega (arith, all)

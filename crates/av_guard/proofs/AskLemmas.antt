@@ -31,7 +31,7 @@ use Rattle.av_guard.specs.Run.{IsFounded, all_held}
 use Rattle.av_guard.specs.State.{State}
 use Rattle.av_guard.specs.Waiting.{ArePaired}
 use Rattle.av_guard.specs.Written.{AreWritten}
-use Rattle.av_guard.specs.declared.ask.Ask.{Ask}
+use Rattle.av_guard.specs.Ask.{Ask}
 use Rattle.av_guard.specs.declared.fault.AskFault.TheVariants.{OpensSpent}
 use Rattle.av_guard.specs.declared.given.Told.{Told}
 use Rattle.av_guard.specs.declared.waiter.Waiter.{Waiter}
@@ -44,14 +44,13 @@ use Rattle.av_store.specs.declared.stream.Stream.{Stream}
 
 module _ (t0 : Table) (v0 : Store) (asks : List Ask) (told : List Told) (sent : List Letter) where
   -- what stays of a guard whose history is longer by two events that told nothing
-  two_more : (history : List FilterEntry) (x y : FilterEntry) (g : State) (t : Table) (v : Store) → IsOfGuard x.event → IsOfGuard y.event → Story t0 v0 asks told sent history g → Past t0 v0 t v sent (history ++ x ∷ [] ++ y ∷ []) → Fits t v → AreWritten v.streams → t.pended ≡ g.table.pended
+  two_more : (history : List FilterEntry) (x y : FilterEntry) (g : State) (t : Table) (v : Store) → IsOfGuard x.event → IsOfGuard y.event → Story t0 v0 asks told sent history g → Past t0 v0 t v sent (history ++ x ∷ [] ++ y ∷ []) → Fits t v → AreWritten g.key v.streams → t.pended ≡ g.table.pended
       → Story t0 v0 asks told sent (history ++ x ∷ [] ++ y ∷ []) (record g { table = t; volume = v })
   two_more history x y g t v own_x own_y s past fits written same = record {
     past = past;
     fits = fits;
     written = written;
     paired = subst (λ ps. ArePaired ps g.waiting) (sym same) s.paired;
-    line = s.line;
     waiting = each_weaker (λ e. IsAsking asks history e.1) (λ e. IsAsking asks (history ++ x ∷ [] ++ y ∷ []) e.1) (λ e h. asking_more (history ++ x ∷ []) y asks e.1 (asking_more history x asks e.1 h)) g.waiting s.waiting;
     founded = each_weaker (IsFounded asks history) (IsFounded asks (history ++ x ∷ [] ++ y ∷ [])) (λ a h. founded_more (history ++ x ∷ []) y asks a (founded_more history x asks a h)) told s.founded;
     events = each-append (λ z. IsOfGuard z.event) (history ++ x ∷ []) (y ∷ []) (each-append (λ z. IsOfGuard z.event) history (x ∷ []) s.events (own_x, tt)) (own_y, tt);
@@ -85,7 +84,7 @@ module _ (t0 : Table) (v0 : Store) (asks : List Ask) (told : List Told) (sent : 
     fits_first = creation_fits g.table g.volume made.volume name made.id s.fits made.ok
 
     -- a content comes to be kept
-    pub kept_story : (c : List ℕ) → IsNameOf c name → IsThere g c (Unused name) → (h : List FilterEntry) × Story t0 v0 asks told sent h (kept g name c)
+    pub kept_story : (c : List ℕ) → IsNameOf g.key c name → IsThere g c (Unused name) → (h : List FilterEntry) × Story t0 v0 asks told sent h (kept g name c)
     kept_story c named there =
         let n = g.volume.last + 1 in
         let second = Changes (Write n 0 c) in
@@ -103,7 +102,7 @@ module _ (t0 : Table) (v0 : Store) (asks : List Ask) (told : List Told) (sent : 
         (past_more t0 v0 g.table made.volume sent (history ++ x ∷ []) second past_first here)) in
         let fits : Fits (stored g.table g.volume name c).table (stored g.table g.volume name c).volume = subst (λ (r : Reaction). Fits r.table r.volume) whole (event_fits g.table made.volume second fits_first here) in
         let pended : (stored g.table g.volume name c).table.pended ≡ g.table.pended = sym (ap (λ (t : Table). t.pended) kept_so.table) ∙ kept_so.pended in
-        (history ++ x ∷ [] ++ y ∷ [], two_more history x y g (stored g.table g.volume name c).table (stored g.table g.volume name c).volume tt tt s past fits (written_same _ _ there.1 (written_more _ _ name c s.written named)) pended)
+        (history ++ x ∷ [] ++ y ∷ [], two_more history x y g (stored g.table g.volume name c).table (stored g.table g.volume name c).volume tt tt s past fits (written_same _ _ _ there.1 (written_more _ _ _ name c s.written named)) pended)
 
     -- and its opens are counted as before
     pub kept_opens : (c : List ℕ) → IsThere g c (Unused name) → (kept g name c).volume.opens ≡ g.volume.opens
@@ -137,7 +136,7 @@ module _ (t0 : Table) (v0 : Store) (asks : List Ask) (told : List Told) (sent : 
   refused_story history old new c s (refused_so.Spent name is creates same) =
       let done = spent_story history old s name creates in (done.0, subst (Story t0 v0 asks told sent done.0) (sym same) done.1)
   refused_story history old new c s (refused_so.Kept name is there same) =
-      let done = kept_story history old s name there.0 c (free_name old.volume c name is) there in (done.0, subst (Story t0 v0 asks told sent done.0) (sym same) done.1)
+      let done = kept_story history old s name there.0 c (free_name old.key old.volume c name is) there in (done.0, subst (Story t0 v0 asks told sent done.0) (sym same) done.1)
 
   opens_left : (g : State) (c : List ℕ) → ask_fault g c ≡ None → (g.volume.opens == greatest) ≡ false
   opens_left g c none = go (g.volume.opens == greatest) refl none
@@ -169,13 +168,13 @@ module _ (t0 : Table) (v0 : Store) (asks : List Ask) (told : List Told) (sent : 
       go (Held n) is there =
           let w : Waiter = record { client = ask.client; tag = ask.tag; stream = n } in
           let x = bytes_of (stream_at n g.volume.streams) ask.content (opens_its_bytes g ask.content n is) in
-          let two : x.0.generation ≡ 2 = (of_two g.volume.streams s.written n x.0 x.1).once in
+          let two : x.0.generation ≡ 2 = (of_two g.key g.volume.streams s.written n x.0 x.1).once in
           let bytes : content (all_held [] history) n 2 ≡ Some ask.content = subst (λ k. content (all_held [] history) n k ≡ Some ask.content) two (present g.volume (all_held [] history) n x.0 s.past.keeps x.1 ∙ ap (λ b. Some b) x.2) in
           opens_story t0 v0 asks told sent history g w s (record { ask = ask; taken = among; client = refl; tag = refl; bytes = bytes }) (may_open g.table g.volume n left)
       go (Unused name) is there =
           let n = g.volume.last + 1 in
           let w : Waiter = record { client = ask.client; tag = ask.tag; stream = n } in
-          let k = kept_story history g s name there.0 ask.content (free_name g.volume ask.content name is) there in
+          let k = kept_story history g s name there.0 ask.content (free_name g.key g.volume ask.content name is) there in
           let bytes : content (all_held [] k.0) n 2 ≡ Some ask.content = present (kept g name ask.content).volume (all_held [] k.0) n (stream_with name ask.content) k.1.past.keeps (kept_stream history g s name there.0 ask.content there) in
           let more : ((kept g name ask.content).volume.opens == greatest) ≡ false = ap (λ o. o == greatest) (kept_opens history g s name there.0 ask.content there) ∙ left in
           opens_story t0 v0 asks told sent k.0 (kept g name ask.content) w k.1 (record { ask = ask; taken = among; client = refl; tag = refl; bytes = bytes }) (may_open (kept g name ask.content).table (kept g name ask.content).volume n more)

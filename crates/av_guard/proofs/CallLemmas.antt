@@ -3,16 +3,14 @@ use Rattle.std.proofs.Common.{◌≡◌, ℕ, Bool, true, false, not, List, [], 
 use Rattle.std.proofs.lemmas.Grind.{flat_map-append}
 use Rattle.std.proofs.lemmas.List.Elements.{All-from_recursion}
 use Rattle.std.specs.List.{AllByRecursion as Each, flat_map}
-use Rattle.std.specs.Prelude.{MatchBool, nat_lt}
+use Rattle.std.specs.Prelude.{nat_lt}
 use Rattle.av_base.proofs.AmongLemmas.{among_left, among_right}
 use Rattle.av_base.specs.Among.{Among}
-use Rattle.av_base.specs.declared.mode.Mode.{Mode}
 use Rattle.av_base.specs.declared.port.Port.{Port}
 use Rattle.av_base.specs.declared.port.Port.TheVariants.{One, Two}
 use Rattle.av_base.specs.declared.refusal.Refusal.{Refusal}
 use Rattle.av_base.specs.declared.refusal.Refusal.TheVariants.{Fault, NoMemory}
 use Rattle.av_filter.proofs.BoundLemmas.{leads_to}
-use Rattle.av_filter.proofs.EachLemmas.{each-append}
 use Rattle.av_filter.proofs.FitLemmas.{mounted_fits}
 use Rattle.av_filter.specs.Audit.{FilterEntry}
 use Rattle.av_filter.specs.Conduct.{FilterEvent, Changes, Disconnects, Receives, TimesOut, filter_refusal, filter_step}
@@ -23,44 +21,38 @@ use Rattle.av_guard.proofs.FirstLemmas.{IsFirst, audit_first}
 use Rattle.av_guard.proofs.PastLemmas.{entry_of}
 use Rattle.av_guard.proofs.SoundLemmas.{written_removed, written_same}
 use Rattle.av_guard.proofs.StoryLemmas.{Story, later, quiet_story}
-use Rattle.av_guard.specs.Asking.{Asked, AskedNow, GivesNothing, IsThere, LetGo, Nexts, Ordered, Refuses, Takes, ask_fault, asked, behind, in_line, must_stand, place_of, refusal_of, skipped, still_here}
-use Rattle.av_guard.specs.Beginning.{begun, limits_of}
-use Rattle.av_guard.specs.Run.{Call, Client, ClientLost, Asks, NextInLine, Message, ServiceLost, TimeUp, Does, GuardsHaveHistory, IsFounded, Lead, asks_in, first_table, first_volume, given_by, sent_in, taken_by, told_in}
+use Rattle.av_guard.specs.Asking.{GivesNothing, Refuses, Takes, ask_fault, asked, is_busy, place_of, refusal_of}
+use Rattle.av_guard.specs.Beginning.{begun, first_table, first_volume, limits_of}
+use Rattle.av_guard.specs.Run.{Call, Client, ClientLost, Asks, MakeRoom, Message, ServiceLost, TimeUp, Does, GuardsHaveHistory, IsFounded, Lead, asks_in, given_by, sent_in, taken_by, told_in}
+use Rattle.av_guard.specs.Room.{LetGo, MakesRoom, Ordered}
 use Rattle.av_guard.specs.State.{Gives, State, Turn, happens, hears_at, rests}
 use Rattle.av_guard.specs.Telling.{is_here}
 use Rattle.av_guard.specs.Written.{AreWritten}
-use Rattle.av_guard.specs.declared.ask.Ask.{Ask}
+use Rattle.av_guard.specs.Ask.{Ask}
 use Rattle.av_guard.specs.declared.fault.AskFault.{AskFault}
-use Rattle.av_guard.specs.declared.fault.AskFault.TheVariants.{NoClient, TooLarge}
+use Rattle.av_guard.specs.declared.fault.AskFault.TheVariants.{Busy, NoClient, TooLarge}
 use Rattle.av_guard.specs.declared.given.Given.{Given}
 use Rattle.av_guard.specs.declared.given.Told.{Told}
+use Rattle.av_guard.specs.declared.settings.Settings.{Settings}
 use Rattle.av_store.proofs.SeenLemmas.{follows}
 use Rattle.av_store.specs.Files.{Remove}
 use Rattle.av_store.specs.Store.{Store}
 
--- of the asks that are asked now, none is refused
-pub asked_now : (g : State) (client : ℕ) (c : List ℕ) → refusal_of g client c ≡ None → must_stand g ≡ false → ask_fault g c ≡ None
-asked_now g client c none stand = here (is_here g.clients client) none
+-- of the asks that are taken, none is refused
+pub asked_now : (g : State) (client : ℕ) (c : List ℕ) → refusal_of g client c ≡ None → ask_fault g c ≡ None
+asked_now g client c none = here (is_here g.clients client) none
   where
-    last : (b : Bool) → b ≡ false → (if b then None else ask_fault g c) ≡ None → ask_fault g c ≡ None
-    last true e n = absurd cc
-    last false e n = n
+    last : (b : Bool) → (if b then Some Busy else ask_fault g c) ≡ None → ask_fault g c ≡ None
+    last true n = absurd cc
+    last false n = n
 
-    small : (b : Bool) → (if b then Some TooLarge else (if must_stand g then None else ask_fault g c)) ≡ None → ask_fault g c ≡ None
+    small : (b : Bool) → (if b then Some TooLarge else (if is_busy g c then Some Busy else ask_fault g c)) ≡ None → ask_fault g c ≡ None
     small true n = absurd cc
-    small false n = last (must_stand g) stand n
+    small false n = last (is_busy g c) n
 
-    here : (b : Bool) → (if not b then Some NoClient else (if nat_lt 1048576 (length c) then Some TooLarge else (if must_stand g then None else ask_fault g c))) ≡ None → ask_fault g c ≡ None
+    here : (b : Bool) → (if not b then Some NoClient else (if nat_lt 1048576 (length c) then Some TooLarge else (if is_busy g c then Some Busy else ask_fault g c))) ≡ None → ask_fault g c ≡ None
     here true n = small (nat_lt 1048576 (length c)) n
     here false n = absurd cc
-
-pub still_each : (P : Ask → Type 0) (clients : List ℕ) (line : List Ask) → Each P line → Each P (still_here clients line)
-still_each P clients [] all = tt
-still_each P clients (a ∷ line) all =
-    elim (is_here clients a.client) as (λ b. Each P (if b then a ∷ line else still_here clients line)) [
-      | true ↦ all
-      | false ↦ still_each P clients line all.1
-    ]
 
 module _ (t0 : Table) (v0 : Store) (asks : List Ask) (told : List Told) (sent : List Letter) where
   -- some history
@@ -87,68 +79,47 @@ module _ (t0 : Table) (v0 : Store) (asks : List Ask) (told : List Told) (sent : 
     same : (new : State) → new ≡ old → Left new [] []
     same new is = idle history new (subst (Story t0 v0 asks told sent history) (sym is) s)
 
-    -- others come, leave, or are passed by
-    other : (clients : List ℕ) (last : ℕ) (line : List Ask) → Each (λ a. Among a asks) line → Story t0 v0 asks told sent history (record old { clients = clients; last = last; line = line })
-    other clients last line all = record { past = s.past; fits = s.fits; written = s.written; paired = s.paired; line = all; waiting = s.waiting; founded = s.founded; events = s.events }
+    -- others come or leave
+    other : (clients : List ℕ) (last : ℕ) → Story t0 v0 asks told sent history (record old { clients = clients; last = last })
+    other clients last = record { past = s.past; fits = s.fits; written = s.written; paired = s.paired; waiting = s.waiting; founded = s.founded; events = s.events }
 
     -- a call that is an event of the filter
     heard : (new : State) (given : Given) (e : FilterEvent) → Story t0 v0 asks (told ++ (happens old e).told) (sent ++ (happens old e).messages) (history ++ entry_of old.table old.volume e ∷ []) (happens old e).state → Gives given new (happens old e)
         → Left new (given.told.items ++ []) (given.messages.items ++ [])
     heard new given e after g = gives given new (happens old e) g (history ++ entry_of old.table old.volume e ∷ [], after)
 
-    -- an ask that is asked now, with this line behind it
-    asked_so : (new : State) (given : Given) (ask : Ask) (line : List Ask) → Each (λ a. Among a asks) line → Among ask asks → AskedNow (behind old line) new ask.client ask.tag ask.content (Ok given) → Left new (given.told.items ++ []) (given.messages.items ++ [])
-    asked_so new given ask line all among (none, there, g) =
-        gives given new (asked (behind old line) ask.client ask.tag ask.content (place_of (behind old line) ask.content)) g
-        (asked_story t0 v0 asks told sent history (behind old line) ask (other old.clients old.last line all) among none there)
-
+    -- an ask that was taken
     taken : (new : State) (given : Given) (client tag : ℕ) (c : List ℕ) → Among (record { client = client; tag = tag; content = c }) asks → refusal_of old client c ≡ None → Takes old new given client tag c → Left new (given.told.items ++ []) (given.messages.items ++ [])
-    taken new given client tag c among none takes = go (must_stand old) refl takes
-      where
-        ask : Ask
-        ask = record { client = client; tag = tag; content = c }
-
-        go : (b : Bool) → must_stand old ≡ b → MatchBool b (GivesNothing given × (new ≡ in_line old (record { client = client; tag = tag; content = c }))) (IsThere old c (place_of old c) × Gives given new (asked old client tag c (place_of old c)))
-            → Left new (given.told.items ++ []) (given.messages.items ++ [])
-        go true e (none_given, stands) =
-            nothing given new none_given
-            (idle history new (subst (Story t0 v0 asks told sent history) (sym stands) (other old.clients old.last (old.line ++ record { client = client; tag = tag; content = c } ∷ []) (each-append (λ a. Among a asks) old.line _ s.line (among, tt)))))
-        go false e (there, g) = asked_so new given (record { client = client; tag = tag; content = c }) old.line s.line among (asked_now old client c none e, there, g)
+    taken new given client tag c among none (there, g) =
+        gives given new (asked old client tag c (place_of old c)) g
+        (asked_story t0 v0 asks told sent history old (record { client = client; tag = tag; content = c }) s among (asked_now old client c none) there)
 
     unasked : (new : State) (client : ℕ) (c : List ℕ) (why : Refusal AskFault) → Refuses old new client c why → Left new [] []
     unasked new client c (Fault f) d = same new d.1
     unasked new client c NoMemory d = idle_some new (refused_story t0 v0 asks told sent history old new c s d)
 
-    passed : Story t0 v0 asks told sent history (skipped old)
-    passed = other old.clients old.last (still_here old.clients old.line) (still_each (λ a. Among a asks) old.clients old.line s.line)
-
     let_go : (stream : ℕ) → filter_refusal old.table old.volume (Changes (Remove stream)) ≡ None
         → Story t0 v0 asks (told ++ (happens old (Changes (Remove stream))).told) (sent ++ (happens old (Changes (Remove stream))).messages) (history ++ entry_of old.table old.volume (Changes (Remove stream)) ∷ []) (happens old (Changes (Remove stream))).state
-    let_go stream ok = quiet_story t0 v0 asks told sent history old (Changes (Remove stream)) s tt refl tt ok (written_removed old.table old.volume _ stream refl s.written)
+    let_go stream ok = quiet_story t0 v0 asks told sent history old (Changes (Remove stream)) s tt refl tt ok (written_removed old.key old.table old.volume _ stream refl s.written)
 
-    next : (new : State) (given : Given) → Nexts old new given → Left new (given.told.items ++ []) (given.messages.items ++ [])
-    next new given (LetGo stream crowded free ok g) = heard new given (Changes (Remove stream)) (let_go stream ok) g
-    next new given (Ordered crowded none is) = nothing given new none (same new is)
-    next new given (Asked ask line may first so) =
-        let all : Each (λ a. Among a asks) (ask ∷ line) = subst (Each (λ a. Among a asks)) first (still_each (λ a. Among a asks) old.clients old.line s.line) in
-        asked_so new given ask line all.1 all.0 so
+    makes_room : (new : State) (given : Given) → MakesRoom old new given → Left new (given.told.items ++ []) (given.messages.items ++ [])
+    makes_room new given (LetGo stream crowded free ok g) = heard new given (Changes (Remove stream)) (let_go stream ok) g
+    makes_room new given (Ordered crowded none is) = nothing given new none (same new is)
 
     -- an event that leaves the volume as it is
-    quiet : (e : FilterEvent) → (filter_step old.table old.volume e).volume ≡ old.volume → AreWritten (filter_step old.table old.volume e).volume.streams
-    quiet e is = written_same _ _ (ap (λ (v : Store). v.streams) is) s.written
+    quiet : (e : FilterEvent) → (filter_step old.table old.volume e).volume ≡ old.volume → AreWritten old.key (filter_step old.table old.volume e).volume.streams
+    quiet e is = written_same _ _ _ (ap (λ (v : Store). v.streams) is) s.written
 
     pub step : (call : Call) (new : State) → Does call old new → Each (λ a. Among a asks) (taken_by call) → Left new (flat_map (λ g. g.told.items) (given_by call)) (flat_map (λ g. g.messages.items) (given_by call))
     unfolding filter_refusal
     step (Client None) new d all = same new d
-    step (Client (Some n)) new d all = idle history new (subst (Story t0 v0 asks told sent history) (sym d.1) (other _ n old.line s.line))
-    step (ClientLost client) new d all = idle history new (subst (Story t0 v0 asks told sent history) (sym d) (other _ old.last old.line s.line))
+    step (Client (Some n)) new d all = idle history new (subst (Story t0 v0 asks told sent history) (sym d.1) (other _ n))
+    step (ClientLost client) new d all = idle history new (subst (Story t0 v0 asks told sent history) (sym d) (other _ old.last))
     step (Asks client tag c (Ok given)) new d all = taken new given client tag c all.0 d.0 d.1
     step (Asks client tag c (Err why)) new d all = unasked new client c why d
-    step (NextInLine (Ok (Some given))) new d all = next new given d
-    step (NextInLine (Ok None)) new d all = idle history new (subst (Story t0 v0 asks told sent history) (sym d.0) passed)
-    step (NextInLine (Err (Fault f))) new d all = idle history new (subst (Story t0 v0 asks told sent history) (sym d) passed)
-    step (NextInLine (Err NoMemory)) new (inl is) all = same new is
-    step (NextInLine (Err NoMemory)) new (inr held) all = idle_some new (refused_story t0 v0 asks told sent history (skipped old) new held.ask.content passed held.left)
+    step (MakeRoom (Ok (Some given))) new d all = makes_room new given d
+    step (MakeRoom (Ok None)) new d all = same new d
+    step (MakeRoom (Err e)) new d all = same new d
     step (Message m (Ok given)) new d all = came m.port refl
       where
         came : (port : Port) → m.port ≡ port → Left new (given.told.items ++ []) (given.messages.items ++ [])
@@ -187,21 +158,20 @@ run t0 v0 (c ∷ cs) asks told sent history old new s (mid, does, rest) =
           (subst (λ x. Story t0 v0 (asks ++ more ++ asks_in cs) (told ++ flat_map (λ g. g.told.items) (given_by c) ++ told_in cs) x all.0 new) (append_assoc sent _ (sent_in cs) ∙ ap (λ x. sent ++ x) (sym (flat_map-append (λ g. g.messages.items) (given_by c) (flat_map given_by cs)))) all.1)),
     )
 
-pub first_story : (mode : Mode) (keep questions : ℕ) → Story (first_table mode questions) (first_volume questions) [] [] [] [] (begun mode keep questions)
-first_story mode keep questions = record {
-  past = record { legal = tt; leads = refl; sends = refl; keeps = record { streams = (follows.starts 1 (limits_of questions)).streams; last = (follows.starts 1 (limits_of questions)).last } };
-  fits = mounted_fits mode _ (first_volume questions);
+pub first_story : (settings : Settings) → Story (first_table settings) (first_volume settings) [] [] [] [] (begun settings)
+first_story settings = record {
+  past = record { legal = tt; leads = refl; sends = refl; keeps = record { streams = (follows.starts 1 (limits_of settings.questions)).streams; last = (follows.starts 1 (limits_of settings.questions)).last } };
+  fits = mounted_fits settings.mode _ (first_volume settings);
   written = tt;
   paired = record { each = λ n. refl; once = λ n. omega arith; streams = tt };
-  line = tt;
   waiting = tt;
   founded = tt;
   events = tt;
 }
 
 pub guards_have_history : GuardsHaveHistory
-guards_have_history mode keep questions calls g leads =
-    let all = run (first_table mode questions) (first_volume questions) calls [] [] [] [] (begun mode keep questions) g (first_story mode keep questions) leads in (
+guards_have_history settings calls g leads =
+    let all = run (first_table settings) (first_volume settings) calls [] [] [] [] (begun settings) g (first_story settings) leads in (
       all.0,
       record {
         legal = all.1.past.legal;
@@ -209,7 +179,7 @@ guards_have_history mode keep questions calls g leads =
         sent = all.1.past.sends;
         ports = All-from_recursion IsFirst (sent_in calls)
             (subst (Each IsFirst) all.1.past.sends
-            (audit_first (first_table mode questions) (first_volume questions) [] all.0 (mounted_fits mode _ (first_volume questions)) refl tt all.1.past.legal all.1.events tt));
+            (audit_first (first_table settings) (first_volume settings) [] all.0 (mounted_fits settings.mode _ (first_volume settings)) refl tt all.1.past.legal all.1.events tt));
         founded = All-from_recursion (IsFounded (asks_in calls) all.0) (told_in calls) all.1.founded;
       },
     )

@@ -3,6 +3,7 @@ use Rattle.std.proofs.Common.{◌≡◌, ℕ, zero, suc, ◌+◌, Bool, true, fa
 use Rattle.std.proofs.lemmas.Slice.Eq.{bytes_eq-Decides}
 use Rattle.std.specs.Option.{option_map}
 use Rattle.std.specs.Prelude.{if◌then◌else◌}
+use Rattle.std.specs.declared.random_state.RandomState.{RandomState}
 use Rattle.av_guard.specs.Laws.{OpensItsBytes}
 use Rattle.av_guard.specs.Naming.{name_of}
 use Rattle.av_guard.specs.Place.{Held, Spot, bytes_are, has_bytes, place_from, spot_at}
@@ -18,14 +19,14 @@ spot_has v c name later s rest (Some t) is = go (has_bytes v t c) refl is
     go true e held = let same : ◌≡◌ {A = ℕ} t s = cc in subst (λ n. has_bytes v n c ≡ true) same e
     go false e held = rest held
 
-place_has : (k n : ℕ) (v : Store) (c : List ℕ) (s : ℕ) → place_from k n v c ≡ Held s → has_bytes v s c ≡ true
+place_has : (k n : ℕ) (key : RandomState) (v : Store) (c : List ℕ) (s : ℕ) → place_from k n key v c ≡ Held s → has_bytes v s c ≡ true
 unfolding place_from
-place_has zero n v c s bad = absurd cc
-place_has (suc k) n v c s is = spot_has v c (name_of c n) (place_from k (n + 1) v c) s (place_has k (n + 1) v c s) (number_named (name_of c n) v.streams) is
+place_has zero n key v c s bad = absurd cc
+place_has (suc k) n key v c s is = spot_has v c (name_of key c n) (place_from k (n + 1) key v c) s (place_has k (n + 1) key v c s) (number_named (name_of key c n) v.streams) is
 
 bytes_there : (c : List ℕ) (o : Option Stream) → bytes_are c o ≡ true → option_map (λ (x : Stream). x.bytes) o ≡ Some c
 bytes_there c None bad = absurd cc
 bytes_there c (Some x) same = ap (λ b. Some b) ((bytes_eq-Decides x.bytes c).0 same)
 
 pub opens_its_bytes : OpensItsBytes
-opens_its_bytes g c s is = bytes_there c (stream_at s g.volume.streams) (place_has 65537 0 g.volume c s is)
+opens_its_bytes g c s is = bytes_there c (stream_at s g.volume.streams) (place_has 16 0 g.key g.volume c s is)

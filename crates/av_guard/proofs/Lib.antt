@@ -10,6 +10,8 @@ pub mod LawLemmas
 pub mod StayLemmas
 pub mod PairLemmas
 pub mod SoundLemmas
+pub mod KnownLemmas
+pub mod AwaitedLemmas
 pub mod PastLemmas
 pub mod TellLemmas
 pub mod StoryLemmas

@@ -1,4 +1,4 @@
--- Each ask of a client that has not left is told, waits, or stands in line, once.
+-- Each ask of a client that has not left is told or waits, once.
 use Rattle.std.proofs.Common.{◌≡◌, ◌⊎◌, ℕ, ◌+◌, ◌==◌, ◌&&◌, Bool, true, false, cond, List, [], ◌∷◌, ◌++◌, Option, Some, None, if◌then◌else◌, refl, arith, ap, ◌∙◌, sym, subst, inl, inr, eqb-true}
 use Rattle.std.specs.BTreeMap.{is_at}
 use Rattle.std.specs.Ordering.{is_eq, match_ordering, nat_cmp}
@@ -8,10 +8,10 @@ use Rattle.av_filter.specs.Conduct.{FilterEvent, Opens, filter_step}
 use Rattle.av_filter_table.specs.Table.{Table}
 use Rattle.av_guard.proofs.CountLemmas.{without_none}
 use Rattle.av_guard.specs.Answering.{asks_of, one_if, told_of, waits_of_ask}
-use Rattle.av_guard.specs.Asking.{opens, still_here}
+use Rattle.av_guard.specs.Asking.{opens}
 use Rattle.av_guard.specs.State.{State, happens}
 use Rattle.av_guard.specs.Telling.{Waiters, answered, is_here, left_by, told_by, told_one}
-use Rattle.av_guard.specs.declared.ask.Ask.{Ask}
+use Rattle.av_guard.specs.Ask.{Ask}
 use Rattle.av_guard.specs.declared.given.Told.{Told}
 use Rattle.av_guard.specs.declared.waiter.Waiter.{Waiter}
 use Rattle.av_pend.specs.Pend.{open_of}
@@ -85,9 +85,9 @@ module _ (client tag : ℕ) where
           let w_here : (is_here clients client ≡ true) ⊎ (one w.client w.tag ≡ 0) = elim h [ inl here ↦ inl here | inr none ↦ inr (omega (arith, none, less)) ] in
           omega (arith, less, ih rest_here, told-append (told_one clients t a (Some w)) (told_by clients t (without m (open_of a)) rest), told_it clients t a w w_here)
 
-  -- of the client's asks, those that wait or stand in line
+  -- of the client's asks, those that wait
   abbrev pub open_asks : State → ℕ
-  open_asks g = waits_of_ask client tag g.waiting + asks_of client tag g.line
+  open_asks g = waits_of_ask client tag g.waiting
 
   abbrev pub IsIn : State → Type 0
   IsIn g = Here g.clients (open_asks g)
@@ -121,19 +121,3 @@ module _ (client tag : ℕ) where
       let here : IsIn now = elim (one_here g.clients c t (open_asks g) there h) [ inl here ↦ inl here | inr none ↦ inr (omega (arith, none, more)) ] in
       let done = happened now (Opens s 0) here in
       record { sum = omega (arith, done.sum, more); here = done.here }
-
-  -- those in front whose clients have left are none of the client's
-  pub still_counts : (clients : List ℕ) (line : List Ask) → Here clients (asks_of client tag line) → asks_of client tag (still_here clients line) ≡ asks_of client tag line
-  still_counts clients [] h = refl
-  still_counts clients (a ∷ line) h = go (is_here clients a.client) refl (still_counts clients line)
-    where
-      go : (b : Bool) → is_here clients a.client ≡ b → (Here clients (asks_of client tag line) → asks_of client tag (still_here clients line) ≡ asks_of client tag line) → asks_of client tag (if b then a ∷ line else still_here clients line) ≡ asks_of client tag (a ∷ line)
-      go true e ih = refl
-      go false e ih = gone (a.client == client) refl
-        where
-          gone : (b : Bool) → (a.client == client) ≡ b → asks_of client tag (still_here clients line) ≡ asks_of client tag (a ∷ line)
-          gone false f = let none = not_one a.client a.tag f in omega (arith, none, ih (elim h [ inl here ↦ inl here | inr zero ↦ inr (omega (arith, zero, none)) ]))
-          gone true f = elim h [
-            | inl here ↦ let bad : is_here clients a.client ≡ true = subst (λ k. is_here clients k ≡ true) (sym (eqb-true a.client client f)) here in let wrong : ◌≡◌ {A = Bool} false true = sym e ∙ bad in absurd cc
-            | inr zero ↦ omega (arith, zero, ih (inr (omega (arith, zero))))
-          ]

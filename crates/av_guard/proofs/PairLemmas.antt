@@ -5,6 +5,7 @@ use Rattle.std.specs.BTreeMap.{is_at}
 use Rattle.std.specs.List.{AllByRecursion as Each}
 use Rattle.std.specs.Ordering.{is_eq, match_ordering, nat_cmp}
 use Rattle.std.specs.declared.cmp.Ordering.TheVariants.{Less, Equal, Greater}
+use Rattle.std.specs.declared.random_state.RandomState.{RandomState}
 use Rattle.av_context.specs.Contexts.{at, with, without}
 use Rattle.av_filter.proofs.CountLemmas.{filter_balanced, opens_after}
 use Rattle.av_filter.proofs.EachLemmas.{each_weaker, each_both}
@@ -123,19 +124,19 @@ times_above [] k all = refl
 times_above (p ∷ ps) k all = grind (arith, nat_tests, all.0, times_above ps k all.1)
 
 -- the streams of a guard's volume, and the questions about them, are of generation 2
-pub of_two : (ss : Streams) → AreWritten ss → (s : ℕ) (x : Stream) → stream_at s ss ≡ Some x → IsWritten x
-of_two [] all s x at = absurd cc
-of_two (e ∷ ss) all s x at =
-    (elim (is_number s e.0) as (λ b. cond b (Some e.1) (stream_at s ss) ≡ Some x → IsWritten x) [
-      | true ↦ λ here. let same : e.1 ≡ x = cc in subst IsWritten same all.0
-      | false ↦ λ rest. of_two ss all.1 s x rest
+pub of_two : (key : RandomState) (ss : Streams) → AreWritten key ss → (s : ℕ) (x : Stream) → stream_at s ss ≡ Some x → IsWritten key x
+of_two key [] all s x at = absurd cc
+of_two key (e ∷ ss) all s x at =
+    (elim (is_number s e.0) as (λ b. cond b (Some e.1) (stream_at s ss) ≡ Some x → IsWritten key x) [
+      | true ↦ λ here. let same : e.1 ≡ x = cc in subst (IsWritten key) same all.0
+      | false ↦ λ rest. of_two key ss all.1 s x rest
     ]) at
 
-pub asked_two : (t : Table) (v : Store) → Fits t v → AreWritten v.streams → Each (λ q. q.generation ≡ 2) t.questions
-asked_two t v fits all = each_weaker (IsPresent v.streams) (λ (q : Question). q.generation ≡ 2) (λ q h. h.2 ∙ (of_two v.streams all q.stream h.0 h.1).once) t.questions fits.present
+pub asked_two : (key : RandomState) (t : Table) (v : Store) → Fits t v → AreWritten key v.streams → Each (λ q. q.generation ≡ 2) t.questions
+asked_two key t v fits all = each_weaker (IsPresent v.streams) (λ (q : Question). q.generation ≡ 2) (λ q h. h.2 ∙ (of_two key v.streams all q.stream h.0 h.1).once) t.questions fits.present
 
 -- what an event leaves and answers, by those who wait as it comes
-module _ (t : Table) (v : Store) (m : Waiters) (e : FilterEvent) (fits : Fits t v) (all : AreWritten v.streams)
+module _ (key : RandomState) (t : Table) (v : Store) (m : Waiters) (e : FilterEvent) (fits : Fits t v) (all : AreWritten key v.streams)
     (counts : (n : ℕ) → times n (keys m) + once_up_to v.opens n ≡ times n (ids t.pended) + once_up_to (opens_after v.opens e) n)
     (once : (n : ℕ) → times n (keys m) ≤ 1)
     (streams : Each (λ p. IsAwaited m p.held.open_id p.held.stream) t.pended)
@@ -144,7 +145,7 @@ module _ (t : Table) (v : Store) (m : Waiters) (e : FilterEvent) (fits : Fits t 
   r = filter_step t v e
 
   pub stays : Stays (IsAwaited m) 2 r
-  stays = event_stays (IsAwaited m) 2 t v streams (asked_two t v fits all) (λ s x at. (of_two v.streams all s x at).once) e comes
+  stays = event_stays (IsAwaited m) 2 t v streams (asked_two key t v fits all) (λ s x at. (of_two key v.streams all s x at).once) e comes
 
   parts : (n : ℕ) → times n (keys m) ≡ times n (ids r.table.pended) + times n (map open_of r.answers)
   parts n = omega (arith, counts n, (filter_balanced t v e).kept n)

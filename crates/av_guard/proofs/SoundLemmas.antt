@@ -2,6 +2,7 @@
 use Rattle.std.proofs.Common.{◌≡◌, ℕ, zero, suc, ◌+◌, ◌<◌, ◌≤◌, ◌==◌, Bool, true, false, cond, List, [], ◌∷◌, ◌++◌, Option, Some, None, if◌then◌else◌, refl, arith, ap, ◌∙◌, sym, subst}
 use Rattle.std.proofs.lemmas.Bool.Decides.{nat_tests}
 use Rattle.std.specs.List.{AllByRecursion as Each}
+use Rattle.std.specs.declared.random_state.RandomState.{RandomState}
 use Rattle.av_context.specs.Contexts.{at, with}
 use Rattle.av_filter.proofs.BoundLemmas.{leads_to}
 use Rattle.av_filter.proofs.CountLemmas.{opens_after}
@@ -30,58 +31,58 @@ use Rattle.av_store.specs.declared.fault.StoreFault.TheVariants.{NoStream}
 use Rattle.std.specs.Prelude.{is_some, Ok, Err}
 
 -- a free name of a content is one of its names
-pub record IsNameOf (c name : List ℕ) : Type 0 where
+pub record IsNameOf (key : RandomState) (c name : List ℕ) : Type 0 where
   pub number : ℕ
-  pub below : number < 65537
-  pub name_is : name ≡ name_of c number
+  pub below : number < 16
+  pub name_is : name ≡ name_of key c number
 
-spot_names : (v : Store) (c name own : List ℕ) (later : Spot) (n : ℕ) → n < 65537 → own ≡ name_of c n → (later ≡ Unused name → IsNameOf c name) → (o : Option ℕ) → spot_at v c own later o ≡ Unused name → IsNameOf c name
-spot_names v c name own later n low is rest None e = let same : own ≡ name = cc in record { number = n; below = low; name_is = sym same ∙ is }
-spot_names v c name own later n low is rest (Some s) e = go (has_bytes v s c) e
+spot_names : (key : RandomState) (v : Store) (c name own : List ℕ) (later : Spot) (n : ℕ) → n < 16 → own ≡ name_of key c n → (later ≡ Unused name → IsNameOf key c name) → (o : Option ℕ) → spot_at v c own later o ≡ Unused name → IsNameOf key c name
+spot_names key v c name own later n low is rest None e = let same : own ≡ name = cc in record { number = n; below = low; name_is = sym same ∙ is }
+spot_names key v c name own later n low is rest (Some s) e = go (has_bytes v s c) e
   where
-    go : (b : Bool) → (if b then Held s else later) ≡ Unused name → IsNameOf c name
+    go : (b : Bool) → (if b then Held s else later) ≡ Unused name → IsNameOf key c name
     go true bad = absurd cc
     go false next = rest next
 
-place_names : (k n : ℕ) (v : Store) (c name : List ℕ) → n + k ≤ 65537 → place_from k n v c ≡ Unused name → IsNameOf c name
+place_names : (k n : ℕ) (key : RandomState) (v : Store) (c name : List ℕ) → n + k ≤ 16 → place_from k n key v c ≡ Unused name → IsNameOf key c name
 unfolding place_from
-place_names zero n v c name low bad = absurd cc
-place_names (suc k) n v c name low is =
-    spot_names v c name (name_of c n) (place_from k (n + 1) v c) n (omega (arith, low)) refl (place_names k (n + 1) v c name (omega (arith, low))) (number_named (name_of c n) v.streams) is
+place_names zero n key v c name low bad = absurd cc
+place_names (suc k) n key v c name low is =
+    spot_names key v c name (name_of key c n) (place_from k (n + 1) key v c) n (omega (arith, low)) refl (place_names k (n + 1) key v c name (omega (arith, low))) (number_named (name_of key c n) v.streams) is
 
-pub free_name : (v : Store) (c name : List ℕ) → place_from 65537 0 v c ≡ Unused name → IsNameOf c name
-free_name v c name is = place_names 65537 0 v c name (omega arith) is
+pub free_name : (key : RandomState) (v : Store) (c name : List ℕ) → place_from 16 0 key v c ≡ Unused name → IsNameOf key c name
+free_name key v c name is = place_names 16 0 key v c name (omega arith) is
 
 -- contents stay as they were written
-pub written_without : (ss : Streams) (s : ℕ) → AreWritten ss → AreWritten (without s ss)
-written_without [] s all = tt
-written_without (e ∷ ss) s all =
-    elim (is_number s e.0) as (λ b. AreWritten (cond b ss (e ∷ without s ss))) [
+pub written_without : (key : RandomState) (ss : Streams) (s : ℕ) → AreWritten key ss → AreWritten key (without s ss)
+written_without key [] s all = tt
+written_without key (e ∷ ss) s all =
+    elim (is_number s e.0) as (λ b. AreWritten key (cond b ss (e ∷ without s ss))) [
       | true ↦ all.1
-      | false ↦ (all.0, written_without ss s all.1)
+      | false ↦ (all.0, written_without key ss s all.1)
     ]
 
-pub written_more : (ss : Streams) (s : ℕ) (name c : List ℕ) → AreWritten ss → IsNameOf c name → AreWritten (ss ++ (s, stream_with name c) ∷ [])
-written_more ss s name c all is =
-    each-append (λ e. IsWritten e.1) ss ((s, stream_with name c) ∷ []) all (record { once = refl; number = is.number; below = is.below; name = is.name_is }, tt)
+pub written_more : (key : RandomState) (ss : Streams) (s : ℕ) (name c : List ℕ) → AreWritten key ss → IsNameOf key c name → AreWritten key (ss ++ (s, stream_with name c) ∷ [])
+written_more key ss s name c all is =
+    each-append (λ e. IsWritten key e.1) ss ((s, stream_with name c) ∷ []) all (record { once = refl; number = is.number; below = is.below; name = is.name_is }, tt)
 
-pub written_same : (ss tt : Streams) → tt ≡ ss → AreWritten ss → AreWritten tt
-written_same ss ts same all = subst AreWritten (sym same) all
+pub written_same : (key : RandomState) (ss tt : Streams) → tt ≡ ss → AreWritten key ss → AreWritten key tt
+written_same key ss ts same all = subst (AreWritten key) (sym same) all
 
-pub written_removed : (t : Table) (v w : Store) (s : ℕ) → w ≡ (filter_step t v (Changes (Remove s))).volume → AreWritten v.streams → AreWritten w.streams
+pub written_removed : (key : RandomState) (t : Table) (v w : Store) (s : ℕ) → w ≡ (filter_step t v (Changes (Remove s))).volume → AreWritten key v.streams → AreWritten key w.streams
 unfolding change_of
-written_removed t v w s is all = subst (λ (u : Store). AreWritten u.streams) (sym (is ∙ leads_to t v (Changes (Remove s)))) (go (is_some (stream_at s v.streams)))
+written_removed key t v w s is all = subst (λ (u : Store). AreWritten key u.streams) (sym (is ∙ leads_to t v (Changes (Remove s)))) (go (is_some (stream_at s v.streams)))
   where
-    go : (b : Bool) → AreWritten (kept_or v (with_streams v (if b then Ok (without s v.streams) else Err NoStream))).streams
-    go true = written_without v.streams s all
+    go : (b : Bool) → AreWritten key (kept_or v (with_streams v (if b then Ok (without s v.streams) else Err NoStream))).streams
+    go true = written_without key v.streams s all
     go false = all
 
 -- who waits, after an event that submits nothing
-pub paired_after : (t t' : Table) (v v' : Store) (m m' : Waiters) (e : FilterEvent) (out : Out) → Fits t v → AreWritten v.streams → ArePaired t.pended m → opens_after v.opens e ≡ v.opens → Comes (IsAwaited m) 2 v e → Reacts out t' v' (filter_step t v e)
+pub paired_after : (key : RandomState) (t t' : Table) (v v' : Store) (m m' : Waiters) (e : FilterEvent) (out : Out) → Fits t v → AreWritten key v.streams → ArePaired t.pended m → opens_after v.opens e ≡ v.opens → Comes (IsAwaited m) 2 v e → Reacts out t' v' (filter_step t v e)
     → m' ≡ left_by m out.answers.items → ArePaired t'.pended m'
-paired_after t t' v v' m m' e out fits all p none comes reacts left =
+paired_after key t t' v v' m m' e out fits all p none comes reacts left =
     subst (λ (u : Table). ArePaired u.pended m') (sym reacts.table) (subst (ArePaired (filter_step t v e).table.pended) (sym (left ∙ ap (left_by m) reacts.answers))
-    (paired t v m e fits all (λ n. omega (arith, p.each n, ap (λ k. once_up_to k n) none)) (λ n. omega (arith, p.each n, p.once n)) p.streams comes))
+    (paired key t v m e fits all (λ n. omega (arith, p.each n, ap (λ k. once_up_to k n) none)) (λ n. omega (arith, p.each n, p.once n)) p.streams comes))
 
 -- nobody waits for the next open yet
 pub number_free : (t : Table) (v : Store) (m : Waiters) → Fits t v → ArePaired t.pended m → at m (v.opens + 1) ≡ None
@@ -110,15 +111,15 @@ still_awaited t v m w fits p (q ∷ qs) low held =
     ((held.0.0, at_other m (v.opens + 1) q.held.open_id w (number_free t v m fits p) (λ is. omega (arith, is, low.0)) ∙ held.0.1, held.0.2), still_awaited t v m w fits p qs low.1 held.1)
 
 -- who waits after an open, for which one came to wait
-pub paired_opened : (t t' : Table) (v v' : Store) (m m' : Waiters) (w : Waiter) (n least : ℕ) (out : Out) → n ≡ v.opens + 1 → Fits t v → AreWritten v.streams → ArePaired t.pended m → Reacts out t' v' (filter_step t v (Opens w.stream least))
+pub paired_opened : (key : RandomState) (t t' : Table) (v v' : Store) (m m' : Waiters) (w : Waiter) (n least : ℕ) (out : Out) → n ≡ v.opens + 1 → Fits t v → AreWritten key v.streams → ArePaired t.pended m → Reacts out t' v' (filter_step t v (Opens w.stream least))
     → m' ≡ left_by (with m n w) out.answers.items → ArePaired t'.pended m'
-paired_opened t t' v v' m m' w n least out is fits all p reacts left =
+paired_opened key t t' v v' m m' w n least out is fits all p reacts left =
     let e = Opens w.stream least in
     let k = v.opens + 1 in
     let more = with m k w in
     let away : at m k ≡ None = number_free t v m fits p in
     subst (λ (u : Table). ArePaired u.pended m') (sym reacts.table) (subst (ArePaired (filter_step t v e).table.pended) (sym (left ∙ ap (λ u. left_by (with m u w) out.answers.items) is ∙ ap (left_by more) reacts.answers))
-    (paired t v more e fits all (λ u. omega (arith, key_more m k w u away, p.each u, one_more v.opens u)) (λ u. at_most t v m w u fits p) (still_awaited t v m w fits p t.pended fits.taken p.streams) (w, at_new m k w away, refl)))
+    (paired key t v more e fits all (λ u. omega (arith, key_more m k w u away, p.each u, one_more v.opens u)) (λ u. at_most t v m w u fits p) (still_awaited t v m w fits p t.pended fits.taken p.streams) (w, at_new m k w away, refl)))
 
 -- nothing has changed
 pub paired_back : (t t' : Table) (m m' : Waiters) → t' ≡ t → m' ≡ m → ArePaired t.pended m → ArePaired t'.pended m'

@@ -1,5 +1,5 @@
 -- A guard that is as it was, one whose contents are fewer, and one that asks.
-use Rattle.std.proofs.Common.{◌≡◌, ℕ, ◌+◌, ◌-◌, ◌==◌, Bool, true, false, List, [], ◌∷◌, length, map, Option, Some, None, Result, Ok, Err, refl, arith, ap, sym, subst, eqb-true, true≢false, ◌∙◌}
+use Rattle.std.proofs.Common.{◌≡◌, ℕ, ◌+◌, ◌-◌, ◌==◌, Bool, true, false, List, length, map, Option, Some, None, Result, Ok, Err, refl, arith, ap, sym, subst, eqb-true, ◌∙◌}
 use Rattle.std.specs.Prelude.{is_some, if◌then◌else◌}
 use Rattle.std.specs.Option.{option_map}
 use Rattle.av_base.specs.declared.refusal.Refusal.{Refusal}
@@ -10,17 +10,15 @@ use Rattle.av_filter.specs.Once.{times}
 use Rattle.av_guard.specs.declared.waiter.Waiter.{Waiter}
 use Rattle.av_filter_table.specs.Table.{Table}
 use Rattle.av_guard.proofs.SumLemmas.{count_less, sum_less}
-use Rattle.av_guard.specs.Asking.{Asked, AskedNow, IsRefused, IsThere, LetGo, LetsGo, Nexts, is_crowded, ask_fault, may_ask, skipped, asked, behind, bytes_in, bytes_kept, opens, place_fault, place_of}
+use Rattle.av_guard.specs.Asking.{AskedNow, IsThere, is_crowded, ask_fault, asked, bytes_in, bytes_kept, place_fault, place_of}
 use Rattle.av_guard.specs.Asking as refused_so
 use Rattle.av_guard.specs.Kept.{AsksNew, Never, Stays}
 use Rattle.av_guard.specs.Kept as kept_so
 use Rattle.av_guard.specs.Place.{Spot, Unused}
-use Rattle.std.specs.Slice.{IsItemAt}
-use Rattle.std.proofs.Common.{Bor, drop, inr}
-use Rattle.av_guard.specs.Line.{FirstOf, FrontOf, IsHeldUp, NextOf}
+use Rattle.std.specs.declared.alloc.AllocError.{AllocError}
+use Rattle.av_guard.specs.Room.{LetGo, LetsGo, RoomOf}
 use Rattle.av_guard.specs.State.{Gives, State, happens}
 use Rattle.av_guard.specs.Telling.{Waiters}
-use Rattle.av_guard.specs.declared.ask.Ask.{Ask}
 use Rattle.av_guard.specs.declared.fault.AskFault.{AskFault}
 use Rattle.av_guard.specs.declared.fault.AskFault.TheVariants.{Full, OpensSpent}
 use Rattle.av_guard.specs.declared.given.Given.{Given}
@@ -81,41 +79,11 @@ asked_new old new client tag name c (Err NoMemory) left is (Never creates (kept_
 asked_new old new client tag name c (Err NoMemory) left is (Never creates (kept_so.Spent spent)) = refused_so.Spent name is creates spent
 asked_new old new client tag name c (Err NoMemory) left is (Stays there stays) = refused_so.Kept name is there stays
 
-refused_behind : (old mid : State) (c : List ℕ) → IsRefused (behind old []) mid c → IsRefused old (behind mid old.line) c
-refused_behind old mid c (refused_so.Same e) = refused_so.Same (ap (λ x. behind x old.line) e)
-refused_behind old mid c (refused_so.Spent name is creates e) = refused_so.Spent name is creates (ap (λ x. behind x old.line) e)
-refused_behind old mid c (refused_so.Kept name is there e) = refused_so.Kept name is there (ap (λ x. behind x old.line) e)
-
-pub first_refused : (old mid : State) (line : List Ask) (why : Refusal AskFault) → old.line ≡ line → FrontOf (behind old []) mid line (Err why) → FirstOf old (behind mid line) (Err why)
-first_refused old mid line (Fault f) is front = ap (λ x. behind x line) front.asked.1 ∙ ap (λ l. behind old l) (sym is)
-first_refused old mid line NoMemory is front = record {
-  ask = front.ask;
-  rest = drop 1 line;
-  first = is ∙ front.first;
-  left = subst (λ l. IsRefused old (behind mid l) front.ask.content) is (refused_behind old mid front.ask.content front.asked);
-}
-
--- the first of a line
-pub front_of : (xs : List Ask) (b : Bor Ask) → IsItemAt xs 0 (Some b) → xs ≡ b.now ∷ drop 1 xs
-front_of [] b is = absurd (true≢false is.0)
-front_of (x ∷ xs) b is = ap (λ y. y ∷ xs) (sym is.1)
-
--- the first in line, once those that have left are gone, is what comes next
-pub next_first : (old new : State) (r : Result (Option Given) (Refusal AskFault)) → may_ask old ≡ true → FirstOf (skipped old) new r → NextOf old new r
-next_first old new (Ok (Some given)) may f = Asked f.ask (drop 1 (skipped old).line) may f.first f.asked
-next_first old new (Ok None) may (empty, same) = (same, inr empty)
-next_first old new (Err (Fault f)) may same = same
-next_first old new (Err NoMemory) may held = inr held
-
-pub held_up : (old mid now : State) (line ls : List Ask) (why : Refusal AskFault) → now ≡ mid → line ≡ old.line → ls ≡ [] → why ≡ NoMemory → FrontOf (behind old ls) mid line (Err why) → IsHeldUp old (behind now line)
-held_up old mid now line ls why same is none memory front =
-    subst (λ m. IsHeldUp old (behind m line)) (sym same) (first_refused old mid line NoMemory (sym is) (subst (λ w. FrontOf (behind old []) mid line (Err w)) memory (subst (λ k. FrontOf (behind old k) mid line (Err why)) none front)))
-
--- a content was let go
-pub let_go_next : (old same new : State) (given : Given) (s : ℕ) → same ≡ old → is_crowded old ≡ true → times s (map (λ (e : ℕ × Waiter). e.1.stream) old.waiting) ≡ 0 → (E : Type 0) (o : Option Given) → o ≡ Some given → LetsGo {E = E} same new s (Ok o) → Nexts old new given
-let_go_next old same new given s is crowded idle E o some lets =
-    let went : (filter_refusal same.table same.volume (Changes (Remove s)) ≡ None) × Gives given new (happens same (Changes (Remove s))) =
-    subst (λ p. LetsGo {E = E} same new s (Ok p)) some lets in
+-- a content that may go was let go, or nothing happened
+pub let_go_room : (old same new : State) (s : ℕ) → same ≡ old → is_crowded old ≡ true → times s (map (λ (e : ℕ × Waiter). e.1.stream) old.waiting) ≡ 0 → (r : Result (Option Given) AllocError) → LetsGo same new s r → RoomOf old new r
+let_go_room old same new s is crowded idle (Ok (Some given)) lets =
     let there : (filter_refusal old.table old.volume (Changes (Remove s)) ≡ None) × Gives given new (happens old (Changes (Remove s))) =
-    subst (λ g. (filter_refusal g.table g.volume (Changes (Remove s)) ≡ None) × Gives given new (happens g (Changes (Remove s)))) is went in
+    subst (λ g. (filter_refusal g.table g.volume (Changes (Remove s)) ≡ None) × Gives given new (happens g (Changes (Remove s)))) is lets in
     LetGo s crowded idle there.0 there.1
+let_go_room old same new s is crowded idle (Ok None) lets = lets ∙ is
+let_go_room old same new s is crowded idle (Err e) lets = lets ∙ is

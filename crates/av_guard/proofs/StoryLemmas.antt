@@ -30,7 +30,7 @@ use Rattle.av_guard.specs.State.{State, happens}
 use Rattle.av_guard.specs.Telling.{Waiters, left_by}
 use Rattle.av_guard.specs.Waiting.{ArePaired, IsAwaited}
 use Rattle.av_guard.specs.Written.{AreWritten}
-use Rattle.av_guard.specs.declared.ask.Ask.{Ask}
+use Rattle.av_guard.specs.Ask.{Ask}
 use Rattle.av_guard.specs.declared.given.Told.{Told}
 use Rattle.av_guard.specs.declared.waiter.Waiter.{Waiter}
 use Rattle.av_pend.specs.Pend.{open_of}
@@ -42,9 +42,8 @@ use Rattle.av_store.specs.Store.{Store}
 pub record Story (t0 : Table) (v0 : Store) (asks : List Ask) (told : List Told) (sent : List Letter) (history : List FilterEntry) (g : State) : Type 0 where
   pub past : Past t0 v0 g.table g.volume sent history
   pub fits : Fits g.table g.volume
-  pub written : AreWritten g.volume.streams
+  pub written : AreWritten g.key g.volume.streams
   pub paired : ArePaired g.table.pended g.waiting
-  pub line : Each (λ a. Among a asks) g.line
   pub waiting : Each (λ e. IsAsking asks history e.1) g.waiting
   pub founded : Each (IsFounded asks history) told
   pub events : Each (λ x. IsOfGuard x.event) history
@@ -56,7 +55,6 @@ later t0 v0 asks more told sent history g s among = record {
   fits = s.fits;
   written = s.written;
   paired = s.paired;
-  line = each_weaker (λ a. Among a asks) (λ a. Among a (asks ++ more)) among g.line s.line;
   waiting = each_weaker (λ e. IsAsking asks history e.1) (λ e. IsAsking (asks ++ more) history e.1) (λ e h. asking_later asks more history e.1 h) g.waiting s.waiting;
   founded = each_weaker (IsFounded asks history) (IsFounded (asks ++ more) history) (founded_later asks more history) told s.founded;
   events = s.events;
@@ -79,14 +77,14 @@ with_each P (e ∷ m) k w all h =
 
 -- an event, of a guard in which these wait as it comes
 module _ (t0 : Table) (v0 : Store) (asks : List Ask) (told : List Told) (sent : List Letter) (history : List FilterEntry) (g : State) (e : FilterEvent)
-    (past : Past t0 v0 g.table g.volume sent history) (fits : Fits g.table g.volume) (written : AreWritten g.volume.streams)
+    (past : Past t0 v0 g.table g.volume sent history) (fits : Fits g.table g.volume) (written : AreWritten g.key g.volume.streams)
     (counts : (n : ℕ) → times n (keys g.waiting) + once_up_to g.volume.opens n ≡ times n (ids g.table.pended) + once_up_to (opens_after g.volume.opens e) n)
     (once : (n : ℕ) → times n (keys g.waiting) ≤ 1)
     (streams : Each (λ p. IsAwaited g.waiting p.held.open_id p.held.stream) g.table.pended)
     (comes : Comes (IsAwaited g.waiting) 2 g.volume e)
     (events : Each (λ x. IsOfGuard x.event) history) (own : IsOfGuard e)
-    (line : Each (λ a. Among a asks) g.line) (waiting : Each (λ e. IsAsking asks history e.1) g.waiting) (founded : Each (IsFounded asks history) told)
-    (ok : filter_refusal g.table g.volume e ≡ None) (stay : AreWritten (filter_step g.table g.volume e).volume.streams) where
+    (waiting : Each (λ e. IsAsking asks history e.1) g.waiting) (founded : Each (IsFounded asks history) told)
+    (ok : filter_refusal g.table g.volume e ≡ None) (stay : AreWritten g.key (filter_step g.table g.volume e).volume.streams) where
   abbrev pub x : FilterEntry
   x = entry_of g.table g.volume e
 
@@ -113,22 +111,21 @@ module _ (t0 : Table) (v0 : Store) (asks : List Ask) (told : List Told) (sent : 
     past = past_more t0 v0 g.table g.volume sent history e past ok;
     fits = event_fits g.table g.volume e fits ok;
     written = stay;
-    paired = paired g.table g.volume g.waiting e fits written counts once streams comes;
+    paired = paired g.key g.table g.volume g.waiting e fits written counts once streams comes;
     events = each-append (λ x. IsOfGuard x.event) history (x ∷ []) events (own, tt);
-    line = line;
     waiting = left_each (λ e. IsAsking asks longer e.1) r.answers g.waiting waits_on;
     founded =
         each-append (IsFounded asks longer) told (happens g e).told (each_weaker (IsFounded asks history) (IsFounded asks longer) (founded_more history x asks) told founded)
         (told_founded g.clients r.table asks longer r.answers g.waiting waits_on once
-        (each_both (IsOf (IsAwaited g.waiting) 2) (λ a. Among a r.answers) (IsMeant longer g.waiting) meant r.answers (stays g.table g.volume g.waiting e fits written counts once streams comes).answers (each_self r.answers)));
+        (each_both (IsOf (IsAwaited g.waiting) 2) (λ a. Among a r.answers) (IsMeant longer g.waiting) meant r.answers (stays g.key g.table g.volume g.waiting e fits written counts once streams comes).answers (each_self r.answers)));
   }
 
 -- an event that submits no open
 pub quiet_story : (t0 : Table) (v0 : Store) (asks : List Ask) (told : List Told) (sent : List Letter) (history : List FilterEntry) (g : State) (e : FilterEvent) → Story t0 v0 asks told sent history g → IsOfGuard e → opens_after g.volume.opens e ≡ g.volume.opens
-    → Comes (IsAwaited g.waiting) 2 g.volume e → filter_refusal g.table g.volume e ≡ None → AreWritten (filter_step g.table g.volume e).volume.streams
+    → Comes (IsAwaited g.waiting) 2 g.volume e → filter_refusal g.table g.volume e ≡ None → AreWritten g.key (filter_step g.table g.volume e).volume.streams
     → Story t0 v0 asks (told ++ (happens g e).told) (sent ++ (happens g e).messages) (history ++ entry_of g.table g.volume e ∷ []) (happens g e).state
 quiet_story t0 v0 asks told sent history g e s own none comes ok stay =
-    event_story t0 v0 asks told sent history g e s.past s.fits s.written (λ n. omega (arith, s.paired.each n, ap (λ k. once_up_to k n) none)) (λ n. omega (arith, s.paired.each n, s.paired.once n)) s.paired.streams comes s.events own s.line s.waiting s.founded ok stay
+    event_story t0 v0 asks told sent history g e s.past s.fits s.written (λ n. omega (arith, s.paired.each n, ap (λ k. once_up_to k n) none)) (λ n. omega (arith, s.paired.each n, s.paired.once n)) s.paired.streams comes s.events own s.waiting s.founded ok stay
 
 -- an open of a stream that has the content of an ask that was taken
 pub opens_story : (t0 : Table) (v0 : Store) (asks : List Ask) (told : List Told) (sent : List Letter) (history : List FilterEntry) (g : State) (w : Waiter) → Story t0 v0 asks told sent history g → IsAsking asks history w → filter_refusal g.table g.volume (Opens w.stream 0) ≡ None
@@ -141,6 +138,6 @@ opens_story t0 v0 asks told sent history g w s is ok =
     let streams : (filter_step g.table g.volume e).volume.streams ≡ g.volume.streams = ap (λ (u : Store). u.streams) (leads_to g.table g.volume e) in (
       history ++ entry_of g.table g.volume e ∷ [],
       event_story t0 v0 asks told sent history now e s.past s.fits s.written (λ n. omega (arith, key_more g.waiting k w n away, s.paired.each n, one_more g.volume.opens n))
-          (λ n. at_most g.table g.volume g.waiting w n s.fits s.paired) (still_awaited g.table g.volume g.waiting w s.fits s.paired g.table.pended s.fits.taken s.paired.streams) (w, at_new g.waiting k w away, refl) s.events tt s.line
-          (with_each (λ u. IsAsking asks history u) g.waiting k w s.waiting is) s.founded ok (written_same _ _ streams s.written),
+          (λ n. at_most g.table g.volume g.waiting w n s.fits s.paired) (still_awaited g.table g.volume g.waiting w s.fits s.paired g.table.pended s.fits.taken s.paired.streams) (w, at_new g.waiting k w away, refl) s.events tt
+          (with_each (λ u. IsAsking asks history u) g.waiting k w s.waiting is) s.founded ok (written_same _ _ _ streams s.written),
     )

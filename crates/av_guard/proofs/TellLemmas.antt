@@ -26,7 +26,7 @@ use Rattle.av_guard.specs.Run.{IsFounded, IsGrantOf, RestsOn, all_held}
 use Rattle.av_guard.specs.Telling.{Waiters, answered, denied_as, is_here, told_by, told_one}
 use Rattle.av_guard.specs.declared.answered.Answered.{Answered}
 use Rattle.av_guard.specs.declared.answered.Answered.TheVariants as told
-use Rattle.av_guard.specs.declared.ask.Ask.{Ask}
+use Rattle.av_guard.specs.Ask.{Ask}
 use Rattle.av_guard.specs.declared.given.Told.{Told}
 use Rattle.av_guard.specs.declared.waiter.Waiter.{Waiter}
 use Rattle.av_pend.specs.Pend.{open_of}

@@ -1,12 +1,12 @@
--- How often asks were taken, told, wait, and stand in line.
+-- How often asks were taken, told, and wait.
 use Rattle.std.specs.Prelude.{◌≡◌, ℕ, ◌+◌, ◌==◌, ◌&&◌, false, List, [], ◌∷◌, if◌then◌else◌}
-use Rattle.av_base.specs.declared.mode.Mode.{Mode}
 use Rattle.av_guard.specs.Beginning.{begun}
 use Rattle.av_guard.specs.Run.{Call, ClientLost, Lead, asks_in, told_in}
 use Rattle.av_guard.specs.State.{State}
 use Rattle.av_guard.specs.Telling.{Waiters}
-use Rattle.av_guard.specs.declared.ask.Ask.{Ask}
+use Rattle.av_guard.specs.Ask.{Ask}
 use Rattle.av_guard.specs.declared.given.Told.{Told}
+use Rattle.av_guard.specs.declared.settings.Settings.{Settings}
 
 -- one where these are the client and the tag, else none
 abbrev pub one_if : ℕ → ℕ → ℕ → ℕ → ℕ
@@ -31,9 +31,9 @@ Stays client [] = Unit {0}
 Stays client (ClientLost c ∷ rest) = ((c == client) ≡ false) × Stays client rest
 Stays client (_ ∷ rest) = Stays client rest
 
--- Of a client that has not left, each ask that was taken was told, waits, or stands in line, and only one of these.
+-- Of a client that has not left, each ask that was taken was told or waits, and only one of these.
 abbrev pub AsksAreAnsweredOnce : Type 0
 AsksAreAnsweredOnce =
-    (mode : Mode) (keep questions : ℕ) (calls : List Call) (g : State) (client tag : ℕ)
-    → Lead calls (begun mode keep questions) g → Stays client calls
-    → asks_of client tag (asks_in calls) ≡ told_of client tag (told_in calls) + waits_of_ask client tag g.waiting + asks_of client tag g.line
+    (settings : Settings) (calls : List Call) (g : State) (client tag : ℕ)
+    → Lead calls (begun settings) g → Stays client calls
+    → asks_of client tag (asks_in calls) ≡ told_of client tag (told_in calls) + waits_of_ask client tag g.waiting

@@ -1,4 +1,5 @@
 pub mod Naming
+pub mod Ask
 pub mod Telling
 pub mod State
 pub mod Shelf
@@ -7,11 +8,12 @@ pub mod Counts
 pub mod Waiting
 pub mod Written
 pub mod Sound
+pub mod Class
 pub mod Asking
 pub mod Keeping
 pub mod Kept
 pub mod Beginning
-pub mod Line
+pub mod Room
 pub mod Run
 pub mod Answering
 pub mod Laws

@@ -1,6 +1,7 @@
 -- Where a content is in a volume.
 use Rattle.std.specs.Prelude.{◌≡◌, ℕ, zero, suc, ◌+◌, Bool, false, List, Option, Some, None, if◌then◌else◌}
 use Rattle.std.specs.Str.{bytes_eq}
+use Rattle.std.specs.declared.random_state.RandomState.{RandomState}
 use Rattle.av_guard.specs.Naming.{name_of}
 use Rattle.av_guard.specs.declared.place.Place.{Place}
 use Rattle.av_guard.specs.declared.place.Place.TheVariants.{Kept, Free, Nowhere}
@@ -29,9 +30,9 @@ spot_at v c name later None = Unused name
 spot_at v c name later (Some s) = if has_bytes v s c then Held s else later
 
 -- of so many names of a content, from this number on, the first that is free or that a stream with the same bytes has
-unfoldable pub place_from : ℕ → ℕ → Store → List ℕ → Spot
-place_from zero n v c = Missing
-place_from (suc k) n v c = spot_at v c (name_of c n) (place_from k (n + 1) v c) (number_named (name_of c n) v.streams)
+unfoldable pub place_from : ℕ → ℕ → RandomState → Store → List ℕ → Spot
+place_from zero n key v c = Missing
+place_from (suc k) n key v c = spot_at v c (name_of key c n) (place_from k (n + 1) key v c) (number_named (name_of key c n) v.streams)
 
 -- what the code has found is this
 abbrev pub IsPlace : Place → Spot → Type 0

@@ -4,33 +4,31 @@ use Rattle.std.specs.List.{flat_map}
 use Rattle.std.specs.declared.alloc.AllocError.{AllocError}
 use Rattle.av_base.specs.Among.{Among}
 use Rattle.av_base.specs.declared.cause.Cause.{Cause}
-use Rattle.av_base.specs.declared.mode.Mode.{Mode}
 use Rattle.av_base.specs.declared.port.Port.TheVariants.{One}
 use Rattle.av_base.specs.declared.refusal.Refusal.{Refusal}
 use Rattle.av_filter.specs.Audit.{FilterEntry, IsFilterAudit, answers_given, filter_end, sent_down}
 use Rattle.av_filter.specs.Conduct.{FilterEvent, Changes, Disconnects, TimesOut}
-use Rattle.av_filter_table.specs.Table.{Table, mounted}
 use Rattle.av_frame.specs.Message.{Letter}
 use Rattle.av_guard.specs.Asking.{Refuses, Takes, refusal_of}
-use Rattle.av_guard.specs.Beginning.{Joins, begun, left, limits_of}
-use Rattle.av_guard.specs.Line.{NextOf}
+use Rattle.av_guard.specs.Beginning.{Joins, begun, first_table, first_volume, left}
+use Rattle.av_guard.specs.Room.{RoomOf}
 use Rattle.av_guard.specs.State.{State, Turns, happens, hears}
 use Rattle.av_guard.specs.declared.answered.Answered.{Answered}
 use Rattle.av_guard.specs.declared.answered.Answered.TheVariants as told
-use Rattle.av_guard.specs.declared.ask.Ask.{Ask}
+use Rattle.av_guard.specs.Ask.{Ask}
 use Rattle.av_guard.specs.declared.fault.AskFault.{AskFault}
 use Rattle.av_guard.specs.declared.given.Given.{Given}
 use Rattle.av_guard.specs.declared.given.Told.{Told}
+use Rattle.av_guard.specs.declared.settings.Settings.{Settings}
 use Rattle.av_pend.specs.declared.answer.Answer.TheVariants.{Granted, Unscanned}
 use Rattle.av_store.specs.History.{StreamHistory, content, histories_after}
-use Rattle.av_store.specs.Store.{Store, empty_store}
 
 -- a call, with what it was given and what it answered
 pub data Call : Type 0 where
   Client : (number : Option ℕ) → Call
   ClientLost : (client : ℕ) → Call
   Asks : (client tag : ℕ) (content : List ℕ) (result : Result Given (Refusal AskFault)) → Call
-  NextInLine : (result : Result (Option Given) (Refusal AskFault)) → Call
+  MakeRoom : (result : Result (Option Given) AllocError) → Call
   Message : (message : Letter) (result : Result Given AllocError) → Call
   ServiceLost : (result : Result Given AllocError) → Call
   TimeUp : (seq : ℕ) (result : Result Given AllocError) → Call
@@ -41,7 +39,7 @@ Does (Client number) old new = Joins old new number
 Does (ClientLost client) old new = new ≡ left old client
 Does (Asks client tag c (Ok given)) old new = (refusal_of old client c ≡ None) × Takes old new given client tag c
 Does (Asks client tag c (Err why)) old new = Refuses old new client c why
-Does (NextInLine result) old new = NextOf old new result
+Does (MakeRoom result) old new = RoomOf old new result
 Does (Message m result) old new = Turns old new result (hears old m)
 Does (ServiceLost result) old new = Turns old new result (happens old (Disconnects One))
 Does (TimeUp seq result) old new = Turns old new result (happens old (TimesOut seq))
@@ -54,7 +52,7 @@ Lead (c ∷ cs) old new = (next : State) × Does c old next × Lead cs next new
 -- what a call gave out
 abbrev pub given_by : Call → List Given
 given_by (Asks client tag c (Ok given)) = given ∷ []
-given_by (NextInLine (Ok (Some given))) = given ∷ []
+given_by (MakeRoom (Ok (Some given))) = given ∷ []
 given_by (Message m (Ok given)) = given ∷ []
 given_by (ServiceLost (Ok given)) = given ∷ []
 given_by (TimeUp seq (Ok given)) = given ∷ []
@@ -114,18 +112,11 @@ pub record IsFounded (asks : List Ask) (history : List FilterEntry) (t : Told) :
   pub tag : t.tag ≡ ask.tag
   pub rests : RestsOn history ask.content t.answer
 
--- table and volume of a guard that was just made
-abbrev pub first_table : Mode → ℕ → Table
-first_table mode questions = mounted mode (limits_of questions) 1
-
-abbrev pub first_volume : ℕ → Store
-first_volume questions = record (empty_store 1 (limits_of questions)) { boot = 1 }
-
 -- The history of a guard's filter since the guard was made: a legal audit that leads to its table and volume, whose messages are
 -- those that the calls gave out, each for the first port, and on which each answer that they told rests.
-pub record IsHistoryOf (mode : Mode) (questions : ℕ) (calls : List Call) (g : State) (history : List FilterEntry) : Type 0 where
-  pub legal : IsFilterAudit (first_table mode questions) (first_volume questions) history
-  pub leads : filter_end (first_table mode questions) (first_volume questions) history ≡ record { table = g.table; volume = g.volume }
+pub record IsHistoryOf (settings : Settings) (calls : List Call) (g : State) (history : List FilterEntry) : Type 0 where
+  pub legal : IsFilterAudit (first_table settings) (first_volume settings) history
+  pub leads : filter_end (first_table settings) (first_volume settings) history ≡ record { table = g.table; volume = g.volume }
   pub sent : sent_down [] history ≡ sent_in calls
   pub ports : All (λ m. m.port ≡ One) (sent_in calls)
   pub founded : All (IsFounded (asks_in calls) history) (told_in calls)
@@ -133,5 +124,5 @@ pub record IsHistoryOf (mode : Mode) (questions : ℕ) (calls : List Call) (g : 
 -- every guard has one
 abbrev pub GuardsHaveHistory : Type 0
 GuardsHaveHistory =
-    (mode : Mode) (keep questions : ℕ) (calls : List Call) (g : State) → Lead calls (begun mode keep questions) g
-    → (history : List FilterEntry) × IsHistoryOf mode questions calls g history
+    (settings : Settings) (calls : List Call) (g : State) → Lead calls (begun settings) g
+    → (history : List FilterEntry) × IsHistoryOf settings calls g history

@@ -1,5 +1,6 @@
 -- What holds of a guard between calls.
 use Rattle.std.specs.Prelude.{◌≡◌, length}
+use Rattle.std.specs.declared.random_state.RandomState.{RandomState}
 use Rattle.av_filter.specs.Fit.{Fits}
 use Rattle.av_filter_table.specs.Table.{Table}
 use Rattle.av_guard.specs.Asking.{bytes_kept}
@@ -14,10 +15,10 @@ use Rattle.av_store.specs.Store.{Store}
 -- The filter fits its volume, and no service is connected at its second port. Each stream was written once, with the bytes that its name is of. Each open that the filter holds
 -- has one who waits for it here, and each who waits has one open. As many opens wait for each stream as the shelf says; and as
 -- many contents are kept, of as many bytes.
-pub record IsSound (t : Table) (v : Store) (waiting : Waiters) (shelf : Kept) : Type 0 where
+pub record IsSound (key : RandomState) (t : Table) (v : Store) (waiting : Waiters) (shelf : Kept) : Type 0 where
   pub fits : Fits t v
   pub alone : HasOnePort t
-  pub written : AreWritten v.streams
+  pub written : AreWritten key v.streams
   pub paired : ArePaired t.pended waiting
   pub counted : AreCounted shelf.waits waiting
   pub count : shelf.count ≡ length v.streams

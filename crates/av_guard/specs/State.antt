@@ -1,5 +1,6 @@
 -- What a guard knows, and what an event of its filter does to it.
 use Rattle.std.specs.Prelude.{◌≡◌, ℕ, false, List, [], Result, Ok, Err}
+use Rattle.std.specs.declared.random_state.RandomState.{RandomState}
 use Rattle.av_base.specs.declared.port.Port.{Port}
 use Rattle.av_base.specs.declared.port.Port.TheVariants.{One, Two}
 use Rattle.av_filter.specs.Conduct.{FilterEvent, Receives, filter_step}
@@ -7,22 +8,21 @@ use Rattle.av_filter.specs.Reaction.{Reaction}
 use Rattle.av_filter_table.specs.Ports.{is_open}
 use Rattle.av_filter_table.specs.Table.{Table}
 use Rattle.av_frame.specs.Message.{Letter}
-use Rattle.av_guard.specs.declared.ask.Ask.{Ask}
 use Rattle.av_guard.specs.declared.given.Given.{Given}
 use Rattle.av_guard.specs.declared.given.Told.{Told}
 use Rattle.av_guard.specs.Telling.{Waiters, left_by, told_by}
 use Rattle.av_store.specs.Store.{Store}
 
--- the filter and its volume, the bytes of contents that are kept, the clients that are there and the number of the last one,
--- who waits for which open, and the asks that stand in line
+-- the filter and its volume, the key of the names, the bytes of contents that are kept, the clients that are there and the number of the last one,
+-- and who waits for which open
 pub record State : Type 0 where
   pub table : Table
   pub volume : Store
+  pub key : RandomState
   pub keep : ℕ
   pub clients : List ℕ
   pub last : ℕ
   pub waiting : Waiters
-  pub line : List Ask
 
 -- A guard has one port, the first: no service is ever connected at the other.
 abbrev pub HasOnePort : Table → Type 0
@@ -72,5 +72,5 @@ Turns old new (Ok given) turn = Gives given new turn
 Turns old new (Err e) turn = new ≡ old
 
 -- no content, nobody there
-abbrev pub opening : Table → Store → ℕ → State
-opening t v keep = record { table = t; volume = v; keep = keep; clients = []; last = 0; waiting = []; line = [] }
+abbrev pub opening : Table → Store → RandomState → ℕ → State
+opening t v key keep = record { table = t; volume = v; key = key; keep = keep; clients = []; last = 0; waiting = [] }

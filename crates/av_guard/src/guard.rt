@@ -3,51 +3,53 @@ ghost use Rattle.std.specs.BTreeMap.{is_at};
 ghost use Rattle.std.specs.Set.{remove_key};
 ghost use Rattle.std.specs.Ordering.{nat_cmp};
 ghost use Rattle.av_base.specs.declared.port.Port.TheVariants.{One};
-ghost use Rattle.av_base.specs.declared.refusal.Refusal.TheVariants.{NoMemory};
 ghost use Rattle.av_filter.specs.Once.{times};
 ghost use Rattle.av_filter.specs.Conduct.{Disconnects, TimesOut, filter_step, loses_all};
-ghost use Rattle.av_guard.specs.Asking.{AskedNow, GivesNothing, LetsGo, Refuses, Takes, bytes_kept, in_line, is_crowded, may_ask, must_stand, opens, place_of, refusal_of, skipped, still_here};
-ghost use Rattle.av_guard.specs.Line.{FirstOf, FrontOf, IsFree, NextOf};
+ghost use Rattle.av_guard.specs.Asking.{AskedNow, GivesNothing, HasQuestion, Refuses, Takes, bytes_kept, class_of, is_crowded, opens, place_of, refusal_of};
+ghost use Rattle.av_guard.specs.Class.{IsTold, class_by, class_in, has_verdict, is_busy_with, may_ask};
+ghost use Rattle.av_guard.specs.Room.{IsFree, LetsGo, RoomOf};
+ghost use Rattle.av_guard.specs.declared.class.Class.TheVariants.{Asked, Known};
 ghost use Rattle.av_guard.specs.Kept.{AsksNew, IsKeptBy};
 ghost use Rattle.av_guard.specs.Beginning.{Joins, NotBegun, begun};
-ghost use Rattle.av_guard.specs.Place.{Unused};
+ghost use Rattle.av_guard.specs.Place.{IsPlace, Unused};
 ghost use Rattle.av_filter_table.specs.Ports.{is_open, none_open};
+ghost use Rattle.av_filter_table.specs.Table.{has_room};
 ghost use Rattle.av_guard.specs.State.{HasOnePort, Turns, happens, hears};
 ghost use Rattle.av_guard.specs.Waiting.{ArePaired};
 ghost use Rattle.av_guard.specs.Written.{AreWritten};
 ghost use Rattle.av_store.specs.Store.{greatest};
 
-use crate::ask::Ask;
+use crate::beginning::{BOOTS, volume_before};
+use crate::class::Class;
 use crate::events::{disconnect, open, receive, remove, room_for_answers, time_out};
-use crate::fault::{AskFault, QuestionsFault};
+use crate::fault::{AskFault, SettingsFault};
 use crate::given::Given;
 use crate::keeping::store;
 use crate::place::{Place, place_of as find_place};
+use crate::settings::Settings;
 use crate::settling::{enter, leave, settle};
 use crate::shelf::{Oldest, Shelf};
 use crate::waiter::Waiter;
-use av_base::{
-    ByteList, LimitField, LimitValues, Limits, Mode, Port, Refusal, Refused, StreamId, Version,
-};
+use av_base::{LimitField, LimitValues, Limits, Port, Refusal, Refused, StreamId, Version};
 use av_filter::Filter;
 use av_frame::Message;
 use av_store::Volume;
 use std::alloc::{AllocError, Global};
-use std::collections::{BTreeMap, BTreeSet, VecDeque};
+use std::collections::{BTreeMap, BTreeSet};
+use std::hash::RandomState;
 use std::marker::Model;
-use std::mem;
 
-/// Filter and volume of a daemon, who waits for which open, and the asks that stand in line. It holds opens that are owed an
-/// answer, so it can't be let go: `abandon` ends it.
+/// Filter and volume of a daemon, and who waits for which open. It holds opens that have no answer yet, so it can't be
+/// dropped: `abandon` ends it.
 pub struct Guard {
     filter: Filter,
     volume: Volume,
+    key: RandomState,
     keep: u64,
     clients: BTreeSet<u64>,
     last: u64,
     waiting: BTreeMap<u64, Waiter>,
     shelf: Shelf,
-    line: VecDeque<Ask>,
 }
 
 impl Model for Guard {
@@ -59,48 +61,46 @@ impl Model for Guard {
     ghost view = { λ g. record {
       table = g.filter;
       volume = g.volume;
+      key = g.key;
       keep = g.keep;
       clients = g.clients.keys;
       last = g.last;
       waiting = g.waiting.entries;
-      line = g.line.items;
     } };
 
-    ghost invariant = { λ g. IsSound g.filter g.volume g.waiting.entries g.shelf };
+    ghost invariant = { λ g. IsSound g.key g.filter g.volume g.waiting.entries g.shelf };
 }
 
 impl Guard {
-    /// A guard that keeps contents of so many bytes for later asks, and asks so many questions at once, 1 to 1,024:
-    /// QuestionsFault, NoMemory. Nobody is there, and no service is connected. Most of its memory, that of the filter's cache,
-    /// is taken here.
-    pub fn new(
-        alloc: Global,
-        mode: Mode,
-        keep: u64,
-        questions: u64,
-    ) -> Result<Guard, Refusal<QuestionsFault>>
-        ensures ok { IfOk result (λ g. g ≡ begun mode keep questions) }
-        ensures fault { IfErr result (λ e. NotBegun questions e) }
+    /// A guard of these settings: Questions, Boot, NoMemory. Nobody is there, and no service is connected. Most of its memory,
+    /// that of the filter's cache, is taken here.
+    pub fn new(alloc: Global, settings: Settings) -> Result<Guard, Refusal<SettingsFault>>
+        ensures ok { IfOk result (λ g. g ≡ begun settings) }
+        ensures boot { IfOk result (λ g. g.table.boot ≡ settings.boot) }
+        ensures fault { IfErr result (λ e. NotBegun settings e) }
     {
-        let values = LimitValues::greatest().with(LimitField::Questions, questions);
+        let values = LimitValues::greatest().with(LimitField::Questions, settings.questions);
         let limits = match Limits::check(values) {
             Ok(limits) => limits,
-            Err(_) => return Err(Refusal::Fault(QuestionsFault)),
+            Err(_) => return Err(Refusal::Fault(SettingsFault::Questions)),
         };
-        let mut volume = Volume::new(alloc, 1, limits);
-        let filter = match Filter::mount(alloc, &mut volume, mode, limits) {
+        if settings.boot < 1 || settings.boot > BOOTS {
+            return Err(Refusal::Fault(SettingsFault::Boot));
+        }
+        let mut volume = volume_before(alloc, limits, settings.boot);
+        let filter = match Filter::mount(alloc, &mut volume, settings.mode, limits) {
             Ok(filter) => filter,
             Err(_) => return Err(Refusal::NoMemory),
         };
         Ok(Guard {
             filter,
             volume,
-            keep,
+            key: settings.key,
+            keep: settings.keep,
             clients: BTreeSet::new(alloc),
             last: 0,
             waiting: BTreeMap::new(alloc),
             shelf: Shelf::new(alloc),
-            line: VecDeque::new(alloc),
         })
     }
 
@@ -119,18 +119,27 @@ impl Guard {
         }
     }
 
-    /// A client leaves: it is told nothing more. Its questions go on, and their verdicts are kept; its asks in line are never
-    /// asked. It takes no memory, and costs the logarithm of the count of clients.
+    /// A client leaves: it is told nothing more. Its questions go on, and their verdicts are kept. It takes no memory, and costs
+    /// the logarithm of the count of clients.
     pub fn client_lost(&mut self, client: u64)
         ensures { self.new ≡ record self.old { clients = remove_key (is_at (nat_cmp client)) self.old.clients } }
     {
         let _ = self.clients.remove(&client);
     }
 
-    /// An ask about a content: NoClient, TooLarge above 1,048,576 bytes, OpensSpent, Full, NoMemory, the content handed back.
-    /// It is answered, or waits, or stands in line, where others stand, as many questions run or opens wait as may, or no room
-    /// is left in the volume. It costs two looks at each byte of a content that is kept, and one copy of one that is not; and
-    /// the logarithm of the counts of contents and of opens that wait.
+    /// What is known of a content. It takes no memory. It costs two looks at each byte of a content that is kept, one of a
+    /// content that is not, and the logarithm of the count of contents.
+    pub fn class(&self, content: &[u8]) -> Class
+        ensures value { result ≡ class_of self.now content.now }
+        ensures asked { result ≡ Asked → HasQuestion self.now content.now }
+    {
+        self.class_at(&find_place(self.key, &self.volume, content))
+    }
+
+    /// An ask about a content: NoClient, TooLarge above 1,048,576 bytes, Busy, OpensSpent, Full, NoMemory, the content handed
+    /// back. It is told in this call, or it waits for a verdict. A known content is always told. Busy is what a new content
+    /// gets unless `may_ask`, and one that was asked about when no open more can be held. It costs what `class` does, and one
+    /// copy of a content that is not kept yet.
     pub fn ask(
         &mut self,
         alloc: Global,
@@ -140,6 +149,9 @@ impl Guard {
     ) -> Result<Given, Refused<Vec<u8>, AskFault>>
         ensures ok { IfOk result (λ given. (refusal_of self.old client content.items ≡ None)
             × Takes self.old self.new given client tag content.items) }
+        ensures known { IfOk result
+            (λ given. class_of self.old content.items ≡ Known → IsTold given client tag self.old.table.floor) }
+        ensures asked { IfOk result (λ given. class_of self.old content.items ≡ Asked → GivesNothing given) }
         ensures err { IfErr result (λ e. Refuses self.old self.new client content.items e.why) }
         ensures back { IfErr result (λ e. e.value.items ≡ content.items) }
     {
@@ -149,39 +161,41 @@ impl Guard {
         if content.len() > 1_048_576 {
             return refuse(content, Refusal::Fault(AskFault::TooLarge));
         }
-        if self.must_stand() {
-            return self.stand(alloc, client, tag, content);
+        let place = find_place(self.key, &self.volume, content.as_slice());
+        if self.is_busy(self.class_at(&place)) {
+            return refuse(content, Refusal::Fault(AskFault::Busy));
         }
-        match self.ask_now(alloc, client, tag, content.as_slice()) {
+        match self.ask_at(alloc, client, tag, content.as_slice(), place) {
             Ok(given) => Ok(given),
             Err(why) => refuse(content, why),
         }
     }
 
-    /// What is due, one step: a content above those that are to be kept is let go, which nobody waits for, the least lately
-    /// asked for first; or the first in line is asked, where it may be. None where nothing is due: to be called until then
-    /// after each other event. OpensSpent, Full, NoMemory: the line is as before but for those whose clients have left. It
-    /// costs what an ask does, and a look at each of these.
-    #[tactic(auto, using(crate::proofs::StateLemmas::next_first))]
-    pub fn next_in_line(&mut self, alloc: Global) -> Result<Option<Given>, Refusal<AskFault>>
-        ensures { NextOf self.old self.new result }
+    /// Whether a new content may be asked about: a question is free, an open more can be held, and the volume takes a stream
+    /// more. It takes no memory.
+    pub fn may_ask(&self) -> bool
+        ensures { result ≡ may_ask self.now }
     {
-        if self.is_crowded() {
-            match self.next_to_go() {
-                Oldest::Idle(stream) => match self.let_go(alloc, stream) {
-                    Ok(Some(given)) => return Ok(Some(given)),
-                    Ok(None) => {}
-                    Err(_) => return Err(Refusal::NoMemory),
-                },
-                Oldest::Later => return Ok(Some(Given::nothing(alloc))),
-                Oldest::Nothing => {}
-            }
-        }
-        self.skip_gone();
-        if !self.may_ask() {
+        let limits = self.filter.limits().values();
+        let asking = (self.filter.question_count() as u64) < limits.questions;
+        let streams = self.volume.limits().values().streams;
+        asking && self.has_room() && self.shelf.count() < streams
+    }
+
+    /// One step of making room: of more contents than are to be kept one is dropped that nobody waits for, the least lately
+    /// asked for first. None when there is nothing to drop. Call it until then after each other event. It costs a
+    /// logarithm of the count of contents.
+    pub fn make_room(&mut self, alloc: Global) -> Result<Option<Given>, AllocError>
+        ensures { RoomOf self.old self.new result }
+    {
+        if !self.is_crowded() {
             return Ok(None);
         }
-        self.ask_first(alloc)
+        match self.next_to_go() {
+            Oldest::Idle(stream) => self.let_go(alloc, stream),
+            Oldest::Later => Ok(Some(Given::nothing(alloc))),
+            Oldest::Nothing => Ok(None),
+        }
     }
 
     /// Ends it: opens that wait are denied, and nobody hears of it.
@@ -189,12 +203,12 @@ impl Guard {
         let Guard {
             filter,
             volume: _,
+            key: _,
             keep: _,
             clients: _,
             last: _,
             waiting: _,
             shelf: _,
-            line: _,
         } = self;
         filter.abandon();
     }
@@ -229,17 +243,10 @@ impl Guard {
         self.waiting.len()
     }
 
-    /// How many asks stand in line, those of clients that have left among them.
-    pub fn line_count(&self) -> usize
-        ensures { result ≡ length self.now.line }
-    {
-        self.line.len()
-    }
-
     /// How many contents are kept, each in a stream that was written once.
     pub fn kept_count(&self) -> u64
         ensures count { result ≡ length self.now.volume.streams }
-        ensures written { AreWritten self.now.volume.streams }
+        ensures written { AreWritten self.now.key self.now.volume.streams }
     {
         self.shelf.count()
     }
@@ -382,24 +389,22 @@ impl Guard {
         }
     }
 
-    // A content is asked about: OpensSpent, Full, NoMemory.
-    fn ask_now(
+    // A content is asked about, which is in this place: OpensSpent, Full, NoMemory.
+    fn ask_at(
         &mut self,
         alloc: Global,
         client: u64,
         tag: u64,
         content: &[u8],
+        place: Place,
     ) -> Result<Given, Refusal<AskFault>>
         requires small { length content.now < 2 ^ 63 }
+        requires place { IsPlace place (place_of self.old content.now) }
         ensures { AskedNow self.old self.new client tag content.now result }
     {
         if self.volume.opens_left() == 0 {
             return Err(Refusal::Fault(AskFault::OpensSpent));
         }
-        let place = match find_place(alloc, &self.volume, content) {
-            Ok(place) => place,
-            Err(_) => return Err(Refusal::NoMemory),
-        };
         match place {
             Place::Nowhere => Err(Refusal::Fault(AskFault::Full)),
             Place::Kept { stream } => match self.submit(alloc, stream, client, tag) {
@@ -410,14 +415,55 @@ impl Guard {
         }
     }
 
-    // Whether a question is free, an open more can be held, and the volume takes a stream more.
-    fn may_ask(&self) -> bool
-        ensures { result ≡ may_ask self.now }
+    // The class of a content by its place.
+    fn class_at(&self, place: &Place) -> Class
+        ensures { result ≡ class_by self.now place.now }
     {
-        let limits = self.filter.limits().values();
-        let asking = (self.filter.question_count() as u64) < limits.questions;
-        let holding = (self.filter.pended_count() as u64) < limits.pended;
-        asking && holding && self.shelf.count() < self.volume.limits().values().streams
+        match place {
+            Place::Kept { stream } => self.class_in(*stream),
+            Place::Free { .. } | Place::Nowhere => Class::New,
+        }
+    }
+
+    // The class of a content that this stream has.
+    fn class_in(&self, stream: StreamId) -> Class
+        ensures { result ≡ class_in self.now stream }
+    {
+        if self.has_verdict(stream) {
+            return Class::Known;
+        }
+        if self.shelf.waiting_for(stream) > 0 {
+            return Class::Asked;
+        }
+        Class::New
+    }
+
+    // Whether the filter has a verdict of this stream under its floor.
+    fn has_verdict(&self, stream: StreamId) -> bool
+        ensures { result ≡ has_verdict self.now.table stream }
+    {
+        match self.filter.verdict_at(stream) {
+            Some((version, _)) => version == self.filter.floor(),
+            None => false,
+        }
+    }
+
+    // Whether an ask of this class can't be taken now.
+    fn is_busy(&self, class: Class) -> bool
+        ensures { result ≡ is_busy_with self.now class }
+    {
+        match class {
+            Class::Known => false,
+            Class::Asked => !self.has_room(),
+            Class::New => !self.may_ask(),
+        }
+    }
+
+    // Whether an open more can be held.
+    fn has_room(&self) -> bool
+        ensures { result ≡ has_room self.now.table }
+    {
+        (self.filter.pended_count() as u64) < self.filter.limits().values().pended
     }
 
     // Whether more is kept than is to be, or the volume takes no stream more.
@@ -451,97 +497,12 @@ impl Guard {
         }
     }
 
-    // Whether an ask has to stand in line.
-    fn must_stand(&self) -> bool
-        ensures { result ≡ must_stand self.now }
-    {
-        !self.may_ask() || self.line.len() > 0
-    }
-
-    // An ask stands behind the others.
-    fn stand(
-        &mut self,
-        alloc: Global,
-        client: u64,
-        tag: u64,
-        content: Vec<u8>,
-    ) -> Result<Given, Refused<Vec<u8>, AskFault>>
-        ensures ok { IfOk result (λ given. GivesNothing given) }
-        ensures line { OnOk result
-            (self.new ≡ in_line self.old (record { client = client; tag = tag; content = content.items })) }
-        ensures err { OnErr result (self.new ≡ self.old) }
-        ensures back { IfErr result (λ e. (e.value.items ≡ content.items) × (e.why ≡ NoMemory)) }
-    {
-        let ask = Ask {
-            client,
-            tag,
-            content: ByteList::from_vec(content),
-        };
-        match self.line.push_back(ask) {
-            Ok(()) => Ok(Given::nothing(alloc)),
-            Err(failed) => {
-                let Ask { content, .. } = failed.value;
-                refuse(content.into_vec(), Refusal::NoMemory)
-            }
-        }
-    }
     // The content to let go.
     fn next_to_go(&mut self) -> Oldest
         ensures same { self.new ≡ self.old }
         ensures idle { IsFree self.old.waiting result }
     {
         self.shelf.oldest()
-    }
-
-    // The asks in front whose clients have left are let go.
-    fn skip_gone(&mut self)
-        ensures { self.new ≡ skipped self.old }
-    {
-        skip_gone(&self.clients, &mut self.line);
-    }
-
-    // The first in line is asked.
-    fn ask_first(&mut self, alloc: Global) -> Result<Option<Given>, Refusal<AskFault>>
-        ensures { FirstOf self.old self.new result }
-    {
-        let mut line = mem::replace(&mut self.line, VecDeque::new(alloc));
-        match self.ask_front(alloc, &line) {
-            Ok(Some(given)) => {
-                let _ = line.pop_front();
-                self.line = line;
-                Ok(Some(given))
-            }
-            Ok(None) => {
-                self.line = line;
-                Ok(None)
-            }
-            Err(Refusal::Fault(fault)) => {
-                self.line = line;
-                Err(Refusal::Fault(fault))
-            }
-            Err(Refusal::NoMemory) => {
-                self.line = line;
-                Err(Refusal::NoMemory)
-            }
-        }
-    }
-
-    // The first of a line that is held apart is asked.
-    fn ask_front(
-        &mut self,
-        alloc: Global,
-        line: &VecDeque<Ask>,
-    ) -> Result<Option<Given>, Refusal<AskFault>>
-        ensures { FrontOf self.old self.new line.now.items result }
-    {
-        let Some(ask) = line.front() else {
-            return Ok(None);
-        };
-        let _small = ask.content.len();
-        match self.ask_now(alloc, ask.client, ask.tag, ask.content.as_slice()) {
-            Ok(given) => Ok(Some(given)),
-            Err(why) => Err(why),
-        }
     }
 }
 
@@ -554,16 +515,4 @@ fn refuse(content: Vec<u8>, why: Refusal<AskFault>) -> Result<Given, Refused<Vec
         value: content,
         why,
     })
-}
-
-// The asks in front whose clients have left are let go.
-fn skip_gone(clients: &BTreeSet<u64>, line: &mut VecDeque<Ask>)
-    ensures { line.new.items ≡ still_here clients.now.keys line.old.items }
-{
-    while let Some(ask) = line.front() {
-        if clients.contains(&ask.client) {
-            return;
-        }
-        let _ = line.pop_front();
-    }
 }

@@ -17,7 +17,7 @@ pub fn guards_have_history()
 {}
 
 /// Of every list of calls of a guard that was just made, and each client that has not left: as often as it asked under a tag, and was
-/// not refused, it was told under it, waits, or stands in line, each ask in one of these ways.
+/// not refused, it was told under it or waits, each ask in one of these two ways.
 pub fn asks_are_answered_once()
     ensures { AsksAreAnsweredOnce }
 {}

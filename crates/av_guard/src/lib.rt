@@ -2,14 +2,16 @@
 //! kept as a stream that is written once, and an ask is an open of it. One function an event; no socket, no lock, no audit.
 //!
 //! ```text
-//! let mut guard = Guard::new(rt.alloc(), Mode::FailClosed, 67_108_864, 256)?;
+//! let settings = Settings { mode: Mode::FailClosed, keep: 67_108_864, questions: 256, boot, key: RandomState::new(&rt)? };
+//! let mut guard = Guard::new(rt.alloc(), settings)?;
 //! let client = guard.client()?;
 //! let given = guard.ask(rt.alloc(), client, 7, content)?;      // told what is known at once, and what the service is asked
 //! ```
 #![tactic(auto)]
 
 pub mod answered;
-pub mod ask;
+mod beginning;
+pub mod class;
 mod events;
 pub mod fault;
 pub mod given;
@@ -18,6 +20,7 @@ mod keeping;
 pub mod laws;
 mod naming;
 mod place;
+pub mod settings;
 mod settling;
 mod shelf;
 #[cfg(test)]
@@ -25,6 +28,8 @@ mod tests;
 pub mod waiter;
 
 pub use answered::Answered;
-pub use fault::{AskFault, QuestionsFault};
+pub use class::Class;
+pub use fault::{AskFault, SettingsFault};
 pub use given::{Given, Told};
 pub use guard::Guard;
+pub use settings::Settings;

@@ -1,44 +1,45 @@
-ghost use Rattle.std.specs.Prelude.{◌≡◌, ◌-◌, IfOk};
+ghost use Rattle.std.specs.Prelude.{◌≡◌, ◌-◌};
 ghost use Rattle.av_guard.specs.Place.{IsPlace, has_bytes, place_from};
 ghost use Rattle.av_guard.specs.Naming.{name_of, stem_of};
 
-use crate::naming::{push_letters, stem_of};
+use crate::naming::{Name, push_letters, stem_of};
 use av_base::StreamId;
 use av_store::Volume;
-use std::alloc::{AllocError, Global};
+use std::hash::RandomState;
 
 /// Where a content is in a volume.
-#[derive(Debug, Drop)]
+#[derive(Drop)]
 pub(crate) enum Place {
     /// The stream has exactly these bytes.
     Kept { stream: StreamId },
-    /// No stream has them, or this name, which is theirs.
-    Free { name: Vec<u8> },
-    /// All their names are taken by others.
+    /// No stream has them under the names before this one, which is free.
+    Free { name: Name },
+    /// Other contents have all its names.
     Nowhere,
 }
 
-/// The names of a content: more than a volume has streams, so that one of them is free or its own.
-const NAMES: u64 = 65_537;
+/// How many names a content has. No look-up compares its bytes with more contents than that.
+const NAMES: u64 = 16;
 
 /// Where a content is in a volume: by its names in order, the first that is free or that a stream of the same bytes has.
-/// The bytes are compared. It costs a look at each byte of the content, and once more for each stream of the same name.
+/// The bytes are compared, so no answer depends on the hash. Its cost does: a look at each byte of the content, and once
+/// more for each content of the same length and hash, at most 16 times. It takes no memory.
 #[tactic(auto, using(crate::proofs::NameLemmas::place_step, crate::proofs::NameLemmas::place_end), unfolding(crate::specs::Naming::name_of))]
-pub(crate) fn place_of(alloc: Global, volume: &Volume, content: &[u8]) -> Result<Place, AllocError>
-    ensures { IfOk result (λ place. IsPlace place (place_from 65537 0 volume.now content.now)) }
+pub(crate) fn place_of(key: RandomState, volume: &Volume, content: &[u8]) -> Place
+    ensures { IsPlace result (place_from 16 0 key volume.now content.now) }
 {
-    let mut name = stem_of(alloc, content)?;
+    let mut name = stem_of(key, content);
     'names: for number in 0..NAMES {
         name.truncate(32);
         push_letters(&mut name, number);
         let Some(stream) = volume.find(name.as_slice()) else {
-            return Ok(Place::Free { name });
+            return Place::Free { name };
         };
         if has_bytes(volume, stream, content) {
-            return Ok(Place::Kept { stream });
+            return Place::Kept { stream };
         }
     }
-    Ok(Place::Nowhere)
+    Place::Nowhere
 }
 
 // Whether a stream has exactly these bytes.

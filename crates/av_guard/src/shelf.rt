@@ -146,7 +146,7 @@ impl Shelf {
     }
 
     /// How many opens wait for it.
-    fn waiting_for(&self, stream: StreamId) -> u64
+    pub(crate) fn waiting_for(&self, stream: StreamId) -> u64
         ensures { result ≡ waits_of self.now.waits stream }
     {
         match self.waits.get(&stream.get()) {

@@ -1,15 +1,35 @@
 mod say;
 
 use self::say::{given_is, hello, reply};
-use crate::{AskFault, Guard};
+use crate::{AskFault, Class, Guard, Settings, SettingsFault};
 use av_base::{Mode, Refusal, Refused};
 use av_fakes::{may_refuse, refuse_no_more};
 use std::alloc::Global;
+use std::hash::RandomState;
+use std::io;
+use std::random::RandomSource;
 use std::test::Fail;
 
-// A guard with clients 1 and 2.
+// In place of the system's random bytes: those that are there.
+struct NoRandom;
+
+impl RandomSource for NoRandom {
+    fn fill_bytes(&self, _buf: &mut [u8]) -> io::Result<()> {
+        Ok(())
+    }
+}
+
+// A guard in boot 7, with clients 1 and 2.
 fn guard_of(alloc: Global, mode: Mode, keep: u64, questions: u64) -> Result<Guard, Fail> {
-    match Guard::new(alloc, mode, keep, questions) {
+    let key = RandomState::new(&NoRandom)?;
+    let settings = Settings {
+        mode,
+        keep,
+        questions,
+        boot: 7,
+        key,
+    };
+    match Guard::new(alloc, settings) {
         Ok(mut guard) => {
             let _ = guard.client();
             let _ = guard.client();
@@ -29,12 +49,13 @@ enum Step<'a> {
     Clean(u64, u64),
     Infected(u64, u64),
     Ask(u64, u64, &'a [u8]),
+    Class(&'a [u8]),
     Lost,
     TimeUp(u64),
     Leaves(u64),
 }
 
-// What is given out after it, all that comes next in line with it.
+// What is given out after it, with what makes room.
 fn run(alloc: Global, guard: &mut Guard, step: &Step<'_>, said: &mut String) -> Result<(), Fail> {
     let first = match step {
         Step::Hello(version) => guard.message(alloc, &hello(*version))?,
@@ -45,9 +66,10 @@ fn run(alloc: Global, guard: &mut Guard, step: &Step<'_>, said: &mut String) -> 
         Step::Ask(client, tag, content) => {
             match guard.ask(alloc, *client, *tag, content.to_vec(alloc)?) {
                 Ok(given) => given,
-                Err(_) => return Err(Fail::new("refused")),
+                Err(refused) => return Ok(write!(said, "{:?};", refused.why)?),
             }
         }
+        Step::Class(content) => return Ok(write!(said, "{:?};", guard.class(content))?),
         Step::Lost => guard.service_lost(alloc)?,
         Step::TimeUp(seq) => guard.time_up(alloc, *seq)?,
         Step::Leaves(client) => {
@@ -57,10 +79,10 @@ fn run(alloc: Global, guard: &mut Guard, step: &Step<'_>, said: &mut String) -> 
     };
     given_is(said, &first)?;
     for _ in 0..1_000 {
-        match guard.next_in_line(alloc) {
+        match guard.make_room(alloc) {
             Ok(Some(given)) => given_is(said, &given)?,
             Ok(None) => return Ok(()),
-            Err(_) => return Err(Fail::new("next")),
+            Err(_) => return Err(Fail::new("room")),
         }
     }
     Err(Fail::new("no end"))
@@ -72,13 +94,14 @@ struct Case<'a> {
     keep: u64,
     questions: u64,
     steps: &'a [Step<'a>],
-    // Answers as client.tag=.., and scans as scan question stream generation length, each followed by a semicolon.
+    // Answers as client.tag=.., scans as scan question stream generation length, classes and refusals, each followed by a
+    // semicolon.
     said: &'a str,
 }
 
 const MANY: u64 = 67_108_864;
 
-const CASES: [Case<'_>; 15] = [
+const CASES: [Case<'_>; 17] = [
     Case {
         name: "a client that left is told nothing",
         mode: Mode::FailClosed,
@@ -168,7 +191,7 @@ const CASES: [Case<'_>; 15] = [
         said: "scan 1 1 2 0;1.1=granted 2 1;",
     },
     Case {
-        name: "asks stand in line",
+        name: "a new content is busy where no question is free",
         mode: Mode::FailClosed,
         keep: MANY,
         questions: 1,
@@ -178,9 +201,44 @@ const CASES: [Case<'_>; 15] = [
             Step::Ask(1, 2, b"B"),
             Step::Ask(2, 3, b"A"),
             Step::Clean(1, 1),
+            Step::Ask(1, 2, b"B"),
+            Step::Ask(2, 4, b"A"),
+            Step::Ask(2, 5, b"C"),
             Step::Clean(2, 1),
         ],
-        said: "scan 1 1 2 1;1.1=granted 2 1;scan 2 2 2 1;1.2=granted 2 1;2.3=granted 2 1;",
+        said: "scan 1 1 2 1;Fault(Busy);1.1=granted 2 1;2.3=granted 2 1;scan 2 2 2 1;2.4=granted 2 1;Fault(Busy);1.2=granted 2 1;",
+    },
+    Case {
+        name: "a content is new, then asked, then known",
+        mode: Mode::FailClosed,
+        keep: MANY,
+        questions: 1_024,
+        steps: &[
+            Step::Hello(1),
+            Step::Class(b"ABC"),
+            Step::Ask(1, 1, b"ABC"),
+            Step::Class(b"ABC"),
+            Step::Class(b"ABD"),
+            Step::Infected(1, 1),
+            Step::Class(b"ABC"),
+            Step::Updated(2),
+            Step::Class(b"ABC"),
+        ],
+        said: "New;scan 1 1 2 3;Asked;New;1.1=infected 1 0 2;Known;New;",
+    },
+    Case {
+        name: "a content that was not judged is new again",
+        mode: Mode::FailClosed,
+        keep: MANY,
+        questions: 1_024,
+        steps: &[
+            Step::Hello(1),
+            Step::Ask(1, 1, b"ABC"),
+            Step::TimeUp(1),
+            Step::Class(b"ABC"),
+            Step::Ask(1, 2, b"ABC"),
+        ],
+        said: "scan 1 1 2 3;1.1=denied 5;abort 1;New;scan 2 1 2 3;",
     },
     Case {
         name: "no service denies",
@@ -292,7 +350,7 @@ fn every_case_is_answered_as_written(rt: HostRuntime) -> Result<(), Fail> {
     Ok(())
 }
 
-// An ask that memory refuses is told to nobody and leaves who waits and stands in line; with memory it is asked.
+// An ask that memory refuses is told to nobody and leaves who waits as it was; with memory it is asked.
 fn ask_again(alloc: Global, guard: &mut Guard) -> Result<bool, Fail> {
     let content = b"ABC".as_slice().to_vec(alloc)?;
     may_refuse(alloc);
@@ -302,7 +360,7 @@ fn ask_again(alloc: Global, guard: &mut Guard) -> Result<bool, Fail> {
         Ok(given) => Ok(given.messages.len() == 1),
         Err(refused) => {
             let Refused { value, why } = refused;
-            let same = guard.waiting_count() == 0 && guard.line_count() == 0;
+            let same = guard.waiting_count() == 0;
             let memory = why == Refusal::NoMemory;
             match guard.ask(alloc, 1, 1, value) {
                 Ok(given) => Ok(same && memory && given.messages.len() == 1),
@@ -326,30 +384,125 @@ fn refused_or_not_an_ask_is_asked_once(rt: HostRuntime) -> Result<(), Fail> {
     Ok(())
 }
 
+// Why an ask of so many bytes is refused, and how many of them come back.
+fn refusal(
+    alloc: Global,
+    guard: &mut Guard,
+    client: u64,
+    bytes: usize,
+) -> Option<(Refusal<AskFault>, usize)> {
+    let mut content: Vec<u8> = Vec::new(alloc);
+    if content.resize(bytes, 7).is_err() {
+        return None;
+    }
+    match guard.ask(alloc, client, 1, content) {
+        Ok(_) => None,
+        Err(Refused { value, why }) => Some((why, value.len())),
+    }
+}
+
 #[test]
 fn an_ask_is_refused_for_its_first_fault(rt: HostRuntime) -> Result<(), Fail> {
     let alloc = rt.alloc();
     let mut guard = guard_of(alloc, Mode::FailClosed, MANY, 16)?;
-    let mut long: Vec<u8> = Vec::new(alloc);
-    let filled = long.resize(1_048_577, 7).is_ok();
-    let unknown = guard.ask(alloc, 3, 1, long);
-    let back = match unknown {
-        Ok(_) => None,
-        Err(Refused { value, why }) => Some((value, why)),
-    };
-    let Some((long, no_client)) = back else {
-        guard.abandon();
-        return Err(Fail::new("an unknown client was answered"));
-    };
-    let size = long.len();
-    let too_large = match guard.ask(alloc, 1, 1, long) {
-        Ok(_) => None,
-        Err(refused) => Some(refused.why),
-    };
+    let unknown = refusal(alloc, &mut guard, 3, 1_048_577);
+    let too_large = refusal(alloc, &mut guard, 1, 1_048_577);
     guard.abandon();
-    assert!(rt; filled);
-    assert_eq!(rt; size, 1_048_577);
-    assert_eq!(rt; no_client, Refusal::Fault(AskFault::NoClient));
-    assert_eq!(rt; too_large, Some(Refusal::Fault(AskFault::TooLarge)));
+    assert_eq!(rt;
+        unknown,
+        Some((Refusal::Fault(AskFault::NoClient), 1_048_577))
+    );
+    assert_eq!(rt;
+        too_large,
+        Some((Refusal::Fault(AskFault::TooLarge), 1_048_577))
+    );
     Ok(())
+}
+
+// The fault of settings with these questions and this boot number; None where a guard began, which has that number.
+fn fault_of(alloc: Global, questions: u64, boot: u64) -> Result<Option<SettingsFault>, Fail> {
+    let key = RandomState::new(&NoRandom)?;
+    let settings = Settings {
+        mode: Mode::FailClosed,
+        keep: MANY,
+        questions,
+        boot,
+        key,
+    };
+    match Guard::new(alloc, settings) {
+        Ok(guard) => {
+            guard.abandon();
+            Ok(None)
+        }
+        Err(Refusal::Fault(fault)) => Ok(Some(fault)),
+        Err(Refusal::NoMemory) => Err(Fail::new("no memory")),
+    }
+}
+
+#[test]
+fn settings_out_of_range_are_refused(rt: HostRuntime) -> Result<(), Fail> {
+    let cases = [
+        (0, 1, Some(SettingsFault::Questions)),
+        (1_025, 0, Some(SettingsFault::Questions)),
+        (1, 0, Some(SettingsFault::Boot)),
+        (1_024, 16_777_217, Some(SettingsFault::Boot)),
+        (1, 1, None),
+        (1_024, 65_536, None),
+    ];
+    for (questions, boot, fault) in cases {
+        assert_eq!(rt;
+            fault_of(rt.alloc(), questions, boot)?,
+            fault,
+            "{questions} {boot}"
+        );
+    }
+    Ok(())
+}
+
+// A reply of another boot than the guard's is passed over, though its number is that of a question.
+#[test]
+fn a_reply_of_another_boot_grants_nothing(rt: HostRuntime) -> Result<(), Fail> {
+    let alloc = rt.alloc();
+    let mut guard = guard_of(alloc, Mode::FailClosed, MANY, 16)?;
+    let mut said = String::new(alloc);
+    let result = other_boot(alloc, &mut guard, &mut said);
+    guard.abandon();
+    result?;
+    assert_eq!(rt; said.as_str(), "scan 1 1 2 3;1.1=granted 2 1;");
+    Ok(())
+}
+
+fn other_boot(alloc: Global, guard: &mut Guard, said: &mut String) -> Result<(), Fail> {
+    run(alloc, guard, &Step::Hello(1), said)?;
+    run(alloc, guard, &Step::Ask(1, 1, b"ABC"), said)?;
+    given_is(said, &guard.message(alloc, &say::reply_of(1, 1, 1, false))?)?;
+    given_is(said, &guard.message(alloc, &say::reply_of(8, 1, 1, false))?)?;
+    run(alloc, guard, &Step::Clean(1, 1), said)
+}
+
+// One content may be asked about as often as opens can be held, and once more it is busy.
+#[test]
+fn no_more_opens_wait_than_can_be_held(rt: HostRuntime) -> Result<(), Fail> {
+    let alloc = rt.alloc();
+    let mut guard = guard_of(alloc, Mode::FailOpen, MANY, 2)?;
+    let asked = ask_often(alloc, &mut guard);
+    let waits = guard.waiting_count();
+    let may = guard.may_ask();
+    guard.abandon();
+    assert_eq!(rt; asked?, Some(Refusal::Fault(AskFault::Busy)));
+    assert_eq!(rt; waits, 4_096);
+    assert!(rt; !may);
+    Ok(())
+}
+
+// Why the first ask that is refused was refused.
+fn ask_often(alloc: Global, guard: &mut Guard) -> Result<Option<Refusal<AskFault>>, Fail> {
+    let _ = guard.message(alloc, &hello(1))?;
+    for tag in 0..5_000 {
+        match guard.ask(alloc, 1, tag, b"ABC".as_slice().to_vec(alloc)?) {
+            Ok(_) => {}
+            Err(refused) => return Ok(Some(refused.why)),
+        }
+    }
+    Ok(None)
 }

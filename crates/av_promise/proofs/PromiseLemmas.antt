@@ -11,12 +11,13 @@ use Rattle.av_base.specs.declared.port.Port.TheVariants.{One, Two}
 use Rattle.av_base.specs.declared.verdict.Verdict.TheVariants.{Clean}
 use Rattle.av_filter.specs.Audit.{FilterEntry, IsFilterAudit, answers_given}
 use Rattle.av_filter.specs.Conduct.{FilterEvent, Changes}
-use Rattle.av_guard.specs.Beginning.{limits_of}
-use Rattle.av_guard.specs.Run.{Call, IsFounded, IsHistoryOf, RestsOn, all_held, asks_in, first_volume, held_after, told_in}
+use Rattle.av_guard.specs.Beginning.{first_volume, limits_of}
+use Rattle.av_guard.specs.Run.{Call, IsFounded, IsHistoryOf, RestsOn, all_held, asks_in, held_after, told_in}
 use Rattle.av_guard.specs.State.{State}
 use Rattle.av_guard.specs.declared.answered.Answered.{Answered}
 use Rattle.av_guard.specs.declared.answered.Answered.TheVariants as told
 use Rattle.av_guard.specs.declared.given.Told.{Told}
+use Rattle.av_guard.specs.declared.settings.Settings.{Settings}
 use Rattle.av_match.specs.Match.{verdict}
 use Rattle.av_pend.specs.declared.answer.Answer.{Answer}
 use Rattle.av_pend.specs.declared.answer.Answer.TheVariants.{Granted, Unscanned}
@@ -101,7 +102,7 @@ catalogues sets cat One = cat
 catalogues sets cat Two = tt
 
 -- a guard's history that was served
-module _ (mode : Mode) (questions : ℕ) (calls : List Call) (g : State) (history : List FilterEntry) (is : IsHistoryOf mode questions calls g history) (number : ℕ) (limits : LimitValues) (sets : List Publication) (es : List SideEntry) (served : IsServed history number limits sets es) where
+module _ (settings : Settings) (calls : List Call) (g : State) (history : List FilterEntry) (is : IsHistoryOf settings calls g history) (number : ℕ) (limits : LimitValues) (sets : List Publication) (es : List SideEntry) (served : IsServed history number limits sets es) where
   services : (port : Port) → IsServiceAudit (at_first sets port) (desk_at_first port (told_so number limits port) (at_first sets port)) (service_side port es)
   services One = served.service
   services Two = subst (IsServiceAudit [] (desk_at_first Two (told_so number limits Two) [])) (sym served.alone) tt
@@ -116,23 +117,23 @@ module _ (mode : Mode) (questions : ℕ) (calls : List Call) (g : State) (histor
       let nothing : published_as [] version ≡ Some q = ap (λ xs. published_as (sets_end [] xs) version) (sym served.alone) ∙ other in
       absurd (cc (nothing))
 
-  pub legal : AreLegal mode (limits_of questions) (told_so number limits) [] (first_volume questions) (at_first sets) es
+  pub legal : AreLegal settings.mode (limits_of settings.questions) (told_so number limits) [] (first_volume settings) (at_first sets) es
   legal = record {
-    volume = record { streams = (follows.starts 1 (limits_of questions)).streams; last = (follows.starts 1 (limits_of questions)).last };
+    volume = record { streams = (follows.starts 1 (limits_of settings.questions)).streams; last = (follows.starts 1 (limits_of settings.questions)).last };
     catalogues = catalogues sets served.catalogue;
-    filter = subst (IsFilterAudit _ (first_volume questions)) (sym served.filter) is.legal;
+    filter = subst (IsFilterAudit _ (first_volume settings)) (sym served.filter) is.legal;
     services = services;
     works = works;
     one_sets = one_sets;
     delivered = served.delivered;
   }
 
-  answer_just : AuditsGrantOnlyClean mode [] (at_first sets) es → (a : Answer) → Among a (answers_given history) → IsJustThen mode a (past_end (opening_past [] (at_first sets)) es)
+  answer_just : AuditsGrantOnlyClean settings.mode [] (at_first sets) es → (a : Answer) → Among a (answers_given history) → IsJustThen settings.mode a (past_end (opening_past [] (at_first sets)) es)
   answer_just clean a among =
-      just_answer mode a es (opening_past [] (at_first sets)) (subst (λ h. Among a (answers_given h)) (sym served.filter) among)
-      (recursion_from_All (λ (b : AnsweredThen). IsJustified mode b.past b.answer) (answers_in (opening_past [] (at_first sets)) es) clean)
+      just_answer settings.mode a es (opening_past [] (at_first sets)) (subst (λ h. Among a (answers_given h)) (sym served.filter) among)
+      (recursion_from_All (λ (b : AnsweredThen). IsJustified settings.mode b.past b.answer) (answers_in (opening_past [] (at_first sets)) es) clean)
 
-  told_just : AuditsGrantOnlyClean mode [] (at_first sets) es → (c : List ℕ) (a : Answered) → RestsOn history c a → IsJust mode (published_by sets es) c a
+  told_just : AuditsGrantOnlyClean settings.mode [] (at_first sets) es → (c : List ℕ) (a : Answered) → RestsOn history c a → IsJust settings.mode (published_by sets es) c a
   told_just clean c (told.Granted generation version) rests =
       let then = answer_just clean (Granted rests.open_id rests.least rests.stream generation version) rests.granted in
       let right : IsVerdictOf (past_end (opening_past [] (at_first sets)) es) rests.stream generation version Clean = right_grows then.past _ rests.stream generation version Clean then.grown then.just.1 in
@@ -144,13 +145,13 @@ module _ (mode : Mode) (questions : ℕ) (calls : List Call) (g : State) (histor
   told_just clean c (told.Infected version i e) rests = tt
   told_just clean c (told.Denied cause) rests = tt
 
-  told_rightly : AuditsGrantOnlyClean mode [] (at_first sets) es → (t : Told) → IsFounded (asks_in calls) history t → IsRightlyTold mode (published_by sets es) (asks_in calls) t
+  told_rightly : AuditsGrantOnlyClean settings.mode [] (at_first sets) es → (t : Told) → IsFounded (asks_in calls) history t → IsRightlyTold settings.mode (published_by sets es) (asks_in calls) t
   told_rightly clean t f = record { ask = f.ask; taken = f.taken; client = f.client; tag = f.tag; just = told_just clean f.ask.content t.answer f.rests }
 
-  all_rightly : AuditsGrantOnlyClean mode [] (at_first sets) es → (ts : List Told) → Each (IsFounded (asks_in calls) history) ts → Each (IsRightlyTold mode (published_by sets es) (asks_in calls)) ts
+  all_rightly : AuditsGrantOnlyClean settings.mode [] (at_first sets) es → (ts : List Told) → Each (IsFounded (asks_in calls) history) ts → Each (IsRightlyTold settings.mode (published_by sets es) (asks_in calls)) ts
   all_rightly clean [] all = tt
   all_rightly clean (t ∷ ts) all = (told_rightly clean t all.0, all_rightly clean ts all.1)
 
-  pub clean_grants : AuditsGrantOnlyClean mode [] (at_first sets) es → All (IsRightlyTold mode (published_by sets es) (asks_in calls)) (told_in calls)
+  pub clean_grants : AuditsGrantOnlyClean settings.mode [] (at_first sets) es → All (IsRightlyTold settings.mode (published_by sets es) (asks_in calls)) (told_in calls)
   clean_grants clean =
-      All-from_recursion (IsRightlyTold mode (published_by sets es) (asks_in calls)) (told_in calls) (all_rightly clean (told_in calls) (recursion_from_All (IsFounded (asks_in calls) history) (told_in calls) is.founded))
+      All-from_recursion (IsRightlyTold settings.mode (published_by sets es) (asks_in calls)) (told_in calls) (all_rightly clean (told_in calls) (recursion_from_All (IsFounded (asks_in calls) history) (told_in calls) is.founded))

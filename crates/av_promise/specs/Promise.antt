@@ -13,8 +13,9 @@ use Rattle.av_guard.specs.Run.{Call, IsHistoryOf, Lead, asks_in, told_in}
 use Rattle.av_guard.specs.State.{State}
 use Rattle.av_guard.specs.declared.answered.Answered.{Answered}
 use Rattle.av_guard.specs.declared.answered.Answered.TheVariants as told
-use Rattle.av_guard.specs.declared.ask.Ask.{Ask}
+use Rattle.av_guard.specs.Ask.{Ask}
 use Rattle.av_guard.specs.declared.given.Told.{Told}
+use Rattle.av_guard.specs.declared.settings.Settings.{Settings}
 use Rattle.av_match.specs.Match.{verdict}
 use Rattle.av_service.specs.Audit.{IsCatalogue, IsServiceAudit}
 use Rattle.av_service.specs.Desk.{just_started}
@@ -63,8 +64,8 @@ pub record IsRightlyTold (mode : Mode) (sets : List Publication) (asks : List As
 -- all that a guard's calls told, wherever its messages came from and went to
 abbrev pub GrantsAreClean : Type 0
 GrantsAreClean =
-    (mode : Mode) (keep questions : ℕ) (calls : List Call) (g : State) → Lead calls (begun mode keep questions) g
+    (settings : Settings) (calls : List Call) (g : State) → Lead calls (begun settings) g
     → (history : List FilterEntry)
-    × IsHistoryOf mode questions calls g history
+    × IsHistoryOf settings calls g history
     × ((number : ℕ) (limits : LimitValues) (sets : List Publication) (es : List SideEntry) → IsServed history number limits sets es
-    → All (IsRightlyTold mode (published_by sets es) (asks_in calls)) (told_in calls))
+    → All (IsRightlyTold settings.mode (published_by sets es) (asks_in calls)) (told_in calls))

@@ -27,8 +27,13 @@ pub(crate) fn updated(version: u64) -> Message {
     Message::updated(Port::One, version_of(version))
 }
 
-/// The reply to a question of boot 1.
+/// The reply to a question of boot 7.
 pub(crate) fn reply(seq: u64, version: u64, infected: bool) -> Message {
+    reply_of(7, seq, version, infected)
+}
+
+/// The reply to a question of this boot.
+pub(crate) fn reply_of(boot: u64, seq: u64, version: u64, infected: bool) -> Message {
     let verdict = if infected {
         Verdict::Infected {
             index: 0,
@@ -42,7 +47,7 @@ pub(crate) fn reply(seq: u64, version: u64, infected: bool) -> Message {
         verdict,
     };
     let id = MessageId {
-        boot: 1,
+        boot: boot.max(1),
         seq: seq.max(1),
     };
     Message::reply(Port::One, id, outcome)

@@ -11,12 +11,11 @@ letters-preserved c =
     let before = c.letters.name.items in
     record {
       items =
-          ap (λ xs. xs ++ letters (16 - (i + 1)) (rest / 16)) c.push_reserved.ensures.items
+          ap (λ xs. xs ++ letters (16 - (i + 1)) (rest / 16)) c.push.ensures.items
           ∙ append_assoc before ((97 + rest % 16) ∷ []) (letters (16 - (i + 1)) (rest / 16))
           ∙ ap (λ xs. before ++ xs) (sym (letters_step i rest (omega (arith, c.letters-test.true))))
           ∙ c.letters.invariant.items;
-      len = omega (arith, c.push_reserved.ensures.len, c.letters.invariant.len);
-      capacity = c.push_reserved.ensures.capacity ∙ c.letters.invariant.capacity;
+      len = omega (arith, c.push.ensures.len, c.letters.invariant.len);
     }
 
 pub returns-clause-items : goal.returns-clause-items

@@ -2,7 +2,8 @@ use Rattle.std.proofs.Common.{refl, sym, subst, ap, ◌∙◌, arith}
 use Rattle.av_guard.specs.Shelf.{Kept, waits_of}
 use Rattle.std.specs.Prelude.{is_some}
 use Rattle.av_guard.proofs.KeepLemmas.{more_bytes, more_count}
-use Rattle.av_guard.proofs.SoundLemmas.{free_name, written_more, written_same}
+use Rattle.av_guard.proofs.SoundLemmas.{IsNameOf, free_name, written_more, written_same}
+use Rattle.av_guard.specs.State.{State}
 use Rattle.av_guard.specs.Waiting.{ArePaired}
 use Rattle.av_guard.proofs.guard.Guard.keep_content.Goals as goal
 
@@ -16,7 +17,7 @@ invariant_of-self-in-Ok-store c =
     record {
       fits = c.store.ensures.fits;
       alone = c.store.ensures.alone;
-      written = written_same _ _ stored.streams (written_more _ _ _ _ c.self.invariant.written (free_name c.args.self.now.volume c.args.content.now c.args.name.now c.requires.place));
+      written = written_same _ _ _ stored.streams (written_more _ _ _ _ _ c.self.invariant.written (subst (λ (g : State). IsNameOf g.key c.args.content.now c.args.name.now) (sym c.self.view_is) (free_name c.args.self.now.key c.args.self.now.volume c.args.content.now c.args.name.now c.requires.place)));
       paired = subst (λ ps. ArePaired ps c.self.inside.waiting.entries) (sym stored.pended) c.self.invariant.paired;
       counted = λ s. ap (λ (k : Kept). waits_of k.waits s) added ∙ c.self.invariant.counted s;
       count = omega (arith, ap (λ (k : Kept). k.count) added, c.self.invariant.count, more_count _ _ _ _ _ _ stored);

@@ -13,8 +13,8 @@ invariant_of-self c =
     record {
       fits = c.remove.ensures.fits;
       alone = c.remove.ensures.alone;
-      written = written_removed _ _ _ c.args.stream c.in-Ok-remove.ensures.event.volume c.self.invariant.written;
-      paired = paired_after _ _ _ _ _ _ (Changes (Remove c.args.stream)) _ c.self.invariant.fits c.self.invariant.written c.self.invariant.paired refl tt c.in-Ok-remove.ensures.event c.settle.ensures.waiting;
+      written = written_removed _ _ _ _ c.args.stream c.in-Ok-remove.ensures.event.volume c.self.invariant.written;
+      paired = paired_after _ _ _ _ _ _ _ (Changes (Remove c.args.stream)) _ c.self.invariant.fits c.self.invariant.written c.self.invariant.paired refl tt c.in-Ok-remove.ensures.event c.settle.ensures.waiting;
       counted = c.settle.ensures.counted;
       count = omega (arith, c.settle.ensures.shelf.0, ap (λ (k : Kept). k.count) gone, c.self.invariant.count, less.count);
       bytes = omega (arith, c.settle.ensures.shelf.1, ap (λ (k : Kept). k.bytes) gone, c.self.invariant.bytes, less.bytes);

@@ -21,8 +21,8 @@ invariant_of-self-in-Ok-open c =
     record {
       fits = c.open.ensures.fits;
       alone = c.open.ensures.alone;
-      written = written_same _ _ streams c.self.invariant.written;
-      paired = paired_opened c.self.inside.filter _ c.self.inside.volume _ c.self.inside.waiting.entries _ (record { client = c.args.client; tag = c.args.tag; stream = c.args.stream }) _ 0 c.in-Ok-open.out (ap (λ n. n + 1) c.opens-number.ensures) c.self.invariant.fits c.self.invariant.written c.self.invariant.paired event (c.settle.ensures.waiting ∙ ap (λ m. left_by m c.in-Ok-open.out.answers.items) c.in-Ok-enter.ensures.ok);
+      written = written_same _ _ _ streams c.self.invariant.written;
+      paired = paired_opened _ c.self.inside.filter _ c.self.inside.volume _ c.self.inside.waiting.entries _ (record { client = c.args.client; tag = c.args.tag; stream = c.args.stream }) _ 0 c.in-Ok-open.out (ap (λ n. n + 1) c.opens-number.ensures) c.self.invariant.fits c.self.invariant.written c.self.invariant.paired event (c.settle.ensures.waiting ∙ ap (λ m. left_by m c.in-Ok-open.out.answers.items) c.in-Ok-enter.ensures.ok);
       counted = c.settle.ensures.counted;
       count = c.settle.ensures.shelf.0 ∙ ap (λ (k : Kept). k.count) c.touch.ensures ∙ c.enter.ensures.shelf.0 ∙ c.self.invariant.count ∙ sym (ap length streams);
       bytes = c.settle.ensures.shelf.1 ∙ ap (λ (k : Kept). k.bytes) c.touch.ensures ∙ c.enter.ensures.shelf.1 ∙ c.self.invariant.bytes ∙ sym (ap bytes_in streams);
@@ -37,7 +37,7 @@ invariant_of-self-in-Err-open c =
     record {
       fits = c.open.ensures.fits;
       alone = c.open.ensures.alone;
-      written = written_same _ _ streams c.self.invariant.written;
+      written = written_same _ _ _ streams c.self.invariant.written;
       paired = paired_back _ _ _ _ err.0 waiting c.self.invariant.paired;
       counted = c.leave.ensures.counted;
       count = c.leave.ensures.shelf.0 ∙ c.enter.ensures.shelf.0 ∙ c.self.invariant.count ∙ sym (ap length streams);
