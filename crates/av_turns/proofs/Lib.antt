@@ -1,0 +1,7 @@
+pub mod ClientsLemmas
+pub mod FairLemmas
+pub mod LineLemmas
+pub mod QuestionsLemmas
+pub mod RingLemmas
+pub mod TimesLemmas
+pub mod TurnsLemmas

@@ -1,0 +1,23 @@
+use Rattle.std.proofs.Common.{suc, ◌∙◌, ◌≡◌, ◌≤◌, length, arith}
+use Rattle.std.proofs.lemmas.Grind.{common_steps}
+use Rattle.av_turns.specs.declared.clients.Granted.TheVariants.{Given}
+use Rattle.av_turns.proofs.ClientsLemmas.{grants_more}
+use Rattle.av_turns.proofs.turns.Turns.grant.Goals as goal
+
+pub loop-self-preserved : goal.loop-self-preserved
+loop-self-preserved c =
+    let i = c.loop-self.invariant in
+    let given : c.grant.result ≡ Given = grind (arith, common_steps) in
+    let fewer : length c.grant.new.self.clients ≤ c.loop-self.self-inside.most_clients = grind (arith, common_steps) in (
+      i.0,
+      i.1,
+      i.2,
+      i.3,
+      i.4,
+      i.5,
+      i.6,
+      λ q. c.grant.ensures.there q ∙ i.7 q,
+      fewer,
+      i.9,
+      (suc i.10.0, grants_more i.10.0 c.self.inside.clients c.loop-self.self-inside.clients c.grant.new.self i.10.1 (c.grant.ensures.given given)),
+    )

@@ -1,0 +1,9 @@
+pub mod Client
+pub mod Clients
+pub mod Fair
+pub mod Line
+pub mod Places
+pub mod Questions
+pub mod Times
+pub mod Turns
+pub mod Windows
