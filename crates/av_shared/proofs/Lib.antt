@@ -1,1 +1,4 @@
 mod ApartLemmas
+pub mod MergeLemmas
+pub mod StillLemmas
+mod WorkLemmas

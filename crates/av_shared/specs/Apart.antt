@@ -1,18 +1,15 @@
 -- A gate, a desk and a spare, if there is one, between which nothing came over.
 use Rattle.std.specs.Prelude.{Bool, true, false, ◌&&◌, List, map, ◌++◌, Option}
 use Rattle.std.specs.List.{list_all}
-use Rattle.av_base.specs.declared.port.Port.TheVariants.{One, Two}
+use Rattle.av_base.specs.Port.{other}
 use Rattle.av_desk.specs.declared.audit.Audit.{Audit as DeskAudit}
 use Rattle.av_filter.specs.Conduct.{FilterEvent}
 use Rattle.av_filter.specs.Conduct as filter
-use Rattle.av_gate.specs.Claims.{table_of}
 use Rattle.av_gate.specs.declared.audit.Audit.{Audit as GateAudit}
 use Rattle.av_service.specs.Audit.{By, Call}
 use Rattle.av_service.specs.Conduct.{Finishes, Receives}
-use Rattle.av_shared.specs.History.{events_of, sets_at, told_at}
-use Rattle.av_store.specs.Files.{File}
-use Rattle.av_store.specs.Seen.{Keeps}
-use Rattle.av_world.specs.Audits.{AuditsGrantOnlyClean, AuditsHoldOneVerdict, OfFilter, OfService, SideEntry}
+use Rattle.av_shared.specs.History.{events_of}
+use Rattle.av_world.specs.Audits.{OfFilter, OfService, SideEntry}
 
 -- the event brings the filter no message
 abbrev pub hears_nothing : FilterEvent → Bool
@@ -34,13 +31,5 @@ are_apart gate desk spare =
 -- all events of the gate, behind them all of the desk, and behind them all of the spare
 abbrev pub one_by_one : GateAudit → DeskAudit → Option DeskAudit → List SideEntry
 one_by_one gate desk spare =
-    map OfFilter gate.events.items ++ (map (OfService One) desk.events.items ++ map (OfService Two) (events_of spare))
-
--- the headline of these, of the files that the gate's volume kept at first
-pub record HoldsApart (gate : GateAudit) (desk : DeskAudit) (spare : Option DeskAudit) : Type 0 where
-  pub files : List File
-  pub kept : Keeps gate.volume files
-  pub one_verdict :
-      AuditsHoldOneVerdict files (table_of gate) gate.volume (told_at desk spare) (sets_at desk spare)
-      (one_by_one gate desk spare)
-  pub only_clean : AuditsGrantOnlyClean gate.mode files (sets_at desk spare) (one_by_one gate desk spare)
+    map OfFilter gate.events.items
+    ++ (map (OfService desk.port) desk.events.items ++ map (OfService (other desk.port)) (events_of spare))

@@ -1,2 +1,6 @@
 pub mod Apart
+pub mod Certified
 pub mod History
+pub mod Merged
+pub mod Still
+pub mod Works

@@ -1,9 +1,8 @@
 ghost use Rattle.std.specs.Prelude.{List};
 ghost use Rattle.std.specs.Option.{option_copied};
-ghost use Rattle.av_base.specs.declared.port.Port.TheVariants.{One};
 ghost use Rattle.av_filter.specs.Once.{AuditAnswersOnce};
 ghost use Rattle.av_gate.specs.Claims.{IsLegal, table_of};
-ghost use Rattle.av_shared.specs.History.{AreOneHistory, HaveOneSets, IsOfPort, IsSpare, sets_at, told_at};
+ghost use Rattle.av_shared.specs.History.{AreOneHistory, HaveOneSets, IsDeskAudit, IsSpare, sets_at, told_at};
 ghost use Rattle.av_store.specs.Files.{File};
 ghost use Rattle.av_store.specs.Seen.{Keeps};
 ghost use Rattle.av_store.specs.Sound.{IsOfFiles};
@@ -11,7 +10,7 @@ ghost use Rattle.av_world.specs.Audits.{AuditsGrantOnlyClean, AuditsHoldOneVerdi
 
 use av_world::laws::audits;
 
-/// The headline of running threads. A gate, the desk of its port One and the desk of port Two, if there is one, were closed, and
+/// The headline of running threads. A gate, the desk of one of its ports and the desk of the other, if there is one, were closed, and
 /// gave these audits. Put together in any order in which each message that came had been sent by the other side before, and
 /// where each work that came back to a desk is one that it lent: no two verdicts stand for one stream, generation and version;
 /// each grant of a fail-closed gate names the present generation of a content that holds no signature of its version; and each
@@ -23,8 +22,8 @@ pub fn headline_of_audits(
     spare: Option<&av_desk::Audit>,
 )
     requires gate { IsLegal gate.now }
-    requires desk { IsOfPort One desk.now }
-    requires spare { IsSpare (option_copied spare) }
+    requires desk { IsDeskAudit desk.now }
+    requires spare { IsSpare desk.now (option_copied spare) }
     requires one_sets { HaveOneSets desk.now (option_copied spare) }
     ensures files { IsOfFiles gate.now.volume }
     ensures one_verdict { (files : List File) (history : List SideEntry) → Keeps gate.now.volume files

@@ -2,6 +2,12 @@
 #![tactic(auto)]
 
 pub mod apart;
+pub mod certify;
+pub mod closing;
 pub mod laws;
+pub mod merge;
+pub mod still;
+pub mod telling;
 #[cfg(test)]
 mod tests;
+pub mod works;

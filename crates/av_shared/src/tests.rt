@@ -2,23 +2,22 @@ mod between;
 mod frames;
 mod joined;
 mod rows;
+mod shown;
 mod threads;
 
-ghost use Rattle.std.specs.Prelude.{IfOk, None};
-ghost use Rattle.av_filter.specs.Once.{AuditAnswersOnce};
-ghost use Rattle.av_gate.specs.Claims.{table_of};
+ghost use Rattle.std.specs.Prelude.{IfOk, IfSome, None};
+ghost use Rattle.av_gate.specs.Claims.{IsLegal};
 ghost use Rattle.av_gate.specs.Seats.{IsSeatOf};
-ghost use Rattle.av_shared.specs.Apart.{HoldsApart};
-ghost use Rattle.av_shared.specs.History.{AreOneHistory, sets_at, told_at};
-ghost use Rattle.av_store.specs.Seen.{Keeps};
-ghost use Rattle.av_store.specs.Sound.{IsOfFiles};
-ghost use Rattle.av_world.specs.Audits.{AuditsGrantOnlyClean, AuditsHoldOneVerdict};
+ghost use Rattle.av_shared.specs.Certified.{IsCertified};
+ghost use Rattle.av_shared.specs.History.{AreOwnWorks, IsDeskAudit};
 
 use self::between::{Between, Desks};
 use self::joined::joined;
 use self::rows::{APART, BESIDE, NONE_LEFT, ROWS, Row};
 use crate::apart::are_apart;
-use crate::laws::headline_of_audits;
+use crate::certify::is_certified;
+use crate::closing::{Closed, NotClosed, close_all};
+use crate::merge::{Sides, are_merged};
 use av_base::{Limits, Mode, Port, StreamId, Version};
 use av_desk::{Audit as DeskAudit, Desk, Event as DeskEvent};
 use av_ends::{Receipt, Ticket};
@@ -58,36 +57,39 @@ fn desk_of(alloc: Global, port: Port, pattern: &[u8]) -> Result<Desk, Fail> {
     Ok(Desk::new(alloc, 1, port, catalogue, Limits::greatest())?)
 }
 
-// Closes both, or abandons the gate. What the two calls ensure, and that the desk is that of port One, is all that the law asks
-// for where there is no spare.
+// Closes both, or abandons the gate. They are one history.
 fn closed(
     gate: Gate,
     desk: Desk,
     seats: Vec<Seat>,
     receipts: Vec<Receipt>,
 ) -> Result<(GateAudit, DeskAudit), Fail>
-    ensures files { IfOk result (λ r. IsOfFiles r.0.volume) }
-    ensures one_verdict { IfOk result (λ r. (files : _) (history : _) → Keeps r.0.volume files → AreOneHistory r.0 r.1 None history
-        → AuditsHoldOneVerdict files (table_of r.0) r.0.volume (told_at r.1 None) (sets_at r.1 None) history) }
-    ensures only_clean { IfOk result (λ r. (files : _) (history : _) → Keeps r.0.volume files → AreOneHistory r.0 r.1 None history
-        → AuditsGrantOnlyClean r.0.mode files (sets_at r.1 None) history) }
-    ensures answers_once { IfOk result (λ r. AuditAnswersOnce (table_of r.0) r.0.volume r.0.events.items) }
+    ensures { IfOk result (λ r. AreOwnWorks r.1 None → IsCertified r.0 r.1 None) }
 {
-    let desk = desk.close();
-    match gate.close(seats, receipts) {
-        Ok(gate) => {
-            if desk.port != Port::One {
-                return Err(Fail::new("a desk of the other port"));
+    match close_all(gate, seats, receipts, desk, None) {
+        Ok(
+            Closed {
+                gate,
+                desk,
+                spare: _,
+            },
+        ) => {
+            if !is_certified(&gate, &desk, None) {
+                return Err(Fail::new("not one history"));
             }
-            headline_of_audits(&gate, &desk, None);
             Ok((gate, desk))
         }
-        Err(unclosed) => { Err(abandoned(unclosed)) }
+        Err(kept) => Err(abandoned(kept)),
     }
 }
 
 // Lets a gate go that could not be closed.
-fn abandoned(unclosed: Unclosed) -> Fail {
+fn abandoned(kept: NotClosed) -> Fail {
+    let NotClosed {
+        unclosed,
+        desk: _,
+        spare: _,
+    } = kept;
     let Unclosed {
         why: _,
         gate,
@@ -172,35 +174,6 @@ fn run_closed<R: Wait + Abort>(
     }
 }
 
-// Runs a row in which nothing comes over, on a gate and a desk of its own. What the law says of the two audits holds of them
-// with nothing asked: the files are those that the gate's volume keeps, and the history is looked at.
-fn run_apart<R: Wait + Abort>(
-    rt: &R,
-    alloc: Global,
-    row: &Row<'_>,
-) -> Result<(GateAudit, DeskAudit), Fail>
-    ensures { IfOk result (λ r. HoldsApart r.0 r.1 None) }
-{
-    let desk = desk_of(alloc, Port::One, b"XX")?;
-    let (gate, seat) = gate_of_two(alloc)?;
-    let desks = Desks {
-        one: &desk,
-        two: None,
-    };
-    let (seats, receipts) = match run(rt, alloc, &gate, desks, seat, row) {
-        Ok(given) => given,
-        Err(why) => {
-            gate.abandon();
-            return Err(why);
-        }
-    };
-    let (gate, desk) = closed(gate, desk, seats, receipts)?;
-    if !are_apart(&gate, &desk, None) {
-        return Err(Fail::new("something came over"));
-    }
-    Ok((gate, desk))
-}
-
 // Whether the first event is the write of ABC over the beginning of stream 1.
 fn begins_with_the_write(audit: &GateAudit) -> bool {
     let Some(entry) = audit.events.get(0) else {
@@ -228,8 +201,9 @@ fn finished(alloc: Global, audit: &DeskAudit) -> Result<Vec<u64>, Fail> {
 }
 
 #[test]
-fn the_law_holds_of_audits_between_which_nothing_came_over(rt: HostRuntime) -> Result<(), Fail> {
-    let (gate, desk) = run_apart(&rt, rt.alloc(), &APART)?;
+fn audits_between_which_nothing_came_over_are_apart(rt: HostRuntime) -> Result<(), Fail> {
+    let (gate, desk) = run_closed(&rt, rt.alloc(), &APART)?;
+    assert!(rt; are_apart(&gate, &desk, None));
     assert_eq!(rt; (gate.events.len(), desk.events.len()), (2, 1));
     assert!(rt; begins_with_the_write(&gate));
     Ok(())
@@ -264,11 +238,9 @@ fn opens_are_answered_over_frames_and_both_audits_have_all(rt: HostRuntime) -> R
 }
 
 // Runs a row on a gate, a desk and a spare of its own, and closes all.
-fn run_beside<R: Wait + Abort>(
-    rt: &R,
-    alloc: Global,
-    row: &Row<'_>,
-) -> Result<(GateAudit, DeskAudit, DeskAudit), Fail> {
+fn run_beside<R: Wait + Abort>(rt: &R, alloc: Global, row: &Row<'_>) -> Result<Closed, Fail>
+    ensures { IfOk result (λ c. IsLegal c.gate × IsDeskAudit c.desk × IfSome c.spare (λ a. IsDeskAudit a)) }
+{
     let desk = desk_of(alloc, Port::One, b"XX")?;
     let spare = desk_of(alloc, Port::Two, b"XX")?;
     let (gate, seat) = gate_of_two(alloc)?;
@@ -277,9 +249,9 @@ fn run_beside<R: Wait + Abort>(
         two: Some(&spare),
     };
     match run(rt, alloc, &gate, desks, seat, row) {
-        Ok((seats, receipts)) => match gate.close(seats, receipts) {
-            Ok(gate) => Ok((gate, desk.close(), spare.close())),
-            Err(unclosed) => Err(abandoned(unclosed)),
+        Ok((seats, receipts)) => match close_all(gate, seats, receipts, desk, Some(spare)) {
+            Ok(closed) => Ok(closed),
+            Err(kept) => Err(abandoned(kept)),
         },
         Err(why) => {
             gate.abandon();
@@ -288,18 +260,64 @@ fn run_beside<R: Wait + Abort>(
     }
 }
 
+// The events of a gate and of the desks at its ports.
+fn sides<'a>(gate: &'a GateAudit, one: &'a DeskAudit, two: &'a DeskAudit) -> Sides<'a> {
+    Sides {
+        gate: gate.events.as_slice(),
+        one: one.events.as_slice(),
+        two: two.events.as_slice(),
+    }
+}
+
 #[test]
 fn opens_of_a_lost_port_are_answered_over_the_other(rt: HostRuntime) -> Result<(), Fail> {
     let alloc = rt.alloc();
     for row in &[BESIDE, NONE_LEFT] {
-        let (gate, desk, spare) = run_beside(&rt, alloc, row)?;
+        let Closed { gate, desk, spare } = run_beside(&rt, alloc, row)?;
+        let Some(spare) = spare else {
+            return Err(Fail::new("no spare"));
+        };
         assert_eq!(rt; gate.events.len(), row.filter_steps, "{}", row.name);
         assert!(rt; !are_apart(&gate, &desk, Some(&spare)), "{}", row.name);
+        assert!(rt; are_merged(sides(&gate, &desk, &spare)), "{}", row.name);
         let used_up = joined(alloc, &gate, &desk, Some(&spare))?;
         let all = (gate.events.len(), desk.events.len(), spare.events.len());
         assert_eq!(rt; used_up, all, "{}", row.name);
         assert!(rt;
             desk.port == Port::One && spare.port == Port::Two,
+            "{}",
+            row.name
+        );
+    }
+    Ok(())
+}
+
+// A front of a side alone is no history: what came had not been sent.
+#[test]
+fn a_message_that_nobody_sent_is_seen(rt: HostRuntime) -> Result<(), Fail> {
+    let alloc = rt.alloc();
+    for row in &ROWS {
+        let (gate, desk) = run_closed(&rt, alloc, row)?;
+        for kept in 0..desk.events.len() {
+            let some = Sides {
+                gate: gate.events.as_slice(),
+                one: &desk.events.as_slice()[..kept],
+                two: &[],
+            };
+            let rest = Sides {
+                gate: &[],
+                one: &desk.events.as_slice()[kept..],
+                two: &[],
+            };
+            assert!(rt; !are_merged(rest) || kept >= 1, "{}, {kept}", row.name);
+            let _some = are_merged(some);
+        }
+        assert!(rt;
+            !are_merged(Sides {
+                gate: gate.events.as_slice(),
+                one: &[],
+                two: &[],
+            }),
             "{}",
             row.name
         );

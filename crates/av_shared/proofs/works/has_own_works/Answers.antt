@@ -1,0 +1,8 @@
+use Rattle.std.proofs.Common.{◌≡◌, Some, sym, subst}
+use Rattle.av_match.specs.Scanning.{Compiled}
+use Rattle.av_sigset.specs.Publication.{Publication, publication_of, published_as}
+use Rattle.av_shared.proofs.StillLemmas.{named_alone}
+use Rattle.av_shared.proofs.works.has_own_works.Goals as goal
+
+pub finishes_own-requires-clause-published : goal.finishes_own-requires-clause-published
+finishes_own-requires-clause-published c = named_alone c.args.audit.now c.args.automaton.now (publication_of c.args.set.now) c.requires.built c.requires.opened
