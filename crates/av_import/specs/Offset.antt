@@ -1,5 +1,5 @@
 -- The places at which a match may begin, as an offset tells them.
-use Rattle.std.specs.Prelude.{ℕ, ◌+◌, ◌==◌, ◌&&◌, ◌||◌, Bool, true, false, nat_lt, nat_eq, min, List, [], ◌∷◌, Option, None, Some, Result, Ok, Err, codes, if◌then◌else◌}
+use Rattle.std.specs.Prelude.{ℕ, ◌+◌, ◌==◌, ◌&&◌, ◌||◌, Bool, true, false, nat_lt, nat_eq, List, [], ◌∷◌, Option, None, Some, Result, Ok, Err, codes, if◌then◌else◌}
 use Rattle.std.specs.List.{starts_with}
 use Rattle.std.specs.Str.{bytes_eq}
 use Rattle.av_base.specs.Decimal.{is_digit}
@@ -33,12 +33,12 @@ is_counted offset =
     starts_with nat_eq offset (codes "EOF-") || starts_with nat_eq offset (codes "EP+") || starts_with nat_eq offset (codes "EP-")
     || starts_with nat_eq offset (codes "SL+") || starts_with nat_eq offset (codes "VI") || has_section offset
 
--- from a place to one that is so much further, as far as a content has places
+-- from a place to one that is so much further, where that is in front of 1,048,575, which as a last place is no bound
 abbrev pub span_from : Option ℕ → Option ℕ → Result Span Why
 span_from None shift = Err OffsetNumber
 span_from (Some low) None = Err OffsetNumber
 span_from (Some low) (Some shift) =
-    if nat_lt MAX_PLACE low then Err Far else Ok (record { low = low; high = min (low + shift) MAX_PLACE })
+    if nat_lt (low + shift) MAX_PLACE then Ok (record { low = low; high = low + shift }) else Err Far
 
 -- one number is a place, and two with a comma a place and how much further
 abbrev pub span_in : List (List ℕ) → Result Span Why

@@ -1,6 +1,8 @@
 //! Conditions that are an `or` of strings, each anywhere, at a place or in a range of places.
-ghost use Rattle.std.specs.Prelude.{◌≤◌, length, IfOk};
+ghost use Rattle.std.specs.Prelude.{◌≡◌, ◌≤◌, ◌<◌, ◌⊎◌, length, IfOk, IsErr};
 ghost use Rattle.av_import.specs.declared.condition.TheConstants.{MAX_WANTED};
+ghost use Rattle.av_sigset.specs.Set.{IsSpan};
+ghost use Rattle.av_sigset.specs.declared.signature.TheConstants.{MAX_PLACE};
 
 use crate::lexer::Token;
 use crate::strings::{RuleFault, YaraString};
@@ -164,13 +166,21 @@ fn span_behind(words: &mut Words<'_, '_>) -> Result<Span, RuleFault> {
     } else {
         return Ok(Span::WIDEST);
     };
-    if low > high || low > MAX_PLACE {
+    span_between(low, high)
+}
+
+// From a place to another. In a signature file 1,048,575 as the last place is no bound, so a bound from there on can't be said.
+fn span_between(low: u64, high: u64) -> Result<Span, RuleFault>
+    ensures ok { IfOk result (λ span. (span.low ≡ low) × (span.high ≡ high) × IsSpan span × (high < MAX_PLACE)) }
+    ensures err { IsErr result → high < low ⊎ MAX_PLACE ≤ high }
+{
+    if low > high {
+        return Err(RuleFault::Why(Why::NoPlace));
+    }
+    if high >= MAX_PLACE {
         return Err(RuleFault::Why(Why::Far));
     }
-    Ok(Span {
-        low,
-        high: high.min(MAX_PLACE),
-    })
+    Ok(Span { low, high })
 }
 
 // The number of a word: decimal digits, or `0x` and hexadecimal ones, with `KB` or `MB` behind them or not.

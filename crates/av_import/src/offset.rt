@@ -32,7 +32,8 @@ pub fn span_of(offset: &[u8]) -> Result<Span, Why>
     span_from(number(low), number(shift))
 }
 
-// From a place to one that is so much further, as far as a content has places.
+// From a place to one that is so much further. In a signature file 1,048,575 as the last place is no bound, so a bound from there on
+// can't be said.
 fn span_from(low: Option<u64>, shift: Option<u64>) -> Result<Span, Why>
     ensures span { result ≡ span_from low shift }
     ensures bound { IfOk result (λ s. IsSpan s) }
@@ -40,10 +41,10 @@ fn span_from(low: Option<u64>, shift: Option<u64>) -> Result<Span, Why>
     let (Some(low), Some(shift)) = (low, shift) else {
         return Err(Why::OffsetNumber);
     };
-    if low > MAX_PLACE {
+    let high = low.saturating_add(shift);
+    if high >= MAX_PLACE {
         return Err(Why::Far);
     }
-    let high = low.saturating_add(shift).min(MAX_PLACE);
     Ok(Span { low, high })
 }
 

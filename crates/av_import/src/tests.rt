@@ -34,7 +34,7 @@ fn gives(
 
 #[test]
 fn a_line_gives_a_signature(rt: HostRuntime) -> Result<(), Fail> {
-    let rows: [(&str, &[u8], &[u8]); 10] = [
+    let rows: [(&str, &[u8], &[u8]); 9] = [
         ("a.ndb", b"A-1:0:*:4d5a9000", b"A-1 4d5a9000\n"),
         ("a.NDU", b"A:0:0:41\r\r\n", b"A 41 0 0\n"),
         (
@@ -43,8 +43,7 @@ fn a_line_gives_a_signature(rt: HostRuntime) -> Result<(), Fail> {
             b"A 41 10 15\n",
         ),
         ("a.ndb", b"A:0:0007:41\n", b"A 41 7 7\n"),
-        ("a.ndb", b"A:0:1048575,9:41\n", b"A 41 1048575 1048575\n"),
-        ("a.ndb", b"A:0:0,9999999999999999999:41\n", b"A 41\n"),
+        ("a.ndb", b"A:0:1048565,9:41\n", b"A 41 1048565 1048574\n"),
         ("a.db", b"A b=C0ffee\n", b"A_b c0ffee\n"),
         ("db", b"A=41\nA=42\nA=43", b"A 41\nA.2 42\nA.3 43\n"),
         (
@@ -63,7 +62,12 @@ fn a_line_gives_a_signature(rt: HostRuntime) -> Result<(), Fail> {
 
 #[test]
 fn a_line_that_is_left_out_is_told_with_its_reason(rt: HostRuntime) -> Result<(), Fail> {
-    let rows: [(&str, &[u8], &[u8]); 24] = [
+    let rows: [(&str, &[u8], &[u8]); 25] = [
+        (
+            "a.ndb",
+            b":0:0,9999999999999999999:41",
+            b"a place past 1,048,574 has no bound in a signature file",
+        ),
         ("a.hdb", b"x", b"hashes of whole files or sections"),
         ("a.txt", b"x", b"not .ndb, .db, .yar or .yara"),
         ("a.ndb", b":a", b"not Name:Target:Offset:Hex"),
@@ -103,7 +107,11 @@ fn a_line_that_is_left_out_is_told_with_its_reason(rt: HostRuntime) -> Result<()
             b":0:SE1:41",
             b"the place is counted from the end, an entry or a section",
         ),
-        ("a.ndb", b":0:1048576:41", b"the place is past 1,048,575"),
+        (
+            "a.ndb",
+            b":0:1048576:41",
+            b"a place past 1,048,574 has no bound in a signature file",
+        ),
         ("a.ndb", b":0:*:", b"no bytes"),
         ("a.ndb", b":0:*:4?4", b"wildcards"),
         ("a.ndb", b":0:x:4g4", b"not hexadecimal"),

@@ -23,8 +23,10 @@ pub enum Why {
     OffsetNumber,
     /// The place is counted from the end, an entry or a section.
     Counted,
-    /// The place is past the last one that a content has.
+    /// The last place is past 1,048,574: from 1,048,575 on a signature file has no bound.
     Far,
+    /// The first place of a range is behind its last one.
+    NoPlace,
     /// There are no bytes.
     NoBytes,
     /// The bytes have alternatives or gaps.

@@ -2,7 +2,7 @@ use Rattle.std.specs.Prelude.{ℕ, ⊤, List, [], ◌∷◌, if◌then◌else◌
 use Rattle.av_engines.specs.declared.end.End.{End}
 use Rattle.av_engines.specs.declared.end.End.TheVariants as end
 use Rattle.av_status.specs.declared.status.Status.{Status}
-use Rattle.av_status.specs.declared.status.Status.TheVariants.{Done, Refused, Usage, Memory, Device, Found}
+use Rattle.av_status.specs.declared.status.Status.TheVariants.{Done, Refused, Usage, Memory, Device, Found, FoundInPart}
 
 -- the exit status of the process
 abbrev pub number_of : Status → ℕ
@@ -12,8 +12,9 @@ number_of Usage = 2
 number_of Memory = 3
 number_of Device = 4
 number_of Found = 5
+number_of FoundInPart = 6
 
--- a run ended with nothing that failed
+-- a run came to its end: nothing failed, or what failed was passed over beside what was found
 abbrev pub EndsWell : Status → Type 0
 EndsWell Done = ⊤
 EndsWell Refused = ⊥
@@ -21,8 +22,9 @@ EndsWell Usage = ⊥
 EndsWell Memory = ⊥
 EndsWell Device = ⊥
 EndsWell Found = ⊤
+EndsWell FoundInPart = ⊤
 
--- something failed
+-- something failed, and the status says so alone
 abbrev pub IsFault : Status → Type 0
 IsFault Done = ⊥
 IsFault Refused = ⊤
@@ -30,6 +32,7 @@ IsFault Usage = ⊤
 IsFault Memory = ⊤
 IsFault Device = ⊤
 IsFault Found = ⊥
+IsFault FoundInPart = ⊥
 
 -- of two statuses the one with the greater number
 abbrev pub graver_status : Status → Status → Status

@@ -2,7 +2,7 @@
 use Rattle.std.specs.Prelude.{ℕ, ◌+◌, ◌-◌, ◌^◌, ◌&&◌, Bool, true, if◌then◌else◌, min, nat_lt}
 use Rattle.av_status.specs.Status.{graver_status}
 use Rattle.av_status.specs.declared.status.Status.{Status}
-use Rattle.av_status.specs.declared.status.Status.TheVariants.{Done, Found}
+use Rattle.av_status.specs.declared.status.Status.TheVariants.{Done, Found, FoundInPart}
 use Rattle.av_status.specs.declared.tally.Shown.{Shown}
 use Rattle.av_status.specs.declared.tally.Shown.TheVariants.{All, Infected}
 use Rattle.av_status.specs.declared.tally.Tally.{Tally}
@@ -29,11 +29,16 @@ with_scanned t is_infected = record t { scanned = one_more t.scanned; infected =
 abbrev pub with_missed : Tally → Status → Tally
 with_missed t s = record t { missed = one_more t.missed; worst = graver_status t.worst s }
 
--- something is infected, nothing failed, and that has a status of its own
-abbrev pub ending_of : Wishes → Tally → Status → Status
-ending_of w t Done = if w.has_found_status && nat_lt 0 t.infected then Found else Done
-ending_of w t s = s
+-- something is infected, and the user wants a status for it
+abbrev pub has_found : Wishes → Tally → Bool
+has_found w t = w.has_found_status && nat_lt 0 t.infected
 
--- how a run ends: by the greatest status of a fault, where there was one
+-- a run without a fault, and one whose greatest fault has this status. What was found has one status where all was scanned, and another
+-- where it was not.
+abbrev pub ending_of : Wishes → Tally → Status → Status
+ending_of w t Done = if has_found w t then Found else Done
+ending_of w t s = if has_found w t then FoundInPart else s
+
+-- how a run ends
 abbrev pub concluded : Wishes → Tally → Status
 concluded w t = ending_of w t t.worst

@@ -6,7 +6,7 @@ ghost use Rattle.av_status.specs.declared.status.Status.TheVariants.{Device, Mem
 use crate::status::Status;
 use av_base::Part;
 use av_base::parts::write_parts;
-use av_sigset::SetFault;
+use av_sigset::{SetFault, SetFaultKind};
 use std::io::Write;
 
 /// A file can't be opened, or a read of it failed.
@@ -51,6 +51,39 @@ pub fn bad_set<E: Write>(err: &mut E, fault: SetFault) -> Status
     Status::Refused
 }
 
+/// A signature file is bad, told with the place and in words.
+pub fn bad_set_line<E: Write>(err: &mut E, file: &str, fault: SetFault) -> Status
+    ensures { result ≡ Refused }
+{
+    say_set_line(err, file, fault);
+    Status::Refused
+}
+
+/// What becomes of a signature set without signatures.
+#[derive(Clone, Copy, Debug, PartialEq, Eq)]
+pub enum EmptySets {
+    /// It is a fault.
+    Refused,
+    /// It is told and taken.
+    Allowed,
+}
+
+/// A signature set has no signatures, so that every content is clean under it.
+pub fn empty_set<E: Write>(err: &mut E, set: &str, version: u64) -> Status
+    ensures { result ≡ Refused }
+{
+    say_of(
+        err,
+        set,
+        &[
+            text(": version "),
+            Part::Number(version),
+            text(" has no signatures"),
+        ],
+    );
+    Status::Refused
+}
+
 /// A script is bad from this line on.
 pub fn bad_script<E: Write>(err: &mut E, line: u64) -> Status
     ensures { result ≡ Refused }
@@ -87,6 +120,14 @@ pub fn bad_socket<E: Write>(err: &mut E, socket: &str) -> Status
 {
     let why = text(": the path of a socket has 1 to 107 bytes");
     say_of(err, socket, &[why]);
+    Status::Usage
+}
+
+/// Two sockets of one program have one path.
+pub fn same_socket<E: Write>(err: &mut E, socket: &str) -> Status
+    ensures { result ≡ Usage }
+{
+    say_of(err, socket, &[text(": two sockets have one path")]);
     Status::Usage
 }
 
@@ -143,6 +184,63 @@ pub fn device_failed<E: Write>(err: &mut E) -> Status
 {
     say(err, &[text("device")]);
     Status::Device
+}
+
+/// The audits of a run don't show that what it told of its files is true.
+pub fn not_certified<E: Write>(err: &mut E) -> Status
+    ensures { result ≡ Device }
+{
+    say(err, &[text("run not certified")]);
+    Status::Device
+}
+
+/// Whether a second line gives the reason of a fault. The first line is fixed, and programs read it.
+#[derive(Clone, Copy, Debug, PartialEq, Eq)]
+pub enum Reasons {
+    /// A person reads standard error, on a terminal.
+    Given,
+    /// Faults have one line.
+    Omitted,
+}
+
+/// The reason of the fault that the line before told, where reasons are given: what happened, and to which object.
+pub fn say_reason<E: Write>(err: &mut E, reasons: Reasons, object: &str, reason: &str) {
+    if reasons == Reasons::Given {
+        say_of(err, object, &[text(": "), Part::Text(reason.as_bytes())]);
+    }
+}
+
+/// The reason why a signature file was refused, where reasons are given: the place and what is wrong there.
+pub fn say_set_reason<E: Write>(err: &mut E, reasons: Reasons, set: &str, fault: SetFault) {
+    if reasons == Reasons::Given {
+        say_set_line(err, set, fault);
+    }
+}
+
+fn say_set_line<E: Write>(err: &mut E, set: &str, fault: SetFault) {
+    let line = Part::Number(fault.line);
+    say_of(
+        err,
+        set,
+        &[text(":"), line, text(": "), text(words_of(fault.kind))],
+    );
+}
+
+/// What is wrong with a line of a signature file, in words.
+pub fn words_of(kind: SetFaultKind) -> &'static str {
+    match kind {
+        SetFaultKind::Header => "not `avsig 1` or `avsig 2`",
+        SetFaultKind::Version => "not `version` and a number from 1 to 2^64 - 1",
+        SetFaultKind::Name =>
+            "not a name of 1 to 32 letters, digits, `.`, `_` and `-`, and a space",
+        SetFaultKind::Hex => "not pairs of hexadecimal digits",
+        SetFaultKind::Length => "not 1 to 64 bytes",
+        SetFaultKind::Duplicate => "a name that an earlier line has",
+        SetFaultKind::TooMany => "more than 1,024 signatures, or than 16,384 bytes in all",
+        SetFaultKind::Unended => "the file ends before the end of this line",
+        SetFaultKind::Range =>
+            "not two numbers, the second at least the first and at most 1,048,575",
+    }
 }
 
 /// A part of a line that is always the same.

@@ -16,10 +16,12 @@ pub enum Status {
     Device,
     /// All was done, and something is infected, of which the user wanted to be told so.
     Found,
+    /// Something is infected, of which the user wanted to be told so, and some files were not scanned.
+    FoundInPart,
 }
 
 impl Status {
-    /// The exit status, from 0 to 5.
+    /// The exit status, from 0 to 6.
     pub fn number(self) -> u8
         ensures { result ≡ number_of self }
     {

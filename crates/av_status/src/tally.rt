@@ -37,6 +37,8 @@ pub enum Form {
     Lines,
     /// In lines of JSON, an object each.
     Json,
+    /// In words, each file ended by a zero byte in place of the line's end, under its name as it is.
+    ZeroEnded,
 }
 
 /// What the user wants to be told of files.
@@ -44,7 +46,7 @@ pub enum Form {
 pub struct Wishes {
     pub shown: Shown,
     pub form: Form,
-    /// A status of its own where something is infected.
+    /// Statuses of their own where something is infected.
     pub has_found_status: bool,
     /// A line at the end that says how many files were scanned.
     pub has_summary: bool,
@@ -95,14 +97,11 @@ impl Tally {
     pub fn status(&self, wishes: Wishes) -> Status
         ensures { result ≡ concluded wishes self.now }
     {
+        let has_found = wishes.has_found_status && self.infected > 0;
         match self.worst {
-            Status::Done => {
-                if wishes.has_found_status && self.infected > 0 {
-                    Status::Found
-                } else {
-                    Status::Done
-                }
-            }
+            Status::Done if has_found => Status::Found,
+            Status::Done => Status::Done,
+            _ if has_found => Status::FoundInPart,
             failed => failed,
         }
     }

@@ -27,8 +27,9 @@ fn program<'a>(alloc: Global) -> Command<'a> {
              which asks the service first\
              \n  avscan run examples/late_reply.avs                       run a script\
              \n  avscan scan -r -i --summary examples/test.avsig FOLDER   scan what is below a folder, and show what is infected\
-             \n\nExit status: 0 all done, 1 input refused, 2 usage, 3 memory, 4 device, 5 something is infected \
-             (with --found-status).",
+             \n\nExit status: 0 all done, 1 input refused, 2 usage, 3 memory, 4 device; with --found-status 5 something is \
+             infected,\
+             \n6 something is infected and some files were not scanned.",
         )
         .subcommand_required(true)
 }
@@ -43,11 +44,12 @@ fn with_opening<'a>(alloc: Global, command: Command<'a>) -> Result<Command<'a>, 
     with(command, ask_command(alloc))
 }
 
-// Adds the commands that draw a script, make one, or make a signature file.
+// Adds the commands that draw a script, make one, or make or check a signature file.
 fn with_making<'a>(alloc: Global, command: Command<'a>) -> Result<Command<'a>, AllocError> {
     let command = with(command, chart_command(alloc))?;
     let command = with(command, generate_command(alloc))?;
-    with(command, import_command(alloc))
+    let command = with(command, import_command(alloc))?;
+    with(command, check_command(alloc))
 }
 
 // Adds a command, where it could be made.
@@ -96,7 +98,7 @@ fn run_command<'a>(alloc: Global) -> Result<Command<'a>, AllocError> {
          \n  open NAME [LEAST]   cleanup NAME   connect   down K   up K   work K   timeout SEQ\
          \n  disconnect filter|service   restart filter|service\
          \nA PATTERN is HEX, or HEX@LOW-HIGH where it has to begin from place LOW to place HIGH of a content.\
-         \ndocs/FORMATS.md says what each does and prints.\
+         \n`man avscript` says what each does and prints.\
          \n\nExample:\
          \n  avscan run examples/late_reply.avs\
          \n  avscan run --json examples/late_reply.avs",
@@ -118,7 +120,8 @@ fn scan_command<'a>(alloc: Global) -> Result<Command<'a>, AllocError> {
          \n`two.x 5858 0 1023`.\
          \n\nA line of the output is `FILE clean` or `FILE infected INDEX NAME end PLACE`: which \
          signature ends first, and at which byte.\
-         \ndocs/FORMATS.md has the whole format.\
+         \n`man avsig` has the whole format. A name with a control character stands in double quotes, with escapes as in C.\
+         \n\nWithout -k one file that can't be read, or is too large, ends the run with no line for any file: -k passes it over.\
          \n\nExamples:\
          \n  avscan scan examples/test.avsig examples/letter.txt examples/eicar.com.txt\
          \n  avscan scan -r -i --summary --max-size 100000000 examples/test.avsig FOLDER\
@@ -129,8 +132,10 @@ fn scan_command<'a>(alloc: Global) -> Result<Command<'a>, AllocError> {
             RECURSIVE,
             KEEP_GOING,
             MAX_SIZE,
+            ALLOW_EMPTY,
             INFECTED,
             JSON,
+            PRINT0,
             FILES_FROM,
             NULL,
             FOUND,
@@ -151,14 +156,19 @@ fn host_command<'a>(alloc: Global) -> Result<Command<'a>, AllocError> {
          file, the second the next, and so on.\
          \n\nA line of the output is `FILE granted generation G version V` or `FILE denied cause C`, \
          in the order of the files. Cause 2 says\
-         \nthat a signature occurs; docs/FORMATS.md has the others.\
+         \nthat a signature occurs; `man avscan` has the others.\
+         \n\nThere is no -k here: one file that can't be read, is too large, was named twice or has a path that no stream can \
+         have ends the\
+         \nrun with no answer for any. `avscan scan -k` passes such files over.\
          \n\nExample:\
          \n  avscan host examples/test.avsig examples/letter.txt examples/eicar.com.txt --openers 2 --workers 2",
         &[
             SET,
             OPENED_FILES,
+            ALLOW_EMPTY,
             NOT_GRANTED,
             JSON,
+            PRINT0,
             FILES_FROM,
             NULL,
             DENIED,
@@ -181,6 +191,9 @@ fn filter_command<'a>(alloc: Global) -> Result<Command<'a>, AllocError> {
          \ndoes. Where no service comes or it goes away, the opens that it leaves are denied (cause 3 \
          or 6), and the status is 4.\
          \nThe socket's file is removed as soon as a service has come, and at the end.\
+         \n\nThere is no -k here: one file that can't be read, is too large, was named twice or has a path that no stream can \
+         have ends the\
+         \nrun with no answer for any. `avscan scan -k` passes such files over.\
          \n\nExample, in two terminals:\
          \n  avscan filter avscan.socket examples/letter.txt examples/eicar.com.txt\
          \n  avscan service avscan.socket examples/test.avsig",
@@ -189,6 +202,7 @@ fn filter_command<'a>(alloc: Global) -> Result<Command<'a>, AllocError> {
             OPENED_FILES,
             NOT_GRANTED,
             JSON,
+            PRINT0,
             FILES_FROM,
             NULL,
             DENIED,
@@ -214,7 +228,7 @@ fn service_command<'a>(alloc: Global) -> Result<Command<'a>, AllocError> {
          \n  avscan service avscan.socket examples/test.avsig\
          \nFor a guard, as long as that runs:\
          \n  avscan service service.socket examples/test.avsig --watch 10",
-        &[SOCKET_OF_FILTER, SET, WAIT_FOR_FILTER, WATCH],
+        &[SOCKET_OF_FILTER, SET, WAIT_FOR_FILTER, WATCH, ALLOW_EMPTY],
     )
 }
 
@@ -243,7 +257,11 @@ fn guard_command<'a>(alloc: Global) -> Result<Command<'a>, AllocError> {
             QUESTIONS,
             CLAMD,
             NAMES,
-            MODE,
+            MODE_OF_OPENS,
+            MODE_OF_SERVICE,
+            LEAST,
+            MOST_VERSION,
+            STATE,
         ],
     )
 }
@@ -253,7 +271,10 @@ fn ask_command<'a>(alloc: Global) -> Result<Command<'a>, AllocError> {
         alloc,
         "ask",
         "Asks a guard whether files may be opened",
-        "It prints what each open is told, in the order of the files, as `host` does.\
+        "It prints what each open is told, in the order of the files, as `host` does. The status is 0 only where each file was \
+         judged: an answer\
+         \nother than `granted` and `denied cause 2` ends it with 4, or with 6 where --found-status is given and something is \
+         infected.\
          \n\nExample, beside `avscan guard opens.socket service.socket`:\
          \n  avscan ask opens.socket examples/letter.txt examples/eicar.com.txt",
         &[
@@ -263,6 +284,7 @@ fn ask_command<'a>(alloc: Global) -> Result<Command<'a>, AllocError> {
             KEEP_GOING,
             NOT_GRANTED,
             JSON,
+            PRINT0,
             FILES_FROM,
             NULL,
             DENIED,
@@ -313,6 +335,20 @@ fn import_command<'a>(alloc: Global) -> Result<Command<'a>, AllocError> {
          \n\nExample:\
          \n  avscan import --set-version 7 examples/other.ndb > set.avsig",
         &[IMPORTED_FILES, SET_VERSION, ANY_TARGET, FORMAT_1, ALL],
+    )
+}
+
+fn check_command<'a>(alloc: Global) -> Result<Command<'a>, AllocError> {
+    command_of(
+        alloc,
+        "check",
+        "Checks signature files",
+        "A line of the output is `SET: version V, N signatures`. What is wrong with a file is said on standard error, with the place \
+         and in words,\
+         \nand the status is 1 where a file is bad, 4 where one can't be read.\
+         \n\nExample:\
+         \n  avscan check examples/test.avsig",
+        &[CHECKED_SETS],
     )
 }
 
@@ -378,8 +414,20 @@ const ASKED_FILES: Word = Word {
 
 const IMPORTED_FILES: Word = Word {
     name: "file",
-    kind: Kind::RequiredFiles,
+    kind: Kind::RequiredFiles { shown: "FILE" },
     help: "Files of signatures: .ndb, .ndu, .db, .yar or .yara",
+};
+
+const CHECKED_SETS: Word = Word {
+    name: "file",
+    kind: Kind::RequiredFiles { shown: "SET" },
+    help: "The signature files to check",
+};
+
+const ALLOW_EMPTY: Word = Word {
+    name: "allow-empty",
+    kind: Kind::Flag,
+    help: "Takes a SET without signatures, under which every content is clean",
 };
 
 const RECURSIVE: Word = Word {
@@ -423,6 +471,12 @@ const JSON: Word = Word {
     help: "Prints a JSON object a line for each file",
 };
 
+const PRINT0: Word = Word {
+    name: "print0",
+    kind: Kind::FlagWithout { other: "json" },
+    help: "Ends each line with a zero byte in place of a line feed, and prints names as they are",
+};
+
 const JSON_OF_COMMANDS: Word = Word {
     name: "json",
     kind: Kind::Flag,
@@ -444,13 +498,13 @@ const NULL: Word = Word {
 const FOUND: Word = Word {
     name: "found-status",
     kind: Kind::Flag,
-    help: "Ends with status 5 where a file is infected and nothing failed",
+    help: "Ends with status 5 where a file is infected, 6 where besides some were not scanned",
 };
 
 const DENIED: Word = Word {
     name: "found-status",
     kind: Kind::Flag,
-    help: "Ends with status 5 where an open was denied for cause 2 and nothing failed",
+    help: "Ends with status 5 where an open was denied for cause 2, 6 where besides some were not judged",
 };
 
 const SUMMARY: Word = Word {
@@ -558,6 +612,54 @@ const MODE: Word = Word {
     help: "Who may join at the socket: its owner, also its group, or anybody",
 };
 
+const MODE_OF_OPENS: Word = Word {
+    name: "mode",
+    kind: Kind::Choice {
+        shown: "MODE",
+        values: &["600", "660", "666"],
+        default: "600",
+    },
+    help: "Who may ask at OPENS and CLAMD: the owner, also the group, or anybody",
+};
+
+const MODE_OF_SERVICE: Word = Word {
+    name: "service-mode",
+    kind: Kind::Choice {
+        shown: "MODE",
+        values: &["600", "660", "666"],
+        default: "600",
+    },
+    help: "Who may join at SERVICE, and is believed: the owner, also the group, or anybody",
+};
+
+const LEAST: Word = Word {
+    name: "least",
+    kind: Kind::Number {
+        shown: "V",
+        least: 0,
+        greatest: 18_446_744_073_709_551_615,
+        absent: Absent::Means("0"),
+    },
+    help: "No signature set of a version below V is believed, and none grants",
+};
+
+const MOST_VERSION: Word = Word {
+    name: "most-version",
+    kind: Kind::Number {
+        shown: "V",
+        least: 0,
+        greatest: 18_446_744_073_709_551_615,
+        absent: Absent::Means("18446744073709551615"),
+    },
+    help: "A service that begins with a version above V is turned away",
+};
+
+const STATE: Word = Word {
+    name: "state",
+    kind: Kind::Value { shown: "FILE" },
+    help: "Keeps the greatest version that was believed in FILE, below which none is believed after a restart",
+};
+
 const OPEN: Word = Word {
     name: "open",
     kind: Kind::Flag,
@@ -594,7 +696,10 @@ const CLAMD: Word = Word {
 
 const NAMES: Word = Word {
     name: "names",
-    kind: Kind::Value { shown: "SET" },
+    kind: Kind::ValueWith {
+        shown: "SET",
+        other: "clamd",
+    },
     help: "The service's signature file, whose names clients of clamd are told",
 };
 

@@ -16,7 +16,7 @@ mod word;
 pub mod words;
 
 pub use request::{
-    Ask, Chart, Filter, Finding, Generate, Guard, Host, Import, List, Named, Request, Scan, Script,
-    Service, Taking,
+    Ask, Chart, Check, Filter, Finding, Generate, Guard, Host, Import, List, Named, Request, Scan,
+    Script, Service, Taking,
 };
 pub use words::{first_bad_word, read_words};

@@ -1,5 +1,6 @@
 //! What the words of a command line may ask for.
 
+use av_status::faults::EmptySets;
 use av_status::tally::{Form, Wishes};
 
 /// What the words of the command line ask for.
@@ -25,6 +26,8 @@ pub enum Request<'a> {
     Generate(Generate),
     /// Write a signature file with the signatures of files of other products.
     Import(Import<'a>),
+    /// Check signature files.
+    Check(Check<'a>),
 }
 
 /// The files that were named, and what is told of them.
@@ -67,6 +70,7 @@ pub struct Script<'a> {
 #[derive(Drop)]
 pub struct Scan<'a> {
     pub set: &'a str,
+    pub empty_sets: EmptySets,
     pub named: Named<'a>,
     pub finding: Finding,
 }
@@ -76,6 +80,7 @@ pub struct Scan<'a> {
 #[derive(Drop)]
 pub struct Host<'a> {
     pub set: &'a str,
+    pub empty_sets: EmptySets,
     pub named: Named<'a>,
     pub openers: usize,
     pub workers: usize,
@@ -97,6 +102,7 @@ pub struct Filter<'a> {
 pub struct Service<'a> {
     pub socket: &'a str,
     pub set: &'a str,
+    pub empty_sets: EmptySets,
     pub wait: u64,
     pub watch: Option<u64>,
 }
@@ -120,8 +126,16 @@ pub struct Guard<'a> {
     pub keep: u64,
     /// The most contents that are scanned at a time.
     pub questions: u64,
-    /// The rights of its sockets.
+    /// The rights of the sockets for opens and for clients of clamd.
     pub mode: u32,
+    /// The rights of the socket for the service.
+    pub service_mode: u32,
+    /// No set of a lesser version is believed or grants.
+    pub least: u64,
+    /// A service whose set has a greater version is turned away.
+    pub most_version: u64,
+    /// The file that keeps the greatest version that was believed.
+    pub state: Option<&'a str>,
 }
 
 /// Which files the guard at a socket is asked about. It may take `wait` seconds to be there, and each answer so long.
@@ -156,6 +170,12 @@ pub struct Import<'a> {
     pub files: Vec<&'a str>,
     pub version: u64,
     pub taking: Taking,
+}
+
+/// Which signature files are checked.
+#[derive(Drop)]
+pub struct Check<'a> {
+    pub sets: Vec<&'a str>,
 }
 
 /// Which signatures of other products are taken.

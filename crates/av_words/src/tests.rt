@@ -1,6 +1,7 @@
 use crate::request::{Ask, Filter, Finding, Guard, List, Request, Scan, Script, Taking};
 use crate::words::{first_bad_word, read_words};
 use av_fakes::{FakeWriter, Fault};
+use av_status::faults::EmptySets;
 use av_status::{Form, Shown, Status, Wishes};
 use std::alloc::Global;
 use std::env::{Env, FillError};
@@ -47,12 +48,14 @@ fn words_ask_for_a_request_or_end_with_a_status(rt: HostRuntime) -> Result<(), F
             Request::Scan(
                 Scan {
                     set,
+                    empty_sets,
                     named,
                     finding,
                 },
             ),
         ) => {
             assert_eq!(rt; set, "s");
+            assert_eq!(rt; empty_sets, EmptySets::Refused);
             assert_eq!(rt; finding, FILES_ALONE);
             assert_eq!(rt; named.files.as_slice(), ["f", "g"].as_slice());
             assert!(rt; named.list.is_none());
@@ -354,6 +357,10 @@ fn what_is_told_of_files_is_what_is_asked_for(rt: HostRuntime) -> Result<(), Fai
         form: Form::Json,
         ..NOTHING
     };
+    let ended = Wishes {
+        form: Form::ZeroEnded,
+        ..NOTHING
+    };
     for command in ["scan", "host", "filter", "ask"] {
         let words = [
             "avscan",
@@ -367,6 +374,145 @@ fn what_is_told_of_files_is_what_is_asked_for(rt: HostRuntime) -> Result<(), Fai
         assert!(&rt; asked_of(alloc, words.as_slice()) == Some((FILES_ALONE, all, None)));
         let words = ["avscan", command, "--json", "s", "f"];
         assert!(&rt; asked_of(alloc, words.as_slice()) == Some((FILES_ALONE, objects, None)));
+        let words = ["avscan", command, "--print0", "s", "f"];
+        assert!(&rt; asked_of(alloc, words.as_slice()) == Some((FILES_ALONE, ended, None)));
+        let words = ["avscan", command, "--print0", "--json", "s", "f"];
+        assert!(&rt; asked_of(alloc, words.as_slice()).is_none());
+    }
+    Ok(())
+}
+
+// Whether a line allows a set without signatures.
+fn allowance_of(alloc: Global, line: &str) -> Option<EmptySets> {
+    match request_of(alloc, words_of(alloc, line)?.as_slice()) {
+        Some(Request::Scan(scan)) => Some(scan.empty_sets),
+        Some(Request::Host(host)) => Some(host.empty_sets),
+        Some(Request::Service(service)) => Some(service.empty_sets),
+        _ => None,
+    }
+}
+
+#[test]
+fn a_set_without_signatures_is_allowed_where_a_line_says_so(rt: HostRuntime) -> Result<(), Fail> {
+    for (line, allows) in [
+        ("scan s f", Some(EmptySets::Refused)),
+        ("scan --allow-empty s f", Some(EmptySets::Allowed)),
+        ("host s f", Some(EmptySets::Refused)),
+        ("host s f --allow-empty", Some(EmptySets::Allowed)),
+        ("service t s", Some(EmptySets::Refused)),
+        ("service t s --allow-empty", Some(EmptySets::Allowed)),
+        ("filter t f --allow-empty", None),
+        ("ask t f --allow-empty", None),
+    ] {
+        assert!(&rt; allowance_of(rt.alloc(), line) == allows, "{line}");
+    }
+    Ok(())
+}
+
+// The rights of a guard's socket for its service, the versions that it believes, and where it keeps the greatest one, as a line
+// asks for.
+fn belief_of(alloc: Global, line: &str) -> Option<(u32, u64, u64, bool)> {
+    match request_of(alloc, words_of(alloc, line)?.as_slice()) {
+        Some(Request::Guard(it)) => {
+            let keeps = it.state == Some("f");
+            Some((it.service_mode, it.least, it.most_version, keeps))
+        }
+        _ => None,
+    }
+}
+
+#[test]
+fn a_guard_believes_a_service_as_far_as_is_said(rt: HostRuntime) -> Result<(), Fail> {
+    let most = 18_446_744_073_709_551_615;
+    for (line, belief) in [
+        ("guard o s", Some((0o600, 0, most, false))),
+        ("guard o s --mode 666", Some((0o600, 0, most, false))),
+        (
+            "guard o s --service-mode 660",
+            Some((0o660, 0, most, false)),
+        ),
+        ("guard o s --service-mode 644", None),
+        (
+            "guard o s --least 7 --most-version 9",
+            Some((0o600, 7, 9, false)),
+        ),
+        ("guard o s --least -1", None),
+        (
+            "guard o s --most-version 18446744073709551615",
+            Some((0o600, 0, most, false)),
+        ),
+        ("guard o s --most-version 18446744073709551616", None),
+        ("guard o s --state f", Some((0o600, 0, most, true))),
+        ("filter s f --service-mode 660", None),
+    ] {
+        assert!(&rt; belief_of(rt.alloc(), line) == belief, "{line}");
+    }
+    Ok(())
+}
+
+// The status and the fault line of a command line that asks for nothing.
+fn refusal_of<'a>(alloc: Global, line: &str, err: &mut FakeWriter) -> Option<Status> {
+    let words = words_of(alloc, line)?;
+    let mut out = FakeWriter::new(alloc);
+    match read_words(alloc, words.as_slice(), &mut out, err) {
+        Ok(_) => None,
+        Err(status) => Some(status),
+    }
+}
+
+#[test]
+fn two_sockets_of_a_guard_have_two_paths(rt: HostRuntime) -> Result<(), Fail> {
+    let alloc = rt.alloc();
+    let rows: [(&str, &[u8]); 3] = [
+        ("guard o o", b"avscan: o: two sockets have one path\n"),
+        (
+            "guard o s --clamd o",
+            b"avscan: o: two sockets have one path\n",
+        ),
+        (
+            "guard o s --clamd s",
+            b"avscan: s: two sockets have one path\n",
+        ),
+    ];
+    for (line, fault) in rows {
+        let mut err = FakeWriter::new(alloc);
+        assert_eq!(rt; refusal_of(alloc, line, &mut err), Some(Status::Usage));
+        assert_eq!(rt; err.taken(), fault);
+    }
+    let mut err = FakeWriter::new(alloc);
+    assert_eq!(rt; refusal_of(alloc, "guard o s --clamd c", &mut err), None);
+    Ok(())
+}
+
+#[test]
+fn names_of_signatures_are_for_clients_of_clamd(rt: HostRuntime) -> Result<(), Fail> {
+    let alloc = rt.alloc();
+    let mut err = FakeWriter::new(alloc);
+    assert_eq!(rt;
+        refusal_of(alloc, "guard o s --names n", &mut err),
+        Some(Status::Usage)
+    );
+    let with_clamd = "guard o s --clamd c --names n";
+    assert_eq!(rt; refusal_of(alloc, with_clamd, &mut err), None);
+    Ok(())
+}
+
+// How many signature files a line asks to check.
+fn checked_of(alloc: Global, line: &str) -> Option<usize> {
+    match request_of(alloc, words_of(alloc, line)?.as_slice()) {
+        Some(Request::Check(check)) => Some(check.sets.len()),
+        _ => None,
+    }
+}
+
+#[test]
+fn one_signature_file_at_least_is_checked(rt: HostRuntime) -> Result<(), Fail> {
+    for (line, count) in [
+        ("check s", Some(1)),
+        ("check s t", Some(2)),
+        ("check", None),
+    ] {
+        assert!(&rt; checked_of(rt.alloc(), line) == count, "{line}");
     }
     Ok(())
 }

@@ -21,15 +21,26 @@ pub enum Kind {
         shown: &'static str,
     },
     /// Names of files, one at least.
-    RequiredFiles,
+    RequiredFiles {
+        shown: &'static str,
+    },
     /// Names of files, for which a list may stand.
     Files,
     /// An option without a value.
     Flag,
     /// The same, which has a letter too.
     Letter(char),
+    /// An option without a value that the other one excludes.
+    FlagWithout {
+        other: &'static str,
+    },
     Value {
         shown: &'static str,
+    },
+    /// A value that is of use only with the other option.
+    ValueWith {
+        shown: &'static str,
+        other: &'static str,
     },
     /// A number within bounds.
     Number {
@@ -72,11 +83,15 @@ fn arg_of<'a>(alloc: Global, word: Word) -> Result<Arg<'a>, AllocError> {
     let arg = Arg::new(alloc, word.name).help(word.help);
     match word.kind {
         Kind::Required { shown } => Ok(arg.value_name(shown).required(true)),
-        Kind::RequiredFiles => Ok(files(arg).required(true)),
-        Kind::Files => files(arg).required_unless_present("files-from"),
+        Kind::RequiredFiles { shown } => Ok(files(arg, shown).required(true)),
+        Kind::Files => files(arg, "FILE").required_unless_present("files-from"),
         Kind::Flag => Ok(flag(arg, word.name)),
         Kind::Letter(letter) => Ok(flag(arg, word.name).short(letter)),
+        Kind::FlagWithout { other } => flag(arg, word.name).conflicts_with(other),
         Kind::Value { shown } => Ok(arg.long(word.name).value_name(shown)),
+        Kind::ValueWith { shown, other } => {
+            arg.long(word.name).value_name(shown).requires_arg(other)
+        }
         Kind::Number {
             shown,
             least,
@@ -100,8 +115,8 @@ fn arg_of<'a>(alloc: Global, word: Word) -> Result<Arg<'a>, AllocError> {
     }
 }
 
-fn files<'a>(arg: Arg<'a>) -> Arg<'a> {
-    arg.value_name("FILE")
+fn files<'a>(arg: Arg<'a>, shown: &'static str) -> Arg<'a> {
+    arg.value_name(shown)
         .action(ArgAction::Append)
         .num_args(1..)
 }

@@ -1,15 +1,15 @@
 ghost use Rattle.std.specs.Prelude.{◌≡◌, ◌≤◌, length, IfErr, IfNone, IfOk, IfSome, MatchResult};
 ghost use Rattle.av_status.specs.declared.status.Status.TheVariants.{Usage};
-ghost use Rattle.av_words.specs.Words.{AsksForSockets, HasSockets, IsOfWords, IsSocketPath, IsStandardInput};
+ghost use Rattle.av_words.specs.Words.{AreApart, AsksForApart, AsksForSockets, HasSockets, IsOfWords, IsSocketPath, IsStandardInput};
 
 use crate::commands::avscan_command;
 use crate::request::{
-    Ask, Chart, Filter, Finding, Generate, Guard, Host, Import, List, Named, Request, Scan, Script,
-    Service, Taking,
+    Ask, Chart, Check, Filter, Finding, Generate, Guard, Host, Import, List, Named, Request, Scan,
+    Script, Service, Taking,
 };
 use av_base::device::write_text;
 use av_base::line::LF;
-use av_status::faults::{bad_socket, device_failed, out_of_memory};
+use av_status::faults::{EmptySets, bad_socket, device_failed, out_of_memory, same_socket};
 use av_status::status::Status;
 use av_status::tally::{Form, Shown, Wishes};
 use clap::error::ErrorKind;
@@ -29,13 +29,14 @@ pub fn read_words<'a, S: AsStr, W: Write, E: Write>(
 ) -> Result<Request<'a>, Status>
     ensures none { length words.now ≤ 1 → MatchResult result IsStandardInput (λ status. ⊥) }
     ensures sockets { IfOk result AsksForSockets }
+    ensures apart { IfOk result AsksForApart }
     ensures status { IfErr result IsOfWords }
 {
     if words.len() <= 1 {
         return Ok(from_standard_input());
     }
     match requested(alloc, words) {
-        Ok(request) => with_socket(request, err),
+        Ok(request) => with_sockets(request, err),
         Err(error) => Err(told(alloc, &error, out, err)),
     }
 }
@@ -80,9 +81,10 @@ fn request_of<'a>(alloc: Global, matches: &ArgMatches<'a>) -> Result<Request<'a>
         Some(("chart", chart)) => Ok(chart_of(chart)),
         Some(("generate", generate)) => Ok(generate_of(generate)),
         Some(("import", import)) => import_of(alloc, import),
+        Some(("check", check)) => check_of(alloc, check),
         Some((_, run)) => Ok(Request::Run(Script {
             path: text_of(run, "script"),
-            form: form_of(run),
+            form: form_of(run, Form::Lines),
         })),
         None => Ok(from_standard_input()),
     }
@@ -101,6 +103,7 @@ fn from_standard_input<'a>() -> Request<'a>
 fn scan_of<'a>(alloc: Global, matches: &ArgMatches<'a>) -> Result<Request<'a>, AllocError> {
     Ok(Request::Scan(Scan {
         set: text_of(matches, "set"),
+        empty_sets: empty_sets_of(matches),
         named: named_of(alloc, matches)?,
         finding: finding_of(matches, number_of(matches, "max-size")),
     }))
@@ -109,6 +112,7 @@ fn scan_of<'a>(alloc: Global, matches: &ArgMatches<'a>) -> Result<Request<'a>, A
 fn host_of<'a>(alloc: Global, matches: &ArgMatches<'a>) -> Result<Request<'a>, AllocError> {
     Ok(Request::Host(Host {
         set: text_of(matches, "set"),
+        empty_sets: empty_sets_of(matches),
         named: named_of(alloc, matches)?,
         openers: count_of(matches, "openers"),
         workers: count_of(matches, "workers"),
@@ -121,7 +125,7 @@ fn filter_of<'a>(alloc: Global, matches: &ArgMatches<'a>) -> Result<Request<'a>,
         socket: text_of(matches, "socket"),
         named: named_of(alloc, matches)?,
         wait: number_of(matches, "wait"),
-        mode: mode_of(matches),
+        mode: mode_of(matches, "mode"),
     }))
 }
 
@@ -129,6 +133,7 @@ fn service_of<'a>(matches: &ArgMatches<'a>) -> Request<'a> {
     Request::Service(Service {
         socket: text_of(matches, "socket"),
         set: text_of(matches, "set"),
+        empty_sets: empty_sets_of(matches),
         wait: number_of(matches, "wait"),
         watch: matches.get_one::<u64>("watch"),
     })
@@ -144,7 +149,11 @@ fn guard_of<'a>(matches: &ArgMatches<'a>) -> Request<'a> {
         wait: number_of(matches, "wait"),
         keep: number_of(matches, "keep"),
         questions: number_of(matches, "questions"),
-        mode: mode_of(matches),
+        mode: mode_of(matches, "mode"),
+        service_mode: mode_of(matches, "service-mode"),
+        least: number_of(matches, "least"),
+        most_version: number_of(matches, "most-version"),
+        state: matches.get_str("state"),
     })
 }
 
@@ -181,6 +190,12 @@ fn import_of<'a>(alloc: Global, matches: &ArgMatches<'a>) -> Result<Request<'a>,
     }))
 }
 
+fn check_of<'a>(alloc: Global, matches: &ArgMatches<'a>) -> Result<Request<'a>, AllocError> {
+    Ok(Request::Check(Check {
+        sets: files_of(alloc, matches)?,
+    }))
+}
+
 // The files that were named, and what is told of them.
 fn named_of<'a>(alloc: Global, matches: &ArgMatches<'a>) -> Result<Named<'a>, AllocError> {
     Ok(Named {
@@ -191,9 +206,19 @@ fn named_of<'a>(alloc: Global, matches: &ArgMatches<'a>) -> Result<Named<'a>, Al
     })
 }
 
-fn form_of(matches: &ArgMatches<'_>) -> Form {
+// In JSON, where that is asked for, or as is said else.
+fn form_of(matches: &ArgMatches<'_>, form: Form) -> Form {
     if matches.get_flag("json") {
         Form::Json
+    } else {
+        form
+    }
+}
+
+// Words of files: in lines, or each ended by a zero byte.
+fn ended_form(matches: &ArgMatches<'_>) -> Form {
+    if matches.get_flag("print0") {
+        Form::ZeroEnded
     } else {
         Form::Lines
     }
@@ -213,6 +238,14 @@ fn number_of(matches: &ArgMatches<'_>, name: &str) -> u64 {
     matches.get_one::<u64>(name).unwrap_or(1)
 }
 
+fn empty_sets_of(matches: &ArgMatches<'_>) -> EmptySets {
+    if matches.get_flag("allow-empty") {
+        EmptySets::Allowed
+    } else {
+        EmptySets::Refused
+    }
+}
+
 fn taking_of(matches: &ArgMatches<'_>) -> Taking {
     Taking {
         takes_any_target: matches.get_flag("any-target"),
@@ -222,8 +255,8 @@ fn taking_of(matches: &ArgMatches<'_>) -> Taking {
 }
 
 // The rights of a socket, by the three digits that chmod has for them.
-fn mode_of(matches: &ArgMatches<'_>) -> u32 {
-    match matches.get_str("mode") {
+fn mode_of(matches: &ArgMatches<'_>, name: &str) -> u32 {
+    match matches.get_str(name) {
         Some("660") => 0o660,
         Some("666") => 0o666,
         _ => 0o600,
@@ -265,7 +298,7 @@ fn wishes_of(matches: &ArgMatches<'_>) -> Wishes {
     };
     Wishes {
         shown,
-        form: form_of(matches),
+        form: form_of(matches, ended_form(matches)),
         has_found_status: matches.get_flag("found-status"),
         has_summary: matches.get_flag("summary"),
     }
@@ -274,14 +307,40 @@ fn wishes_of(matches: &ArgMatches<'_>) -> Wishes {
 // The most bytes of a socket's path: what Linux has room for, less the byte behind its end.
 const MAX_SOCKET: usize = 107;
 
-// The request, where the paths of its sockets can be ones.
-fn with_socket<'a, E: Write>(request: Request<'a>, err: &mut E) -> Result<Request<'a>, Status>
+// The request, where the paths of its sockets can be ones, and no two are the same.
+fn with_sockets<'a, E: Write>(request: Request<'a>, err: &mut E) -> Result<Request<'a>, Status>
     ensures sockets { IfOk result AsksForSockets }
+    ensures apart { IfOk result AsksForApart }
     ensures fault { IfErr result (λ status. status ≡ Usage) }
 {
-    match first_bad_socket(&request) {
-        Some(socket) => Err(bad_socket(err, socket)),
+    if let Some(socket) = first_bad_socket(&request) {
+        return Err(bad_socket(err, socket));
+    }
+    match first_twice(&request) {
+        Some(socket) => Err(same_socket(err, socket)),
         None => Ok(request),
+    }
+}
+
+// A path that two sockets of the request have.
+fn first_twice<'a>(request: &Request<'a>) -> Option<&'a str>
+    ensures { IfNone result (AsksForApart request.now) }
+{
+    match request {
+        Request::Guard(guard) => twice_of(*guard),
+        _ => None,
+    }
+}
+
+fn twice_of<'a>(guard: Guard<'a>) -> Option<&'a str>
+    ensures { IfNone result (AreApart guard.entry) }
+{
+    if guard.opens == guard.service {
+        return Some(guard.opens);
+    }
+    match guard.clamd {
+        Some(clamd) if clamd == guard.opens || clamd == guard.service => Some(clamd),
+        _ => None,
     }
 }
 
