@@ -1,5 +1,5 @@
 -- The lines that a scan of files prints.
-use Rattle.std.specs.Prelude.{ℕ, ◌≡◌, Bool, false, true, if◌then◌else◌, List, [], ◌∷◌, Option, None, Some, Ok, codes, decimal, map, slice_get, unwrap_or}
+use Rattle.std.specs.Prelude.{ℕ, ◌≡◌, ◌<◌, ⊤, Bool, false, true, if◌then◌else◌, List, [], ◌∷◌, Option, None, Some, Ok, codes, decimal, length, map, slice_get, unwrap_or}
 use Rattle.std.specs.List.{filter}
 use Rattle.std.specs.Option.{option_copied, option_map}
 use Rattle.std.specs.Io.KnownBytes.{Appends}
@@ -11,12 +11,15 @@ use Rattle.av_json.specs.Line.{object_line}
 use Rattle.av_match.specs.Match.{verdict}
 use Rattle.av_sigset.specs.Judge.{set_of}
 use Rattle.av_sigset.specs.Set.{NumberedSet, patterns_of}
+use Rattle.av_status.specs.declared.faults.EmptySets.{EmptySets}
+use Rattle.av_status.specs.declared.faults.EmptySets.TheVariants as empty
 use Rattle.av_status.specs.Tally.{has_line, no_files, with_scanned}
 use Rattle.av_status.specs.declared.tally.Form.{Form}
-use Rattle.av_status.specs.declared.tally.Form.TheVariants.{Lines, Json}
+use Rattle.av_status.specs.declared.tally.Form.TheVariants.{Lines, Json, ZeroEnded}
 use Rattle.av_status.specs.declared.tally.Shown.{Shown}
 use Rattle.av_status.specs.declared.tally.Tally.{Tally}
 use Rattle.av_status.specs.declared.tally.Wishes.{Wishes}
+use Rattle.av_files.specs.Quoted.{quoted}
 use Rattle.av_files.specs.declared.scan.Scanned.{Scanned}
 use Rattle.av_files.specs.declared.scanner.Input.{Input}
 
@@ -24,11 +27,11 @@ use Rattle.av_files.specs.declared.scanner.Input.{Input}
 abbrev pub name_at : NumberedSet → ℕ → List ℕ
 name_at set i = unwrap_or (option_map (λ s. s.name) (slice_get set.signatures i)) []
 
--- the line of a verdict
-abbrev pub verdict_text : NumberedSet → List ℕ → Verdict → List ℕ
-verdict_text set file Clean = spelt (file ∷ codes " clean\n" ∷ [])
-verdict_text set file (Infected i e) =
-    spelt (file ∷ codes " infected " ∷ decimal i ∷ codes " " ∷ name_at set i ∷ codes " end " ∷ decimal e ∷ codes "\n" ∷ [])
+-- the line of a verdict, with what ends it
+abbrev pub verdict_text : NumberedSet → List ℕ → Verdict → List ℕ → List ℕ
+verdict_text set file Clean end = spelt (file ∷ codes " clean" ∷ end ∷ [])
+verdict_text set file (Infected i e) end =
+    spelt (file ∷ codes " infected " ∷ decimal i ∷ codes " " ∷ name_at set i ∷ codes " end " ∷ decimal e ∷ end ∷ [])
 
 -- the name of the signature that was found
 abbrev pub name_found : NumberedSet → Verdict → List ℕ
@@ -41,8 +44,9 @@ object_of set s = object_line (file_tokens s.name.now set.version s.verdict (nam
 
 -- the line of a file that was scanned, in this form
 abbrev pub line_of : Form → NumberedSet → Scanned → List ℕ
-line_of Lines set s = verdict_text set s.name.now s.verdict
+line_of Lines set s = verdict_text set (quoted s.name.now) s.verdict (codes "\n")
 line_of Json set s = object_of set s
+line_of ZeroEnded set s = verdict_text set s.name.now s.verdict (0 ∷ [])
 
 -- this is the verdict of a content, which was read, under the set
 abbrev pub HasVerdict : NumberedSet → Option (List ℕ) → Verdict → Type 0
@@ -83,6 +87,11 @@ tally_of scanned = tally_from no_files scanned
 abbrev pub SpellsSet : Option (List ℕ) → NumberedSet → Type 0
 SpellsSet None set = ⊥
 SpellsSet (Some content) set = set_of content ≡ Ok set
+
+-- a set is taken: one without signatures only where such are allowed
+abbrev pub IsAdmitted : EmptySets → NumberedSet → Type 0
+IsAdmitted empty.Refused set = 0 < length set.signatures
+IsAdmitted empty.Allowed set = ⊤
 
 -- the signature file spells a set, each file was read, and its line written where it has one
 pub record Scans (wishes : Wishes) (content : Option (List ℕ)) (files : List Input) (old new : Option (List ℕ)) : Type 0 where

@@ -1,11 +1,13 @@
 ghost use Rattle.std.specs.Prelude.{◌≡◌};
 ghost use Rattle.std.specs.Io.KnownBytes.{Appends};
 ghost use Rattle.av_base.specs.Device.{Writes};
-ghost use Rattle.av_files.specs.Opened.{answer_text, denied_text, ended_tally, is_granted, IsDoneOrFault, line_of, object_of, opened_line, opened_lines, tally_from, unscanned_text};
+ghost use Rattle.av_files.specs.Opened.{answer_text, denied_text, ended_tally, is_granted, IsDoneOrFault, line_of, object_of, opened_line, opened_lines, tally_from, unscanned_text, worst_of};
 ghost use Rattle.av_status.specs.Tally.{concluded};
 ghost use Rattle.av_status.specs.declared.status.Status.TheVariants.{Done};
+ghost use Rattle.av_status.specs.declared.tally.Form.TheVariants.{Lines, ZeroEnded};
 
 use crate::object::{line_failed, new_line};
+use crate::quoted::quoted_name;
 use av_base::parts::write_parts;
 use av_base::{Cause, Generation, Part, WriteFault};
 use av_json::{LineFault, put_opened, write_line};
@@ -43,7 +45,8 @@ pub fn print_opened<W: Write, E: Write>(
     Status::Done
 }
 
-/// Counts files that were opened: one counts as scanned where it was granted, or denied since a signature occurs in it.
+/// Counts files that were opened: one counts as scanned where it was granted, or denied since a signature occurs in it. Any other was
+/// judged by nobody, and counts as missed for a device fault.
 pub fn count_opened(tally: &mut Tally, opened: &[Opened<'_>])
     ensures { tally.new ≡ tally_from tally.old opened.now }
 {
@@ -54,12 +57,13 @@ pub fn count_opened(tally: &mut Tally, opened: &[Opened<'_>])
                 cause: Cause::Infected,
                 ..
             } => tally.add_scanned(true),
-            _ => {}
+            _ => tally.add_missed(Status::Device),
         }
     }
 }
 
-/// Ends a run in which so many files were to be opened: those that were are counted, and that ended with this status.
+/// Ends a run in which so many files were to be opened: those that were are counted, and that ended with this status. Where it ended
+/// well, what nobody has judged is still a fault.
 pub fn conclude_opened<E: Write>(
     tally: Tally,
     files: usize,
@@ -71,10 +75,20 @@ pub fn conclude_opened<E: Write>(
 {
     let tally = Tally {
         missed: (files as u64).saturating_sub(tally.scanned),
-        worst: ended,
+        worst: worst_of(ended, tally.worst),
         ..tally
     };
     conclude(err, tally, wishes)
+}
+
+// How the opens ended: with this status, or with that of what was not judged.
+fn worst_of(ended: Status, counted: Status) -> Status
+    ensures { result ≡ worst_of ended counted }
+{
+    match ended {
+        Status::Done => counted,
+        failed => failed,
+    }
 }
 
 fn print_lines<W: Write>(
@@ -123,11 +137,32 @@ fn print_in<W: Write>(
     ensures { Writes result (W.contents out.old) (W.contents out.new) (line_of form file.now) }
 {
     match form {
-        Form::Lines => match print_answer(file.name, file.answer, out) {
-            Ok(()) => Ok(()),
-            Err(_) => Err(LineFault::Write),
-        },
+        Form::Lines => print_line(file, room, out),
         Form::Json => print_object(alloc, file, room, out),
+        Form::ZeroEnded => print_ended(file, out),
+    }
+}
+
+// Writes the line of a file in words, and its name in quotes where it needs them.
+fn print_line<W: Write>(file: &Opened<'_>, room: &mut Vec<u8>, out: &mut W) -> Result<(), LineFault>
+    ensures { Writes result (W.contents out.old) (W.contents out.new) (line_of Lines file.now) }
+{
+    let Ok(name) = quoted_name(file.name.as_bytes(), room) else {
+        return Err(LineFault::NoMemory);
+    };
+    match print_answer(name, file.answer, b"\n", out) {
+        Ok(()) => Ok(()),
+        Err(_) => Err(LineFault::Write),
+    }
+}
+
+// Writes the line of a file in words under its name as it is, ended by a zero byte.
+fn print_ended<W: Write>(file: &Opened<'_>, out: &mut W) -> Result<(), LineFault>
+    ensures { Writes result (W.contents out.old) (W.contents out.new) (line_of ZeroEnded file.now) }
+{
+    match print_answer(file.name.as_bytes(), file.answer, b"\0", out) {
+        Ok(()) => Ok(()),
+        Err(_) => Err(LineFault::Write),
     }
 }
 
@@ -158,8 +193,13 @@ fn is_granted(answer: Answer) -> bool
 }
 
 // Writes the line of what an open was told.
-fn print_answer<W: Write>(name: &str, answer: Answer, out: &mut W) -> Result<(), WriteFault>
-    ensures { Writes result (W.contents out.old) (W.contents out.new) (answer_text name.now answer) }
+fn print_answer<'a, W: Write>(
+    name: &'a [u8],
+    answer: Answer,
+    end: &'a [u8],
+    out: &mut W,
+) -> Result<(), WriteFault>
+    ensures { Writes result (W.contents out.old) (W.contents out.new) (answer_text name.now answer end.now) }
 {
     match answer {
         Answer::Granted {
@@ -169,30 +209,31 @@ fn print_answer<W: Write>(name: &str, answer: Answer, out: &mut W) -> Result<(),
         } => write_parts(
             out,
             &[
-                Part::Text(name.as_bytes()),
+                Part::Text(name),
                 Part::Text(b" granted generation ".as_slice()),
                 Part::Number(generation.get()),
                 Part::Text(b" version ".as_slice()),
                 Part::Number(version.get()),
-                Part::Text(b"\n".as_slice()),
+                Part::Text(end),
             ],
         ),
         Answer::Unscanned {
             generation,
             cause,
             ..
-        } => print_unscanned(name.as_bytes(), generation, cause, out),
-        Answer::Denied { cause, .. } => print_denied(name.as_bytes(), cause, out),
+        } => print_unscanned(name, generation, cause, end, out),
+        Answer::Denied { cause, .. } => print_denied(name, cause, end, out),
     }
 }
 
-fn print_unscanned<W: Write>(
-    name: &[u8],
+fn print_unscanned<'a, W: Write>(
+    name: &'a [u8],
     generation: Generation,
     cause: Cause,
+    end: &'a [u8],
     out: &mut W,
 ) -> Result<(), WriteFault>
-    ensures { Writes result (W.contents out.old) (W.contents out.new) (unscanned_text name.now generation cause) }
+    ensures { Writes result (W.contents out.old) (W.contents out.new) (unscanned_text name.now generation cause end.now) }
 {
     write_parts(
         out,
@@ -202,13 +243,18 @@ fn print_unscanned<W: Write>(
             Part::Number(generation.get()),
             Part::Text(b" cause "),
             Part::Number(u64::from(cause.number())),
-            Part::Text(b"\n"),
+            Part::Text(end),
         ],
     )
 }
 
-fn print_denied<W: Write>(name: &[u8], cause: Cause, out: &mut W) -> Result<(), WriteFault>
-    ensures { Writes result (W.contents out.old) (W.contents out.new) (denied_text name.now cause) }
+fn print_denied<'a, W: Write>(
+    name: &'a [u8],
+    cause: Cause,
+    end: &'a [u8],
+    out: &mut W,
+) -> Result<(), WriteFault>
+    ensures { Writes result (W.contents out.old) (W.contents out.new) (denied_text name.now cause end.now) }
 {
     write_parts(
         out,
@@ -216,7 +262,7 @@ fn print_denied<W: Write>(name: &[u8], cause: Cause, out: &mut W) -> Result<(), 
             Part::Text(name),
             Part::Text(b" denied cause "),
             Part::Number(u64::from(cause.number())),
-            Part::Text(b"\n"),
+            Part::Text(end),
         ],
     )
 }

@@ -7,8 +7,10 @@ ghost use Rattle.av_files.specs.Scan.{Scans, is_infected, line_of, name_found, o
 ghost use Rattle.av_status.specs.Status.{EndsWell, IsFault};
 ghost use Rattle.av_status.specs.Tally.{with_scanned};
 ghost use Rattle.av_status.specs.declared.status.Status.TheVariants.{Found};
+ghost use Rattle.av_status.specs.declared.tally.Form.TheVariants.{Lines, ZeroEnded};
 
 use crate::object::{line_failed, new_line};
+use crate::quoted::quoted_name;
 use crate::scanner::{Input, Scanner};
 use av_base::parts::write_parts;
 use av_base::{Part, Verdict, WriteFault};
@@ -186,11 +188,41 @@ fn print_in<W: Write>(
     ensures { Writes result (W.contents out.old) (W.contents out.new) (line_of form set.now file.entry) }
 {
     match form {
-        Form::Lines => match print_verdict(set, file.name, file.verdict, out) {
-            Ok(()) => Ok(()),
-            Err(_) => Err(LineFault::Write),
-        },
+        Form::Lines => print_line(set, file, room, out),
         Form::Json => print_object(alloc, set, file, room, out),
+        Form::ZeroEnded => print_ended(set, file, out),
+    }
+}
+
+// Writes the line of a file in words, and its name in quotes where it needs them.
+fn print_line<W: Write>(
+    set: &SignatureSet,
+    file: Scanned<'_>,
+    room: &mut Vec<u8>,
+    out: &mut W,
+) -> Result<(), LineFault>
+    ensures { Writes result (W.contents out.old) (W.contents out.new) (line_of Lines set.now file.entry) }
+{
+    let Ok(name) = quoted_name(file.name.as_bytes(), room) else {
+        return Err(LineFault::NoMemory);
+    };
+    match print_verdict(set, name, file.verdict, b"\n", out) {
+        Ok(()) => Ok(()),
+        Err(_) => Err(LineFault::Write),
+    }
+}
+
+// Writes the line of a file in words under its name as it is, ended by a zero byte.
+fn print_ended<W: Write>(
+    set: &SignatureSet,
+    file: Scanned<'_>,
+    out: &mut W,
+) -> Result<(), LineFault>
+    ensures { Writes result (W.contents out.old) (W.contents out.new) (line_of ZeroEnded set.now file.entry) }
+{
+    match print_verdict(set, file.name.as_bytes(), file.verdict, b"\0", out) {
+        Ok(()) => Ok(()),
+        Err(_) => Err(LineFault::Write),
     }
 }
 
@@ -234,31 +266,33 @@ fn name_found(set: &SignatureSet, verdict: Verdict) -> &[u8]
 // Writes the line of a verdict.
 fn print_verdict<'a, W: Write>(
     set: &'a SignatureSet,
-    file: &'a str,
+    name: &'a [u8],
     verdict: Verdict,
+    end: &'a [u8],
     out: &mut W,
 ) -> Result<(), WriteFault>
-    ensures { Writes result (W.contents out.old) (W.contents out.new) (verdict_text set.now file.now verdict) }
+    ensures { Writes result (W.contents out.old) (W.contents out.new) (verdict_text set.now name.now verdict end.now) }
 {
     match verdict {
         Verdict::Clean => write_parts(
             out,
             &[
-                Part::Text(file.as_bytes()),
-                Part::Text(b" clean\n".as_slice()),
+                Part::Text(name),
+                Part::Text(b" clean".as_slice()),
+                Part::Text(end),
             ],
         ),
         Verdict::Infected { index, end_at } => write_parts(
             out,
             &[
-                Part::Text(file.as_bytes()),
+                Part::Text(name),
                 Part::Text(b" infected ".as_slice()),
                 Part::Number(u64::from(index)),
                 Part::Text(b" ".as_slice()),
                 Part::Text(set.name(index as usize).unwrap_or(b"".as_slice())),
                 Part::Text(b" end ".as_slice()),
                 Part::Number(end_at),
-                Part::Text(b"\n".as_slice()),
+                Part::Text(end),
             ],
         ),
     }

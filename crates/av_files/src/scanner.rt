@@ -1,15 +1,15 @@
-ghost use Rattle.std.specs.Prelude.{◌≡◌, ◌<◌, ◌≤◌, length, IfErr, IfOk, IfSome, IsErrOf, Some};
+ghost use Rattle.std.specs.Prelude.{◌≡◌, ◌<◌, ◌≤◌, length, IfErr, IfOk, IfSome, IsErrOf, OnOk, Some};
 ghost use Rattle.std.specs.Option.{option_copied};
 ghost use Rattle.av_match.specs.Match.{verdict};
 ghost use Rattle.av_sigset.specs.Set.{patterns_of};
-ghost use Rattle.av_files.specs.Scan.{HasVerdict, SpellsSet};
+ghost use Rattle.av_files.specs.Scan.{HasVerdict, IsAdmitted, SpellsSet};
 ghost use Rattle.av_status.specs.Status.{IsFault};
 ghost use Rattle.av_status.specs.declared.status.Status.TheVariants.{Refused};
 
 use av_base::{ReadFault, Refusal, Verdict};
 use av_match::{Automaton, Scan};
 use av_sigset::SignatureSet;
-use av_status::faults::{bad_set, out_of_memory, too_large, unreadable};
+use av_status::faults::{EmptySets, bad_set, empty_set, out_of_memory, too_large, unreadable};
 use av_status::status::Status;
 use std::alloc::Global;
 use std::io::{Read, Write};
@@ -55,6 +55,27 @@ pub fn read_set<E: Write>(
     }
 }
 
+/// Takes the set of a signature file, unless it has no signatures and such are refused. A line to `err` tells of an empty one in any
+/// case.
+pub fn admit_set<E: Write>(
+    set: &SignatureSet,
+    name: &str,
+    empty_sets: EmptySets,
+    err: &mut E,
+) -> Result<(), Status>
+    ensures admitted { OnOk result (IsAdmitted empty_sets set.now) }
+    ensures status { IfErr result (λ status. status ≡ Refused) }
+{
+    if set.len() > 0 {
+        return Ok(());
+    }
+    let refused = empty_set(err, name, set.version().get());
+    match empty_sets {
+        EmptySets::Refused => Err(refused),
+        EmptySets::Allowed => Ok(()),
+    }
+}
+
 /// A signature set with its automaton: what files are scanned by. Contracts see the set.
 #[derive(Drop)]
 pub struct Scanner {
@@ -80,10 +101,18 @@ impl Scanner {
         ensures status { IfErr result (λ status. IsFault status) }
     {
         let set = read_set(alloc, file, err)?;
-        let Ok(automaton) = Automaton::build(alloc, &set) else {
-            return Err(out_of_memory(err));
-        };
-        Ok(Scanner { set, automaton })
+        Scanner::of(alloc, set, err)
+    }
+
+    /// The scanner of a set. Where there is no memory for it, one line to `err` says so.
+    pub fn of<E: Write>(alloc: Global, set: SignatureSet, err: &mut E) -> Result<Scanner, Status>
+        ensures set { IfOk result (λ scanner. scanner ≡ set) }
+        ensures status { IfErr result (λ status. IsFault status) }
+    {
+        match Automaton::build(alloc, &set) {
+            Ok(automaton) => Ok(Scanner { set, automaton }),
+            Err(_) => Err(out_of_memory(err)),
+        }
     }
 
     /// The verdict of a file's content, in one pass. Where there is none, one line to `err` says why.

@@ -1,11 +1,13 @@
 use crate::listed::{Failing, listed, with_listed};
-use crate::opened::{Opened, print_opened};
+use crate::opened::{Opened, conclude_opened, count_opened, print_opened};
+use crate::quoted::quoted_name;
 use crate::scan::scan_files;
-use crate::scanner::{Input, Scanner};
+use crate::scanner::{Input, Scanner, admit_set};
 use crate::streams::look_at;
 use av_base::{Cause, Generation, OpenId, StreamId, Verdict, Version};
 use av_fakes::{FakeReader, FakeWriter, Fault};
 use av_pend::Answer;
+use av_status::faults::EmptySets;
 use av_status::{Form, Shown, Status, Tally, Wishes};
 use std::collections::BTreeSet;
 use std::test::Fail;
@@ -69,6 +71,192 @@ fn files_are_scanned_until_the_first_fault(rt: HostRuntime) -> Result<(), Fail> 
         assert_eq!(rt; out.taken(), lines);
         assert_eq!(rt; err.taken(), line);
         assert!(rt; ended != Status::Done || out.flushed() == lines.len());
+    }
+    Ok(())
+}
+
+// The names are those of git's tests of its quoting, and each control character on either side of its range.
+#[test]
+fn a_name_stands_in_quotes_where_it_would_make_a_line_of_its_own(
+    rt: HostRuntime,
+) -> Result<(), Fail> {
+    let rows: [(&[u8], &[u8]); 20] = [
+        (b"plain/name.txt", b"plain/name.txt"),
+        (b"with space", b"with space"),
+        (b"back\\slash", b"back\\slash"),
+        (b"mid\"quote", b"mid\"quote"),
+        (b"\"front", b"\"\\\"front\""),
+        (b"x\n/etc/passwd clean\ny", b"\"x\\n/etc/passwd clean\\ny\""),
+        (
+            b"\x07\x08\x09\x0a\x0b\x0c\x0d",
+            b"\"\\a\\b\\t\\n\\v\\f\\r\"",
+        ),
+        (b"\x01\x06\x0e\x1f", b"\"\\001\\006\\016\\037\""),
+        (b"\x1b[2J\\\"", b"\"\\033[2J\\\\\\\"\""),
+        (b"a\x7fb", b"\"a\\177b\""),
+        (b"a~", b"a~"),
+        (b"\xc2\x80", b"\"\\302\\200\""),
+        (b"\xc2\x9f", b"\"\\302\\237\""),
+        (b"\xc2\xa0", b"\xc2\xa0"),
+        (b"\xc3\xa9", b"\xc3\xa9"),
+        (b"\xc3\x80\xc2\x9b2K", b"\"\xc3\x80\\302\\2332K\""),
+        (b"\xe2\x80\xae", b"\xe2\x80\xae"),
+        (b"\xc2", b"\xc2"),
+        (b"\n", b"\"\\n\""),
+        (b"", b""),
+    ];
+    for (name, shown) in rows {
+        let mut room = Vec::new(rt.alloc());
+        assert_eq!(rt; quoted_name(name, &mut room)?, shown);
+    }
+    Ok(())
+}
+
+#[test]
+fn no_name_of_a_file_makes_a_line_of_its_own_but_a_program_has_it_as_it_is(
+    rt: HostRuntime,
+) -> Result<(), Fail> {
+    let name = "x\n/etc/passwd clean\ny";
+    let set = input("set", Some(SET));
+    let files = [
+        input(name, Some(b"XX".as_slice())),
+        input("\u{9b}", Some(b"A".as_slice())),
+    ];
+    let rows: [(Form, &[u8]); 2] = [
+        (
+            Form::Lines,
+            b"\"x\\n/etc/passwd clean\\ny\" infected 0 x end 2\n\"\\302\\233\" clean\n",
+        ),
+        (
+            Form::ZeroEnded,
+            b"x\n/etc/passwd clean\ny infected 0 x end 2\0\xc2\x9b clean\0",
+        ),
+    ];
+    for (form, lines) in rows {
+        let wishes = Wishes { form, ..PLAIN };
+        let mut out = FakeWriter::new(rt.alloc());
+        let mut err = FakeWriter::new(rt.alloc());
+        let ended = scan_files(
+            rt.alloc(),
+            set,
+            files.as_slice(),
+            wishes,
+            &mut out,
+            &mut err,
+        );
+        assert_eq!(rt; ended, Status::Done);
+        assert_eq!(rt; out.taken(), lines);
+    }
+    Ok(())
+}
+
+// An open of the file `a` that was told this.
+fn told<'a>(answer: Answer) -> Opened<'a> {
+    Opened { name: "a", answer }
+}
+
+fn denied(cause: Cause) -> Answer {
+    Answer::Denied {
+        open_id: OpenId::new(1),
+        cause,
+    }
+}
+
+#[test]
+fn an_open_that_nobody_judged_is_no_success(rt: HostRuntime) -> Result<(), Fail> {
+    let granted = Answer::Granted {
+        open_id: OpenId::new(1),
+        least: Version::new(0),
+        stream: StreamId::new(1),
+        generation: Generation::new(2),
+        version: Version::new(1),
+    };
+    let unscanned = Answer::Unscanned {
+        open_id: OpenId::new(1),
+        stream: StreamId::new(1),
+        generation: Generation::new(2),
+        cause: Cause::NotConnected,
+    };
+    let busy = denied(Cause::Busy);
+    let infected = denied(Cause::Infected);
+    let lost = denied(Cause::PortDisconnected);
+    let rows = [
+        (granted, infected, Status::Done, Status::Done, Status::Found),
+        (granted, granted, Status::Done, Status::Done, Status::Done),
+        (granted, busy, Status::Done, Status::Device, Status::Device),
+        (
+            unscanned,
+            granted,
+            Status::Done,
+            Status::Device,
+            Status::Device,
+        ),
+        (
+            infected,
+            lost,
+            Status::Done,
+            Status::Device,
+            Status::FoundInPart,
+        ),
+        (
+            granted,
+            lost,
+            Status::Refused,
+            Status::Refused,
+            Status::Refused,
+        ),
+        (
+            infected,
+            lost,
+            Status::Refused,
+            Status::Refused,
+            Status::FoundInPart,
+        ),
+        (
+            granted,
+            infected,
+            Status::Device,
+            Status::Device,
+            Status::FoundInPart,
+        ),
+    ];
+    for (one, other, ended, plain, found) in rows {
+        let opened = [told(one), told(other)];
+        for (has_found_status, status) in [(false, plain), (true, found)] {
+            let wishes = Wishes {
+                has_found_status,
+                ..PLAIN
+            };
+            let mut err = FakeWriter::new(rt.alloc());
+            let mut tally = Tally::new();
+            count_opened(&mut tally, &opened);
+            assert_eq!(rt; conclude_opened(tally, 2, ended, wishes, &mut err), status);
+        }
+    }
+    Ok(())
+}
+
+#[test]
+fn a_set_without_signatures_is_told_and_refused_unless_it_is_allowed(
+    rt: HostRuntime,
+) -> Result<(), Fail> {
+    let empty: &[u8] = b"avsig 1\nversion 7\n";
+    let line: &[u8] = b"avscan: set: version 7 has no signatures\n";
+    let rows: [(&[u8], EmptySets, Result<(), Status>, &[u8]); 4] = [
+        (SET, EmptySets::Refused, Ok(()), b""),
+        (SET, EmptySets::Allowed, Ok(()), b""),
+        (empty, EmptySets::Refused, Err(Status::Refused), line),
+        (empty, EmptySets::Allowed, Ok(()), line),
+    ];
+    for (content, empty_sets, admitted, line) in rows {
+        let mut err = FakeWriter::new(rt.alloc());
+        let Ok(scanner) = Scanner::read(rt.alloc(), input("set", Some(content)), &mut err) else {
+            panic!(rt; "no set");
+        };
+        let set = scanner.set();
+        assert!(&rt;
+            admit_set(set, "set", empty_sets, &mut err) == admitted && err.taken() == line
+        );
     }
     Ok(())
 }
