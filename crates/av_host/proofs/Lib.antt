@@ -1,1 +1,3 @@
-pub mod GroupLemmas
+mod GroupLemmas
+mod LineLemmas
+mod ReceiptLemmas

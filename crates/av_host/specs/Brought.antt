@@ -15,7 +15,10 @@ use Rattle.av_status.specs.Tally.{concluded, no_files}
 use Rattle.av_status.specs.declared.status.Status.{Status}
 use Rattle.av_status.specs.declared.tally.Tally.{Tally}
 use Rattle.av_status.specs.declared.tally.Wishes.{Wishes}
+use Rattle.av_host.specs.Lines.{AreTrueLines}
 use Rattle.av_host.specs.declared.opener.Brought.{Brought}
+use Rattle.av_sigset.specs.Set.{NumberedSet}
+use Rattle.av_store.specs.Store.{Store}
 
 -- the opener whose turn a place was
 abbrev pub opener_of : List Brought → ℕ → Option Brought
@@ -45,19 +48,22 @@ pub record AreBrought (openers : ℕ) (names : List (Bor (List ℕ))) (opened : 
   pub loops : End
   pub gravest : end ≡ graver loops (gravest_from Done (map (λ b. b.end) brought))
 
--- so many openers opened files of these names: the lines of those that have an answer were written, they are counted, and the opens
--- ended with this status
-pub record AreTold (openers : ℕ) (names : List (Bor (List ℕ))) (wishes : Wishes) (before after : Tally) (old new : Option (List ℕ)) (status : Status) : Type 0 where
+-- So many openers opened files of these names: the lines of those that have an answer were written, they are counted, and the opens
+-- ended with this status. Each line is true of the contents that the volume kept under these names, by this set.
+pub record AreTold (volume : Store) (set : NumberedSet) (openers : ℕ) (names : List (Bor (List ℕ))) (wishes : Wishes) (before after : Tally) (old new : Option (List ℕ)) (status : Status) : Type 0 where
   pub opened : List Opened
   pub end : End
   pub brought : AreBrought openers names opened end
+  pub are_true : AreTrueLines volume set opened
   pub lines : Appends old new (opened_lines wishes opened)
   pub counted : after ≡ tally_from before opened
   pub ended : status ≡ status_of_end end
 
--- all these files were to be opened by so many openers, and the status is that of the files which were
+-- all these files were to be opened by so many openers, under this set, and the status is that of the files which were
 pub record AreHosted (openers : ℕ) (files : List Input) (wishes : Wishes) (old new : Option (List ℕ)) (status : Status) : Type 0 where
   pub tally : Tally
   pub ended : Status
-  pub told : AreTold openers (map (λ f. f.name) files) wishes no_files tally old new ended
+  pub volume : Store
+  pub set : NumberedSet
+  pub told : AreTold volume set openers (map (λ f. f.name) files) wishes no_files tally old new ended
   pub concluded : status ≡ concluded wishes (ended_tally tally (length files) ended)

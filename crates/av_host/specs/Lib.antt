@@ -1,3 +1,4 @@
 pub mod Brought
 pub mod Ends
 pub mod Groups
+pub mod Lines

@@ -26,7 +26,7 @@ pub enum Way {
     Out,
 }
 
-/// What one of the two loops round a port does. Only the one out of the gate can be done.
+/// What one of the two loops round a port does, with its seat. Only the one out of the gate can be done.
 pub fn carry<R: Wait>(
     rt: &R,
     alloc: Global,
@@ -34,9 +34,9 @@ pub fn carry<R: Wait>(
     line: Line<'_>,
     gate: &Gate,
     seat: Seat,
-) -> End
+) -> (Seat, End)
     requires { IsSeatOf gate.now seat }
-    ensures { way ≡ Into → result ≢ Done }
+    ensures { way ≡ Into → result.1 ≢ Done }
 {
     match way {
         Way::Into => into_gate(rt, alloc, line, gate, seat),
@@ -54,9 +54,15 @@ fn make_room(alloc: Global) {
 
 // From a connection into the gate, and what that gives out at its port into the connection. At its end the port's service is lost;
 // once all are, opens need not wait any more. Where opens may have been left without an answer, the other connection ends too.
-fn into_gate<R: Wait>(rt: &R, alloc: Global, line: Line<'_>, gate: &Gate, mut seat: Seat) -> End
+fn into_gate<R: Wait>(
+    rt: &R,
+    alloc: Global,
+    line: Line<'_>,
+    gate: &Gate,
+    mut seat: Seat,
+) -> (Seat, End)
     requires { IsSeatOf gate.now seat }
-    ensures { result ≢ Done }
+    ensures { result.1 ≢ Done }
 {
     make_room(alloc);
     let wire = line.wire;
@@ -79,12 +85,18 @@ fn into_gate<R: Wait>(rt: &R, alloc: Global, line: Line<'_>, gate: &Gate, mut se
     if line.wires.are_over() {
         gate.stop(rt);
     }
-    end
+    (seat, end)
 }
 
 // From the gate's port into its connection, of what the openers' calls and the other connection give out. At its end the other
 // side's input ends.
-fn out_of_gate<R: Wait>(rt: &R, alloc: Global, line: Line<'_>, gate: &Gate, mut seat: Seat) -> End
+fn out_of_gate<R: Wait>(
+    rt: &R,
+    alloc: Global,
+    line: Line<'_>,
+    gate: &Gate,
+    mut seat: Seat,
+) -> (Seat, End)
     requires { IsSeatOf gate.now seat }
 {
     let wire = line.wire;
@@ -94,7 +106,7 @@ fn out_of_gate<R: Wait>(rt: &R, alloc: Global, line: Line<'_>, gate: &Gate, mut 
     } else {
         wire.cut();
     }
-    end
+    (seat, end)
 }
 
 /// From the connection into the desk, and what that sends into the connection.

@@ -45,8 +45,23 @@ impl Promise<(Giver, Taker, End)> for EndsOf {
     ghost kept_by = { λ p r. AreEndsOf p.0.value r.0 r.1 };
 }
 
-/// The gate and its services, each with so many workers. Gives what the openers brought back, and the end of the host; else why
-/// nothing was opened.
+/// The seats of the two loops round a port.
+#[derive(Drop)]
+pub struct PortSeats {
+    pub into: Seat,
+    pub out: Seat,
+}
+
+/// What came back of the threads of a host: what the openers brought, the seats of the loops round both ports, and the end of the host.
+#[derive(Drop)]
+pub struct Met {
+    pub brought: Vec<Brought>,
+    pub first: PortSeats,
+    pub spare: PortSeats,
+    pub end: End,
+}
+
+/// The gate and its services, each with so many workers. Gives what came back; else why nothing was opened.
 pub fn meet<R: Hosting, C: Clock, E: Write>(
     rt: &R,
     alloc: Global,
@@ -56,27 +71,32 @@ pub fn meet<R: Hosting, C: Clock, E: Write>(
     openings: &Openings<'_>,
     workers: usize,
     err: &mut Progress<'_, C, E>,
-) -> Result<(Vec<Brought>, End), End>
+) -> Result<Met, End>
     requires { IsSeatOf gate.now seat }
-    ensures brought { IfOk result (λ met. vec_len met.0 ≡ openings.now.openers) }
+    ensures brought { IfOk result (λ met. vec_len met.brought ≡ openings.now.openers) }
     ensures failed { IfErr result (λ end. IsFault (status_of_end end)) }
 {
     thread::scope(
         thread::scope_env(),
         rt,
-        |scope| -> Result<(Vec<Brought>, End), End>
+        |scope| -> Result<Met, End>
             requires { IsSeatOf gate.now seat }
-            ensures brought { IfOk result (λ met. vec_len met.0 ≡ openings.entry.now.openers) }
+            ensures brought { IfOk result (λ met. vec_len met.brought ≡ openings.entry.now.openers) }
             ensures failed { IfErr result (λ end. IsFault (status_of_end end)) }
         {
             let (first, spare) = start_pools(rt, alloc, services, workers)?;
             let first = Serving::start(scope, rt, alloc, first);
             let spare = spare.map(|spare| Serving::start(scope, rt, alloc, spare));
             let (brought, at_first, at_spare) = open_all(rt, alloc, gate, seat, openings, err);
-            let end = conclude(rt, first, at_first, spare, at_spare);
+            let end = conclude(rt, first, at_first.0, spare, at_spare.0);
             let end = with_lack(end, services.lack_thread());
             match brought {
-                Ok(brought) => Ok((brought, end)),
+                Ok(brought) => Ok(Met {
+                    brought,
+                    first: at_first.1,
+                    spare: at_spare.1,
+                    end,
+                }),
                 Err(_) => Err(gravest(end, End::Memory)),
             }
         },
@@ -236,7 +256,7 @@ fn start_into_desk<'s, S, R: Threads + Wait + Sync>(
 }
 
 // The filter's side: two loops round each port of the gate that has a connection, and the openers. Gives what the openers brought
-// back, and how the loops of the first port ended and of the second.
+// back, and how the loops of the first port ended and of the second, with their seats.
 fn open_all<R: Threads + Wait + Sync, C: Clock, E: Write>(
     rt: &R,
     alloc: Global,
@@ -244,7 +264,11 @@ fn open_all<R: Threads + Wait + Sync, C: Clock, E: Write>(
     mut seat: Seat,
     openings: &Openings<'_>,
     err: &mut Progress<'_, C, E>,
-) -> (Result<Vec<Brought>, AllocError>, PortEnds, PortEnds)
+) -> (
+    Result<Vec<Brought>, AllocError>,
+    (PortEnds, PortSeats),
+    (PortEnds, PortSeats),
+)
     requires { IsSeatOf gate.now seat }
     ensures { IfOk result.0 (λ all. vec_len all ≡ openings.now.openers) }
 {
@@ -255,7 +279,11 @@ fn open_all<R: Threads + Wait + Sync, C: Clock, E: Write>(
     thread::scope(
         thread::scope_env(),
         rt,
-        |scope| -> (Result<Vec<Brought>, AllocError>, PortEnds, PortEnds)
+        |scope| -> (
+            Result<Vec<Brought>, AllocError>,
+            (PortEnds, PortSeats),
+            (PortEnds, PortSeats),
+        )
             requires reader { IsSeatOf gate.now reader }
             requires writer { IsSeatOf gate.now writer }
             requires spare_reader { IsSeatOf gate.now spare_reader }
@@ -278,15 +306,19 @@ fn open_all<R: Threads + Wait + Sync, C: Clock, E: Write>(
     )
 }
 
-// The ends of the two loops round a port, once their threads have come to them.
+// The ends of the two loops round a port with their seats, once their threads have come to them.
 fn ends_at<R: Threads>(
     rt: &R,
-    into: Result<JoinHandle<End>, End>,
-    out: Result<JoinHandle<End>, End>,
-) -> PortEnds {
-    let into = joined(rt, into);
-    let out = joined(rt, out);
-    PortEnds { into, out }
+    into: Result<JoinHandle<(Seat, End)>, (Seat, End)>,
+    out: Result<JoinHandle<(Seat, End)>, (Seat, End)>,
+) -> (PortEnds, PortSeats) {
+    let (into_seat, into) = joined(rt, into);
+    let (out_seat, out) = joined(rt, out);
+    let seats = PortSeats {
+        into: into_seat,
+        out: out_seat,
+    };
+    (PortEnds { into, out }, seats)
 }
 
 // What a thread gives, or gave where it couldn't be started.
@@ -306,11 +338,11 @@ fn start_loop<'s, S, R: Threads + Wait + Sync>(
     line: Option<Line<'s>>,
     gate: &'s Gate,
     seat: Seat,
-) -> Result<JoinHandle<End>, End>
+) -> Result<JoinHandle<(Seat, End)>, (Seat, End)>
     requires { IsSeatOf gate.now seat }
 {
     let Some(line) = line else {
-        return Err(End::Done);
+        return Err((seat, End::Done));
     };
     let started = scope.spawn(
         move ||

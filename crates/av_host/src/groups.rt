@@ -31,7 +31,7 @@ pub fn host_groups<R: Hosting, F: Contents, C: Clock, W: Write, E: Write>(
     out: &mut W,
     err: &mut Progress<'_, C, E>,
 ) -> Status
-    ensures { EndsWell result → AreHostedInGroups crew.openers names.now wishes (W.contents out.old) (W.contents out.new) result }
+    ensures { EndsWell result → AreHostedInGroups signatures.now crew.openers names.now wishes (W.contents out.old) (W.contents out.new) result }
 {
     let mut tally = Tally::new();
     match open_groups(
@@ -56,7 +56,7 @@ fn open_groups<R: Hosting, F: Contents, C: Clock, W: Write, E: Write>(
     out: &mut W,
     err: &mut Progress<'_, C, E>,
 ) -> Result<Status, Status>
-    ensures told { IfOk result (λ ended. AreOpened crew.openers names.now wishes tally.old tally.new (W.contents out.old) (W.contents out.new) ended) }
+    ensures told { IfOk result (λ ended. AreOpened signatures.now crew.openers names.now wishes tally.old tally.new (W.contents out.old) (W.contents out.new) ended) }
     ensures failed { IfErr result (λ status. IsFault status) }
 {
     let Ok(mut buffer) = vec![in alloc; 0u8; MAX_FILE + 2] else {

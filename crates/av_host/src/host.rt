@@ -1,24 +1,33 @@
-ghost use Rattle.std.specs.Prelude.{◌≡◌, IfErr, IfOk, OnOk, map, vec_len};
+ghost use Rattle.std.specs.Prelude.{◌≡◌, IfErr, IfOk, IfSome, IsTrue, OnOk, map, vec_len};
 ghost use Rattle.std.specs.Io.KnownBytes.{Appends};
 ghost use Rattle.av_engines.specs.declared.end.End.TheVariants.{Done};
 ghost use Rattle.av_files.specs.Opened.{opened_lines, tally_from};
 ghost use Rattle.av_gate.specs.Seats.{IsSeatOf};
+ghost use Rattle.av_gate.specs.Claims.{IsLegal};
+ghost use Rattle.av_host.specs.Lines.{AreGiven, AreTrueLines, HaveReceipts, receipts_of};
+ghost use Rattle.av_shared.specs.History.{IsDeskAudit};
+ghost use Rattle.av_shared.specs.Still.{TellsTrue};
 ghost use Rattle.av_host.specs.Brought.{AreBrought, AreHosted, AreTold, answer_at, opened_files};
 ghost use Rattle.av_status.specs.Status.{EndsWell, graver, gravest_from, IsFault, status_of_end};
 
-use crate::crew::meet;
+use crate::crew::{Met, PortSeats, meet};
 use crate::desks::Desks;
+use crate::lines::{are_denied_right, are_of_their_files};
 use crate::opener::{Brought, Group, Openings};
-use crate::service::Services;
+use crate::service::{Service, Services};
 use crate::signatures::Signatures;
 use av_base::{Limits, Mode};
+use av_desk::Desk;
+use av_ends::Receipt;
 use av_engines::End;
 use av_files::opened::{Opened, conclude_opened, count_opened, print_opened};
 use av_files::scanner::{Input, read_set};
 use av_files::streams::{add_file, empty_volume};
-use av_gate::{Gate, Seat};
+use av_gate::{Gate, Seat, Unclosed};
 use av_pend::Answer;
-use av_status::faults::out_of_memory;
+use av_shared::closing::{Closed, NotClosed, close_all};
+use av_shared::telling::shows_true;
+use av_status::faults::{not_certified, out_of_memory};
 use av_status::progress::Progress;
 use av_status::status::Status;
 use av_status::tally::{Tally, Wishes};
@@ -28,14 +37,25 @@ use std::alloc::{AllocError, Global};
 use std::fs::Files;
 use std::io::Write;
 use std::net::Net;
+use std::random::RandomSource;
 use std::sync::Wait;
 use std::thread::Threads;
 use std::time::Clock;
 
 /// What a host asks of the system.
-pub trait Hosting: Files + Threads + Wait + Net + Clock + Sync + Copy + Send + 'static {}
+pub trait Hosting: Files
+    + Threads
+    + Wait
+    + Net
+    + Clock
+    + RandomSource
+    + Sync
+    + Copy
+    + Send
+    + 'static {}
 
-impl<R: Files + Threads + Wait + Net + Clock + Sync + Copy + Send + 'static> Hosting for R {}
+impl<R: Files + Threads + Wait + Net + Clock + RandomSource + Sync + Copy + Send + 'static> Hosting
+    for R {}
 
 /// How many threads open files, and how many scan for a service: each 1 to 16. With a spare there are two services: what is asked of
 /// the first one is asked of the spare where that one is lost.
@@ -116,24 +136,29 @@ pub fn host_group<R: Hosting, C: Clock, W: Write, E: Write>(
     out: &mut W,
     err: &mut Progress<'_, C, E>,
 ) -> Result<Status, Status>
-    ensures told { IfOk result (λ status. AreTold crew.openers group.entry.names.now wishes tally.old tally.new (W.contents out.old) (W.contents out.new) status) }
+    ensures told { IfOk result (λ status. AreTold volume signatures.now crew.openers group.entry.names.now wishes tally.old tally.new (W.contents out.old) (W.contents out.new) status) }
     ensures failed { IfErr result (λ status. IsFault status) }
 {
+    let Ok(before) = volume.copy() else {
+        return Err(out_of_memory(err));
+    };
     let Ok(desks) = Desks::connected(rt, alloc, signatures, crew) else {
         return Err(out_of_memory(err));
     };
     match Gate::new(alloc, volume, Mode::FailClosed, Limits::greatest()) {
         Ok((gate, seat)) => host_over(
-            rt, alloc, gate, seat, desks, group, crew, wishes, tally, out, err,
+            rt, alloc, signatures, &before, gate, seat, desks, group, crew, wishes, tally, out, err,
         ),
         Err(_) => Err(out_of_memory(err)),
     }
 }
 
-// The same over this gate and these desks.
+// The same over this gate and these desks. The volume is as it was handed to the gate.
 fn host_over<R: Hosting, C: Clock, W: Write, E: Write>(
     rt: &R,
     alloc: Global,
+    signatures: &Signatures,
+    volume: &Volume,
     gate: Gate,
     seat: Seat,
     desks: Desks,
@@ -145,15 +170,131 @@ fn host_over<R: Hosting, C: Clock, W: Write, E: Write>(
     err: &mut Progress<'_, C, E>,
 ) -> Result<Status, Status>
     requires { IsSeatOf gate seat }
-    ensures told { IfOk result (λ status. AreTold crew.openers group.entry.names.now wishes tally.old tally.new (W.contents out.old) (W.contents out.new) status) }
+    ensures told { IfOk result (λ status. AreTold volume.now signatures.now crew.openers group.entry.names.now wishes tally.old tally.new (W.contents out.old) (W.contents out.new) status) }
     ensures failed { IfErr result (λ status. IsFault status) }
 {
     let opened = open_at(rt, alloc, &gate, seat, desks, group, crew, err);
-    gate.abandon();
     err.wipe();
     match opened {
-        Ok((opened, end)) => tell(alloc, opened.as_slice(), end, wishes, tally, out, err),
-        Err(end) => Err(end_told(err, end)),
+        Ok(opening) => close_and_tell(
+            alloc, signatures, volume, gate, opening, wishes, tally, out, err,
+        ),
+        Err(end) => {
+            gate.abandon();
+            Err(end_told(err, end))
+        }
+    }
+}
+
+// Closes a gate and its desks, looks whether their run shows what the files were told, and tells it. Else no line is written.
+fn close_and_tell<W: Write, E: Write>(
+    alloc: Global,
+    signatures: &Signatures,
+    volume: &Volume,
+    gate: Gate,
+    opening: Opening<'_>,
+    wishes: Wishes,
+    tally: &mut Tally,
+    out: &mut W,
+    err: &mut E,
+) -> Result<Status, Status>
+    requires { HaveReceipts opening.opened.items opening.receipts.items }
+    ensures shown { IfOk result (λ _. AreTrueLines volume.now signatures.now opening.entry.opened.items) }
+    ensures counted { OnOk result (tally.new ≡ tally_from tally.old opening.entry.opened.items) }
+    ensures lines { OnOk result (Appends (W.contents out.old) (W.contents out.new) (opened_lines wishes opening.entry.opened.items)) }
+    ensures ended { IfOk result (λ status. status ≡ status_of_end opening.entry.end) }
+    ensures failed { IfErr result (λ status. IsFault status) }
+{
+    let Opening {
+        opened,
+        receipts,
+        seats,
+        first,
+        spare,
+        end,
+    } = opening;
+    let closed = match close_all(gate, seats, receipts, first, spare) {
+        Ok(closed) => closed,
+        Err(kept) => {
+            abandoned(kept);
+            return Err(uncertified(end, err));
+        }
+    };
+    match are_shown(alloc, &closed, signatures, volume, opened.as_slice()) {
+        Ok(true) => {}
+        Ok(false) => return Err(uncertified(end, err)),
+        Err(_) => return Err(out_of_memory(err)),
+    }
+    tell(alloc, opened.as_slice(), end, wishes, tally, out, err)
+}
+
+// A run that its audits don't certify is told by how it ended, if that is a fault.
+fn uncertified<E: Write>(end: End, err: &mut E) -> Status
+    ensures { IsFault result }
+{
+    match end {
+        End::Done | End::Closed => not_certified(err),
+        fault => end_told(err, fault),
+    }
+}
+
+// Lets a gate go that could not be closed.
+fn abandoned(kept: NotClosed) {
+    let NotClosed {
+        unclosed,
+        desk: _,
+        spare: _,
+    } = kept;
+    let Unclosed {
+        why: _,
+        gate,
+        seats: _,
+        receipts: _,
+    } = unclosed;
+    gate.abandon();
+}
+
+// Whether a run shows that what these files were told is true of the contents that the volume has under their names, by this set.
+fn are_shown(
+    alloc: Global,
+    closed: &Closed,
+    signatures: &Signatures,
+    volume: &Volume,
+    opened: &[Opened<'_>],
+) -> Result<bool, AllocError>
+    requires gate { IsLegal closed.now.gate }
+    requires desk { IsDeskAudit closed.now.desk }
+    requires spare { IfSome closed.now.spare (λ a. IsDeskAudit a) }
+    requires given { AreGiven closed.now.gate opened.now }
+    ensures { IfOk result (λ yes. IsTrue yes → AreTrueLines volume.now signatures.now opened.now) }
+{
+    if !is_shown(alloc, closed, signatures)? {
+        return Ok(false);
+    }
+    if !are_denied_right(opened, volume, signatures) {
+        return Ok(false);
+    }
+    Ok(are_of_their_files(opened, volume, &closed.gate.volume))
+}
+
+fn is_shown(alloc: Global, closed: &Closed, signatures: &Signatures) -> Result<bool, AllocError>
+    requires gate { IsLegal closed.now.gate }
+    requires desk { IsDeskAudit closed.now.desk }
+    requires spare { IfSome closed.now.spare (λ a. IsDeskAudit a) }
+    ensures { IfOk result (λ yes. IsTrue yes → TellsTrue closed.now.gate signatures.now) }
+{
+    let set = signatures.set();
+    let automaton = signatures.automaton();
+    match &closed.spare {
+        None => shows_true(alloc, &closed.gate, &closed.desk, None, set, automaton),
+        Some(spare) => shows_true(
+            alloc,
+            &closed.gate,
+            &closed.desk,
+            Some(spare),
+            set,
+            automaton,
+        ),
     }
 }
 
@@ -181,8 +322,18 @@ fn tell<W: Write, E: Write>(
     }
 }
 
-// Opens the files between this gate and services at these desks: what each was told, and the gravest end of a loop. Else why none
-// was opened.
+// What came of the opens of a group, and what its gate is closed with.
+struct Opening<'a> {
+    opened: Vec<Opened<'a>>,
+    receipts: Vec<Receipt>,
+    seats: Vec<Seat>,
+    first: Desk,
+    spare: Option<Desk>,
+    // The gravest end of a loop or an opener.
+    end: End,
+}
+
+// Opens the files between this gate and services at these desks: what came of it. Else why none was opened.
 fn open_at<'a, R: Hosting, C: Clock, E: Write>(
     rt: &R,
     alloc: Global,
@@ -192,32 +343,50 @@ fn open_at<'a, R: Hosting, C: Clock, E: Write>(
     group: Group<'a>,
     crew: Crew,
     err: &mut Progress<'_, C, E>,
-) -> Result<(Vec<Opened<'a>>, End), End>
+) -> Result<Opening<'a>, End>
     requires { IsSeatOf gate.now seat }
-    ensures brought { IfOk result (λ r. AreBrought crew.openers group.entry.names.now r.0.items r.1) }
+    ensures brought { IfOk result (λ o. AreBrought crew.openers group.entry.names.now o.opened.items o.end) }
+    ensures receipts { IfOk result (λ o. HaveReceipts o.opened.items o.receipts.items) }
     ensures failed { IfErr result (λ end. IsFault (status_of_end end)) }
 {
     let services = Services::connect(rt, alloc, desks)?;
-    open_over(rt, alloc, gate, seat, &services, group, crew, err)
+    let met = open_over(rt, alloc, gate, seat, &services, group, crew, err);
+    let Services {
+        first,
+        spare,
+        wires: _,
+    } = services;
+    let first = desk_in(first);
+    let spare = spare.map(desk_in);
+    match met {
+        Ok(met) => told_by(alloc, group, crew.openers, met, first, spare),
+        Err(end) => Err(end),
+    }
+}
+
+// The desk of a service.
+fn desk_in(service: Service) -> Desk {
+    let Service { desk, wire: _ } = service;
+    desk
 }
 
 // The same over the connections of these services.
-fn open_over<'a, R: Hosting, C: Clock, E: Write>(
+fn open_over<R: Hosting, C: Clock, E: Write>(
     rt: &R,
     alloc: Global,
     gate: &Gate,
     seat: Seat,
     services: &Services,
-    group: Group<'a>,
+    group: Group<'_>,
     crew: Crew,
     err: &mut Progress<'_, C, E>,
-) -> Result<(Vec<Opened<'a>>, End), End>
+) -> Result<Met, End>
     requires { IsSeatOf gate.now seat }
-    ensures brought { IfOk result (λ r. AreBrought crew.openers group.entry.names.now r.0.items r.1) }
+    ensures brought { IfOk result (λ met. vec_len met.brought ≡ crew.openers) }
     ensures failed { IfErr result (λ end. IsFault (status_of_end end)) }
 {
     let openings = Openings::new(group, crew.openers, &services.wires);
-    let met = meet(
+    meet(
         rt,
         alloc,
         gate,
@@ -226,26 +395,72 @@ fn open_over<'a, R: Hosting, C: Clock, E: Write>(
         &openings,
         crew.workers,
         err,
-    );
-    match met {
-        Ok((brought, end)) => told_by(alloc, group, crew.openers, brought, end),
-        Err(end) => Err(end),
-    }
+    )
 }
 
-// What each file was told by what so many openers brought back, and the gravest of this end and theirs.
+// What came of what so many openers brought back, and the gravest of this end and theirs.
 fn told_by<'a>(
     alloc: Global,
     group: Group<'a>,
     openers: usize,
-    brought: Vec<Brought>,
-    end: End,
-) -> Result<(Vec<Opened<'a>>, End), End>
-    requires { vec_len brought ≡ openers }
-    ensures brought { IfOk result (λ r. AreBrought openers group.entry.names.now r.0.items r.1) }
+    met: Met,
+    first: Desk,
+    spare: Option<Desk>,
+) -> Result<Opening<'a>, End>
+    requires { vec_len met.brought ≡ openers }
+    ensures brought { IfOk result (λ o. AreBrought openers group.entry.names.now o.opened.items o.end) }
+    ensures receipts { IfOk result (λ o. HaveReceipts o.opened.items o.receipts.items) }
     ensures failed { IfErr result (λ end. IsFault (status_of_end end)) }
 {
-    told_of(alloc, group.names, &brought, end)
+    let (opened, end) = told_of(alloc, group.names, &met.brought, met.end)?;
+    let Ok(receipts) = receipts_of(alloc, &met.brought) else {
+        return Err(gravest(end, End::Memory));
+    };
+    let Ok(seats) = seats_of(alloc, met) else {
+        return Err(gravest(end, End::Memory));
+    };
+    Ok(Opening {
+        opened,
+        receipts,
+        seats,
+        first,
+        spare,
+        end,
+    })
+}
+
+// The receipts of all openers.
+fn receipts_of(alloc: Global, brought: &[Brought]) -> Result<Vec<Receipt>, AllocError>
+    ensures { IfOk result (λ all. all.items ≡ receipts_of brought.now) }
+{
+    let mut all = Vec::new(alloc);
+    'openers: for opener in brought {
+        all.extend_from_slice(opener.receipts.as_slice())?;
+    }
+    Ok(all)
+}
+
+// The seats of all who made calls.
+fn seats_of(alloc: Global, met: Met) -> Result<Vec<Seat>, AllocError> {
+    let Met {
+        brought,
+        first,
+        spare,
+        end: _,
+    } = met;
+    let mut seats = Vec::new(alloc);
+    add_seats(&mut seats, first)?;
+    add_seats(&mut seats, spare)?;
+    'openers: for opener in brought {
+        seats.push(opener.seat)?;
+    }
+    Ok(seats)
+}
+
+fn add_seats(seats: &mut Vec<Seat>, port: PortSeats) -> Result<(), AllocError> {
+    seats.push(port.into)?;
+    seats.push(port.out)?;
+    Ok(())
 }
 
 // What each file was told, of what the openers brought, and the gravest of this end and theirs.

@@ -12,11 +12,14 @@ mod desks;
 mod ends;
 pub mod groups;
 pub mod host;
+mod lines;
 pub mod opener;
 mod service;
 mod signal;
 pub mod signatures;
 mod staffed;
+#[cfg(test)]
+mod tests;
 mod wire;
 
 pub use groups::host_groups;

@@ -79,6 +79,8 @@ pub struct Brought {
     pub receipts: Vec<Receipt>,
     /// Done, or why it opened no further file.
     pub end: End,
+    /// Where its calls are kept.
+    pub seat: Seat,
 }
 
 /// Opens the files of a part, each once the one before has its answer.
@@ -95,7 +97,11 @@ pub fn open_files<R: Wait>(
     let mut receipts = Vec::new(alloc);
     let end = open_each(rt, alloc, gate, &mut seat, part, &mut receipts);
     part.openings.at_rest.fetch_add(1, SeqCst);
-    Brought { receipts, end }
+    Brought {
+        receipts,
+        end,
+        seat,
+    }
 }
 
 fn await_services<R: Wait>(rt: &R, gate: &Gate, seat: &mut Seat, wires: &GateWires)

@@ -1,8 +1,11 @@
 ghost use Rattle.std.specs.Prelude.{◌≡◌, IfOk};
+ghost use Rattle.av_desk.specs.Book.{compiled};
+ghost use Rattle.av_sigset.specs.Publication.{publication_of};
 
 use av_base::{Limits, Port};
 use av_desk::{Desk, SharedAutomaton};
 use av_files::streams::VOLUME;
+use av_match::Automaton;
 use av_sigset::{Catalogue, SignatureSet};
 use std::alloc::{AllocError, Global};
 use std::marker::Model;
@@ -35,6 +38,20 @@ impl Signatures {
     {
         let automaton = SharedAutomaton::build(alloc, &set)?;
         Ok(Signatures { set, automaton })
+    }
+
+    /// The set.
+    pub fn set(&self) -> &SignatureSet
+        ensures { result.now ≡ self.now }
+    {
+        &self.set
+    }
+
+    /// Its automaton.
+    pub fn automaton(&self) -> &Automaton
+        ensures { result.now ≡ compiled (publication_of self.now) }
+    {
+        self.automaton.get()
     }
 
     /// A desk at a port with this set alone, which has greeted the filter.

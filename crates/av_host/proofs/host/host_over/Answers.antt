@@ -1,24 +1,30 @@
 use Rattle.std.proofs.Common.{ℕ, ◌≡◌, List, Option, Result, Ok, Err, OnOk, rules}
+use Rattle.std.specs.Borrow.{Bor}
 use Rattle.std.specs.Prelude.{IfOk}
 use Rattle.std.specs.Io.KnownBytes.{Appends}
 use Rattle.av_engines.specs.declared.end.End.{End}
 use Rattle.av_files.specs.Opened.{opened_lines, tally_from}
 use Rattle.av_files.specs.declared.opened.Opened.{Opened}
 use Rattle.av_host.specs.Brought.{AreBrought, AreTold}
+use Rattle.av_host.specs.Lines.{AreTrueLines}
+use Rattle.av_sigset.specs.Set.{NumberedSet}
 use Rattle.av_status.specs.Status.{status_of_end}
 use Rattle.av_status.specs.declared.status.Status.{Status}
 use Rattle.av_status.specs.declared.tally.Tally.{Tally}
 use Rattle.av_status.specs.declared.tally.Wishes.{Wishes}
+use Rattle.av_store.specs.Store.{Store}
 use Rattle.av_host.proofs.host.host_over.Goals as goal
 
--- the lines of files that were opened were written, they are counted, and the opens ended so
-told : {openers : ℕ} {names : _} {opened : List Opened} {end : End} (wishes : Wishes) (before after : Tally) (old new : Option (List ℕ)) (r : Result Status Status)
-    → AreBrought openers names opened end → OnOk r (after ≡ tally_from before opened) → OnOk r (Appends old new (opened_lines wishes opened))
-    → IfOk r (λ status. status ≡ status_of_end end) → IfOk r (λ status. AreTold openers names wishes before after old new status)
-told wishes before after old new (Ok status) brought counted lines ended = record { opened = _; end = _; brought = brought; lines = lines; counted = counted; ended = ended }
-told wishes before after old new (Err fault) brought counted lines ended = tt
+-- the lines of files that were opened were written, they are true and counted, and the opens ended so
+told : (volume : Store) (set : NumberedSet) (openers : ℕ) (names : List (Bor (List ℕ))) (opened : List Opened) (end : End) (wishes : Wishes) (before after : Tally) (old new : Option (List ℕ)) (r : Result Status Status)
+    → AreBrought openers names opened end → IfOk r (λ _. AreTrueLines volume set opened) → OnOk r (after ≡ tally_from before opened) → OnOk r (Appends old new (opened_lines wishes opened))
+    → IfOk r (λ status. status ≡ status_of_end end) → IfOk r (λ status. AreTold volume set openers names wishes before after old new status)
+told volume set openers names opened end wishes before after old new (Ok status) brought shown counted lines ended =
+    record { opened = opened; end = end; brought = brought; are_true = shown; lines = lines; counted = counted; ended = ended }
+told volume set openers names opened end wishes before after old new (Err fault) brought shown counted lines ended = tt
 
 pub returns-in-Ok-clause-told : goal.returns-in-Ok-clause-told
 returns-in-Ok-clause-told g c =
-    let brought : AreBrought c.args.crew.openers c.args.group.names.now c.as_slice.result.now c.in-Ok.end = search rules in
-    told _ _ _ _ _ c.tell.result brought c.tell.ensures.counted c.tell.ensures.lines c.tell.ensures.ended
+    let o = c.in-Ok.opening in
+    told c.args.volume.now c.args.signatures.now c.args.crew.openers c.args.group.names.now o.opened.items o.end c.args.wishes _ _ _ _ c.close_and_tell.result
+    c.in-Ok.ensures.brought c.close_and_tell.ensures.shown c.close_and_tell.ensures.counted c.close_and_tell.ensures.lines c.close_and_tell.ensures.ended
