@@ -2,3 +2,4 @@ pub mod AddLemmas
 pub mod GroupLemmas
 pub mod PlaceLemmas
 pub mod ServiceLemmas
+pub mod RefusalLemmas

@@ -6,6 +6,7 @@
 ghost use Rattle.std.specs.Prelude.{◌≤◌, length, IfOk, IfSome};
 
 use crate::place::Arriving;
+use crate::refusal::{Front, TurnedAway, refusal_in};
 use std::alloc::Global;
 use std::cell::RefCell;
 use std::io::{ErrorKind, Read, Write};
@@ -58,6 +59,8 @@ struct Inside {
     given: usize,
     // What waits to go out.
     waiting: Vec<u8>,
+    // The first bytes that came.
+    front: Front,
     // Where what came ends, and since when a frame is waited for that is not whole.
     arriving: Arriving,
     // The moment at which a read that waits ends with nothing, where there is one.
@@ -85,17 +88,34 @@ impl<'a, C: Clock> Duplex<'a, C> {
                 kept: Vec::new(alloc),
                 given: 0,
                 waiting: Vec::new(alloc),
+                front: Front::new(),
                 arriving: Arriving::since(since),
                 wake: None,
             }),
         })
     }
 
-    /// Waits for the first bytes, and keeps them. None where the other side closes without one.
-    pub fn await_first(&self) -> io::Result<bool> {
+    /// Waits for the first bytes until this moment, and keeps them. None where the other side closes without one.
+    pub fn await_first(&self, until: Duration) -> io::Result<bool> {
         match self.inside.try_borrow_mut() {
-            Ok(mut inside) => inside.await_first(&self.line),
+            Ok(mut inside) => {
+                inside.wake = Some(until);
+                let first = inside.await_first(&self.line);
+                inside.wake = None;
+                first
+            }
             Err(_) => Err(lost()),
+        }
+    }
+
+    /// Why the other side turned this one away, where that is what it said first. It may have closed the connection before it was read.
+    pub fn refusal(&self) -> Option<TurnedAway> {
+        match self.inside.try_borrow_mut() {
+            Ok(mut inside) => {
+                let _ = inside.read_ahead(&self.line);
+                refusal_in(inside.front.bytes())
+            }
+            Err(_) => None,
         }
     }
 
@@ -210,6 +230,7 @@ impl Inside {
     // Goes on over bytes that came.
     fn pass<C: Clock>(&mut self, line: &Line<'_, C>, bytes: &[u8]) -> io::Result<()> {
         let now = line.clock.monotonic()?;
+        self.front.pass(bytes);
         self.arriving.pass(bytes, now);
         Ok(())
     }

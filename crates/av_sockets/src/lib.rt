@@ -15,6 +15,7 @@ mod line;
 pub mod looks;
 mod opener;
 mod place;
+pub mod refusal;
 pub mod service;
 pub mod sockets;
 #[cfg(test)]
@@ -26,6 +27,7 @@ pub use fault::SocketFault;
 pub use filter::filter_files;
 pub use looks::{Look, looked_at};
 pub use place::Arriving;
+pub use refusal::{TurnedAway, put_refusal};
 pub use service::serve_at;
 pub use sockets::{Meeting, Node, connect, listen, remove_own};
 pub use watch::Watched;

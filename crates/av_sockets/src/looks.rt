@@ -8,14 +8,17 @@ use std::fs;
 use std::fs::Files;
 use std::os::unix::fs::MetadataExt;
 
-/// What a look at a regular file tells: which one it is, how long, and when it was changed.
+/// What a look at a regular file tells: which one it is, how long, and when it was written to.
 #[derive(Clone, Copy, PartialEq, Eq)]
 pub struct Look {
     pub device: u64,
     pub number: u64,
     pub length: u64,
-    pub seconds: i64,
-    pub nanoseconds: i64,
+    /// In nanoseconds since 1970.
+    pub written: i64,
+    /// When anything of it was changed, its name or its rights too, in nanoseconds since 1970. No program can set that time, so a file that
+    /// is written anew with the old length and time is seen.
+    pub changed: i64,
 }
 
 /// A look at a file: none where no regular file is there.
@@ -28,9 +31,13 @@ pub fn looked_at<R: Files>(rt: &R, path: &str) -> Option<Look> {
         device: data.dev(),
         number: data.ino(),
         length: data.len(),
-        seconds: data.mtime(),
-        nanoseconds: data.mtime_nsec(),
+        written: nanoseconds(data.mtime(), data.mtime_nsec()),
+        changed: nanoseconds(data.ctime(), data.ctime_nsec()),
     })
+}
+
+fn nanoseconds(seconds: i64, more: i64) -> i64 {
+    seconds.saturating_mul(1_000_000_000).saturating_add(more)
 }
 
 /// The looks at a file so far: what was seen where it was taken last, and the last look.

@@ -6,6 +6,7 @@ ghost use Rattle.av_status.specs.declared.status.Status.TheVariants.{Done};
 
 use crate::duplex::{Duplex, Hearing, Saying};
 use crate::fault::{SocketFault, socket_failed};
+use crate::refusal::turned_away;
 use crate::sockets::{Meeting, connect};
 use crate::watch::{Watch, Watched};
 use av_base::device::write_text;
@@ -26,7 +27,7 @@ use std::time::Clock;
 const READS: u64 = u64::MAX;
 
 /// Scans under a set for the filter that listens at a socket, or will within the wait, until the filter closes the
-/// connection: then `closed` is written. Else one line to `err` says why. Where a signature file is watched, its newer sets are
+/// connection: then `closed` is written. Else one line to `err` says why, also where a guard turns the service away. Where a signature file is watched, its newer sets are
 /// published meanwhile, and an idle filter is waited for without an end.
 pub fn serve_at<R: Files + Net + Clock, W: Write, E: Write>(
     rt: &R,
@@ -54,7 +55,10 @@ pub fn serve_at<R: Files + Net + Clock, W: Write, E: Write>(
                 watched,
                 err,
             );
-            told(meeting.path, end, out, err)
+            match duplex.refusal() {
+                Some(why) => turned_away(err, meeting.path, version_of(&service), why),
+                None => told(meeting.path, end, out, err),
+            }
         }
         Err(fault) => socket_failed(err, meeting.path, fault),
     }
@@ -79,7 +83,7 @@ fn serve_over<'a, R: Files + Clock, E: Write>(
     let Some(watched) = watched else {
         return serve_service(alloc, service, catalogue, &mut reader, &mut writer, READS);
     };
-    let version = service.version().unwrap_or(Version::new(0));
+    let version = version_of(service);
     let mut watch = Watch::new(rt, alloc, duplex, watched, version, err);
     serve_fresh(
         alloc,
@@ -90,6 +94,10 @@ fn serve_over<'a, R: Files + Clock, E: Write>(
         READS,
         &mut watch,
     )
+}
+
+fn version_of(service: &Service) -> Version {
+    service.version().unwrap_or(Version::new(0))
 }
 
 // How the service's side ended.

@@ -7,10 +7,10 @@ use crate::duplex::Duplex;
 use crate::fault::SocketFault;
 use mio::net;
 use std::alloc::{AllocError, Global};
-use std::fs::{Files, Permissions};
+use std::fs::{DirBuilder, Files, OpenFile, Permissions};
 use std::io::ErrorKind;
 use std::net::Net;
-use std::os::unix::fs::{FileTypeExt, MetadataExt, PermissionsExt};
+use std::os::unix::fs::{DirBuilderExt, FileTypeExt, MetadataExt, PermissionsExt};
 use std::os::unix::net::{UnixListener, UnixStream};
 use std::time::{Clock, Duration};
 use std::{fs, thread};
@@ -18,8 +18,13 @@ use std::{fs, thread};
 // Milliseconds between two looks.
 const PAUSE: u64 = 10;
 
-// The most bytes of a socket's path.
-const MAX_SOCKET: usize = 107;
+// The rights of a folder that its owner alone may enter, and those that others have in it.
+const ALONE: u32 = 0o700;
+
+const OTHERS: u32 = 0o077;
+
+// Among so many descriptors one is looked for.
+const DESCRIPTORS: u32 = 1_024;
 
 /// How two programs meet at a socket.
 #[derive(Clone, Copy, Debug)]
@@ -51,9 +56,9 @@ pub fn meet_service<'a, R: Files + Net + Clock>(
     met
 }
 
-/// Makes the socket's file with these rights beside its place, listens there without waiting, and only then puts it in its place, so
-/// that nobody finds a socket that is not ready. A file that is there is not replaced, unless it is a socket that an earlier program
-/// left and nobody listens at.
+/// Makes the socket's file with these rights in a folder of its own, listens there without waiting, and only then puts it in its
+/// place, so that nobody finds a socket that is not ready. A file that is there is not replaced, unless it is a socket that an earlier
+/// program left and nobody listens at.
 pub fn listen<R: Files + Net + Clock>(
     rt: &R,
     alloc: Global,
@@ -62,20 +67,44 @@ pub fn listen<R: Files + Net + Clock>(
 ) -> Result<(UnixListener, Node), SocketFault>
     ensures { IfErr result IsUnmade }
 {
-    let Ok(beside) = name_beside(rt, alloc, path) else {
+    let Ok(apart) = name_beside(rt, alloc, path) else {
         return Err(SocketFault::CannotListen);
     };
-    let beside = beside.as_str();
-    let beside = beside.get(..MAX_SOCKET).unwrap_or(beside);
-    let Ok(listener) = UnixListener::bind(rt, beside) else {
+    let apart = apart.as_str();
+    if DirBuilder::new().mode(ALONE).create(rt, apart).is_err() {
+        return Err(SocketFault::CannotListen);
+    }
+    let listens = listen_apart(rt, alloc, apart, path, mode);
+    let _ = fs::remove_dir(rt, apart);
+    listens
+}
+
+// Goes on with a folder that was just made. It is entered by its descriptor from here on, so what others put in its place, where they
+// may write to the folder around it, is neither given rights nor listened at.
+fn listen_apart<R: Files + Net + Clock>(
+    rt: &R,
+    alloc: Global,
+    apart: &str,
+    path: &str,
+    mode: u32,
+) -> Result<(UnixListener, Node), SocketFault>
+    ensures { IfErr result IsUnmade }
+{
+    let Ok(folder) = fs::open(rt, apart) else {
         return Err(SocketFault::CannotListen);
     };
-    let made = guarded(rt, &listener, beside, mode);
-    let placed = match made {
-        Some(node) => place(rt, alloc, beside, path).map(|_| node),
+    let Some(inside) = entered(rt, alloc, &folder) else {
+        return Err(SocketFault::CannotListen);
+    };
+    let inside = inside.as_str();
+    let Ok(listener) = UnixListener::bind(rt, inside) else {
+        return Err(SocketFault::CannotListen);
+    };
+    let placed = match guarded(rt, &listener, inside, mode) {
+        Some(node) => place(rt, alloc, inside, path).map(|_| node),
         None => Err(SocketFault::CannotListen),
     };
-    let _ = fs::remove_file(rt, beside);
+    let _ = fs::remove_file(rt, inside);
     Ok((listener, placed?))
 }
 
@@ -90,6 +119,26 @@ fn name_beside<R: Clock>(rt: &R, alloc: Global, path: &str) -> Result<String, Al
         Err(_) => 0,
     };
     format!(in alloc; "{folder}.{now:x}")
+}
+
+// The path of a socket in an open folder, where that is this process's own and nobody else may enter it. The kit tells no number of a
+// descriptor, so it is looked for among those of the process.
+fn entered<R: Files>(rt: &R, alloc: Global, folder: &R::File) -> Option<String> {
+    let own = fs::metadata(rt, "/proc/self").ok()?;
+    let data = folder.metadata().ok()?;
+    if !data.is_dir() || data.uid() != own.uid() || data.mode() & OTHERS != 0 {
+        return None;
+    }
+    'descriptors: for number in 0..DESCRIPTORS {
+        let path = format!(in alloc; "/proc/self/fd/{number}/socket").ok()?;
+        let entry = path.get(..path.len().saturating_sub("/socket".len()))?;
+        if let Ok(found) = fs::metadata(rt, entry) {
+            if found.dev() == data.dev() && found.ino() == data.ino() {
+                return Some(path);
+            }
+        }
+    }
+    None
 }
 
 // Gives a socket its rights, and turns away who came before it had them.
@@ -129,7 +178,8 @@ fn place<R: Files + Net>(rt: &R, alloc: Global, beside: &str, path: &str) -> Res
 }
 
 // Removes a socket's file at which nobody listens. A filter that listens there takes no notice: it takes a connection for a
-// service from its first byte on. The file is taken out of its place first, and put back where it is another one by then.
+// service from its first byte on. No call waits, also not where as many wait there as may: then somebody listens. The file is taken out
+// of its place first, and put back where it is another one by then.
 fn remove_leftover<R: Files + Net>(
     rt: &R,
     alloc: Global,
@@ -144,7 +194,7 @@ fn remove_leftover<R: Files + Net>(
         Err(_) => return Ok(()),
     }
     let node = node_of(rt, path);
-    match UnixStream::connect(rt, path) {
+    match net::UnixStream::connect(rt, path) {
         Ok(_) => return Err(SocketFault::InUse),
         Err(error) => match error.kind() {
             ErrorKind::ConnectionRefused => {}
@@ -204,9 +254,10 @@ fn await_service<'a, R: Clock>(
     ensures { IfErr result IsUnmet }
 {
     let begun = rt.monotonic().unwrap_or(Duration::ZERO);
+    let until = begun.saturating_add(wait);
     'looks: for _ in 0..u64::MAX {
         if let Ok((stream, _)) = listener.accept() {
-            if let Some(duplex) = greeted(rt, alloc, stream, wait) {
+            if let Some(duplex) = greeted(rt, alloc, stream, wait, until) {
                 return Ok(duplex);
             }
         }
@@ -218,15 +269,16 @@ fn await_service<'a, R: Clock>(
     Err(SocketFault::NoService)
 }
 
-// A connection whose first byte has come, where one comes in time.
+// A connection whose first byte has come, where one comes until this moment.
 fn greeted<'a, R: Clock>(
     rt: &'a R,
     alloc: Global,
     stream: UnixStream,
     wait: Duration,
+    until: Duration,
 ) -> Option<Duplex<'a, R>> {
     let duplex = Duplex::new(rt, alloc, stream, wait).ok()?;
-    if duplex.await_first().ok()? {
+    if duplex.await_first(until).ok()? {
         Some(duplex)
     } else {
         None

@@ -6,9 +6,9 @@ use crate::looks::{Look, Looks, looked_at};
 use av_base::device::read_into;
 use av_base::{Part, Refusal, Version};
 use av_engines::Fresh;
-use av_files::{Input, MAX_FILE, TURNS, read_set};
+use av_files::{Input, MAX_FILE, TURNS, admit_set, read_set};
 use av_sigset::{CatalogueFault, SignatureSet};
-use av_status::faults::{out_of_memory, say, say_of, text};
+use av_status::faults::{EmptySets, out_of_memory, say, say_of, text};
 use std::alloc::Global;
 use std::fs;
 use std::fs::Files;
@@ -23,6 +23,8 @@ pub struct Watched<'a> {
     pub every: Duration,
     /// What a look saw where the set that is published first was read.
     pub seen: Option<Look>,
+    /// What becomes of a set without a signature, by which nothing is found.
+    pub empty: EmptySets,
 }
 
 /// Takes newer sets from a signature file while a service runs, and says on standard error what became of each.
@@ -37,6 +39,9 @@ pub struct Watch<'a, 'b, R, E> {
     due: Duration,
     looks: Looks,
     version: Version,
+    empty: EmptySets,
+    // How many signatures the set has that was read last.
+    count: usize,
 }
 
 impl<'a, 'b, R: Files + Clock, E: Write> Watch<'a, 'b, R, E> {
@@ -65,6 +70,8 @@ impl<'a, 'b, R: Files + Clock, E: Write> Watch<'a, 'b, R, E> {
             due,
             looks: Looks::new(watched.seen),
             version,
+            empty: watched.empty,
+            count: 0,
         }
     }
 
@@ -95,7 +102,12 @@ impl<'a, 'b, R: Files + Clock, E: Write> Watch<'a, 'b, R, E> {
             Some(count) => buffer.get(..count),
             None => None,
         };
-        spelled(self.alloc, self.path, content, self.err)
+        let set = spelled(self.alloc, self.path, content, self.err)?;
+        self.count = set.len();
+        match admit_set(&set, self.path, self.empty, self.err) {
+            Ok(()) => Some(set),
+            Err(_) => None,
+        }
     }
 
     // The count of the bytes of the file, as far as one past the most.
@@ -127,7 +139,18 @@ impl<'a, 'b, R: Files + Clock, E: Write> Fresh for Watch<'a, 'b, R, E> {
 
     fn published(&mut self, version: Version) {
         self.version = version;
-        say(self.err, &[text("version "), Part::Number(version.get())]);
+        let number = Part::Number(version.get());
+        let count = Part::Number(self.count as u64);
+        say(
+            self.err,
+            &[
+                text("version "),
+                number,
+                text(", "),
+                count,
+                text(" signatures"),
+            ],
+        );
     }
 
     fn refused(&mut self, version: Version, why: Refusal<CatalogueFault>) {
