@@ -1,9 +1,10 @@
-pub mod Looks
-pub mod Questions
+pub mod Asking
+pub mod Belief
+pub mod Client
+pub mod Descriptors
+pub mod Guarding
+pub mod Late
 pub mod Line
 pub mod Names
-pub mod Client
 pub mod Service
-pub mod Asking
-pub mod Late
-pub mod Guarding
+pub mod Told

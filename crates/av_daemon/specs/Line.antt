@@ -1,4 +1,4 @@
--- A connection of which no call waits, and where it stands by.
+-- A connection of which no call waits.
 use Rattle.std.specs.Prelude.{ℕ, ◌≡◌, ◌-◌, ◌==◌, ◌&&◌, ◌||◌, Bool, false, true, nat_lt, if◌then◌else◌, List, length, drop, ◌≤◌, Option, None, Some, is_none}
 use Rattle.std.specs.declared.time.Duration.{Duration}
 use Rattle.mio.specs.declared.event.event.Event.{Event}
@@ -6,15 +6,6 @@ use Rattle.mio.specs.Event.{is_error, is_read_closed, is_readable, is_writable, 
 use Rattle.av_daemon.specs.declared.line.Came.{Came}
 use Rattle.av_daemon.specs.declared.line.Came.TheVariants.{Bytes, Nothing, End}
 use Rattle.av_daemon.specs.declared.line.Line.{Line}
-use Rattle.av_daemon.specs.declared.line.Turns.{Turns}
-
--- it stands nowhere
-abbrev pub nowhere : Turns
-nowhere = record { is_ready = false; is_sending = false; is_watched = false }
-
--- since when it is waited for, and that a time is set for it then, where none was
-abbrev pub watched_since : Option Duration → Turns → Option Duration × Turns
-watched_since since t = if is_none since || t.is_watched then (None, t) else (since, record t { is_watched = true })
 
 -- the bytes that are still to go out
 abbrev pub unsent : Line → List ℕ

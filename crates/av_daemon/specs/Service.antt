@@ -10,8 +10,10 @@ use Rattle.av_frame.specs.Spelling.{frame}
 use Rattle.av_frame.specs.declared.message.Body.{Body}
 use Rattle.av_frame.specs.declared.message.Body.TheVariants.{Scan, Chunk, NoChunk, Abort, Hello, Read, Reply, Updated}
 use Rattle.av_sockets.specs.Place.{start}
-use Rattle.av_daemon.specs.Line.{nowhere, unsent}
+use Rattle.av_daemon.specs.Line.{unsent}
 use Rattle.av_daemon.specs.declared.line.Line.{Line}
+use Rattle.av_daemon.specs.declared.service.Claim.{Claim}
+use Rattle.av_daemon.specs.declared.service.Claim.TheVariants.{Greeting, Newer}
 use Rattle.av_daemon.specs.declared.service.Gone.{Gone}
 use Rattle.av_daemon.specs.declared.service.Service.{Service}
 
@@ -22,7 +24,7 @@ came line now =
       line = line;
       feed = record { rest = []; broken = false };
       arriving = record { place = start; since = Some now };
-      turns = nowhere;
+      is_sending = false;
     }
 
 -- it may be read on: fewer than 2,097,152 bytes wait for it
@@ -53,21 +55,21 @@ GivesMessage old new (Ok (Some m)) = IsLetter m × (old.rest ≡ frame m ++ new.
 GivesMessage old new (Ok None) = (front_of old.rest ≡ Ok None) × (new ≡ old)
 GivesMessage old new (Err gone) = IsBroken old
 
--- the version that a greeting names
-abbrev pub hello_version : Body → Option ℕ
-hello_version (Hello volume version) = Some version
-hello_version (Scan id stream generation length) = None
-hello_version (Chunk id offset bytes) = None
-hello_version (NoChunk id offset cause) = None
-hello_version (Abort id) = None
-hello_version (Read id offset count) = None
-hello_version (Reply id outcome) = None
-hello_version (Updated version) = None
+-- what is said of the version of a set: a greeting and news of a newer set name it
+abbrev pub claimed : Body → Option Claim
+claimed (Hello volume version) = Some (Greeting version)
+claimed (Scan id stream generation length) = None
+claimed (Chunk id offset bytes) = None
+claimed (NoChunk id offset cause) = None
+claimed (Abort id) = None
+claimed (Read id offset count) = None
+claimed (Reply id outcome) = None
+claimed (Updated version) = Some (Newer version)
 
--- a greeting comes at the first port
-abbrev pub at_first : Port → Option ℕ → Option ℕ
-at_first One version = version
-at_first Two version = None
+-- the first port alone is heard
+abbrev pub at_first : Port → Option Claim → Option Claim
+at_first One claim = claim
+at_first Two claim = None
 
-abbrev pub greeting_of : Letter → Option ℕ
-greeting_of message = at_first message.port (hello_version message.body)
+abbrev pub claim_of : Letter → Option Claim
+claim_of message = at_first message.port (claimed message.body)

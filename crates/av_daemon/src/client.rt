@@ -1,35 +1,32 @@
-ghost use Rattle.std.specs.Prelude.{◌≡◌, ◌+◌, ◌-◌, ◌++◌, ◌∷◌, [], false, length, map, min, true, None, OnOk};
-ghost use Rattle.av_asks.specs.Spelling.{asked as asked_of};
-ghost use Rattle.av_clamd.specs.Door.{fresh, heard_of};
-ghost use Rattle.av_daemon.specs.Client.{GivesAsks, Hears, Says, asks_in, came, goes_on, is_of_clamd, is_over, is_owed_much, late_text, lines_in, is_done_by, of_tag, open_answer_of, spoken_of, tag_of, told_text, unlabelled, waited_since, wanted};
-ghost use Rattle.av_daemon.specs.Line.{IsWithin, watched_since};
-ghost use Rattle.av_daemon.specs.declared.line.Came.{Came};
+ghost use Rattle.std.specs.Prelude.{◌≡◌, ◌+◌, ◌-◌, ◌≤◌, ◌++◌, [], length, min, true, false, IfOk, OnOk};
+ghost use Rattle.av_clamd.specs.Door.{fresh};
+ghost use Rattle.av_daemon.specs.Client.{GivesAsk, Hears, SaysOne, begun_left, came, farewell, is_of_clamd, is_over, kind_of, late_text, left_of, of_tag, open_answer_of, spoken_of, tag_of, told_text};
 ghost use Rattle.av_daemon.specs.declared.client.Speech.TheVariants.{Opens, Clamd};
 
-use crate::line::{Came, Line, Turns};
+use crate::line::{Came, Line};
 use av_asks::{Ask, AskFeed, OpenAnswer, put_answer};
 use av_base::Cause;
 use av_clamd::{Door, Heard, Spoken, put_reply, put_timed_out};
 use av_guard::{Answered, Told};
+use av_sockets::{TurnedAway, put_refusal};
+use av_turns::{Kind, Left};
 use std::alloc::{AllocError, Global};
-use std::time::Duration;
-
-// How many answers a client may be owed before its next asks are read.
-const MOST_OWED: usize = 256;
+use std::mem;
 
 /// One client.
 #[derive(Drop)]
 pub struct Client {
     pub line: Line,
     speech: Speech,
+    // What came of a client of clamd and was not heard yet.
+    kept: Vec<u8>,
     owed: usize,
-    // When something was heard of it last.
-    heard: Duration,
-    // No more is read.
+    // It asked about a content.
+    has_asked: bool,
+    // No more is heard of it.
     is_done: bool,
-    pub turns: Turns,
-    /// It is not read until it is owed less.
-    pub is_held: bool,
+    /// It is among those to which something is sent next.
+    pub is_sending: bool,
 }
 
 // What it speaks.
@@ -39,11 +36,13 @@ enum Speech {
     Clamd(Door),
 }
 
-/// What a client asks: its tag is handed back with the answer.
+/// One thing that a client said.
 #[derive(Drop)]
-pub struct Asked {
-    pub tag: u64,
-    pub content: Vec<u8>,
+pub enum Thing {
+    /// It needs no verdict: so many bytes were put behind those that wait for the client.
+    Said(usize),
+    /// It asks about a content. Its tag is handed back with the answer.
+    Asked { tag: u64, content: Vec<u8> },
 }
 
 /// Why a client is let go.
@@ -58,52 +57,44 @@ impl From<AllocError> for Lost {
 
 impl Client {
     /// One that came by the socket for opens.
-    pub fn of_opens(alloc: Global, line: Line, now: Duration) -> Client
-        ensures { result ≡ came line (Opens (record { rest = []; broken = false })) now }
+    pub fn of_opens(alloc: Global, line: Line) -> Client
+        ensures came { result ≡ came line (Opens (record { rest = []; broken = false })) result.kept }
+        ensures kept { result.kept.items ≡ [] }
     {
-        Client::new(line, Speech::Opens(AskFeed::new(alloc)), now)
+        Client::new(alloc, line, Speech::Opens(AskFeed::new(alloc)))
     }
 
     /// One that came by the socket for clients of clamd.
-    pub fn of_clamd(alloc: Global, line: Line, now: Duration) -> Client
-        ensures { result ≡ came line (Clamd fresh) now }
+    pub fn of_clamd(alloc: Global, line: Line) -> Client
+        ensures came { result ≡ came line (Clamd fresh) result.kept }
+        ensures kept { result.kept.items ≡ [] }
     {
-        Client::new(line, Speech::Clamd(Door::new(alloc)), now)
+        Client::new(alloc, line, Speech::Clamd(Door::new(alloc)))
     }
 
-    fn new(line: Line, speech: Speech, now: Duration) -> Client
-        ensures { result ≡ came line speech now }
+    fn new(alloc: Global, line: Line, speech: Speech) -> Client
+        ensures came { result ≡ came line speech result.kept }
+        ensures kept { result.kept.items ≡ [] }
     {
         Client {
             line,
             speech,
+            kept: Vec::new(alloc),
             owed: 0,
-            heard: now,
+            has_asked: false,
             is_done: false,
-            turns: Turns::none(),
-            is_held: false,
+            is_sending: false,
         }
     }
 
-    /// Whether its next asks are to wait until it is owed less.
-    pub fn is_owed_much(&self) -> bool
-        ensures { result ≡ is_owed_much self.now }
+    /// What it speaks.
+    pub fn kind(&self) -> Kind
+        ensures { result ≡ kind_of self.now.speech }
     {
-        self.owed >= MOST_OWED
-    }
-
-    /// Whether it may be read on.
-    pub fn goes_on(&self) -> bool
-        ensures { result ≡ goes_on self.now }
-    {
-        !self.is_done && self.line.may_read()
-    }
-
-    /// Whether all is done: it says no more, and was told all.
-    pub fn is_over(&self) -> bool
-        ensures { result ≡ is_over self.now }
-    {
-        self.is_done && self.owed == 0 && self.line.waiting() == 0
+        match &self.speech {
+            Speech::Opens(_) => Kind::Opens,
+            Speech::Clamd(_) => Kind::Clamd,
+        }
     }
 
     /// Whether it speaks as clients of clamd do.
@@ -113,90 +104,102 @@ impl Client {
         matches!(&self.speech, Speech::Clamd(..))
     }
 
-    /// Since when it is waited for: to take what it is told, or, of a client of clamd that is owed nothing, to say something.
-    pub fn since(&self) -> Option<Duration>
-        ensures { result ≡ waited_since self.now.line.since self.now }
+    /// Whether no more is heard of it.
+    pub fn is_done(&self) -> bool
+        ensures { result ≡ self.now.is_done }
     {
-        if let Some(since) = self.line.since() {
-            return Some(since);
-        }
-        if self.is_of_clamd() && self.owed == 0 && !self.is_done {
-            return Some(self.heard);
-        }
-        None
+        self.is_done
     }
 
-    /// The same, where no time is set at which it is looked at.
-    pub fn to_be_watched(&mut self) -> Option<Duration>
-        ensures turns { (result, self.new.turns) ≡ watched_since (waited_since self.old.line.since self.old) self.old.turns }
-        ensures same { self.new ≡ record self.old { turns = self.new.turns } }
+    /// Whether all is done: it says no more, and was told all.
+    pub fn is_over(&self) -> bool
+        ensures { result ≡ is_over self.now }
     {
-        let since = self.since();
-        self.turns.to_be_watched(since)
+        self.is_done && self.owed == 0 && self.line.waiting() == 0
     }
 
-    /// It said nothing for too long: a client of clamd is told so. Whether it is now over but for that.
-    pub fn time_out(&mut self) -> Result<(), Lost>
-        ensures takes { OnOk result (self.old.line.since ≡ None) }
-        ensures told { OnOk result (self.new.line.waiting.items ≡ self.old.line.waiting.items ++ late_text self.old.speech) }
-        ensures done { OnOk result (self.new.is_done ≡ true) }
-        ensures same { self.new ≡ record self.old { is_done = self.new.is_done; line = self.new.line } }
+    /// Reads a piece, and says how many bytes came. One that sends no more is done; one that takes no more either is lost.
+    pub fn read(&mut self, buffer: &mut [u8]) -> Result<usize, Lost>
+        ensures within { IfOk result (λ count. count ≤ length buffer.new) }
+        ensures same { (self.new.speech ≡ self.old.speech) × (self.new.kept ≡ self.old.kept) × (self.new.owed ≡ self.old.owed) }
     {
-        if self.line.since().is_some() {
-            return Err(Lost);
-        }
-        if let Speech::Clamd(door) = &self.speech {
-            put_timed_out(&mut self.line.waiting, door.end())?;
-        }
-        self.is_done = true;
-        Ok(())
-    }
-
-    /// Reads a piece, and puts what is asked in it behind the others. What needs no verdict is answered.
-    pub fn hear(
-        &mut self,
-        buffer: &mut [u8],
-        now: Duration,
-        asked: &mut Vec<Asked>,
-    ) -> Result<(), Lost>
-        ensures hears { OnOk result ((came : Came) × IsWithin came buffer.new × Hears came buffer.new self.old.speech self.new.speech self.old.line.waiting.items self.new.line.waiting.items asked.old.items asked.new.items) }
-        ensures owed { OnOk result (self.new.owed ≡ min (self.old.owed + (length asked.new.items - length asked.old.items)) usize.MAX) }
-        ensures held { self.new.is_held ≡ self.old.is_held }
-    {
-        let _owed = self.owed;
         match self.line.read(buffer) {
-            Came::Nothing => Ok(()),
+            Came::Bytes(count) => Ok(count),
+            Came::Nothing => Ok(0),
             Came::End => {
                 self.is_done = true;
                 if self.line.is_closed() {
                     Err(Lost)
                 } else {
-                    Ok(())
+                    Ok(0)
                 }
-            }
-            Came::Bytes(count) => {
-                self.heard = now;
-                self.take(buffer.get(..count).unwrap_or(b"".as_slice()), asked)
             }
         }
     }
 
-    fn take(&mut self, piece: &[u8], asked: &mut Vec<Asked>) -> Result<(), Lost>
-        ensures says { OnOk result (Says piece.now self.old.speech self.new.speech self.old.line.waiting.items self.new.line.waiting.items asked.old.items asked.new.items) }
-        ensures owed { OnOk result (self.new.owed ≡ min (self.old.owed + (length asked.new.items - length asked.old.items)) usize.MAX) }
-        ensures done { OnOk result (self.new.is_done ≡ is_done_by self.new.speech self.old.is_done) }
-        ensures held { self.new.is_held ≡ self.old.is_held }
+    /// What came before and was not heard yet.
+    pub fn take_kept(&mut self, alloc: Global) -> Vec<u8>
+        ensures taken { result ≡ self.old.kept }
+        ensures none { self.new.kept.items ≡ [] }
+        ensures same { self.new ≡ record self.old { kept = self.new.kept } }
     {
-        let before = asked.len();
+        mem::replace(&mut self.kept, Vec::new(alloc))
+    }
+
+    /// Keeps what came and was not heard yet.
+    pub fn keep(&mut self, rest: &[u8]) -> Result<(), Lost>
+        ensures kept { OnOk result (self.new.kept.items ≡ self.old.kept.items ++ rest.now) }
+        ensures same { self.new ≡ record self.old { kept = self.new.kept } }
+    {
+        self.kept.extend_from_slice(rest)?;
+        Ok(())
+    }
+
+    /// Hears the next thing in a piece that came, and says how many of its bytes were taken. A client that says what it can't say is
+    /// lost, and so is one for which memory is refused.
+    pub fn hear(&mut self, piece: &[u8]) -> Result<(usize, Option<Thing>), Lost>
+        ensures hears { IfOk result (λ heard. Hears heard piece.now self.old.speech self.new.speech self.old.line.waiting.items self.new.line.waiting.items) }
+        ensures same { (self.new.kept ≡ self.old.kept) × (self.new.owed ≡ self.old.owed) }
+    {
         match &mut self.speech {
-            Speech::Opens(feed) => take_asks(feed, piece, asked)?,
+            Speech::Opens(feed) => next_ask(feed, piece),
             Speech::Clamd(door) => {
-                take_words(door, piece, &mut self.line.waiting, asked)?;
-                self.is_done = door.is_done();
+                let heard = next_words(door, piece, &mut self.line.waiting);
+                self.is_done = self.is_done || door.is_done();
+                heard
             }
         }
-        self.owed = self.owed.saturating_add(asked.len().saturating_sub(before));
-        Ok(())
+    }
+
+    /// What is left of what came, once its turn is over.
+    pub fn left(&self) -> Left
+        ensures { result ≡ left_of self.now.speech (length self.now.kept.items) }
+    {
+        let kept = self.kept.len() as u64;
+        if kept > 0 {
+            return Left::Whole { held: kept };
+        }
+        match &self.speech {
+            Speech::Opens(feed) => {
+                let (came, total) = feed.begun();
+                begun_left(came as u64, total as u64)
+            }
+            Speech::Clamd(door) => match door.begun() {
+                None => Left::Nothing,
+                Some(held) => Left::Part {
+                    held: held as u64,
+                    total: 0,
+                },
+            },
+        }
+    }
+
+    /// It waits for one answer more.
+    pub fn asked(&mut self)
+        ensures { self.new ≡ record self.old { owed = min (self.old.owed + 1) usize.MAX; has_asked = true } }
+    {
+        self.owed = self.owed.saturating_add(1);
+        self.has_asked = true;
     }
 
     /// It is told an answer. The name is that of the signature that occurs, where it is known.
@@ -216,63 +219,94 @@ impl Client {
         }
         Ok(())
     }
+
+    /// It said nothing for too long: a client of clamd is told so, and no more is heard of it.
+    pub fn time_out(&mut self) -> Result<(), Lost>
+        ensures told { OnOk result (self.new.line.waiting.items ≡ self.old.line.waiting.items ++ late_text self.old.speech) }
+        ensures done { self.new.is_done ≡ true }
+        ensures same { self.new ≡ record self.old { is_done = self.new.is_done; line = self.new.line } }
+    {
+        self.is_done = true;
+        if let Speech::Clamd(door) = &self.speech {
+            put_timed_out(&mut self.line.waiting, door.end())?;
+        }
+        Ok(())
+    }
+
+    /// It said what it can't say: no more is heard of it, and what it is owed is told before it is closed. One that asked nothing so far at
+    /// the socket for opens may be a scanning service, and is told that none is taken there.
+    pub fn end(&mut self) -> Result<(), Lost>
+        ensures told { OnOk result (self.new.line.waiting.items ≡ self.old.line.waiting.items ++ farewell self.old.speech self.old.has_asked) }
+        ensures done { self.new.is_done ≡ true }
+        ensures same { self.new ≡ record self.old { is_done = self.new.is_done; line = self.new.line } }
+    {
+        self.is_done = true;
+        if self.has_asked {
+            return Ok(());
+        }
+        if let Speech::Opens(_) = &self.speech {
+            put_refusal(&mut self.line.waiting, TurnedAway::OtherSocket)?;
+        }
+        Ok(())
+    }
 }
 
-// The asks that are whole.
-fn take_asks(feed: &mut AskFeed, piece: &[u8], asked: &mut Vec<Asked>) -> Result<(), Lost>
-    ensures { OnOk result (GivesAsks (feed.old.rest ++ piece.now) feed.new.rest asked.old.items asked.new.items) }
+// The next ask, with a piece behind what came before.
+fn next_ask(feed: &mut AskFeed, piece: &[u8]) -> Result<(usize, Option<Thing>), Lost>
+    ensures { IfOk result (λ h. (h.0 ≡ length piece.now) × GivesAsk h.1 (feed.old.rest ++ piece.now) feed.new.rest) }
 {
     if feed.push(piece).is_err() {
         return Err(Lost);
     }
-    'asks: for _ in 0..u64::MAX {
-        match feed.next() {
-            Ok(Some(ask)) => put(asked, ask)?,
-            Ok(None) => return Ok(()),
-            Err(_) => return Err(Lost),
+    match feed.next() {
+        Ok(Some(ask)) => {
+            let Ask { tag, content, .. } = ask;
+            Ok((piece.len(), Some(Thing::Asked { tag, content })))
         }
+        Ok(None) => Ok((piece.len(), None)),
+        Err(_) => Err(Lost),
     }
-    Err(Lost)
 }
 
-// Puts an ask behind others.
-fn put(asked: &mut Vec<Asked>, ask: Ask) -> Result<(), Lost>
-    ensures { OnOk result (map wanted asked.new.items ≡ map wanted asked.old.items ++ unlabelled (asked_of ask) ∷ []) }
-{
-    let Ask { tag, content, .. } = ask;
-    if asked.push(Asked { tag, content }).is_err() {
-        return Err(Lost);
-    }
-    Ok(())
-}
-
-// The words that are whole: what is said to them at once, and what they ask about.
-fn take_words(
+// The next thing that a client of clamd says. What is said to it at once is put behind what waits.
+fn next_words(
     door: &mut Door,
     piece: &[u8],
     out: &mut Vec<u8>,
-    asked: &mut Vec<Asked>,
-) -> Result<(), Lost>
-    ensures door { OnOk result (door.new ≡ (heard_of piece.now door.old).0) }
-    ensures said { OnOk result (out.new.items ≡ out.old.items ++ lines_in (heard_of piece.now door.old).1) }
-    ensures asked { OnOk result (map wanted asked.new.items ≡ map wanted asked.old.items ++ asks_in (heard_of piece.now door.old).1) }
+) -> Result<(usize, Option<Thing>), Lost>
+    ensures { IfOk result (λ h. SaysOne h.1 h.0 piece.now door.old door.new out.old.items out.new.items) }
 {
-    'words: for heard in door.hear(piece)? {
-        match heard {
-            Heard::Say(text) => out.extend_from_slice(text.as_slice())?,
+    let (taken, heard) = door.hear(piece)?;
+    match heard {
+        None => Ok((taken, None)),
+        Some(Heard::Say(text)) => {
+            out.extend_from_slice(text.as_slice())?;
+            Ok((taken, Some(Thing::Said(text.len()))))
+        }
+        Some(
             Heard::Ask {
                 number,
                 end,
                 content,
-            } => {
-                let tag = numbered(number, end);
-                if asked.push(Asked { tag, content }).is_err() {
-                    return Err(Lost);
-                }
-            }
+            },
+        ) => {
+            let tag = numbered(number, end);
+            Ok((taken, Some(Thing::Asked { tag, content })))
         }
     }
-    Ok(())
+}
+
+// What is left of a frame of which so many bytes came, and which has so many, where that is known.
+fn begun_left(came: u64, total: u64) -> Left
+    ensures { result ≡ begun_left came total }
+{
+    if came == 0 {
+        return Left::Nothing;
+    }
+    if total > 0 && came >= total {
+        return Left::Whole { held: came };
+    }
+    Left::Part { held: came, total }
 }
 
 // The tag of a stream that came as the command of this number, which ended so; and back.

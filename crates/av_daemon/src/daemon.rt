@@ -1,53 +1,60 @@
 mod accepting;
+mod asking;
 mod reading;
 mod sending;
 mod telling;
 
+use crate::belief::Belief;
 use crate::client::Client;
+use crate::door::Door;
 use crate::guarding::Guarding;
-use crate::looks::Looks;
+use crate::keeping::Keeping;
+use crate::log::Log;
 use crate::names::Names;
-use crate::questions::Questions;
 use crate::service::Service;
+use av_base::{Mode, Version};
 use av_guard::Guard;
+use av_turns::Turns;
 use mio::event::Event;
-use mio::net::{UnixListener, UnixStream};
-use mio::{Events, Interest, Poll, Token};
+use mio::{Events, Poll};
 use std::alloc::{AllocError, AllocFailed, Global};
 use std::collections::{BTreeMap, VecDeque};
 use std::fs::Files;
 use std::io::Write;
+use std::mem;
 use std::net::Net;
 use std::time::{Clock, Duration};
-use std::{io, mem};
 
-// The numbers of the doors and of the service's connection. A client's is that which the guard gives it, and so many more.
-const OPENS: u64 = 0;
+// The numbers of the doors, of the connections of the service and its successor, and of standard error. A client's is that which the
+// guard gives it, and so many more.
+pub const OPENS: u64 = 0;
 
-const SERVICE: u64 = 1;
+pub const SERVICE: u64 = 1;
 
-const CLAMD: u64 = 2;
+pub const CLAMD: u64 = 2;
 
 const SERVING: u64 = 3;
 
-const FIRST: u64 = 4;
+const SUCCEEDING: u64 = 4;
 
-// How many clients there may be. One more is closed at once.
-const MOST_CLIENTS: usize = 4_096;
+const LOG: u64 = 5;
 
-// How many asks may stand in line before no more are read.
-const MOST_IN_LINE: usize = 64;
+const FIRST: u64 = 6;
 
-// How many are let in at a door before what came is read.
-const AT_ONCE: usize = 64;
+// How many are let in at a door before what came is read. Each wants two turns, to be heard and to be seen leaving, and there are no
+// fewer of those: else those who come and go would take all places.
+const AT_ONCE: usize = 2;
+
+// How many clients have a turn at most, and how many asks leave the line, before the others are looked at again. What the service
+// replied waits for so many turns, not for one of each client.
+const TURNS: u64 = 8;
+
+const ASKS: usize = 16;
 
 // How many changes the system tells at a time, and how many bytes are read at a time.
 const CHANGES: usize = 256;
 
 const PIECE: usize = 65_536;
-
-// For how many milliseconds is waited where a door could not be opened to all that came, for want of descriptors.
-const PAUSE: u64 = 100;
 
 /// Why the guard ends.
 #[derive(Clone, Copy, Debug, PartialEq, Eq)]
@@ -70,127 +77,69 @@ impl<T: Drop> From<AllocFailed<T>> for Stop {
     }
 }
 
-/// Who came to the guard's sockets.
+/// The doors at which a guard lets others in.
+#[derive(Drop)]
+pub struct Entrance {
+    pub poll: Poll,
+    pub opens: Door,
+    pub service: Door,
+    pub clamd: Option<Door>,
+}
+
+/// Who came to the guard's sockets. It does what the turns say: who is read, whose time is up, who is let in.
 #[derive(Drop)]
 pub struct Daemon<'a, R> {
     rt: &'a R,
     alloc: Global,
     wait: Duration,
-    poll: Poll,
-    opens: Door,
-    service_door: Door,
-    clamd: Option<Door>,
+    mode: Mode,
+    doors: Entrance,
     service: Option<Service>,
+    // One that stands by: it takes the service's place once that is lost.
+    successor: Option<Service>,
     clients: BTreeMap<u64, Client>,
-    // What may be read, and those whose asks wait until fewer stand in line.
-    ready: VecDeque<u64>,
-    held: VecDeque<u64>,
-    // To whom something is to be sent.
+    turns: Turns,
+    // Those to which something is to be sent.
     sending: VecDeque<u64>,
-    looks: Looks,
-    questions: Questions,
+    // More can be done at once.
+    goes_on: bool,
+    belief: Belief,
+    keeping: Keeping<'a>,
     names: Names<'a>,
+    log: Log,
     buffer: Vec<u8>,
 }
 
-// A listening socket, whether somebody may wait there, and whether the last who came could not be let in.
-#[derive(Drop)]
-struct Door {
-    listener: UnixListener,
-    may_accept: bool,
-    has_failed: bool,
-}
-
-impl Door {
-    fn new(poll: &Poll, mut listener: UnixListener, number: u64) -> io::Result<Door> {
-        let token = Token(number as usize);
-        poll.registry()
-            .register(&mut listener, token, Interest::READABLE)?;
-        Ok(Door {
-            listener,
-            may_accept: true,
-            has_failed: false,
-        })
-    }
-
-    // When it is tried again to let in who may wait: at once, or after a pause where that failed.
-    fn next_try(&self, now: Duration) -> Option<Duration> {
-        if !self.may_accept {
-            return None;
-        }
-        let pause = if self.has_failed { PAUSE } else { 0 };
-        Some(now.saturating_add(Duration::from_millis(pause)))
-    }
-
-    // Who came. Where none is left no look is taken before somebody comes.
-    fn next(&mut self) -> Option<UnixStream> {
-        self.has_failed = false;
-        if !self.may_accept {
-            return None;
-        }
-        'tries: for _ in 0..u64::MAX {
-            match self.listener.accept() {
-                Ok((stream, _)) => return Some(stream),
-                Err(error) => match error.kind() {
-                    io::ErrorKind::Interrupted => {}
-                    io::ErrorKind::WouldBlock => {
-                        self.may_accept = false;
-                        break;
-                    }
-                    _ => {
-                        self.has_failed = true;
-                        break;
-                    }
-                },
-            }
-        }
-        None
-    }
-}
-
 impl<'a, R: Files + Net + Clock> Daemon<'a, R> {
-    /// Nobody yet, at these doors.
+    /// Nobody yet, at these doors, with the version that was kept.
     pub fn new(
         rt: &'a R,
         alloc: Global,
         asked: Guarding<'a>,
-        opens: UnixListener,
-        service: UnixListener,
-        clamd: Option<UnixListener>,
+        doors: Entrance,
+        kept: Version,
+        most_clients: u64,
     ) -> Result<Daemon<'a, R>, Stop> {
         let buffer = vec![in alloc; 0u8; PIECE]?;
-        let Ok(poll) = Poll::new(rt) else {
-            return Err(Stop::Device);
-        };
-        let (Ok(opens), Ok(service_door)) = (
-            Door::new(&poll, opens, OPENS),
-            Door::new(&poll, service, SERVICE),
-        ) else {
-            return Err(Stop::Device);
-        };
-        let clamd = match clamd {
-            None => None,
-            Some(listener) => match Door::new(&poll, listener, CLAMD) {
-                Ok(door) => Some(door),
-                Err(_) => return Err(Stop::Device),
-            },
-        };
+        let belief = asked.belief(kept);
+        let mut log = Log::new(alloc);
+        log.register(doors.poll.registry(), LOG);
         Ok(Daemon {
             rt,
             alloc,
             wait: asked.wait,
-            poll,
-            opens,
-            service_door,
-            clamd,
+            mode: asked.mode,
+            doors,
             service: None,
+            successor: None,
             clients: BTreeMap::new(alloc),
-            ready: VecDeque::new(alloc),
-            held: VecDeque::new(alloc),
+            turns: Turns::new(alloc, most_clients, millis(asked.wait)),
             sending: VecDeque::new(alloc),
-            looks: Looks::new(alloc),
-            questions: Questions::new(alloc, asked.wait),
+            goes_on: false,
+            belief,
+            keeping: Keeping::new(asked.state, kept),
             names: Names::new(asked.doors.names),
+            log,
             buffer,
         })
     }
@@ -200,8 +149,8 @@ impl<'a, R: Files + Net + Clock> Daemon<'a, R> {
         let Ok(mut events) = Events::with_capacity(self.alloc, CHANGES) else {
             return Stop::Memory;
         };
-        'turns: for _ in 0..u64::MAX {
-            if let Err(stop) = self.turn(guard, &mut events, err) {
+        'passes: for _ in 0..u64::MAX {
+            if let Err(stop) = self.pass(guard, &mut events, err) {
                 return stop;
             }
         }
@@ -209,30 +158,32 @@ impl<'a, R: Files + Net + Clock> Daemon<'a, R> {
     }
 
     // Waits for what can be done, and does it.
-    fn turn<E: Write>(
+    fn pass<E: Write>(
         &mut self,
         guard: &mut Guard,
         events: &mut Events,
         err: &mut E,
     ) -> Result<(), Stop> {
         let timeout = self.timeout(self.now()?);
-        if self.poll.poll(events, timeout).is_err() {
+        if self.doors.poll.poll(events, timeout).is_err() {
             return Err(Stop::Device);
         }
+        self.goes_on = false;
         'events: for event in events.iter() {
             self.note(event)?;
         }
         let now = self.now()?;
+        self.end_late(guard, now)?;
         self.accept(guard, now)?;
-        'ready: for _ in 0..self.ready.len() {
-            if let Some(number) = self.ready.pop_front() {
-                self.read(guard, number, now, err)?;
-            }
-        }
-        self.look(guard, now, err)?;
-        self.time_up(guard, now)?;
-        self.send(guard, now, err)?;
-        self.release(guard)
+        self.read_service(guard, now)?;
+        self.serve(guard, now)?;
+        self.ask_line(guard, now)?;
+        self.make_room(guard, now)?;
+        self.send(guard, now)?;
+        self.keeping
+            .keep(self.rt, self.alloc, guard.floor(), &mut self.log);
+        self.log.send(self.doors.poll.registry(), LOG, err);
+        Ok(())
     }
 
     fn now(&self) -> Result<Duration, Stop> {
@@ -242,25 +193,20 @@ impl<'a, R: Files + Net + Clock> Daemon<'a, R> {
         }
     }
 
-    // How long nothing may be done, unless the system tells of a change: not at all where something is there to be read.
+    // How long nothing may be done, unless the system tells of a change: not at all where more can be done.
     fn timeout(&self, now: Duration) -> Option<Duration> {
-        if !self.ready.is_empty() {
+        if self.goes_on || self.turns.ready() > 0 {
             return Some(Duration::ZERO);
         }
-        let service_door = if self.service.is_none() {
-            self.service_door.next_try(now)
-        } else {
-            None
-        };
-        let clamd = match &self.clamd {
+        let clamd = match &self.doors.clamd {
             Some(clamd) => clamd.next_try(now),
             None => None,
         };
         let dues = [
-            self.looks.first(),
-            self.questions.first(),
-            self.opens.next_try(now),
-            service_door,
+            self.turns_due(),
+            self.service_due(),
+            self.doors.opens.next_try(now),
+            self.doors.service.next_try(now),
             clamd,
         ];
         let mut timeout: Option<Duration> = None;
@@ -273,35 +219,67 @@ impl<'a, R: Files + Net + Clock> Daemon<'a, R> {
         timeout
     }
 
+    // When the turns have something that is late. Their times have no fractions of a millisecond, so it is a millisecond later.
+    fn turns_due(&self) -> Option<Duration> {
+        let due = self.turns.timer()?;
+        Some(Duration::from_millis(due.saturating_add(1)))
+    }
+
+    // When the service was waited for too long.
+    fn service_due(&self) -> Option<Duration> {
+        let since = self.service.as_ref()?.since()?;
+        Some(since.saturating_add(self.wait))
+    }
+
     // A change was told of a door or a connection.
     fn note(&mut self, event: &Event) -> Result<(), Stop> {
         let number = event.token().0 as u64;
         match number {
-            OPENS => self.opens.may_accept = true,
-            SERVICE => self.service_door.may_accept = true,
+            OPENS => self.doors.opens.told(),
+            SERVICE => self.doors.service.told(),
             CLAMD => {
-                if let Some(clamd) = &mut self.clamd {
-                    clamd.may_accept = true;
+                if let Some(clamd) = &mut self.doors.clamd {
+                    clamd.told();
                 }
             }
-            _ => self.note_of(number, event)?,
+            SERVING => return self.note_service(event),
+            SUCCEEDING => self.note_successor(event),
+            LOG => self.log.told(),
+            _ => return self.note_client(number, event),
         }
         Ok(())
     }
 
-    fn note_of(&mut self, number: u64, event: &Event) -> Result<(), Stop> {
-        let waits = if number == SERVING {
-            match &mut self.service {
-                Some(service) => service.line.note(event),
-                None => return Ok(()),
-            }
-        } else {
-            match self.clients.get_mut(&number) {
-                Some(client) => client.line.note(event),
-                None => return Ok(()),
-            }
+    fn note_service(&mut self, event: &Event) -> Result<(), Stop> {
+        let waits = match &mut self.service {
+            Some(service) => service.line.note(event),
+            None => return Ok(()),
         };
-        self.wake(number)?;
+        if waits {
+            self.wants_to_send(SERVING)
+        } else {
+            Ok(())
+        }
+    }
+
+    // A successor that takes no more is gone: it is waited for no longer.
+    fn note_successor(&mut self, event: &Event) {
+        let Some(successor) = &mut self.successor else {
+            return;
+        };
+        let _ = successor.line.note(event);
+        if successor.line.is_closed() {
+            self.successor = None;
+            self.turns.successor_lost();
+        }
+    }
+
+    fn note_client(&mut self, number: u64, event: &Event) -> Result<(), Stop> {
+        let waits = match self.clients.get_mut(&number) {
+            Some(client) => client.line.note(event),
+            None => return Ok(()),
+        };
+        self.turns.told_readable(number.saturating_sub(FIRST))?;
         if waits {
             self.wants_to_send(number)
         } else {
@@ -309,35 +287,16 @@ impl<'a, R: Files + Net + Clock> Daemon<'a, R> {
         }
     }
 
-    // A connection is among those that are read next.
-    fn wake(&mut self, number: u64) -> Result<(), Stop> {
-        let was_ready = if number == SERVING {
-            match &mut self.service {
-                Some(service) => mem::replace(&mut service.turns.is_ready, true),
-                None => true,
-            }
-        } else {
-            match self.clients.get_mut(&number) {
-                Some(client) => mem::replace(&mut client.turns.is_ready, true),
-                None => true,
-            }
-        };
-        if !was_ready {
-            self.ready.push_back(number)?;
-        }
-        Ok(())
-    }
-
     // A connection is among those to which something is sent next.
     fn wants_to_send(&mut self, number: u64) -> Result<(), Stop> {
         let was_sending = if number == SERVING {
             match &mut self.service {
-                Some(service) => mem::replace(&mut service.turns.is_sending, true),
+                Some(service) => mem::replace(&mut service.is_sending, true),
                 None => true,
             }
         } else {
             match self.clients.get_mut(&number) {
-                Some(client) => mem::replace(&mut client.turns.is_sending, true),
+                Some(client) => mem::replace(&mut client.is_sending, true),
                 None => true,
             }
         };
@@ -346,4 +305,9 @@ impl<'a, R: Files + Net + Clock> Daemon<'a, R> {
         }
         Ok(())
     }
+}
+
+// A time as the turns have it.
+fn millis(time: Duration) -> u64 {
+    u64::try_from(time.as_millis()).unwrap_or(u64::MAX)
 }

@@ -1,19 +1,31 @@
-ghost use Rattle.std.specs.Prelude.{IfErr};
+ghost use Rattle.std.specs.Prelude.{◌≡◌, max, IfErr};
 ghost use Rattle.av_daemon.specs.Guarding.{IsFailed};
+ghost use Rattle.av_status.specs.declared.status.Status.TheVariants.{Device};
 
-use crate::daemon::{Daemon, Stop};
-use av_base::Mode;
-use av_guard::Guard;
+use crate::belief::Belief;
+use crate::daemon::{CLAMD, Daemon, Entrance, OPENS, SERVICE, Stop};
+use crate::descriptors::{clients_of, descriptors};
+use crate::door::Door;
+use crate::keeping::{BadKeeping, kept_version};
+use av_base::{Mode, Version};
+use av_guard::{Guard, Settings};
 use av_sockets::fault::socket_failed;
 use av_sockets::{Node, listen, remove_own};
-use av_status::faults::{device_failed, out_of_memory};
+use av_status::faults::{device_failed, out_of_memory, say, say_of, text};
 use av_status::status::Status;
+use mio::Poll;
 use mio::net::UnixListener;
 use std::alloc::Global;
 use std::fs::Files;
+use std::hash::RandomState;
+use std::io;
 use std::io::Write;
 use std::net::Net;
+use std::random::RandomSource;
 use std::time::{Clock, Duration};
+
+// The numbers that the boot of a guard's filter may have.
+const BOOTS: u64 = 16_777_216;
 
 /// The sockets of a guard, each by its path.
 #[derive(Clone, Copy, Debug)]
@@ -38,15 +50,36 @@ pub struct Guarding<'a> {
     pub keep: u64,
     /// How many questions the service is asked at a time, 1 to 256.
     pub questions: u64,
-    /// How long a question may take, and how long a client or the service may take nothing that it is sent.
+    /// How long an ask may take to come and to be answered, and how long a client or the service may take nothing that it is sent.
     pub wait: Duration,
-    /// The rights of the sockets.
+    /// The rights of the sockets for opens and for clients of clamd.
     pub rights: u32,
+    /// The rights of the socket for the service.
+    pub service_rights: u32,
+    /// No set of a lesser version is believed or grants.
+    pub least: u64,
+    /// A service whose set has a greater version is turned away.
+    pub most_version: u64,
+    /// The file that keeps the greatest version that was believed.
+    pub state: Option<&'a str>,
+}
+
+impl<'a> Guarding<'a> {
+    // Which versions are believed, where this one was kept.
+    pub(crate) fn belief(self, kept: Version) -> Belief
+        ensures least { result.least ≡ max self.entry.least kept }
+        ensures most { result.most ≡ self.entry.most_version }
+    {
+        Belief {
+            least: Version::new(self.least.max(kept.get())),
+            most: Version::new(self.most_version),
+        }
+    }
 }
 
 /// Guards until the process is ended. It comes back where it can't begin, where memory ends, or where the system's wait for
 /// sockets fails, and then one line to `err` says why. What services come and go is told there too.
-pub fn guard_at<R: Files + Net + Clock, E: Write>(
+pub fn guard_at<R: Files + Net + Clock + RandomSource, E: Write>(
     rt: &R,
     alloc: Global,
     asked: Guarding<'_>,
@@ -54,16 +87,56 @@ pub fn guard_at<R: Files + Net + Clock, E: Write>(
 ) -> Status
     ensures { IsFailed result }
 {
+    let Some(most_clients) = clients_of(descriptors(rt)) else {
+        return few_descriptors(err);
+    };
     let opens = match listen_at(rt, alloc, asked.doors.opens, asked.rights, err) {
         Ok(door) => door,
         Err(status) => return status,
     };
-    let status = guard_with(rt, alloc, asked, opens.listener, err);
+    let begun = Begun {
+        asked,
+        most_clients,
+    };
+    let status = guard_with(rt, alloc, begun, opens.listener, err);
     remove_own(rt, asked.doors.opens, opens.node);
     status
 }
 
-// A socket at which the guard listens.
+// What a guard begins with.
+#[derive(Clone, Copy)]
+struct Begun<'a> {
+    asked: Guarding<'a>,
+    most_clients: u64,
+}
+
+fn few_descriptors<E: Write>(err: &mut E) -> Status
+    ensures { result ≡ Device }
+{
+    say(err, &[text("a guard needs 17 descriptors (ulimit -n)")]);
+    Status::Device
+}
+
+fn bad_state<E: Write>(err: &mut E, path: &str) -> Status
+    ensures { result ≡ Device }
+{
+    say_of(
+        err,
+        path,
+        &[text(": is no file that a guard keeps a version in")],
+    );
+    Status::Device
+}
+
+// The sockets at which a guard listens.
+#[derive(Drop)]
+struct Listeners {
+    opens: UnixListener,
+    service: UnixListener,
+    clamd: Option<UnixListener>,
+}
+
+// One of them, with its file.
 #[derive(Drop)]
 struct Standing {
     listener: UnixListener,
@@ -89,57 +162,141 @@ fn listen_at<R: Files + Net + Clock, E: Write>(
 }
 
 // Goes on with the socket for opens.
-fn guard_with<R: Files + Net + Clock, E: Write>(
+fn guard_with<R: Files + Net + Clock + RandomSource, E: Write>(
     rt: &R,
     alloc: Global,
-    asked: Guarding<'_>,
+    begun: Begun<'_>,
     opens: UnixListener,
     err: &mut E,
 ) -> Status
     ensures { IsFailed result }
 {
-    let service = match listen_at(rt, alloc, asked.doors.service, asked.rights, err) {
+    let asked = begun.asked;
+    let service = match listen_at(rt, alloc, asked.doors.service, asked.service_rights, err) {
         Ok(door) => door,
         Err(status) => return status,
     };
-    let status = match asked.doors.clamd {
-        None => guard_over(rt, alloc, asked, opens, service.listener, None, err),
-        Some(path) => match listen_at(rt, alloc, path, asked.rights, err) {
-            Ok(clamd) => {
-                let listener = Some(clamd.listener);
-                let status = guard_over(rt, alloc, asked, opens, service.listener, listener, err);
-                remove_own(rt, path, clamd.node);
-                status
-            }
-            Err(status) => status,
-        },
+    let listeners = Listeners {
+        opens,
+        service: service.listener,
+        clamd: None,
     };
+    let status = guard_all(rt, alloc, begun, listeners, err);
     remove_own(rt, asked.doors.service, service.node);
     status
 }
 
-// Goes on with all sockets.
-fn guard_over<R: Files + Net + Clock, E: Write>(
+// Goes on with the socket for the service, and with that for clients of clamd, where there is one.
+fn guard_all<R: Files + Net + Clock + RandomSource, E: Write>(
     rt: &R,
     alloc: Global,
-    asked: Guarding<'_>,
-    opens: UnixListener,
-    service: UnixListener,
-    clamd: Option<UnixListener>,
+    begun: Begun<'_>,
+    listeners: Listeners,
     err: &mut E,
 ) -> Status
     ensures { IsFailed result }
 {
-    let Ok(mut guard) = Guard::new(alloc, asked.mode, asked.keep, asked.questions) else {
+    let asked = begun.asked;
+    let Some(path) = asked.doors.clamd else {
+        return guard_over(rt, alloc, begun, listeners, err);
+    };
+    let clamd = match listen_at(rt, alloc, path, asked.rights, err) {
+        Ok(door) => door,
+        Err(status) => return status,
+    };
+    let listeners = Listeners {
+        clamd: Some(clamd.listener),
+        ..listeners
+    };
+    let status = guard_over(rt, alloc, begun, listeners, err);
+    remove_own(rt, path, clamd.node);
+    status
+}
+
+// Goes on with all sockets.
+fn guard_over<R: Files + Net + Clock + RandomSource, E: Write>(
+    rt: &R,
+    alloc: Global,
+    begun: Begun<'_>,
+    listeners: Listeners,
+    err: &mut E,
+) -> Status
+    ensures { IsFailed result }
+{
+    let Some((boot, key)) = drawn(rt) else {
+        return device_failed(err);
+    };
+    let settings = Settings {
+        mode: begun.asked.mode,
+        keep: begun.asked.keep,
+        questions: begun.asked.questions,
+        boot,
+        key,
+    };
+    let Ok(doors) = entrance(rt, listeners) else {
+        return device_failed(err);
+    };
+    let Ok(mut guard) = Guard::new(alloc, settings) else {
         return out_of_memory(err);
     };
-    let stop = match Daemon::new(rt, alloc, asked, opens, service, clamd) {
-        Ok(mut daemon) => daemon.run(&mut guard, err),
+    let status = guard_through(rt, alloc, begun, doors, &mut guard, err);
+    guard.abandon();
+    status
+}
+
+// Guards at these doors.
+fn guard_through<'a, R: Files + Net + Clock, E: Write>(
+    rt: &'a R,
+    alloc: Global,
+    begun: Begun<'a>,
+    doors: Entrance,
+    guard: &mut Guard,
+    err: &mut E,
+) -> Status
+    ensures { IsFailed result }
+{
+    let asked = begun.asked;
+    let kept = match kept_version(rt, asked.state) {
+        Ok(kept) => kept,
+        Err(BadKeeping) => return bad_state(err, asked.state.unwrap_or("")),
+    };
+    let stop = match Daemon::new(rt, alloc, asked, doors, kept, begun.most_clients) {
+        Ok(mut daemon) => daemon.run(guard, err),
         Err(stop) => stop,
     };
-    guard.abandon();
     match stop {
         Stop::Memory => out_of_memory(err),
         Stop::Device => device_failed(err),
     }
+}
+
+// The doors at these sockets, whose changes the system tells.
+fn entrance<R: Net>(rt: &R, listeners: Listeners) -> io::Result<Entrance> {
+    let Listeners {
+        opens,
+        service,
+        clamd,
+    } = listeners;
+    let poll = Poll::new(rt)?;
+    let opens = Door::new(&poll, opens, OPENS)?;
+    let service = Door::new(&poll, service, SERVICE)?;
+    let clamd = match clamd {
+        None => None,
+        Some(listener) => Some(Door::new(&poll, listener, CLAMD)?),
+    };
+    Ok(Entrance {
+        poll,
+        opens,
+        service,
+        clamd,
+    })
+}
+
+// The number of the filter's boot and the key of the names of contents, which nobody can know before.
+fn drawn<R: RandomSource>(rt: &R) -> Option<(u64, RandomState)> {
+    let mut bytes = [0u8; 8];
+    rt.fill_bytes(&mut bytes).ok()?;
+    let boot = u64::from_le_bytes(bytes) % BOOTS + 1;
+    let key = RandomState::new(rt).ok()?;
+    Some((boot, key))
 }

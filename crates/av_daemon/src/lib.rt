@@ -3,21 +3,25 @@
 //! client that asks it about files.
 //!
 //! ```text
-//! guard_at(&rt, alloc, Guarding { doors, mode, keep: 67_108_864, questions: 256, wait, rights: 0o600 }, &mut err);
+//! guard_at(&rt, alloc, Guarding { doors, mode, keep: 67_108_864, questions: 256, wait, rights: 0o600, service_rights: 0o600, .. }, &mut err);
 //! let mut asker = Asker::connect(&rt, alloc, Meeting { path: "opens.socket", wait })?;
 //! asker.ask("letter.txt", content)?;
 //! ```
 #![tactic(auto)]
 
 mod asking;
+mod belief;
 mod client;
 mod daemon;
+mod descriptors;
+mod door;
 mod guarding;
+mod keeping;
 mod line;
-mod looks;
+mod log;
 mod names;
-mod questions;
 mod service;
+mod told;
 
 pub use asking::{Asker, AskingFault};
 pub use guarding::{Doors, Guarding, guard_at};

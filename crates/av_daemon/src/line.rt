@@ -1,5 +1,5 @@
 ghost use Rattle.std.specs.Prelude.{◌≡◌, ◌≤◌, [], false, length, max, true, vec_len, None};
-ghost use Rattle.av_daemon.specs.Line.{IsEndOf, IsWithin, has_more, may_send, noted, nowhere, since_of, unsent, watched_since};
+ghost use Rattle.av_daemon.specs.Line.{IsEndOf, IsWithin, has_more, may_send, noted, since_of, unsent};
 
 use mio::event::Event;
 use mio::net::UnixStream;
@@ -12,9 +12,13 @@ use std::time::Duration;
 // Once so many bytes in front have gone out, those behind are moved to their place.
 const MANY: usize = 65_536;
 
+// So much room stays where nothing waits.
+const KEPT: usize = 1_024;
+
 /// One end of a connection, of which no call waits: what is to go out is kept until the other side takes it.
 #[derive(Drop)]
 pub struct Line {
+    alloc: Global,
     stream: UnixStream,
     /// The bytes that wait to go out, to put more behind them.
     pub waiting: Vec<u8>,
@@ -25,41 +29,6 @@ pub struct Line {
     may_read: bool,
     // The other side takes no more.
     is_closed: bool,
-}
-
-/// Where a connection stands by.
-#[derive(Clone, Copy, Debug, Drop)]
-pub struct Turns {
-    /// It is among those that are read next.
-    pub is_ready: bool,
-    /// It is among those to which something is sent next.
-    pub is_sending: bool,
-    /// A time is set at which it is looked at.
-    pub is_watched: bool,
-}
-
-impl Turns {
-    /// Nowhere.
-    pub fn none() -> Turns
-        ensures { result ≡ nowhere }
-    {
-        Turns {
-            is_ready: false,
-            is_sending: false,
-            is_watched: false,
-        }
-    }
-
-    /// Since when it is waited for, where that is and no time is set for it; one is then.
-    pub fn to_be_watched(&mut self, since: Option<Duration>) -> Option<Duration>
-        ensures { (result, self.new) ≡ watched_since since self.old }
-    {
-        if since.is_none() || self.is_watched {
-            return None;
-        }
-        self.is_watched = true;
-        since
-    }
 }
 
 /// What a read came to.
@@ -81,6 +50,7 @@ impl Line {
         ensures open { (result.may_read ≡ true) × (result.is_closed ≡ false) }
     {
         Line {
+            alloc,
             stream,
             waiting: Vec::new(alloc),
             sent: 0,
@@ -96,6 +66,14 @@ impl Line {
     {
         let both = Interest::READABLE | Interest::WRITABLE;
         registry.register(&mut self.stream, Token(number as usize), both)
+    }
+
+    /// Has changes told under another number.
+    pub fn register_again(&mut self, registry: &Registry, number: u64) -> io::Result<()>
+        ensures { self.new ≡ record self.old { stream = self.new.stream } }
+    {
+        let both = Interest::READABLE | Interest::WRITABLE;
+        registry.reregister(&mut self.stream, Token(number as usize), both)
     }
 
     /// A change was told. Whether what waits may go out now.
@@ -209,6 +187,9 @@ impl Line {
         ensures same { (self.new.since ≡ self.old.since) × (self.new.may_read ≡ self.old.may_read) × (self.new.is_closed ≡ self.old.is_closed) }
     {
         if self.sent >= self.waiting.len() {
+            if self.waiting.capacity() > KEPT {
+                self.waiting = Vec::new(self.alloc);
+            }
             self.waiting.clear();
             self.sent = 0;
         } else if self.sent >= MANY && self.sent >= self.waiting() {

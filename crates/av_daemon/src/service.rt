@@ -1,9 +1,8 @@
-ghost use Rattle.std.specs.Prelude.{ℕ, ◌≡◌, ◌≤◌, ◌++◌, length, take, OnOk};
-ghost use Rattle.av_daemon.specs.Line.{watched_since};
-ghost use Rattle.av_daemon.specs.Service.{GivesMessage, came, earlier, goes_on, greeting_of, waited_since};
-ghost use Rattle.av_sockets.specs.Place.{passed_at};
+ghost use Rattle.std.specs.Prelude.{ℕ, ◌≡◌, ◌≤◌, ◌++◌, length, take, OnOk, Some};
+ghost use Rattle.av_daemon.specs.Service.{GivesMessage, came, claim_of, earlier, goes_on, waited_since};
+ghost use Rattle.av_sockets.specs.Place.{passed_at, start};
 
-use crate::line::{Came, Line, Turns};
+use crate::line::{Came, Line};
 use av_base::{Port, Version};
 use av_frame::{Body, Feed, Message};
 use av_sockets::Arriving;
@@ -19,7 +18,8 @@ pub struct Service {
     pub line: Line,
     feed: Feed,
     arriving: Arriving,
-    pub turns: Turns,
+    /// It is among those to which something is sent next.
+    pub is_sending: bool,
 }
 
 /// The connection is of no more use.
@@ -35,7 +35,7 @@ impl Service {
             line,
             feed: Feed::new(alloc),
             arriving: Arriving::since(now),
-            turns: Turns::none(),
+            is_sending: false,
         }
     }
 
@@ -57,13 +57,11 @@ impl Service {
         }
     }
 
-    /// The same, where no time is set at which it is looked at.
-    pub fn to_be_watched(&mut self) -> Option<Duration>
-        ensures turns { (result, self.new.turns) ≡ watched_since (waited_since self.old) self.old.turns }
-        ensures same { self.new ≡ record self.old { turns = self.new.turns } }
+    /// It takes the place of the service now, and is waited for to greet.
+    pub fn begin(&mut self, now: Duration)
+        ensures { self.new ≡ record self.old { arriving = record { place = start; since = Some now } } }
     {
-        let since = self.since();
-        self.turns.to_be_watched(since)
+        self.arriving = Arriving::since(now);
     }
 
     /// Reads a piece.
@@ -107,12 +105,26 @@ fn earlier(a: Duration, b: Duration) -> Duration
     if b.as_nanos() < a.as_nanos() { b } else { a }
 }
 
-/// The version of a greeting, which comes at the first port.
-pub fn greeting_of(message: &Message) -> Option<Version>
-    ensures { result ≡ greeting_of message.now }
+/// What a message says of the version of the service's set: a greeting names it, and news of a newer set. Messages at the second port
+/// are passed over.
+pub fn claim_of(message: &Message) -> Option<Claim>
+    ensures { result ≡ claim_of message.now }
 {
+    if message.port() != Port::One {
+        return None;
+    }
     match message.body() {
-        Body::Hello { version, .. } if message.port() == Port::One => Some(*version),
+        Body::Hello { version, .. } => Some(Claim::Greeting(*version)),
+        Body::Updated { version } => Some(Claim::Newer(*version)),
         _ => None,
     }
+}
+
+/// What a service says of its set.
+#[derive(Clone, Copy, Debug, PartialEq, Eq)]
+pub enum Claim {
+    /// It greets, under a set of this version.
+    Greeting(Version),
+    /// A set of this version took the place of the one before.
+    Newer(Version),
 }

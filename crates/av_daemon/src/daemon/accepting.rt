@@ -1,73 +1,142 @@
 //! Who comes to a door.
 
-use super::{AT_ONCE, Daemon, FIRST, MOST_CLIENTS, SERVING, Stop};
+use super::{AT_ONCE, Daemon, FIRST, SERVING, SUCCEEDING, Stop, millis};
 use crate::client::Client;
 use crate::line::Line;
 use crate::service::Service;
 use av_guard::Guard;
+use av_sockets::{TurnedAway, put_refusal};
+use av_status::faults::{say, text};
+use av_turns::{Admitted, Arrived};
 use mio::net::UnixStream;
 use std::fs::Files;
 use std::net::Net;
 use std::time::{Clock, Duration};
 
 impl<'a, R: Files + Net + Clock> Daemon<'a, R> {
-    // Lets in some of those who wait at a door, and a service where none is there.
+    // Lets in some of those who wait at a door: services first, so that clients can't keep them out.
     pub(super) fn accept(&mut self, guard: &mut Guard, now: Duration) -> Result<(), Stop> {
-        'opens: for _ in 0..AT_ONCE {
-            let Some(stream) = self.opens.next() else {
+        'services: for _ in 0..AT_ONCE {
+            let Some(stream) = self.doors.service.next() else {
                 break;
             };
-            let client = Client::of_opens(self.alloc, Line::new(self.alloc, stream), now);
-            self.admit(guard, client)?;
+            self.accept_service(stream, now)?;
+        }
+        'opens: for _ in 0..AT_ONCE {
+            let Some(stream) = self.doors.opens.next() else {
+                break;
+            };
+            let client = Client::of_opens(self.alloc, Line::new(self.alloc, stream));
+            self.admit(guard, client, now)?;
         }
         'clamd: for _ in 0..AT_ONCE {
             let Some(stream) = self.next_of_clamd() else {
                 break;
             };
-            let client = Client::of_clamd(self.alloc, Line::new(self.alloc, stream), now);
-            self.admit(guard, client)?;
+            let client = Client::of_clamd(self.alloc, Line::new(self.alloc, stream));
+            self.admit(guard, client, now)?;
         }
-        self.accept_service(now)
+        Ok(())
     }
 
     fn next_of_clamd(&mut self) -> Option<UnixStream> {
-        self.clamd.as_mut()?.next()
+        self.doors.clamd.as_mut()?.next()
     }
 
-    // A client is there, unless there are too many.
-    fn admit(&mut self, guard: &mut Guard, mut client: Client) -> Result<(), Stop> {
-        if self.clients.len() >= MOST_CLIENTS {
-            return Ok(());
-        }
+    // A client is there, where there is a place for it. The longest idle one may have to leave it.
+    fn admit(&mut self, guard: &mut Guard, client: Client, now: Duration) -> Result<(), Stop> {
         let Some(number) = guard.client() else {
             return Ok(());
         };
+        match self.turns.accepted(number, client.kind(), millis(now))? {
+            Admitted::Admit => {}
+            Admitted::Instead(idle) => {
+                say(
+                    &mut self.log,
+                    &[text("the longest idle client was closed: all places are taken")],
+                );
+                self.remove(guard, idle);
+            }
+            Admitted::Away => {
+                guard.client_lost(number);
+                return Ok(());
+            }
+        }
+        self.enter(guard, number, client)
+    }
+
+    fn enter(&mut self, guard: &mut Guard, number: u64, mut client: Client) -> Result<(), Stop> {
         let connection = number.saturating_add(FIRST);
         let is_told = client
             .line
-            .register(self.poll.registry(), connection)
+            .register(self.doors.poll.registry(), connection)
             .is_ok();
         if !is_told || self.clients.insert(connection, client).is_err() {
+            self.turns.closed(number);
             guard.client_lost(number);
             return Ok(());
         }
-        self.watch(connection)?;
-        self.wake(connection)
+        self.turns.told_readable(number)?;
+        Ok(())
     }
 
-    pub(super) fn accept_service(&mut self, now: Duration) -> Result<(), Stop> {
-        if self.service.is_some() {
-            return Ok(());
-        }
-        let Some(stream) = self.service_door.next() else {
-            return Ok(());
-        };
+    // A client is gone, of which the turns know already: it is told nothing any more.
+    pub(super) fn remove(&mut self, guard: &mut Guard, client: u64) {
+        guard.client_lost(client);
+        let _ = self.clients.remove(&client.saturating_add(FIRST));
+    }
+
+    // A client is gone.
+    pub(super) fn lose(&mut self, guard: &mut Guard, client: u64) {
+        self.turns.closed(client);
+        self.remove(guard, client);
+    }
+
+    // One that may be a scanning service: it takes the service's place, or stands by, or is turned away.
+    fn accept_service(&mut self, stream: UnixStream, now: Duration) -> Result<(), Stop> {
         let mut line = Line::new(self.alloc, stream);
-        if line.register(self.poll.registry(), SERVING).is_err() {
-            return Ok(());
+        match self.turns.service_came(millis(now)) {
+            Arrived::Place => {
+                if line.register(self.doors.poll.registry(), SERVING).is_err() {
+                    let _ = self.turns.service_lost(millis(now));
+                    return Ok(());
+                }
+                self.service = Some(Service::new(self.alloc, line, now));
+                self.goes_on = true;
+            }
+            Arrived::Successor => {
+                if line
+                    .register(self.doors.poll.registry(), SUCCEEDING)
+                    .is_err()
+                {
+                    self.turns.successor_lost();
+                    return Ok(());
+                }
+                self.successor = Some(Service::new(self.alloc, line, now));
+            }
+            Arrived::Away => {
+                put_refusal(&mut line.waiting, TurnedAway::Full)?;
+                let _ = line.send(now);
+            }
         }
-        self.service = Some(Service::new(self.alloc, line, now));
-        self.watch(SERVING)?;
-        self.wake(SERVING)
+        Ok(())
+    }
+
+    // The successor has the place of the service from now on.
+    pub(super) fn promote(&mut self, now: Duration) {
+        let Some(mut service) = self.successor.take() else {
+            return;
+        };
+        if service
+            .line
+            .register_again(self.doors.poll.registry(), SERVING)
+            .is_err()
+        {
+            let _ = self.turns.service_lost(millis(now));
+            return;
+        }
+        service.begin(now);
+        self.service = Some(service);
+        self.goes_on = true;
     }
 }

@@ -3,167 +3,120 @@
 ghost use Rattle.std.specs.Prelude.{◌≡◌};
 ghost use Rattle.av_daemon.specs.Late.{is_late};
 
-use super::{Daemon, MOST_IN_LINE, SERVING, Stop};
-use av_guard::Guard;
+use super::{Daemon, FIRST, SERVING, Stop, millis};
+use crate::told::unjudged;
+use av_base::Cause;
+use av_guard::{Guard, Told};
+use av_status::faults::{say, text};
+use av_turns::{Late, Why};
 use std::fs::Files;
-use std::io::Write;
 use std::net::Net;
 use std::time::{Clock, Duration};
 
 impl<'a, R: Files + Net + Clock> Daemon<'a, R> {
     // Sends what waits, as far as it is taken.
-    pub(super) fn send<E: Write>(
-        &mut self,
-        guard: &mut Guard,
-        now: Duration,
-        err: &mut E,
-    ) -> Result<(), Stop> {
+    pub(super) fn send(&mut self, guard: &mut Guard, now: Duration) -> Result<(), Stop> {
         'sending: for _ in 0..u64::MAX {
             let Some(number) = self.sending.pop_front() else {
                 break;
             };
-            self.send_to(guard, number, now, err)?;
+            if number == SERVING {
+                self.send_to_service(guard, now)?;
+            } else {
+                self.send_to(guard, number, now)?;
+            }
         }
         Ok(())
     }
 
-    fn send_to<E: Write>(
-        &mut self,
-        guard: &mut Guard,
-        number: u64,
-        now: Duration,
-        err: &mut E,
-    ) -> Result<(), Stop> {
-        if number == SERVING {
-            return self.send_to_service(guard, now, err);
-        }
+    fn send_to(&mut self, guard: &mut Guard, number: u64, now: Duration) -> Result<(), Stop> {
         let Some(client) = self.clients.get_mut(&number) else {
             return Ok(());
         };
-        client.turns.is_sending = false;
-        if !client.line.send(now) || client.is_over() {
-            return self.lose(guard, number);
+        client.is_sending = false;
+        let before = client.line.waiting();
+        let stands = client.line.send(now);
+        let count = before.saturating_sub(client.line.waiting());
+        let is_over = client.is_over();
+        let who = number.saturating_sub(FIRST);
+        if !stands || is_over {
+            self.lose(guard, who);
+            return Ok(());
         }
-        self.watch(number)
+        self.turns.written(who, count as u64, millis(now))?;
+        Ok(())
     }
 
-    fn send_to_service<E: Write>(
-        &mut self,
-        guard: &mut Guard,
-        now: Duration,
-        err: &mut E,
-    ) -> Result<(), Stop> {
+    fn send_to_service(&mut self, guard: &mut Guard, now: Duration) -> Result<(), Stop> {
         let Some(service) = &mut self.service else {
             return Ok(());
         };
-        service.turns.is_sending = false;
+        service.is_sending = false;
         let stands = service.line.send(now);
         let goes_on = service.goes_on();
         if !stands {
-            return self.lose_service(guard, now, err);
+            return self.lose_service(guard, now);
         }
-        self.watch(SERVING)?;
-        if goes_on { self.wake(SERVING) } else { Ok(()) }
+        self.goes_on = self.goes_on || goes_on;
+        Ok(())
     }
 
-    // Sets a time at which a connection is looked at, where it is waited for and none is set.
-    pub(super) fn watch(&mut self, number: u64) -> Result<(), Stop> {
-        let since = if number == SERVING {
-            match &mut self.service {
-                Some(service) => service.to_be_watched(),
-                None => None,
+    // Ends what the turns say is late, and a service that is waited for too long.
+    pub(super) fn end_late(&mut self, guard: &mut Guard, now: Duration) -> Result<(), Stop> {
+        'late: for _ in 0..u64::MAX {
+            match self.turns.late(millis(now)) {
+                Late::Nothing => break,
+                Late::Question(seq) => {
+                    let given = guard.time_up(self.alloc, seq)?;
+                    self.settle(guard, given, millis(now))?;
+                }
+                Late::Service => self.end_service(guard, now)?,
+                Late::Deny { client, tag } => {
+                    let answer = unjudged(self.mode, Cause::TimedOut);
+                    self.tell(
+                        guard,
+                        Told {
+                            client,
+                            tag,
+                            answer,
+                        },
+                        now,
+                    )?;
+                }
+                Late::Close { client, why } => self.close(guard, client, why, now),
             }
+        }
+        let since = match &self.service {
+            Some(service) => service.since(),
+            None => None,
+        };
+        if is_late(since, now, self.wait) {
+            self.lose_service(guard, now)
         } else {
-            match self.clients.get_mut(&number) {
-                Some(client) => client.to_be_watched(),
-                None => None,
+            Ok(())
+        }
+    }
+
+    // The service did not greet, or answered none of many questions in a row.
+    fn end_service(&mut self, guard: &mut Guard, now: Duration) -> Result<(), Stop> {
+        let why = if guard.connected() {
+            "the service answered none of 8 questions in a row"
+        } else {
+            "the service did not greet"
+        };
+        say(&mut self.log, &[text(why)]);
+        self.lose_service(guard, now)
+    }
+
+    // A client is closed, of which the turns know already. A client of clamd that said nothing is told so.
+    fn close(&mut self, guard: &mut Guard, client: u64, why: Why, now: Duration) {
+        if let Some(who) = self.clients.get_mut(&client.saturating_add(FIRST)) {
+            let is_silent = matches!(why, Why::SaidNothing | Why::Idle);
+            if is_silent && who.time_out().is_ok() {
+                let _ = who.line.send(now);
             }
-        };
-        if let Some(since) = since {
-            self.looks.add(since.saturating_add(self.wait), number)?;
         }
-        Ok(())
-    }
-
-    // Looks at those whose time has come: who is waited for too long is let go.
-    pub(super) fn look<E: Write>(
-        &mut self,
-        guard: &mut Guard,
-        now: Duration,
-        err: &mut E,
-    ) -> Result<(), Stop> {
-        'looks: for _ in 0..u64::MAX {
-            let Some(number) = self.looks.next(now) else {
-                break;
-            };
-            self.look_at(guard, number, now, err)?;
-        }
-        Ok(())
-    }
-
-    fn look_at<E: Write>(
-        &mut self,
-        guard: &mut Guard,
-        number: u64,
-        now: Duration,
-        err: &mut E,
-    ) -> Result<(), Stop> {
-        if number == SERVING {
-            return self.look_at_service(guard, now, err);
-        }
-        let wait = self.wait;
-        let Some(client) = self.clients.get_mut(&number) else {
-            return Ok(());
-        };
-        client.turns.is_watched = false;
-        if !is_late(client.since(), now, wait) {
-            return self.watch(number);
-        }
-        if client.time_out().is_err() {
-            return self.lose(guard, number);
-        }
-        self.wants_to_send(number)
-    }
-
-    fn look_at_service<E: Write>(
-        &mut self,
-        guard: &mut Guard,
-        now: Duration,
-        err: &mut E,
-    ) -> Result<(), Stop> {
-        let wait = self.wait;
-        let Some(service) = &mut self.service else {
-            return Ok(());
-        };
-        service.turns.is_watched = false;
-        if is_late(service.since(), now, wait) {
-            return self.lose_service(guard, now, err);
-        }
-        self.watch(SERVING)
-    }
-
-    // Ends the questions whose time is up.
-    pub(super) fn time_up(&mut self, guard: &mut Guard, now: Duration) -> Result<(), Stop> {
-        'questions: for _ in 0..u64::MAX {
-            let Some(seq) = self.questions.next(now) else {
-                break;
-            };
-            let given = guard.time_up(self.alloc, seq)?;
-            self.settle(guard, given, now)?;
-        }
-        Ok(())
-    }
-
-    // Has clients read again whose asks waited until fewer stand in line, as many as there is room for.
-    pub(super) fn release(&mut self, guard: &Guard) -> Result<(), Stop> {
-        let room = MOST_IN_LINE.saturating_sub(guard.line_count());
-        'held: for _ in 0..room {
-            let Some(number) = self.held.pop_front() else {
-                break;
-            };
-            self.wake(number)?;
-        }
-        Ok(())
+        self.remove(guard, client);
     }
 }
 

@@ -1,6 +1,6 @@
 //! What the guard gives out: messages for the service, and answers for clients.
 
-use super::{Daemon, FIRST, SERVING, Stop};
+use super::{Daemon, FIRST, SERVING, Stop, millis};
 use av_frame::encode::encode_into;
 use av_frame::{Body, Message};
 use av_guard::{Given, Guard, Told};
@@ -9,39 +9,30 @@ use std::net::Net;
 use std::time::{Clock, Duration};
 
 impl<'a, R: Files + Net + Clock> Daemon<'a, R> {
-    // Hands on what an event gave, and what the asks gave that it made room for.
+    // Hands on what an event gave. A question that it asks is about what began to come at the moment `first`.
     pub(super) fn settle(
         &mut self,
         guard: &mut Guard,
         given: Given,
-        now: Duration,
+        first: u64,
     ) -> Result<(), Stop> {
-        self.hand_on(guard, given, now)?;
-        'line: for _ in 0..u64::MAX {
-            match guard.next_in_line(self.alloc) {
-                Ok(Some(given)) => self.hand_on(guard, given, now)?,
-                Ok(None) => return Ok(()),
-                Err(_) => return Err(Stop::Memory),
-            }
-        }
-        Ok(())
-    }
-
-    fn hand_on(&mut self, guard: &mut Guard, given: Given, now: Duration) -> Result<(), Stop> {
         let Given { told, messages } = given;
         'messages: for message in messages.iter() {
-            self.put_message(message, now)?;
+            self.put_message(message, first)?;
         }
+        let now = self.now()?;
         'told: for told in told {
-            self.tell(guard, told)?;
+            self.tell(guard, told, now)?;
         }
         Ok(())
     }
 
     // A message for the service, where it is still there.
-    fn put_message(&mut self, message: &Message, now: Duration) -> Result<(), Stop> {
-        if let Body::Scan { id, .. } = message.body() {
-            self.questions.add(id.seq, now)?;
+    fn put_message(&mut self, message: &Message, first: u64) -> Result<(), Stop> {
+        match message.body() {
+            Body::Scan { id, length, .. } => self.turns.asked(id.seq, first, *length)?,
+            Body::Abort { id } => self.turns.question_over(id.seq),
+            _ => {}
         }
         let Some(service) = &mut self.service else {
             return Ok(());
@@ -51,11 +42,18 @@ impl<'a, R: Files + Net + Clock> Daemon<'a, R> {
     }
 
     // An answer for a client, where it is still there.
-    fn tell(&mut self, guard: &mut Guard, told: Told) -> Result<(), Stop> {
-        let number = told.client.saturating_add(FIRST);
-        let Some(client) = self.clients.get_mut(&number) else {
+    pub(super) fn tell(
+        &mut self,
+        guard: &mut Guard,
+        told: Told,
+        now: Duration,
+    ) -> Result<(), Stop> {
+        let who = told.client;
+        let connection = who.saturating_add(FIRST);
+        let Some(client) = self.clients.get_mut(&connection) else {
             return Ok(());
         };
+        let before = client.line.waiting();
         let done = if client.is_of_clamd() {
             self.names.look(self.rt, self.alloc, told.answer);
             let name = self.names.name_in(told.answer);
@@ -63,12 +61,12 @@ impl<'a, R: Files + Net + Clock> Daemon<'a, R> {
         } else {
             client.tell(told, None)
         };
+        let bytes = client.line.waiting().saturating_sub(before);
         if done.is_err() {
-            return self.lose(guard, number);
+            self.lose(guard, who);
+            return Ok(());
         }
-        let was_held = client.is_held;
-        client.is_held = false;
-        self.wants_to_send(number)?;
-        if was_held { self.wake(number) } else { Ok(()) }
+        self.turns.answered(who, bytes as u64, millis(now))?;
+        self.wants_to_send(connection)
     }
 }

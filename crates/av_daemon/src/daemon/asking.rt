@@ -1,0 +1,318 @@
+//! What clients ask: each in its turn, and from the line.
+
+use super::{ASKS, Daemon, FIRST, Stop, TURNS, millis};
+use crate::client::{Lost, Thing};
+use crate::told::unjudged;
+use av_base::{Cause, Refusal};
+use av_guard::{AskFault, Class, Guard, Told};
+use av_turns as turns;
+use av_turns::{Next, Parsed, Standing};
+use std::alloc::AllocError;
+use std::fs::Files;
+use std::mem;
+use std::net::Net;
+use std::time::{Clock, Duration};
+
+// What goes no further in a client's turn.
+#[derive(Drop)]
+enum Broken {
+    // The client, which is closed.
+    Client,
+    // The guard, which ends.
+    Guard(Stop),
+}
+
+impl From<Lost> for Broken {
+    fn from(_lost: Lost) -> Broken {
+        Broken::Client
+    }
+}
+
+impl From<AllocError> for Broken {
+    fn from(_error: AllocError) -> Broken {
+        Broken::Client
+    }
+}
+
+impl From<Stop> for Broken {
+    fn from(stop: Stop) -> Broken {
+        Broken::Guard(stop)
+    }
+}
+
+impl<'a, R: Files + Net + Clock> Daemon<'a, R> {
+    // Gives each client that may be read now a turn.
+    pub(super) fn serve(&mut self, guard: &mut Guard, now: Duration) -> Result<(), Stop> {
+        'turns: for _ in 0..self.turns.ready().min(TURNS) {
+            match self.turns.next() {
+                Next::Turn { client, bytes, .. } => self.serve_one(guard, client, bytes, now)?,
+                Next::Later => {}
+                Next::Nobody => break,
+            }
+        }
+        Ok(())
+    }
+
+    // The turn of a client. The shared buffer is taken out meanwhile.
+    fn serve_one(
+        &mut self,
+        guard: &mut Guard,
+        client: u64,
+        bytes: u64,
+        now: Duration,
+    ) -> Result<(), Stop> {
+        let mut buffer = mem::replace(&mut self.buffer, Vec::new(self.alloc));
+        let served = self.serve_with(guard, client, bytes, &mut buffer, now);
+        self.buffer = buffer;
+        match served {
+            Ok(()) => self.settle_client(guard, client),
+            Err(Broken::Client) => {
+                self.lose(guard, client);
+                Ok(())
+            }
+            Err(Broken::Guard(stop)) => Err(stop),
+        }
+    }
+
+    // Reads a piece, where nothing is left of before, and hears it.
+    fn serve_with(
+        &mut self,
+        guard: &mut Guard,
+        client: u64,
+        bytes: u64,
+        buffer: &mut Vec<u8>,
+        now: Duration,
+    ) -> Result<(), Broken> {
+        let Some(who) = self.clients.get_mut(&client.saturating_add(FIRST)) else {
+            return Err(Broken::Client);
+        };
+        let kept = who.take_kept(self.alloc);
+        if !kept.is_empty() {
+            return self.serve_piece(guard, client, kept.as_slice(), now);
+        }
+        let count = self.read(client, bytes, buffer, now)?;
+        let piece = buffer.get(..count).unwrap_or(b"".as_slice());
+        self.serve_piece(guard, client, piece, now)
+    }
+
+    // Reads at most so many bytes of a client, for which there is room.
+    fn read(
+        &mut self,
+        client: u64,
+        bytes: u64,
+        buffer: &mut Vec<u8>,
+        now: Duration,
+    ) -> Result<usize, Broken> {
+        let most = bytes.min(self.turns.room(client)) as usize;
+        let room = buffer.len().min(most);
+        let Some(who) = self.clients.get_mut(&client.saturating_add(FIRST)) else {
+            return Err(Broken::Client);
+        };
+        if room == 0 || who.is_done() {
+            return Ok(0);
+        }
+        let count = who.read(&mut buffer[..room])?;
+        let more = who.line.may_read() && !who.is_done();
+        self.turns.read(client, count as u64, more, millis(now))?;
+        Ok(count)
+    }
+
+    // Hears a piece that came, and keeps what is left of it.
+    fn serve_piece(
+        &mut self,
+        guard: &mut Guard,
+        client: u64,
+        piece: &[u8],
+        now: Duration,
+    ) -> Result<(), Broken> {
+        let taken = self.hear(guard, client, piece, now)?;
+        let rest = piece.get(taken..).unwrap_or(b"".as_slice());
+        self.end_turn(client, rest, now)
+    }
+
+    // What is left of a client's piece is kept.
+    fn end_turn(&mut self, client: u64, rest: &[u8], now: Duration) -> Result<(), Broken> {
+        let Some(who) = self.clients.get_mut(&client.saturating_add(FIRST)) else {
+            return Err(Broken::Client);
+        };
+        if !rest.is_empty() {
+            who.keep(rest)?;
+        }
+        let left = who.left();
+        self.turns.turn_over(client, left, millis(now))?;
+        Ok(())
+    }
+
+    // Hears one thing after another, as long as the turn goes on, and says how many bytes of the piece that took.
+    fn hear(
+        &mut self,
+        guard: &mut Guard,
+        client: u64,
+        piece: &[u8],
+        now: Duration,
+    ) -> Result<usize, Broken> {
+        let mut taken = 0usize;
+        'things: for _ in 0..u64::MAX {
+            let Some(who) = self.clients.get_mut(&client.saturating_add(FIRST)) else {
+                return Err(Broken::Client);
+            };
+            if who.is_done() {
+                break;
+            }
+            match who.hear(piece.get(taken..).unwrap_or(b"".as_slice())) {
+                Err(Lost) => {
+                    who.end()?;
+                    break;
+                }
+                Ok((_, None)) => break,
+                Ok((count, Some(thing))) => {
+                    taken = taken.saturating_add(count);
+                    if !self.take(guard, client, thing, now)? {
+                        return Ok(taken);
+                    }
+                }
+            }
+        }
+        Ok(piece.len())
+    }
+
+    // Does what a client said, and says whether its turn goes on. A content that is known, or about which the service is asked
+    // already, is asked about at once; another one stands in line.
+    fn take(
+        &mut self,
+        guard: &mut Guard,
+        client: u64,
+        thing: Thing,
+        now: Duration,
+    ) -> Result<bool, Broken> {
+        let (tag, content) = match thing {
+            Thing::Said(bytes) => {
+                return self.count(client, turns::Thing::Said(bytes as u64), now);
+            }
+            Thing::Asked { tag, content } => (tag, content),
+        };
+        if guard.class(&content) == Class::New {
+            return self.stand(client, tag, content, now);
+        }
+        match guard.ask(self.alloc, client, tag, content) {
+            Ok(given) => {
+                let goes_on = self.count(client, turns::Thing::Known, now);
+                self.waits(client);
+                self.settle(guard, given, millis(now))?;
+                goes_on
+            }
+            Err(refused) => match refused.why {
+                Refusal::Fault(AskFault::Busy) => self.stand(client, tag, refused.value, now),
+                _ => Err(Broken::Client),
+            },
+        }
+    }
+
+    // The turns count what a client said, and say whether its turn goes on.
+    fn count(&mut self, client: u64, thing: turns::Thing, now: Duration) -> Result<bool, Broken> {
+        match self.turns.parsed(client, thing, millis(now)) {
+            Ok(Parsed::GoesOn) => Ok(true),
+            Ok(Parsed::TurnEnds) => Ok(false),
+            Err(_) => Err(Broken::Client),
+        }
+    }
+
+    // An ask stands in line.
+    fn stand(
+        &mut self,
+        client: u64,
+        tag: u64,
+        content: Vec<u8>,
+        now: Duration,
+    ) -> Result<bool, Broken> {
+        let goes_on = self.count(client, turns::Thing::New { tag, content }, now)?;
+        self.waits(client);
+        Ok(goes_on)
+    }
+
+    // A client waits for one answer more.
+    fn waits(&mut self, client: u64) {
+        if let Some(who) = self.clients.get_mut(&client.saturating_add(FIRST)) {
+            who.asked();
+        }
+    }
+
+    // A client is closed where it is over, and else sent what it was told.
+    fn settle_client(&mut self, guard: &mut Guard, client: u64) -> Result<(), Stop> {
+        let connection = client.saturating_add(FIRST);
+        let Some(who) = self.clients.get(&connection) else {
+            return Ok(());
+        };
+        let (is_over, waits) = (who.is_over(), who.line.waiting() > 0);
+        if is_over {
+            self.lose(guard, client);
+            return Ok(());
+        }
+        if waits {
+            self.wants_to_send(connection)
+        } else {
+            Ok(())
+        }
+    }
+
+    // Asks what stands in line, as long as the guard and the turns let it.
+    pub(super) fn ask_line(&mut self, guard: &mut Guard, now: Duration) -> Result<(), Stop> {
+        'asks: for _ in 0..ASKS {
+            if !guard.may_ask() {
+                return Ok(());
+            }
+            let Ok(Some(standing)) = self.turns.next_in_line() else {
+                return Ok(());
+            };
+            self.ask_standing(guard, standing, now)?;
+        }
+        self.goes_on = true;
+        Ok(())
+    }
+
+    fn ask_standing(
+        &mut self,
+        guard: &mut Guard,
+        standing: Standing,
+        now: Duration,
+    ) -> Result<(), Stop> {
+        let Standing {
+            client,
+            tag,
+            first,
+            content,
+        } = standing;
+        match guard.ask(self.alloc, client, tag, content) {
+            Ok(given) => self.settle(guard, given, first),
+            Err(refused) => match refused.why {
+                Refusal::Fault(_) => {
+                    let answer = unjudged(self.mode, Cause::Busy);
+                    self.tell(
+                        guard,
+                        Told {
+                            client,
+                            tag,
+                            answer,
+                        },
+                        now,
+                    )
+                }
+                Refusal::NoMemory => {
+                    self.lose(guard, client);
+                    Ok(())
+                }
+            },
+        }
+    }
+
+    // Lets contents go that nobody waits for, where more is kept than is to be.
+    pub(super) fn make_room(&mut self, guard: &mut Guard, now: Duration) -> Result<(), Stop> {
+        'contents: for _ in 0..u64::MAX {
+            match guard.make_room(self.alloc)? {
+                Some(given) => self.settle(guard, given, millis(now))?,
+                None => return Ok(()),
+            }
+        }
+        Ok(())
+    }
+}
