@@ -1,12 +1,13 @@
 ghost use Rattle.std.specs.Prelude.{◌≡◌, IfErr, IfOk};
 ghost use Rattle.std.specs.Io.KnownBytes.{Appends};
-ghost use Rattle.av_files.specs.Opened.{IsDoneOrFault, ended_tally, opened_lines, tally_from};
+ghost use Rattle.av_files.specs.Opened.{IsDoneOrFault, opened_lines};
 ghost use Rattle.av_status.specs.Status.{EndsWell, IsFault};
-ghost use Rattle.av_status.specs.Tally.{concluded, no_files};
-ghost use Rattle.avscan.specs.Ask.{AreAsked, answered, failed_of};
+ghost use Rattle.av_status.specs.Tally.{concluded};
+ghost use Rattle.av_status.specs.declared.status.Status.TheVariants.{Device};
+ghost use Rattle.avscan.specs.Ask.{AreAsked, AreJudged, answered, asked_tally, failed_of};
 
 use crate::list::{failing, names_of};
-use crate::reading::{is_folder, read_file};
+use crate::reading::{Source, is_folder, read_file, read_met, say_why};
 use crate::serving::meeting;
 use av_daemon::{Asker, AskingFault};
 use av_files::{MAX_FILE, Met, Opened, Walk, conclude_opened, count_opened, print_opened};
@@ -14,7 +15,7 @@ use av_host::Hosting;
 use av_pend::Answer;
 use av_sockets::SocketFault;
 use av_sockets::fault::socket_failed;
-use av_status::faults::{bad_entry, out_of_memory, too_large, unreadable};
+use av_status::faults::{bad_entry, out_of_memory, say_of, text, too_large, unreadable};
 use av_status::{Progress, Status, Tally, Wishes};
 use av_words::{Ask, Finding};
 use std::alloc::{AllocError, Global};
@@ -76,14 +77,14 @@ fn add_files<E: Write>(
     alloc: Global,
     finding: Finding,
     names: &[&str],
-    found: &mut Vec<String>,
+    found: &mut Vec<Found>,
     tally: &mut Tally,
     err: &mut E,
 ) -> Result<(), AllocError> {
     'names: for name in names {
         if finding.is_recursive && is_folder(rt, name) {
             let mut walk = Walk::new(rt, alloc, name)?;
-            add_entries(&mut walk, found, tally, err)?;
+            add_entries(rt, alloc, &mut walk, found, tally, err)?;
         } else {
             add_name(alloc, name, found)?;
         }
@@ -91,22 +92,39 @@ fn add_files<E: Write>(
     Ok(())
 }
 
-fn add_name(alloc: Global, name: &str, found: &mut Vec<String>) -> Result<(), AllocError> {
-    found.push(String::from_str(alloc, name)?)?;
+// A file that is asked about.
+#[derive(Drop)]
+struct Found {
+    name: String,
+    source: Source,
+}
+
+fn add_name(alloc: Global, name: &str, found: &mut Vec<Found>) -> Result<(), AllocError> {
+    let name = String::from_str(alloc, name)?;
+    let source = Source::Named;
+    found.push(Found { name, source })?;
     Ok(())
 }
 
 // Adds what a walk meets from here on.
 fn add_entries<E: Write>(
+    rt: &HostRuntime,
+    alloc: Global,
     walk: &mut Walk<'_, HostRuntime>,
-    found: &mut Vec<String>,
+    found: &mut Vec<Found>,
     tally: &mut Tally,
     err: &mut E,
 ) -> Result<(), AllocError> {
     'entries: for _ in 0..u64::MAX {
         match walk.next()? {
-            Some(Met::File(path)) => found.push(path)?,
-            Some(Met::Unreadable(path)) => tally.add_missed(unreadable(err, path.as_str())),
+            Some(Met::File(name)) => found.push(Found {
+                name,
+                source: Source::Met,
+            })?,
+            Some(Met::Unreadable(path)) => {
+                tally.add_missed(unreadable(err, path.as_str()));
+                say_why(rt, alloc, path.as_str(), Source::Met, err);
+            }
             Some(Met::NotText(path)) => tally.add_missed(bad_entry(err, path.as_slice())),
             None => break,
         }
@@ -120,7 +138,7 @@ fn ask_found<R: Hosting, W: Write, E: Write>(
     system: &R,
     alloc: Global,
     asked: &Ask<'_>,
-    found: &[String],
+    found: &[Found],
     missed: Status,
     out: &mut W,
     err: &mut Progress<'_, HostRuntime, E>,
@@ -155,7 +173,7 @@ fn ask_all<R: Hosting, W: Write, E: Write>(
     alloc: Global,
     asker: &mut Asker<'_, R>,
     asked: &Ask<'_>,
-    found: &[String],
+    found: &[Found],
     missed: Status,
     buffer: &mut [u8],
     out: &mut W,
@@ -164,7 +182,9 @@ fn ask_all<R: Hosting, W: Write, E: Write>(
     ensures { EndsWell result → AreAsked asked.now.named.wishes (W.contents out.old) (W.contents out.new) result }
 {
     let mut names = Vec::new(alloc);
-    match ask_each(rt, asker, asked, found, &mut names, missed, buffer, err) {
+    match ask_each(
+        rt, alloc, asker, asked, found, &mut names, missed, buffer, err,
+    ) {
         Ok(ended) => {
             let ended = ended.or_graver(finished(asker, asked.opens, err));
             let names = names.as_slice();
@@ -187,9 +207,10 @@ fn ask_all<R: Hosting, W: Write, E: Write>(
 // Asks about each file in turn, and gives what went wrong of it, or of what ends it all.
 fn ask_each<'b, R: Hosting, E: Write>(
     rt: &HostRuntime,
+    alloc: Global,
     asker: &mut Asker<'_, R>,
     asked: &Ask<'_>,
-    found: &'b [String],
+    found: &'b [Found],
     names: &mut Vec<&'b str>,
     missed: Status,
     buffer: &mut [u8],
@@ -198,11 +219,11 @@ fn ask_each<'b, R: Hosting, E: Write>(
     ensures { IfErr result (λ status. IsFault status) }
 {
     let mut ended = missed;
-    'files: for (done, name) in found.iter().enumerate() {
+    'files: for (done, file) in found.iter().enumerate() {
         err.step("asked", done, found.len());
-        match ask_one(rt, asker, asked.opens, name.as_str(), buffer, err) {
+        match ask_one(rt, alloc, asker, asked.opens, file, buffer, err) {
             Ok(()) => {
-                if names.push(name.as_str()).is_err() {
+                if names.push(file.name.as_str()).is_err() {
                     return Err(out_of_memory(err));
                 }
             }
@@ -229,7 +250,7 @@ fn finished<R: Hosting, E: Write>(
     err.wipe();
     match heard {
         Ok(()) => Status::Done,
-        Err(fault) => asking_failed(err, socket, "", fault).status,
+        Err(fault) => asking_failed(err, socket, "", fault, asker.answers()).status,
     }
 }
 
@@ -242,29 +263,44 @@ struct Failed {
 
 fn ask_one<R: Hosting, E: Write>(
     rt: &HostRuntime,
+    alloc: Global,
     asker: &mut Asker<'_, R>,
     socket: &str,
-    name: &str,
+    file: &Found,
     buffer: &mut [u8],
     err: &mut Progress<'_, HostRuntime, E>,
 ) -> Result<(), Failed>
     ensures { IfErr result (λ failed. IsFault failed.status) }
 {
-    let content = match read_file(rt, name, buffer).readable(err) {
+    let name = file.name.as_str();
+    let input = match file.source {
+        Source::Met => read_met(rt, name, buffer),
+        _ => read_file(rt, name, buffer),
+    };
+    let content = match input.readable(err) {
         Ok(content) => content,
-        Err(status) => return Err(Failed {
-            status,
-            is_last: false,
-        }),
+        Err(status) => {
+            say_why(rt, alloc, name, file.source, err);
+            return Err(Failed {
+                status,
+                is_last: false,
+            });
+        }
     };
     match asker.ask(name, content) {
         Ok(()) => Ok(()),
-        Err(fault) => Err(asking_failed(err, socket, name, fault)),
+        Err(fault) => Err(asking_failed(err, socket, name, fault, asker.answers())),
     }
 }
 
-// Says why a file, or any from here on, is not answered.
-fn asking_failed<E: Write>(err: &mut E, socket: &str, name: &str, fault: AskingFault) -> Failed
+// Says why a file, or any from here on, is not answered, by what was answered before.
+fn asking_failed<E: Write>(
+    err: &mut E,
+    socket: &str,
+    name: &str,
+    fault: AskingFault,
+    answers: &[Option<Answer>],
+) -> Failed
     ensures { result ≡ failed_of fault }
 {
     match fault {
@@ -277,13 +313,26 @@ fn asking_failed<E: Write>(err: &mut E, socket: &str, name: &str, fault: AskingF
             is_last: true,
         },
         AskingFault::Lost => Failed {
-            status: socket_failed(err, socket, SocketFault::GuardLost),
+            status: guard_lost(err, socket, answers),
             is_last: true,
         },
     }
 }
 
-// Writes the lines of what was answered.
+// The guard went away. One that has as many clients as it can have closes the connection of the next one unheard.
+fn guard_lost<E: Write>(err: &mut E, socket: &str, answers: &[Option<Answer>]) -> Status
+    ensures { result ≡ Device }
+{
+    if answers.iter().any(|answer| answer.is_some()) {
+        return socket_failed(err, socket, SocketFault::GuardLost);
+    }
+    let why = text(": the guard gave no answer: it was lost, or has no room for another client");
+    say_of(err, socket, &[why]);
+    Status::Device
+}
+
+// Writes the lines of what was answered. A file that nobody judged is a fault as any other is, and the greatest counts.
+#[tactic(auto, using(crate::proofs::AskLemmas::judged_all))]
 fn print_answers<W: Write, E: Write>(
     alloc: Global,
     names: &[&str],
@@ -295,7 +344,8 @@ fn print_answers<W: Write, E: Write>(
     err: &mut E,
 ) -> Status
     ensures lines { EndsWell result → Appends (W.contents out.old) (W.contents out.new) (opened_lines wishes (answered names.now answers.now)) }
-    ensures ended { EndsWell result → result ≡ concluded wishes (ended_tally (tally_from no_files (answered names.now answers.now)) files ended) }
+    ensures ended { EndsWell result → result ≡ concluded wishes (asked_tally (answered names.now answers.now) files ended) }
+    ensures judged { AreJudged result (answered names.now answers.now) }
 {
     let Ok(opened) = opened_of(alloc, names, answers) else {
         return out_of_memory(err);
@@ -304,6 +354,7 @@ fn print_answers<W: Write, E: Write>(
         Status::Done => {
             let mut tally = Tally::new();
             count_opened(&mut tally, opened.as_slice());
+            let ended = ended.or_graver(tally.worst);
             conclude_opened(tally, files, ended, wishes, err)
         }
         failed => failed,

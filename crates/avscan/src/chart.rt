@@ -3,6 +3,7 @@ ghost use Rattle.av_chart.specs.Chart.{Draws};
 ghost use Rattle.av_status.specs.declared.status.Status.TheVariants.{Done, Refused, Usage};
 ghost use Rattle.avscan.specs.Chart.{IsFaultOf, status_of};
 
+use crate::reading::{Source, say_why};
 use av_base::Part;
 use av_chart::{ChartFault, Lines, write_chart};
 use av_files::TURNS;
@@ -36,7 +37,11 @@ pub fn chart_named<W: Write, E: Write>(
     }
     match fs::open(rt, script) {
         Ok(mut file) => chart(alloc, title, lines, &mut file, out, err),
-        Err(_) => unreadable(err, script),
+        Err(_) => {
+            let status = unreadable(err, script);
+            say_why(rt, alloc, script, Source::Other, err);
+            status
+        }
     }
 }
 

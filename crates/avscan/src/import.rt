@@ -13,7 +13,8 @@ use av_status::status::Status;
 use std::alloc::Global;
 use std::io::Write;
 
-/// Writes a signature file of this version, with what can be taken of files of other products.
+/// Writes a signature file of this version, with what can be taken of files of other products. Where nothing can be taken, nothing is
+/// written: a file without a signature would find nothing.
 pub fn import_named<W: Write, E: Write>(
     rt: &HostRuntime,
     alloc: Global,
@@ -75,7 +76,7 @@ fn conclude<W: Write, E: Write>(
             text(" lines left out"),
         ],
     );
-    if asked.taking.wants_all && import.left() > 0 {
+    if import.taken() == 0 || asked.taking.wants_all && import.left() > 0 {
         return Status::Refused;
     }
     if let Err(fault) = import.write(asked.version, out) {

@@ -2,6 +2,7 @@ ghost use Rattle.std.specs.Prelude.{◌≡◌, [], IfErr, IfOk, IfSome, IsOkAnd,
 ghost use Rattle.av_status.specs.Status.{IsFault};
 ghost use Rattle.avscan.specs.List.{failing_of};
 
+use crate::reading::{Source, say_why};
 use av_base::ReadFault;
 use av_base::device::read_whole;
 use av_files::{Failing, TURNS, with_listed};
@@ -69,7 +70,11 @@ pub fn whole_text<E: Write>(
 {
     match fs::open(rt, path) {
         Ok(mut file) => text_of(alloc, path, &mut file, err),
-        Err(_) => Err(unreadable(err, path)),
+        Err(_) => {
+            let status = unreadable(err, path);
+            say_why(rt, alloc, path, Source::Other, err);
+            Err(status)
+        }
     }
 }
 

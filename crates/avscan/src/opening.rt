@@ -4,9 +4,10 @@ ghost use Rattle.av_sockets.specs.Filter.{AreFiltered};
 ghost use Rattle.av_status.specs.Status.{EndsWell, IsFault};
 
 use crate::list::names_of;
-use crate::reading::{read_file, size_of};
+use crate::reading::{Source, read_file, say_why, size_of};
 use crate::serving::meeting;
-use av_files::{Contents, Failing, MAX_FILE, look_at, read_set};
+use crate::sets::set_named;
+use av_files::{Contents, Failing, look_at};
 use av_host::{Crew, Hosting, Signatures, host_groups};
 use av_sockets::filter_files;
 use av_status::faults::out_of_memory;
@@ -26,11 +27,7 @@ pub fn host_named<R: Hosting, W: Write, E: Write>(
     out: &mut W,
     err: &mut Progress<'_, HostRuntime, E>,
 ) -> Status {
-    let Ok(mut text) = vec![in alloc; 0u8; MAX_FILE + 2] else {
-        return out_of_memory(err);
-    };
-    let set = read_file(rt, asked.set, &mut text);
-    match read_set(alloc, set, err) {
+    match set_named(rt, alloc, asked.set, asked.empty_sets, err) {
         Ok(set) => match Signatures::build(alloc, set) {
             Ok(signatures) => host_under(rt, system, alloc, asked, &signatures, out, err),
             Err(_) => out_of_memory(err),
@@ -76,7 +73,7 @@ fn host_all<R: Hosting, W: Write, E: Write>(
     out: &mut W,
     err: &mut Progress<'_, HostRuntime, E>,
 ) -> Status
-    ensures { EndsWell result → AreHostedInGroups asked.now.openers names.now asked.now.named.wishes (W.contents out.old) (W.contents out.new) result }
+    ensures { EndsWell result → AreHostedInGroups signatures.now asked.now.openers names.now asked.now.named.wishes (W.contents out.old) (W.contents out.new) result }
 {
     if let Err(status) = look_over(rt, alloc, names, err) {
         return status;
@@ -110,7 +107,13 @@ fn look_over<E: Write>(
 {
     let mut seen = BTreeSet::new(alloc);
     'files: for name in names {
-        look_at(alloc, &mut seen, *name, size_of(rt, name), err)?;
+        let size = size_of(rt, name);
+        if let Err(status) = look_at(alloc, &mut seen, *name, size, err) {
+            if size.is_none() {
+                say_why(rt, alloc, name, Source::Other, err);
+            }
+            return Err(status);
+        }
     }
     Ok(())
 }

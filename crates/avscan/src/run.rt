@@ -2,6 +2,7 @@ ghost use Rattle.std.specs.Prelude.{◌≡◌, ◌≢◌, IfSome, OnOk, OnErr};
 ghost use Rattle.av_status.specs.declared.status.Status.TheVariants.{Done, Usage};
 ghost use Rattle.avscan.specs.Run.{PrintsIn, PrintsInFront, status_of};
 
+use crate::reading::{Source, say_why};
 use av_files::TURNS;
 use av_status::Form;
 use av_status::faults::{bad_script, device_failed, out_of_memory, script_too_long, unreadable};
@@ -29,7 +30,11 @@ pub fn run_named<W: Write, E: Write>(
     }
     match fs::open(rt, script.path) {
         Ok(mut file) => run_text(script.form, alloc, &mut file, out, err),
-        Err(_) => unreadable(err, script.path),
+        Err(_) => {
+            let status = unreadable(err, script.path);
+            say_why(rt, alloc, script.path, Source::Other, err);
+            status
+        }
     }
 }
 
@@ -63,7 +68,7 @@ fn run_in<R: Read, W: Write>(
     ensures err { OnErr result (IfSome (R.remaining reader.old) (PrintsInFront form (W.contents out.old) (W.contents out.new))) }
 {
     match form {
-        Form::Lines => run_script(alloc, reader, out, TURNS),
+        Form::Lines | Form::ZeroEnded => run_script(alloc, reader, out, TURNS),
         Form::Json => run_json(alloc, reader, out, TURNS),
     }
 }

@@ -1,18 +1,19 @@
 ghost use Rattle.std.specs.Prelude.{◌≡◌, ◌<◌, Some, IfErr, IfOk, IfSome, IsSomeAnd, length};
-ghost use Rattle.av_files.specs.Scan.{HasVerdict};
+ghost use Rattle.av_files.specs.Scan.{HasVerdict, IsAdmitted};
 ghost use Rattle.av_status.specs.Status.{IsFault};
 
 use crate::list::{failing, names_of};
-use crate::reading::{is_folder, open_file, read_file};
+use crate::reading::{Source, is_folder, open_file, open_met, say_why};
+use crate::sets::set_named;
 use av_base::Verdict;
 use av_files::{
-    Failing, MAX_FILE, Met, Scanned, Scanner, Walk, line_failed, print_one, print_scanned,
+    Failing, MAX_FILE, Met, Scanned, Scanner, Walk, is_infected, line_failed, print_one,
+    print_scanned,
 };
 use av_status::faults::{bad_entry, device_failed, out_of_memory, unreadable};
 use av_status::{Progress, Status, Tally, Wishes, conclude};
 use av_words::{Finding, Named, Scan};
 use std::alloc::Global;
-use std::fs;
 use std::fs::File;
 use std::io::{IsTerminal, Read, Write};
 
@@ -27,7 +28,7 @@ pub fn scan_named<W: Write, E: Write>(
     let Ok(mut buffer) = vec![in alloc; 0u8; MAX_FILE + 2] else {
         return out_of_memory(err);
     };
-    match Scanner::read(alloc, read_file(rt, asked.set, &mut buffer), err) {
+    match scanner_of(rt, alloc, asked, err) {
         Ok(scanner) => {
             let means = Means {
                 rt,
@@ -40,6 +41,22 @@ pub fn scan_named<W: Write, E: Write>(
             scan_listed(means, &asked.named, &mut buffer, out, err)
         }
         Err(status) => status,
+    }
+}
+
+// The scanner of the set that is asked for.
+fn scanner_of<E: Write>(
+    rt: &HostRuntime,
+    alloc: Global,
+    asked: &Scan<'_>,
+    err: &mut E,
+) -> Result<Scanner, Status>
+    ensures admitted { IfOk result (IsAdmitted asked.now.empty_sets) }
+    ensures status { IfErr result (λ status. IsFault status) }
+{
+    match set_named(rt, alloc, asked.set, asked.empty_sets, err) {
+        Ok(set) => Scanner::of(alloc, set, err),
+        Err(status) => Err(status),
     }
 }
 
@@ -106,7 +123,10 @@ fn scan_all<W: Write, E: Write>(
                     return out_of_memory(err);
                 }
             }
-            Err(status) => return status,
+            Err(status) => {
+                explain(means, status, name, Source::Named, err);
+                return status;
+            }
         }
     }
     err.wipe();
@@ -136,8 +156,11 @@ fn scan_on<W: Write, E: Write>(
         let done = if means.finding.is_recursive && is_folder(means.rt, name) {
             scan_folder(means, name, buffer, &mut tally, &mut room, out, err)
         } else {
-            let file = open_file(means.rt, name);
-            scan_one(means, name, file, buffer, &mut tally, &mut room, out, err)
+            let file = Taken {
+                name,
+                source: Source::Named,
+            };
+            scan_one(means, file, buffer, &mut tally, &mut room, out, err)
         };
         if let Err(status) = done {
             return tally.worst.or_graver(status);
@@ -207,12 +230,16 @@ fn scan_met<W: Write, E: Write>(
 {
     match met {
         Met::File(path) => {
-            let path = path.as_str();
-            let file = fs::open(means.rt, path).ok();
-            scan_one(means, path, file, buffer, tally, room, out, err)
+            let file = Taken {
+                name: path.as_str(),
+                source: Source::Met,
+            };
+            scan_one(means, file, buffer, tally, room, out, err)
         }
         Met::Unreadable(path) => {
-            tally.add_missed(unreadable(err, path.as_str()));
+            let status = unreadable(err, path.as_str());
+            explain(means, status, path.as_str(), Source::Met, err);
+            tally.add_missed(status);
             Ok(())
         }
         Met::NotText(path) => {
@@ -222,11 +249,27 @@ fn scan_met<W: Write, E: Write>(
     }
 }
 
+// A file to scan.
+#[derive(Clone, Copy)]
+struct Taken<'a> {
+    name: &'a str,
+    source: Source,
+}
+
+impl<'a> Taken<'a> {
+    // The file, where it can be opened.
+    fn open(self, rt: &HostRuntime) -> Option<File> {
+        match self.source {
+            Source::Met => open_met(rt, self.name),
+            _ => open_file(rt, self.name),
+        }
+    }
+}
+
 // Scans a file and writes its line. An error ends the run.
 fn scan_one<W: Write, E: Write>(
     means: Means<'_, '_>,
-    name: &str,
-    file: Option<File>,
+    file: Taken<'_>,
     buffer: &mut [u8],
     tally: &mut Tally,
     room: &mut Vec<u8>,
@@ -237,9 +280,11 @@ fn scan_one<W: Write, E: Write>(
     ensures { length buffer.new ≡ length buffer.old }
 {
     err.step_on("scanned", tally.scanned);
-    let verdict = match judged(means, name, file, buffer, err) {
+    let name = file.name;
+    let verdict = match judged(means, name, file.open(means.rt), buffer, err) {
         Ok(verdict) => verdict,
         Err(status) => {
+            explain(means, status, name, file.source, err);
             tally.add_missed(status);
             return Ok(());
         }
@@ -257,10 +302,24 @@ fn scan_one<W: Write, E: Write>(
     if let Err(fault) = printed {
         return Err(line_failed(err, fault));
     }
-    if means.is_live && out.flush().is_err() {
+    let is_urgent = means.is_live || is_infected(verdict);
+    if is_urgent && out.flush().is_err() {
         return Err(device_failed(err));
     }
     Ok(())
+}
+
+// Gives the reason why a file has no verdict, where that is a fault of the system's.
+fn explain<E: Write>(
+    means: Means<'_, '_>,
+    status: Status,
+    name: &str,
+    source: Source,
+    err: &mut E,
+) {
+    if status == Status::Device {
+        say_why(means.rt, means.alloc, name, source, err);
+    }
 }
 
 // The verdict of a file, where it could be opened. Where there is none, one line to `err` says why.

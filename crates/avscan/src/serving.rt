@@ -2,20 +2,17 @@ ghost use Rattle.std.specs.Prelude.{◌≡◌, ◌*◌, IfErr, codes, if◌then�
 ghost use Rattle.std.specs.Duration.{as_nanos};
 ghost use Rattle.std.specs.Io.KnownBytes.{Appends};
 ghost use Rattle.av_base.specs.declared.mode.Mode.TheVariants.{FailClosed, FailOpen};
-ghost use Rattle.av_daemon.specs.Guarding.{IsFailed};
 ghost use Rattle.av_files.specs.Opened.{IsDoneOrFault};
 ghost use Rattle.av_status.specs.Status.{IsFault};
 ghost use Rattle.av_status.specs.declared.status.Status.TheVariants.{Done};
 
-use crate::reading::read_file;
+use crate::sets::set_named;
 use av_base::Mode;
 use av_daemon::{Doors, Guarding, guard_at};
-use av_files::{MAX_FILE, read_set};
 use av_host::Hosting;
-use av_sigset::SignatureSet;
 use av_sockets::{Look, Meeting, Watched, looked_at, serve_at};
 use av_status::Status;
-use av_status::faults::out_of_memory;
+use av_status::faults::EmptySets;
 use av_words::{Guard, Service};
 use std::alloc::Global;
 use std::io::Write;
@@ -45,7 +42,7 @@ pub fn serve_named<R: Hosting, W: Write, E: Write>(
     ensures ended { IsDoneOrFault result }
 {
     let seen = looked_at(rt, asked.set);
-    match set_named(rt, alloc, asked.set, err) {
+    match set_named(rt, alloc, asked.set, asked.empty_sets, err) {
         Ok(set) => {
             let meeting = meeting(asked.socket, asked.wait);
             serve_at(
@@ -62,21 +59,6 @@ pub fn serve_named<R: Hosting, W: Write, E: Write>(
     }
 }
 
-// The set of this name.
-fn set_named<E: Write>(
-    rt: &HostRuntime,
-    alloc: Global,
-    name: &str,
-    err: &mut E,
-) -> Result<SignatureSet, Status>
-    ensures { IfErr result (λ status. IsFault status) }
-{
-    let Ok(mut buffer) = vec![in alloc; 0u8; MAX_FILE + 2] else {
-        return Err(out_of_memory(err));
-    };
-    read_set(alloc, read_file(rt, name, &mut buffer), err)
-}
-
 // How the set's file is watched, where it is to be. What was seen of it before it was read counts where it is still seen.
 fn watched<'a>(rt: &HostRuntime, asked: Service<'a>, seen: Option<Look>) -> Option<Watched<'a>> {
     let seconds = asked.watch?;
@@ -85,19 +67,41 @@ fn watched<'a>(rt: &HostRuntime, asked: Service<'a>, seen: Option<Look>) -> Opti
         path: asked.set,
         every: Duration::from_secs(seconds),
         seen: if stays { seen } else { None },
+        empty: asked.empty_sets,
     })
 }
 
-/// Answers opens that other programs ask about, until the process is ended.
+/// Answers opens that other programs ask about, until the process is ended. Where it has the names of signatures from a file, that
+/// has to be a signature set when it begins.
 pub fn guard_named<R: Hosting, E: Write>(
+    rt: &HostRuntime,
     system: &R,
     alloc: Global,
     asked: Guard<'_>,
     err: &mut E,
 ) -> Status
-    ensures { IsFailed result }
+    ensures { IsFault result }
 {
-    guard_at(system, alloc, guarding(asked), err)
+    match check_names(rt, alloc, asked.names, err) {
+        Ok(()) => guard_at(system, alloc, guarding(asked), err),
+        Err(status) => status,
+    }
+}
+
+// Reads the set whose names are told, where there is one.
+fn check_names<E: Write>(
+    rt: &HostRuntime,
+    alloc: Global,
+    names: Option<&str>,
+    err: &mut E,
+) -> Result<(), Status>
+    ensures { IfErr result (λ status. IsFault status) }
+{
+    let Some(name) = names else {
+        return Ok(());
+    };
+    let _set = set_named(rt, alloc, name, EmptySets::Allowed, err)?;
+    Ok(())
 }
 
 // How is guarded.
@@ -107,7 +111,9 @@ fn guarding(asked: Guard<'_>) -> Guarding<'_>
     ensures keep { result.keep ≡ asked.entry.keep }
     ensures questions { result.questions ≡ asked.entry.questions }
     ensures wait { as_nanos result.wait ≡ asked.entry.wait * 1_000_000_000 }
-    ensures rights { result.rights ≡ asked.entry.mode }
+    ensures rights { (result.rights ≡ asked.entry.mode) × (result.service_rights ≡ asked.entry.service_mode) }
+    ensures versions { (result.least ≡ asked.entry.least) × (result.most_version ≡ asked.entry.most_version) }
+    ensures state { result.state ≡ asked.entry.state }
 {
     let doors = Doors {
         opens: asked.opens,
@@ -126,5 +132,9 @@ fn guarding(asked: Guard<'_>) -> Guarding<'_>
         questions: asked.questions,
         wait: Duration::from_secs(asked.wait),
         rights: asked.mode,
+        service_rights: asked.service_mode,
+        least: asked.least,
+        most_version: asked.most_version,
+        state: asked.state,
     }
 }

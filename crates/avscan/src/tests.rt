@@ -1,3 +1,4 @@
+use crate::check::check_set;
 use crate::run::run_text;
 use av_fakes::{FakeReader, FakeWriter, Fault};
 use av_files::Input;
@@ -148,6 +149,49 @@ fn a_host_tells_of_each_file_or_of_the_first_that_can_be_no_stream(
             &mut err,
         );
         assert!(&rt; ended == status && out.taken() == lines && err.taken() == line);
+    }
+    Ok(())
+}
+
+#[test]
+fn a_signature_file_is_checked(rt: HostRuntime) -> Result<(), Fail> {
+    let rows: [(&str, &[u8], Result<(), Status>, &[u8], &[u8]); 4] = [
+        ("set", SET, Ok(()), b"set: version 1, 1 signatures\n", b""),
+        (
+            "a\nb",
+            SET,
+            Ok(()),
+            b"\"a\\nb\": version 1, 1 signatures\n",
+            b"",
+        ),
+        (
+            "set",
+            b"avsig 1\nversion 1\nx 5\n",
+            Err(Status::Refused),
+            b"",
+            b"avscan: set:3: not pairs of hexadecimal digits\n",
+        ),
+        (
+            "set",
+            b"avsig 1\nversion 9\n",
+            Err(Status::Refused),
+            b"",
+            b"avscan: set: version 9 has no signatures\n",
+        ),
+    ];
+    for (name, content, checked, line, fault) in rows {
+        let mut out = FakeWriter::new(rt.alloc()).in_pieces_of(1);
+        let mut err = FakeWriter::new(rt.alloc());
+        assert!(&rt; check_set(rt.alloc(), name, content, &mut out, &mut err) == checked);
+        assert!(&rt; out.taken() == line && err.taken() == fault);
+        let mut full = FakeWriter::new(rt.alloc()).with(Fault::Fails { write: 1 });
+        let mut err = FakeWriter::new(rt.alloc());
+        let told = if checked.is_ok() {
+            Err(Status::Device)
+        } else {
+            checked
+        };
+        assert!(&rt; check_set(rt.alloc(), name, content, &mut full, &mut err) == told);
     }
     Ok(())
 }

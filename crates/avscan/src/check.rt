@@ -1,0 +1,118 @@
+ghost use Rattle.std.specs.Prelude.{IfErr, OnOk};
+ghost use Rattle.std.specs.Io.KnownBytes.{Appends};
+ghost use Rattle.av_status.specs.Status.{IsFault};
+ghost use Rattle.avscan.specs.Check.{IsChecked, checked_line, line_of};
+
+use crate::reading::{Source, Why, read_file, say_given, why_unread};
+use av_base::parts::write_parts;
+use av_base::{Part, Refusal, WriteFault};
+use av_files::{Input, MAX_FILE, admit_set, quoted_name};
+use av_sigset::SignatureSet;
+use av_status::Status;
+use av_status::faults::{
+    EmptySets, bad_set_line, device_failed, out_of_memory, too_large, unreadable,
+};
+use av_words::Check;
+use std::alloc::Global;
+use std::io::Write;
+
+/// Checks signature files: a line to `out` for each that is good, and one to `err` for each that is not. The status is the greatest.
+pub fn check_named<W: Write, E: Write>(
+    rt: &HostRuntime,
+    alloc: Global,
+    asked: &Check<'_>,
+    out: &mut W,
+    err: &mut E,
+) -> Status {
+    let Ok(mut buffer) = vec![in alloc; 0u8; MAX_FILE + 2] else {
+        return out_of_memory(err);
+    };
+    let mut worst = Status::Done;
+    'sets: for name in asked.sets.as_slice() {
+        let file = read_file(rt, name, &mut buffer);
+        let checked = match file.content {
+            Some(content) => check_set(alloc, name, content, out, err),
+            None => Err(unread(rt, alloc, name, err)),
+        };
+        if let Err(status) = checked {
+            worst = worst.or_graver(status);
+        }
+    }
+    if out.flush().is_err() {
+        return worst.or_graver(device_failed(err));
+    }
+    worst
+}
+
+/// Checks what was read of a signature file.
+pub fn check_set<W: Write, E: Write>(
+    alloc: Global,
+    name: &str,
+    content: &[u8],
+    out: &mut W,
+    err: &mut E,
+) -> Result<(), Status>
+    ensures checked { OnOk result (IsChecked name.now content.now (W.contents out.old) (W.contents out.new)) }
+    ensures status { IfErr result (λ status. IsFault status) }
+{
+    if content.len() > MAX_FILE {
+        return Err(too_large(err, name));
+    }
+    let set = match SignatureSet::read(alloc, content) {
+        Ok(set) => set,
+        Err(Refusal::Fault(fault)) => return Err(bad_set_line(err, name, fault)),
+        Err(Refusal::NoMemory) => return Err(out_of_memory(err)),
+    };
+    admit_set(&set, name, EmptySets::Refused, err)?;
+    print_set(alloc, name, &set, out, err)
+}
+
+// Writes the line of a signature file that is good.
+fn print_set<W: Write, E: Write>(
+    alloc: Global,
+    name: &str,
+    set: &SignatureSet,
+    out: &mut W,
+    err: &mut E,
+) -> Result<(), Status>
+    ensures line { OnOk result (Appends (W.contents out.old) (W.contents out.new) (checked_line name.now set.now)) }
+    ensures status { IfErr result (λ status. IsFault status) }
+{
+    let mut room = Vec::new(alloc);
+    let Ok(name) = quoted_name(name.as_bytes(), &mut room) else {
+        return Err(out_of_memory(err));
+    };
+    match print_line(name, set, out) {
+        Ok(()) => Ok(()),
+        Err(_) => Err(device_failed(err)),
+    }
+}
+
+fn print_line<W: Write>(name: &[u8], set: &SignatureSet, out: &mut W) -> Result<(), WriteFault>
+    ensures { OnOk result (Appends (W.contents out.old) (W.contents out.new) (line_of name.now set.now)) }
+{
+    write_parts(
+        out,
+        &[
+            Part::Text(name),
+            Part::Text(b": version ".as_slice()),
+            Part::Number(set.version().get()),
+            Part::Text(b", ".as_slice()),
+            Part::Number(set.len() as u64),
+            Part::Text(b" signatures\n".as_slice()),
+        ],
+    )
+}
+
+// Says why a signature file could not be read.
+fn unread<E: Write>(rt: &HostRuntime, alloc: Global, name: &str, err: &mut E) -> Status
+    ensures { IsFault result }
+{
+    match why_unread(rt, name, Source::Other) {
+        Why::Unknown => unreadable(err, name),
+        why => {
+            say_given(alloc, name, why, err);
+            Status::Device
+        }
+    }
+}

@@ -1,0 +1,57 @@
+ghost use Rattle.std.specs.Prelude.{IfErr, IfOk};
+ghost use Rattle.av_files.specs.Scan.{IsAdmitted};
+ghost use Rattle.av_status.specs.Status.{IsFault};
+
+use crate::reading::{Source, read_file, reasons, say_why};
+use av_base::Refusal;
+use av_files::{Input, MAX_FILE, admit_set, read_set};
+use av_sigset::SignatureSet;
+use av_status::Status;
+use av_status::faults::{EmptySets, Reasons, out_of_memory, say_set_reason};
+use std::alloc::Global;
+use std::io::Write;
+
+/// The set of the signature file of this name.
+pub fn set_named<E: Write>(
+    rt: &HostRuntime,
+    alloc: Global,
+    name: &str,
+    empty_sets: EmptySets,
+    err: &mut E,
+) -> Result<SignatureSet, Status>
+    ensures admitted { IfOk result (IsAdmitted empty_sets) }
+    ensures status { IfErr result (λ status. IsFault status) }
+{
+    let Ok(mut buffer) = vec![in alloc; 0u8; MAX_FILE + 2] else {
+        return Err(out_of_memory(err));
+    };
+    let file = read_file(rt, name, &mut buffer);
+    match read_set(alloc, file, err) {
+        Ok(set) => match admit_set(&set, name, empty_sets, err) {
+            Ok(()) => Ok(set),
+            Err(status) => Err(status),
+        },
+        Err(status) => {
+            say_why_set(rt, alloc, file, err);
+            Err(status)
+        }
+    }
+}
+
+// Gives the reason why a signature file was refused, where reasons are given.
+fn say_why_set<E: Write>(rt: &HostRuntime, alloc: Global, file: Input<'_>, err: &mut E) {
+    let reasons = reasons(rt);
+    if reasons == Reasons::Omitted {
+        return;
+    }
+    let Some(content) = file.content else {
+        say_why(rt, alloc, file.name, Source::Other, err);
+        return;
+    };
+    if content.len() > MAX_FILE {
+        return;
+    }
+    if let Err(Refusal::Fault(fault)) = SignatureSet::read(alloc, content) {
+        say_set_reason(err, reasons, file.name, fault);
+    }
+}
