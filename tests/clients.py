@@ -120,14 +120,41 @@ def answers(cases, room):
             cases.same(f"on a full device, {name}", ended(process), (4, None, name.encode() + b": device\n"))
 
 
+def statuses(cases, room):
+    """What `ask` ends with: 0 where each file was judged, so that `ask OPENS FILE && open FILE` opens no file that nobody judged."""
+    guard = room.guard("--wait", "1", service=False)
+    ask = [room.program, "ask", room.opens]
+    rows = [(["clean"], 4, b"clean denied cause 3\n"), (["--found-status", "clean"], 4, b"clean denied cause 3\n"), (["-i", "--found-status", "clean"], 4, b"clean denied cause 3\n"),
+            (["-k", "clean", "gone"], 4, b"clean denied cause 3\n")]
+    for words, status, lines in rows:
+        got = run(room, ask, *words)
+        cases.same(f"ask {words} at a guard without a service", got[:2], (status, lines))
+    stopped = room.start(room.program, "service", room.service, "set.avsig", stdout=subprocess.DEVNULL, stderr=subprocess.DEVNULL)
+    while b"connected" not in (line := guard.stderr.readline()):
+        if not line:
+            raise OSError("the guard ended")
+    rows = [(["--found-status", "clean"], 0, b"clean" + GRANTED), (["--found-status", "clean", "infected"], 5, b"clean" + GRANTED + b"infected" + INFECTED), (["clean", "infected"], 0, b"clean" + GRANTED + b"infected" + INFECTED),
+            (["-k", "--found-status", "infected", "gone"], 6, b"infected" + INFECTED), (["-k", "--found-status", "infected", "long"], 6, b"infected" + INFECTED), (["-k", "infected", "gone"], 4, b"infected" + INFECTED),
+            (["-k", "infected", "long"], 1, b"infected" + INFECTED)]
+    for words, status, lines in rows:
+        got = run(room, ask, *words)
+        cases.same(f"ask {words}", got[:2], (status, lines))
+    stopped.send_signal(signal.SIGSTOP)
+    rows = [(["last"], 4, b"last denied cause 5\n"), (["--found-status", "infected", "most"], 6, b"infected" + INFECTED + b"most denied cause 5\n")]
+    for words, status, lines in rows:
+        got = run(room, ask, *words)
+        cases.same(f"ask {words} at a guard whose service hangs", got[:2], (status, lines))
+    stopped.send_signal(signal.SIGCONT)
+
+
 def let_through(cases, room):
     room.guard("--open", service=False)
-    same(cases, room, "no service, a guard that lets through", [room.opens, "clean"], (0, b"clean unscanned generation 2 cause 3\n", b""))
+    same(cases, room, "no service, a guard that lets through", [room.opens, "clean"], (4, b"clean unscanned generation 2 cause 3\n", b""))
 
 
 def denied(cases, room):
     room.guard(service=False)
-    same(cases, room, "no service", [room.opens, "clean"], (0, b"clean denied cause 3\n", b""))
+    same(cases, room, "no service", [room.opens, "clean"], (4, b"clean denied cause 3\n", b""))
 
 
 def nobody(cases, room):
@@ -180,7 +207,14 @@ def strangers(cases, room):
             cases.same(f"a guard that says {what}, {name}", run(room, client, room.opens, "clean"), (4, b"", name.encode() + b": " + lost[0]))
         stand.close()
         os.unlink(room.opens)
+    stand = Stand(room.opens, b"")
+    unheard = b"avscan: %s: the guard gave no answer: it was lost, or has no room for another client\n" % room.opens.encode()
+    cases.same("a guard that says nothing, avscan", run(room, [room.program, "ask"], room.opens, "clean"), (4, b"", unheard))
+    stand.close()
+    os.unlink(room.opens)
     stand = Stand(room.opens, GRANT)
+    gone = b"avscan: %s: the guard was lost\n" % room.opens.encode()
+    cases.same("a guard that goes away, avscan", run(room, [room.program, "ask"], room.opens, "clean", "clean"), (4, b"clean" + GRANTED, gone))
     for name, client in room.clients()[1:]:
         cases.same(f"a guard that goes away, {name}", run(room, client, room.opens, "clean", "clean"), (4, b"clean" + GRANTED, name.encode() + b": " + lost[0]))
     stand.close()
@@ -410,7 +444,7 @@ def main():
     if len(sys.argv) != 2:
         sys.exit("usage: tests/clients.py PROGRAM")
     cases = Cases()
-    for part in (answers, let_through, denied, nobody, strangers, stopped, words_of_holder, held, clamdscan, pyclamd, clamonacc, rspamd):
+    for part in (answers, statuses, let_through, denied, nobody, strangers, stopped, words_of_holder, held, clamdscan, pyclamd, clamonacc, rspamd):
         begun = time.time()
         with tempfile.TemporaryDirectory() as folder:
             room = Room(os.path.abspath(sys.argv[1]), folder)

@@ -118,7 +118,7 @@ def crate_pages(checks):
         known = set(below).union(OUTSIDE, *(words[dep] for dep in all_below(crate)))
         for word in re.findall(r"`([A-Za-z_][\w:]+)`", without_blocks(text)):
             checks.check(all(part in known for part in word.split("::") if part), f"{page}: neither the crate nor one below it has {word}")
-        stands_on = text.partition("## What it stands on")[2].partition("\n## ")[0]
+        stands_on = (text.partition("## What it depends on")[2] or text.partition("## What it stands on")[2]).partition("\n## ")[0]
         named = set(re.findall(r"`(av_\w+)`", stands_on))
         checks.check(named == set(deps), f"{page}: it stands on {sorted(deps)}, and its page names {sorted(named)}")
         labels = {}
@@ -141,10 +141,10 @@ def lemmas(checks):
 
 
 def fault_lines(checks):
-    given = "".join(text_of(path) for path in glob.glob(os.path.join(ROOT, "tests", "*", "*.case")) + glob.glob(os.path.join(ROOT, "tests", "import", "*.err"))) + "".join(text_of(path) for path in ("tests/program.py", "tests/files.py", "tests/tables.py", "tests/sockets.py", "tests/watch.py", "tests/chart.py", "crates/av_status/src/tests.rt", "crates/avscan/src/tests.rt"))
+    given = "".join(text_of(path) for path in glob.glob(os.path.join(ROOT, "tests", "*", "*.case")) + glob.glob(os.path.join(ROOT, "tests", "import", "*.err"))) + "".join(text_of(path) for path in ("tests/program.py", "tests/files.py", "tests/tables.py", "tests/sockets.py", "tests/watch.py", "tests/chart.py", "tests/guard.py", "tests/clients.py", "tests/attacks.py", "tests/waits.py", "crates/av_status/src/tests.rt", "crates/avscan/src/tests.rt"))
     for line in re.findall(r"\| `(avscan: [^`]*)` \|", text_of("docs/FORMATS.md")):
         pattern = re.escape(line).replace(r"\.\.", ".*")
-        for word, form in (("N", r"(\d+|%d)"), ("K", r"(\d+|%d)"), ("FILE", r".*"), ("SOCKET", r".*"), ("LIST", r".*"), ("SET", r".*"), ("V", r"(\d+|%d)"), ("W", r"(\d+|%d)")):
+        for word, form in (("N", r"(\d+|%d)"), ("K", r"(\d+|%d)"), ("FILE", r".*"), ("SOCKET", r".*"), ("LIST", r".*"), ("SET", r".*"), ("OPENS", r".*"), ("WORDS", r".*"), ("V", r"(\d+|%d)"), ("W", r"(\d+|%d)")):
             pattern = re.sub(rf"\b{word}\b", lambda _: form, pattern)
         checks.check(re.search(pattern, given), f"docs/FORMATS.md: no case has the line {line}")
 
@@ -190,10 +190,11 @@ def help_of(program, *words):
 def manual(checks, program):
     """The manual pages and the completions have each command and each option; the pages render."""
     commands = re.findall(r"^  (\w+) ", help_of(program).split("Commands:")[1].split("Options:")[0], flags=re.M)
-    options = set(re.findall(r"(?<![\w-])--?[a-zA-Z][a-z]*", "".join(help_of(program, *words) for words in [[]] + [[command] for command in commands if command != "help"])))
-    page = subprocess.run(["sh", os.path.join(ROOT, "man/page.sh"), "avscan.1", program], stdout=subprocess.PIPE, text=True).stdout.replace("\\-", "-")
+    options = set(re.findall(r"(?<![\w-])--?[a-zA-Z][a-z0-9-]*", "".join(help_of(program, *words) for words in [[]] + [[command] for command in commands if command != "help"])))
+    page = subprocess.run(["sh", os.path.join(ROOT, "man/page.sh"), "avscan.1", program], stdout=subprocess.PIPE, text=True).stdout
+    page = re.sub(r"\\f[BR]", "", page.replace("\\-", "-"))
     completions = {path: text_of(path) for path in ("completions/avscan.bash", "completions/_avscan", "completions/avscan.fish")}
-    checks.check(set(commands) == {"run", "scan", "host", "filter", "service", "guard", "ask", "chart", "generate", "import", "help"}, f"commands: {commands}")
+    checks.check(set(commands) == {"run", "scan", "host", "filter", "service", "guard", "ask", "chart", "generate", "import", "check", "help"}, f"commands: {commands}")
     for word in [*commands, *sorted(options)]:
         checks.check(re.search(rf"(?<![\w-]){word}\b", page), f"avscan(1) has no {word}")
         for path, text in completions.items():
@@ -205,11 +206,11 @@ def manual(checks, program):
         made = subprocess.run(["sh", os.path.join(ROOT, "man/page.sh"), name, program], stdout=subprocess.PIPE, stderr=subprocess.PIPE)
         checks.check(made.returncode == 0 and made.stderr == b"" and made.stdout.startswith(b".TH "), f"{name} is not made: {made.stderr!r}")
         if shutil.which("man"):
-            shown = subprocess.run(["man", "--warnings", "-l", "-"], input=made.stdout, stdout=subprocess.PIPE, stderr=subprocess.PIPE, env={**os.environ, "MANPAGER": "cat", "MANWIDTH": "100"})
+            shown = subprocess.run(["man", "--warnings", "-E", "UTF-8", "-Tutf8", "-l", "-"], input=made.stdout, stdout=subprocess.PIPE, stderr=subprocess.PIPE, env={**os.environ, "MANPAGER": "cat", "MANWIDTH": "80"})
             checks.check(shown.returncode == 0 and shown.stderr == b"" and len(shown.stdout) > 1000, f"{name} does not render: {shown.stderr[:300]!r}")
             if name == "avscan.1":
-                synopsis = shown.stdout.decode().split("SYNOPSIS")[1].split("DESCRIPTION")[0]
-                synopsis = [re.sub(r".\x08", "", line).split() for line in synopsis.split("\n") if line.strip()]
+                plain = re.sub(r".\x08", "", shown.stdout.decode())
+                synopsis = [line.split() for line in plain.split("SYNOPSIS")[1].split("DESCRIPTION")[0].split("\n") if line.strip()]
                 checks.check([line[:2] for line in synopsis] == [["avscan", word] for word in commands if word != "help"] and all(len(line) > 2 for line in synopsis), f"the synopsis reads {synopsis}")
     completed(checks)
     checks.check(subprocess.run(["bash", "-n", os.path.join(ROOT, "completions/avscan.bash")]).returncode == 0, "completions/avscan.bash is no script")

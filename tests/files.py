@@ -5,7 +5,7 @@ tests/files/expected.txt has commands over a tree that is made here, with what e
 bytes, what is passed over and what is told, lists with either end, a content that comes in pieces with a signature over each cut,
 trees that change while they are walked, many files in little memory, and the statuses. The last line says how many passed and
 how many failed."""
-import os, shutil, socket, subprocess, sys, tempfile, threading, time
+import contextlib, os, select, shutil, socket, subprocess, sys, tempfile, threading, time
 
 from cases import Cases
 
@@ -31,6 +31,24 @@ def built(work, name):
     library = os.path.join(work, f"{name}.so")
     subprocess.run(["cc", "-shared", "-fPIC", "-O1", "-o", library, os.path.join(HERE, f"{name}.c"), "-ldl"], check=True)
     return library
+
+
+LETTERS = {7: "a", 8: "b", 9: "t", 10: "n", 11: "v", 12: "f", 13: "r"}
+
+
+def quoted(name):
+    """A name as a line has it: between quotes, as C writes it, where it has a control character or a quote in front."""
+    text = name.decode()
+    controls = {at for at, one in enumerate(text) if ord(one) < 32 or 127 <= ord(one) < 160}
+    if not controls and not text.startswith('"'):
+        return name
+    shown = ""
+    for at, one in enumerate(text):
+        if at in controls:
+            shown += "\\" + LETTERS[ord(one)] if ord(one) in LETTERS else "".join("\\%03o" % byte for byte in one.encode())
+        else:
+            shown += "\\" + one if one in '"\\' else one
+    return f'"{shown}"'.encode()
 
 
 def grow(work):
@@ -92,6 +110,155 @@ def links(cases, program):
         cases.check("a folder without -r", got == (4, b"", f"avscan: {tree}: cannot read\n".encode()), f"{got}")
 
 
+def is_text(name):
+    try:
+        name.decode()
+        return True
+    except UnicodeDecodeError:
+        return False
+
+
+def forged(cases, program):
+    """A name that would make lines of its own, or command a terminal, makes one line."""
+    with tempfile.TemporaryDirectory() as work:
+        signatures, tree = os.path.join(DATA, "set.avsig"), os.path.join(work, "tree")
+        names = [b"x\n" + os.fsencode(work) + b"/other clean\ny", b"\x1b]0;owned\x07\x1b[2K\x1b[1A", "\u009b2K\u009dzz".encode(), b"a\x7fb", b'"in quotes"']
+        for name in names:
+            path = os.path.join(os.fsencode(tree), name)
+            os.makedirs(os.path.dirname(path), exist_ok=True)
+            write(path, EICAR)
+        found = sorted(os.path.join(folder, name) for folder, _, files in os.walk(os.fsencode(tree)) for name in files)
+        for words in (["-r"], ["-r", "-i"]):
+            got = run([program, "scan", *words, signatures, tree])
+            cases.check(f"scan {words} of names that forge", sorted(got[1].splitlines()) == sorted(quoted(name) + b" infected 0 eicar.test end 64" for name in found) and got[0] == 0, f"{got}")
+        with guarded(program, work, signatures) as opens:
+            got = run([program, "ask", "-r", opens, tree])
+            cases.check("ask -r of names that forge", sorted(got[1].splitlines()) == sorted(quoted(name) + b" denied cause 2" for name in found) and got[0] == 0, f"{got}")
+            got = run([program, "ask", "-r", "--print0", opens, tree])
+            cases.check("ask -r --print0 of names that forge", sorted(got[1].split(b"\0")) == sorted([b"", *(name + b" denied cause 2" for name in found)]), f"{got}")
+        alone = write(os.path.join(work, '"q'), EICAR)
+        for words, line in ((["scan"], b'" infected 0 eicar.test end 64'), (["host"], b'" denied cause 2')):
+            got = run([program, *words, signatures, '"q'], cwd=work)
+            cases.check(f"{words[0]} of a quote", got == (0, b'"\\"q' + line + b"\n", b""), f"{got}")
+            got = run([program, *words, "--print0", signatures, '"q'], cwd=work)
+            cases.check(f"{words[0]} --print0 of a quote", got == (0, b'"q' + line[1:] + b"\0", b""), f"{got}")
+        os.remove(alone)
+
+
+def at_once(cases, program):
+    """What is found is on a pipe before the next file is read, so that it is not lost with a run that is killed."""
+    with tempfile.TemporaryDirectory() as work:
+        signatures, tree = os.path.join(DATA, "set.avsig"), os.path.join(work, "tree")
+        os.mkdir(tree)
+        for name, content in (("clean", b"abc"), ("found", EICAR), ("slow", b"abc")):
+            write(os.path.join(tree, name), content)
+        environment = dict(os.environ, LD_PRELOAD=built(work, "slow_open"), SLOW_NAME="/slow", SLOW_MS=str(1000 * SECONDS))
+        for words, lines in ((["-r"], [b"clean clean", b"found infected 0 eicar.test end 64"]), (["-r", "-i"], [b"found infected 0 eicar.test end 64"])):
+            process = subprocess.Popen([program, "scan", *words, signatures, tree], stdout=subprocess.PIPE, stderr=subprocess.PIPE, env=environment)
+            wanted = b"".join(os.fsencode(tree) + b"/" + line + b"\n" for line in lines)
+            got = b""
+            while len(got) < len(wanted) and select.select([process.stdout], [], [], SECONDS / 2)[0]:
+                piece = os.read(process.stdout.fileno(), 65536)
+                if not piece:
+                    break
+                got += piece
+            is_running = process.poll() is None
+            process.kill()
+            process.communicate()
+            cases.check(f"scan {words}, killed at the next file", got == wanted and is_running, f"{got} {is_running}")
+
+
+def swapped(cases, program):
+    """Something else takes the place of a file between the look at it and its opening: no link is followed, and no other file is read."""
+    with tempfile.TemporaryDirectory() as work:
+        signatures, tree = os.path.join(DATA, "set.avsig"), os.path.join(work, "tree")
+        os.mkdir(tree)
+        secret, path, other = write(os.path.join(work, "secret"), EICAR), os.path.join(tree, "file"), os.path.join(work, "in_place")
+        environment = dict(os.environ, LD_PRELOAD=built(work, "swap_open"), SWAP_NAME="/file", SWAP_WITH=other)
+        wanted = (4, b"", b"avscan: " + os.fsencode(path) + b": cannot read\n")
+        opens = {"a link": lambda: os.symlink(secret, other), "a link to itself": lambda: os.symlink(path, other), "another file": lambda: write(other, EICAR), "a second name of another file": lambda: os.link(secret, other)}
+        with guarded(program, work, signatures) as socket_of_opens:
+            for what, make in opens.items():
+                for words in (["scan", "-r", signatures, tree], ["ask", "-r", socket_of_opens, tree]):
+                    if os.path.lexists(path):
+                        os.remove(path)
+                    write(path, b"abc")
+                    make()
+                    got = run([program, *words], env=environment)
+                    cases.check(f"{words[0]} -r, {what} in the place of a file", got == wanted, f"{got}")
+        os.remove(path)
+        write(path, b"abc")
+        os.symlink(secret, other)
+        got = run([program, "scan", signatures, path], env=environment)
+        cases.check("a file that is named may become a link", got == (0, os.fsencode(path) + b" infected 0 eicar.test end 64\n", b""), f"{got}")
+
+
+@contextlib.contextmanager
+def guarded(program, work, signatures):
+    """The socket for opens of a guard whose service has come."""
+    opens, service = os.path.join(work, "o"), os.path.join(work, "s")
+    guard = subprocess.Popen([program, "guard", opens, service], stdin=subprocess.DEVNULL, stdout=subprocess.DEVNULL, stderr=subprocess.PIPE)
+    scans = subprocess.Popen([program, "service", service, signatures], stdin=subprocess.DEVNULL, stdout=subprocess.DEVNULL, stderr=subprocess.DEVNULL)
+    try:
+        while b"connected" not in (line := guard.stderr.readline()):
+            if not line:
+                raise OSError("the guard ended")
+        yield opens
+    finally:
+        for process in (guard, scans):
+            process.kill()
+            process.communicate()
+
+
+def sets(cases, program):
+    """Signature files that are checked, and one without signatures, under which every content would be clean."""
+    with tempfile.TemporaryDirectory() as work:
+        empty, letter = write(os.path.join(work, "empty"), b"avsig 1\nversion 7\n"), write(os.path.join(work, "letter"), b"abc")
+        told = f"avscan: {empty}: version 7 has no signatures\n".encode()
+        at = os.path.join(work, "socket")
+        rows = [(["scan", empty, letter], (1, b"", told)), (["scan", "-k", "--found-status", empty, letter], (1, b"", told)), (["scan", "--allow-empty", empty, letter], (0, os.fsencode(letter) + b" clean\n", told)),
+                (["host", empty, letter], (1, b"", told)), (["host", "--allow-empty", empty, letter], (0, os.fsencode(letter) + b" granted generation 2 version 7\n", told)),
+                (["service", "--wait", "1", at, empty], (1, b"", told)), (["service", "--wait", "1", "--watch", "1", at, empty], (1, b"", told)),
+                (["service", "--wait", "1", "--allow-empty", at, empty], (4, b"", told + f"avscan: {at}: no filter listens\n".encode()))]
+        for words, wanted in rows:
+            got = run([program, *words])
+            cases.check(f"{words[0]} {words[1:-2]} under a set without signatures", got == wanted, f"{got}")
+        filtering = subprocess.Popen([program, "filter", at, letter], stdout=subprocess.PIPE, stderr=subprocess.PIPE)
+        got = run([program, "service", "--allow-empty", at, empty])
+        cases.check("service --allow-empty", got == (0, b"closed\n", told), f"{got}")
+        got = (*filtering.communicate(timeout=SECONDS), filtering.returncode)
+        cases.check("a filter of a service under a set without signatures", got == (os.fsencode(letter) + b" granted generation 2 version 7\n", b"", 0), f"{got}")
+        kinds = [(b"avsig 3\n", 1, "not `avsig 1` or `avsig 2`"), (b"avsig 1\nversion 0\n", 2, "not `version` and a number from 1 to 2^64 - 1"),
+                 (b"avsig 1\nversion 1\n? 58\n", 3, "not a name of 1 to 32 letters, digits, `.`, `_` and `-`, and a space"), (b"avsig 1\nversion 1\nx 5\n", 3, "not pairs of hexadecimal digits"),
+                 (b"avsig 1\nversion 1\nx \n", 3, "not 1 to 64 bytes"), (b"avsig 1\nversion 1\nx 58\nx 59\n", 4, "a name that an earlier line has"),
+                 (b"avsig 1\nversion 1\n" + b"".join(b"s%d 58\n" % i for i in range(1025)), 1027, "more than 1,024 signatures, or than 16,384 bytes in all"),
+                 (b"avsig 1\nversion 1\nx 58", 3, "the file ends before the end of this line"),
+                 (b"avsig 2\nversion 1\nx 58 2 1\n", 3, "not two numbers, the second at least the first and at most 1,048,575")]
+        for number, (content, line, reason) in enumerate(kinds, 1):
+            bad = write(os.path.join(work, f"bad{number}"), content)
+            got = run([program, "check", bad])
+            cases.check(f"check of a set with a fault of kind {number}", got == (1, b"", f"avscan: {bad}:{line}: {reason}\n".encode()), f"{got}")
+        good, large, gone = os.path.join(DATA, "set.avsig"), write(os.path.join(work, "large"), bytes(1048577)), os.path.join(work, "gone")
+        bad = os.path.join(work, "bad4")
+        with open(good, "rb") as file:
+            lines = file.read().splitlines()
+        line = f"{good}: version {lines[1].split()[1].decode()}, {len(lines) - 2} signatures\n".encode()
+        unread = f"avscan: {gone}: No such file or directory (os error 2)\n".encode()
+        rows = [([good], (0, line, b"")), ([good, good], (0, line + line, b"")), ([empty], (1, b"", told)), ([large], (1, b"", f"avscan: {large}: TooLarge\n".encode())), ([gone], (4, b"", unread)),
+                ([work], (4, b"", f"avscan: {work}: is a folder\n".encode())), (["/dev/null"], (4, b"", b"avscan: /dev/null: is no regular file\n")),
+                ([bad, good, gone], (4, line, f"avscan: {bad}:3: not pairs of hexadecimal digits\n".encode() + unread)), ([gone, bad], (4, b"", unread + f"avscan: {bad}:3: not pairs of hexadecimal digits\n".encode()))]
+        for names, wanted in rows:
+            got = run([program, "check", *names])
+            cases.check(f"check of {len(names)} files", got == wanted, f"{got}")
+        with open("/dev/full", "wb") as full:
+            done = subprocess.run([program, "check", good], stdout=full, stderr=subprocess.PIPE, timeout=SECONDS)
+        cases.check("check on a full device", (done.returncode, done.stderr) == (4, b"avscan: device\n"), f"{done}")
+        opens, service = os.path.join(work, "o"), os.path.join(work, "s")
+        for names, wanted in ((gone, (4, b"", f"avscan: {gone}: cannot read\n".encode())), (bad, (1, b"", b"avscan: set line 3: kind 4\n"))):
+            got = run([program, "guard", opens, service, "--clamd", os.path.join(work, "c"), "--names", names])
+            cases.check("a guard whose names are no set", got == wanted and not os.path.exists(opens), f"{got}")
+
+
 def names(cases, program):
     """A name of each byte that a name may have: in their order, and those that are no text told."""
     with tempfile.TemporaryDirectory() as work:
@@ -105,7 +272,7 @@ def names(cases, program):
         for name in sorted(kinds):
             try:
                 name.decode()
-                lines.append(root + b"/" + name + b" clean\n")
+                lines.append(quoted(root + b"/" + name) + b" clean\n")
             except UnicodeDecodeError:
                 shown = b"".join(bytes([b]) if 32 <= b < 127 else b"\\x%02x" % b for b in name)
                 told.append(b"avscan: " + root + b"/" + shown + b": the name is not UTF-8\n")
@@ -113,6 +280,9 @@ def names(cases, program):
         cases.check("names of every byte", got == (1, b"".join(lines), b"".join(told)), f"{got}")
         got = run([program, "scan", "-r", signatures, root + b"//"])
         cases.check("a folder that ends in slashes", got[0] == 1 and got[1] == b"".join(lines).replace(root + b"/", root + b"//"), f"{got}")
+        raw = b"".join(root + b"/" + name + b" clean\0" for name in sorted(kinds) if is_text(name))
+        got = run([program, "scan", "-r", "--print0", signatures, root])
+        cases.check("names of every byte for a program", got == (1, raw, b"".join(told)), f"{got}")
         folders = os.path.join(work, "folders")
         for name in ("a", "a.b", "a-", "a0", "B", "\u00e9"):
             os.makedirs(os.path.join(folders, name))
@@ -127,7 +297,7 @@ def lists(cases, program):
         signatures = os.path.join(DATA, "set.avsig")
         a, b, n = (write(os.path.join(work, name), b"abc") for name in ("a", "b", "n\nn"))
         path = os.path.join(work, "list")
-        clean = lambda *names: b"".join(os.fsencode(name) + b" clean\n" for name in names)
+        clean = lambda *names: b"".join(quoted(os.fsencode(name)) + b" clean\n" for name in names)
         lines, zeros = ["--files-from", path], ["-0", "--files-from", path]
         rows = [("lines", lines, f"{a}\n{b}\n", clean(a, b)), ("the last lacks its end", lines, f"{a}\n{b}", clean(a, b)), ("empty ones are none", lines, f"\n\n{a}\n\n{b}\n\n", clean(a, b)),
                 ("an empty list", lines, "", b""), ("a list of ends", lines, "\n\n", b""), ("zeros", zeros, f"{a}\0{n}\0\0{b}", clean(a, n, b)), ("zeros and their end", zeros, f"{n}\0", clean(n)), ("the same twice", lines, f"{a}\n{a}\n", clean(a, a))]
@@ -280,7 +450,8 @@ def statuses(cases, program):
         scan = [program, "scan", signatures]
         rows = [(["--found-status", clean], (0, no, b"")), (["--found-status", clean, infected], (5, no + yes, b"")), ([clean, infected], (0, no + yes, b"")), (["-i", clean], (0, b"", b"")), (["-i", clean, infected, clean], (0, yes, b"")),
                 (["-i", "--found-status", "--summary", clean, infected], (5, yes, summary(2, 1, 0))), (["--found-status", infected, missing], (4, b"", unread)), (["--summary", infected, missing], (4, b"", unread)),
-                (["-k", "--found-status", "--summary", infected, missing, clean], (4, yes + no, unread + summary(2, 1, 1))), (["-k", "--found-status", infected, large], (1, yes, too_large)),
+                (["-k", "--found-status", "--summary", infected, missing, clean], (6, yes + no, unread + summary(2, 1, 1))), (["-k", "--found-status", infected, large], (6, yes, too_large)), (["-k", "--found-status", clean, missing], (4, no, unread)),
+                (["-k", "--found-status", clean, large], (1, no, too_large)), (["-k", infected, large], (1, yes, too_large)), (["-k", "--found-status", large, missing], (4, b"", too_large + unread)),
                 (["-k", "--summary", missing, large, infected], (4, yes, unread + too_large + summary(1, 1, 2))), (["-k", "--summary", large, missing], (4, b"", too_large + unread + summary(0, 0, 2))), (["--summary", clean, clean], (0, no + no, summary(2, 0, 0)))]
         for words, wanted in rows:
             got = run([*scan, *words])
@@ -343,7 +514,7 @@ def main():
     if len(sys.argv) != 2:
         sys.exit("usage: tests/files.py PROGRAM")
     cases = Cases()
-    for part in (tables, links, names, lists, pieces, changes, closed, many, statuses, devices):
+    for part in (tables, links, names, forged, at_once, swapped, sets, lists, pieces, changes, closed, many, statuses, devices):
         try:
             part(cases, os.path.abspath(sys.argv[1]))
         except Exception as fault:

@@ -12,6 +12,8 @@ SECONDS = 60
 QUIET = 0.15          # how long nothing is waited for where nothing is to come
 SETTLED = 0.3         # how long is waited for what shows nowhere
 MOST = 1 << 20
+# What is said at the socket for opens to one whose first bytes are no ask: no scanning service is taken there.
+TURNED_AWAY = struct.pack(">IBBQ", 10, 255, 4, 0)
 
 
 def frame(kind, *fields):
@@ -43,6 +45,17 @@ def frames(data):
         found.append(data[4:4 + size])
         data = data[4 + size:]
     return found, data
+
+
+def with_boot(data, boot):
+    """The same frames with this boot number in each id: a guard draws its own, and the cases have 1."""
+    found, left = frames(data)
+    return b"".join(frame(body[0], body[1:2], boot, body[10:]) if body[0] in (1, 2, 3, 4, 6, 7) else frame(body[0], body[1:]) for body in found) + left
+
+
+def boot_in(data):
+    """The boot number of the first id in frames for a service."""
+    return next((body[2:10] for body in frames(data)[0] if body[0] in (1, 2, 3, 4)), number(1))
 
 
 def connected(path):
@@ -85,14 +98,15 @@ def is_silent(end):
 class Guard:
     """A guard in a folder of its own."""
 
-    def __init__(self, program, *words, folder=None, clamd=True):
+    def __init__(self, program, *words, clamd=True, descriptors=None, stderr=None):
         self.room = tempfile.TemporaryDirectory()
         self.folder = self.room.name
         self.program = program
         self.opens, self.service, self.clamd = (os.path.join(self.folder, name) for name in ("o", "s", "c"))
         more = ["--clamd", self.clamd] if clamd else []
         self.log = open(os.path.join(self.folder, "log"), "w+b")
-        self.process = subprocess.Popen([program, "guard", *words, *more, self.opens, self.service], stdin=subprocess.DEVNULL, stdout=subprocess.PIPE, stderr=self.log)
+        limited = ["prlimit", f"--nofile={descriptors}:{descriptors}"] if descriptors else []
+        self.process = subprocess.Popen([*limited, program, "guard", *words, *more, self.opens, self.service], stdin=subprocess.DEVNULL, stdout=subprocess.PIPE, stderr=stderr or self.log)
         self.said = 0
 
     def __enter__(self):
@@ -162,7 +176,7 @@ def replay(cases, program, path):
                 file.write(NAMES)
             options += ["--names", os.path.join(folder, "names")]
         with Guard(program, *options) as guard:
-            ends, begun = {}, None
+            ends, begun, boot = {}, None, number(1)
 
             def end_of(who):
                 if who not in ends:
@@ -177,10 +191,15 @@ def replay(cases, program, path):
                 told = re.fullmatch(r"to (service|client \d+|door \d+): ([0-9a-f]*)", line)
                 if told:
                     wanted = bytes.fromhex(told[2])
-                    cases.same(what, heard(end_of(told[1]), len(wanted)), wanted)
+                    got = heard(end_of(told[1]), len(wanted))
+                    if told[1] == "service":
+                        boot = boot_in(got)
+                        got = with_boot(got, number(1))
+                    cases.same(what, got, wanted)
                 elif said:
+                    own = bytes_of(said[2])
                     try:
-                        end_of(said[1]).sendall(bytes_of(said[2]))
+                        end_of(said[1]).sendall(with_boot(own, boot) if said[1] == "service" else own)
                     except BrokenPipeError:
                         cases.check(what, False, "closed")
                     if said[1] == "service" and bytes_of(said[2])[4:5] == b"\5":
@@ -217,7 +236,7 @@ def rows(cases, program):
         with Guard(program) as guard:
             end = connected(guard.opens)
             end.sendall(bytes.fromhex(bad))
-            cases.same(what, rest(end), b"")
+            cases.same(what, rest(end), TURNED_AWAY)
             other = connected(guard.opens)
             other.sendall(ask(1, b"ABC"))
             cases.same(f"{what}: others go on", heard(other, 14), frame(3, number(1), b"\3"))
@@ -365,7 +384,11 @@ def schedule(program, noise, options):
                     service = None
             elif service is None and (act < 0.8 or not left):
                 version = min(8, version + noise.randrange(2))
-                service = Service(guard, version, patterns[version])
+                try:
+                    service = Service(guard, version, patterns[version])
+                except BrokenPipeError:
+                    # (both places are taken still by services that the guard has not seen leave)
+                    service = None
             for ready in select.select([*clients, *([service] if service else [])], [], [], 0.0 if left else 0.005)[0]:
                 if ready is service:
                     if not service.turn(noise):
@@ -405,7 +428,7 @@ def asks(cases, program):
         guard.write("a.bin", b"ABC"), guard.write("b.bin", b"aXXb"), guard.write("long", b"A" * (MOST + 1)), guard.write("full", b"A" * MOST)
         os.makedirs(os.path.join(guard.folder, "d/e"))
         guard.write("d/e/one", b"1"), guard.write("d/two", b"XX")
-        cases.same("no service", guard.ask(guard.opens, "a.bin"), (0, b"a.bin denied cause 3\n", b""))
+        cases.same("no service", guard.ask(guard.opens, "a.bin"), (4, b"a.bin denied cause 3\n", b""))
         service = subprocess.Popen([program, "service", guard.service, "set"], cwd=guard.folder, stdout=subprocess.PIPE, stderr=subprocess.PIPE)
         guard.await_line(b"service of version 4 connected\n")
         cases.same("two files", guard.ask(guard.opens, "a.bin", "b.bin"), (0, b"a.bin granted generation 2 version 4\nb.bin denied cause 2\n", b""))
@@ -429,7 +452,7 @@ def asks(cases, program):
         service.communicate()
         guard.await_line(b"service lost\n")
         guard.write("new", b"new")
-        cases.same("a lost service leaves what is known", guard.ask(guard.opens, "a.bin", "new"), (0, b"a.bin granted generation 2 version 4\nnew denied cause 3\n", b""))
+        cases.same("a lost service leaves what is known", guard.ask(guard.opens, "a.bin", "new"), (4, b"a.bin granted generation 2 version 4\nnew denied cause 3\n", b""))
     with tempfile.TemporaryDirectory() as folder:
         path = os.path.join(folder, "o")
         begun = time.time()
@@ -446,12 +469,12 @@ def asks(cases, program):
             end.sendall(said)
             end.shutdown(socket.SHUT_WR)
             out, err = asking.communicate(timeout=SECONDS)
-            cases.same(f"a guard that says {said.hex() or 'nothing'}", (asking.returncode, out, err), (4, b"", b"avscan: %s: the guard was lost\n" % path.encode()))
+            cases.same(f"a guard that says {said.hex() or 'nothing'}", (asking.returncode, out, err), (4, b"", b"avscan: %s: the guard gave no answer: it was lost, or has no room for another client\n" % path.encode()))
             end.close()
         asking = subprocess.Popen([program, "ask", "--wait", "1", path, __file__], stdout=subprocess.PIPE, stderr=subprocess.PIPE)
         end, _ = listener.accept()
         out, err = asking.communicate(timeout=SECONDS)
-        cases.same("a guard that is silent", (asking.returncode, out, err), (4, b"", b"avscan: %s: the guard was lost\n" % path.encode()))
+        cases.same("a guard that is silent", (asking.returncode, out, err), (4, b"", b"avscan: %s: the guard gave no answer: it was lost, or has no room for another client\n" % path.encode()))
 
 
 def still_answers(cases, name, guard):
@@ -597,7 +620,7 @@ def hostile_services(cases, program):
         guard.await_line(b"service lost\n")
         old = Service(guard, 4, b"XX")
         cases.check("an older one is told of", guard.await_line(b"avscan: service of version 4 is older than 5\n"), guard.lines())
-        cases.same("and closed", rest(old.end), b"")
+        cases.same("and told why, and closed", rest(old.end), frame(255, b"\1" + number(5)))
         new = Service(guard, 5, b"XX")
         guard.await_line(b"version 5 connected\n", times=2)
         end = connected(guard.opens)
@@ -607,8 +630,9 @@ def hostile_services(cases, program):
             if select.select([new], [], [], 0.01)[0]:
                 new.turn()
         cases.same("the next one serves", heard(end, 29), frame(2, number(1), number(2), number(5)))
-    exchange = hello(1) + message(6, number(1), number(1), number(0), struct.pack(">I", 3)) + message(7, number(1), number(1), b"\0", number(1))
-    for count in range(len(exchange) + 1):
+    prepared = hello(1) + message(6, number(1), number(1), number(0), struct.pack(">I", 3)) + message(7, number(1), number(1), b"\0", number(1))
+    for count in range(len(prepared) + 1):
+        exchange = prepared
         with Guard(program, clamd=False) as guard:
             other, end = connected(guard.service), connected(guard.opens)
             other.sendall(exchange[:min(count, 22)])
@@ -616,7 +640,7 @@ def hostile_services(cases, program):
                 guard.await_line(b"connected\n")
             end.sendall(ask(1, b"ABC"))
             if count >= 22:
-                heard(other, 46)
+                exchange = with_boot(prepared, boot_in(heard(other, 46)))
                 other.sendall(exchange[22:count])
             other.close()
             got = heard(end, 14) if count < len(exchange) else heard(end, 29)
@@ -645,7 +669,7 @@ def places(cases, program):
             connected(guard.service).close()
             connected(guard.clamd).close()
             modes = [os.stat(path).st_mode & 0o777 for path in (guard.opens, guard.service, guard.clamd)]
-            cases.same("--mode", modes, [0o660] * 3)
+            cases.same("--mode", modes, [0o660, 0o600, 0o660])
             fails([guard.opens, at("s")], 4, b"avscan: %s: another filter waits there\n" % guard.opens.encode())
             guard.process.kill()
             guard.process.wait()

@@ -12,13 +12,14 @@ SECONDS = 60
 MUTATED = 2000
 RANDOM = 1000
 LAST = 1048575
+FAR = "a place past 1,048,574 has no bound in a signature file"
 HERE = os.path.dirname(os.path.abspath(__file__))
 DATA = os.path.join(HERE, "import")
 LINES = [
     ("a.ndb", b"n:0", "not Name:Target:Offset:Hex"), ("a.ndb", b"n:0:*:41:1:2:3", "not Name:Target:Offset:Hex"), ("a.db", b"n:41", "not Name=Hex"),
     ("a.ndb", b"n:x:*:41", "the target isn't a number"), ("a.ndb", b"n:2:*:41", "only in files of target 2 (--any-target takes it for all files)"),
     ("a.ndb", b"n:3:*:41", "only in HTML that was normalised"), ("a.ndb", b"n:4:*:41", "only in mail"), ("a.ndb", b"n:7:*:41", "only in text that was normalised"),
-    ("a.ndb", b"n:0:1,x:41", "the offset isn't a number"), ("a.ndb", b"n:0:1048576:41", "the place is past 1,048,575"),
+    ("a.ndb", b"n:0:1,x:41", "the offset isn't a number"), *[("a.ndb", b"n:0:%s:41" % place, FAR) for place in (b"1048575", b"1048576", b"5,1048570", b"1048574,1", b"0,9999999999999999999")],
     *[("a.ndb", b"n:0:%s:41" % place, "the place is counted from the end, an entry or a section") for place in (b"EOF-1", b"EP+0", b"EP-1", b"S0+1", b"SL+1", b"SE2", b"VI")],
     ("a.ndb", b"n:0:*:", "no bytes"), ("a.db", b"n=4?", "wildcards"), ("a.db", b"n=4 1", "not hexadecimal"), ("a.db", b"n=414", "half a byte"),
     ("a.db", b"n=" + b"41" * 65, "more than 64 bytes"),
@@ -28,7 +29,8 @@ RULES = [
     ("rule n { strings: $a = \"a\" }", "no condition"), ("rule n { condition: true }", "a condition that is no `or` of strings"),
     ("rule n { strings: $a = \"a\" condition: " + "(" * 100000 + "$a }", "a condition that is no `or` of strings"),
     ("rule n { strings: $a = \"a\" condition: $b }", "a string that the rule has not"), ("rule n { strings: $a = \"a\" condition: 2 of them }", "more than one string has to be there"),
-    ("rule n { strings: $a = \"a\" condition: $a at filesize }", "a place that is no number"), ("rule n { strings: $a = \"a\" condition: $a at 2MB }", "the place is past 1,048,575"),
+    ("rule n { strings: $a = \"a\" condition: $a at filesize }", "a place that is no number"), *[("rule n { strings: $a = \"a\" condition: $a %s }" % places, FAR) for places in ("at 2MB", "at 1048575", "in (0..1048575)", "in (3..1MB)")],
+    ("rule n { strings: $a = \"a\" condition: $a in (5..4) }", "a range of no place"),
     ("rule n { strings: $a = /a/ condition: $a }", "a regular expression"), ("rule n { strings: $a = \"\\q\" condition: $a }", "an escape that YARA has not"),
     ("rule n { strings: $a = \"\" condition: $a }", "no bytes"), ("rule n { strings: $a = { 4 } condition: $a }", "half a byte"),
     *[("rule n { strings: $a = \"a\" %s condition: $a }" % word, "the modifier " + word) for word in ("nocase", "fullword", "xor", "base64")],
@@ -71,11 +73,11 @@ def reasons(cases, program, folder):
     for name, line, why in LINES:
         write(folder, name, line + b"\n")
         status, out, err = run([program, "import", name], folder)
-        cases.same(line[:40], (status, out, err.decode().splitlines()[0]), (0, b"avsig 1\nversion 1\n", f"avscan: {name}: line 1: n: {why}"))
+        cases.same(line[:40], (status, out, err.decode().splitlines()[0]), (1, b"", f"avscan: {name}: line 1: n: {why}"))
     for rule, why in RULES:
         write(folder, "r.yar", rule.encode())
         status, out, err = run([program, "import", "r.yar"], folder)
-        cases.same(rule[:60], (status, out, err.decode().splitlines()[0]), (0, b"avsig 1\nversion 1\n", f"avscan: r.yar: line 1: n: {why}"))
+        cases.same(rule[:60], (status, out, err.decode().splitlines()[0]), (1, b"", f"avscan: r.yar: line 1: n: {why}"))
     status, out, err = run([program, "import", "missing.ndb"], folder)
     cases.same("a file that is missing", (status, out), (4, b""))
 
@@ -89,7 +91,7 @@ def limits(cases, program, folder):
     cases.check("16,385 bytes", out.count(b"\n") == 258 and b"line 257: n256: 16,384 bytes were taken\n" in err, err[-200:])
     write(folder, "large.ndb", b"".join(b"Win.Large-%d:1:*:4d5a??\n" % i for i in range(100000)))
     status, out, err = run([program, "import", "large.ndb"], folder)
-    cases.check("100,000 lines that are left out", status == 0 and err.count(b"\n") == 100001, err[-200:])
+    cases.check("100,000 lines that are left out", status == 1 and not out and err.count(b"\n") == 100001, err[-200:])
 
 
 def mutated(cases, program, folder):
@@ -111,6 +113,9 @@ def mutated(cases, program, folder):
                 content[at:at] = content[chance.randrange(len(content)):][:chance.randrange(1, 20)]
         write(folder, name, bytes(content))
         status, out, err = run([program, "import", name], folder)
+        if b"\navscan: 0 signatures taken, " in b"\n" + err:
+            cases.same(f"mutated {turn}, nothing taken", (status, out), (1, b""))
+            continue
         write(folder, "got.avsig", out)
         scanned = run([program, "scan", "got.avsig", "got.avsig"], folder)[0] if turn % 10 == 0 else 0
         cases.check(f"mutated {turn}", status == 0 and out.startswith(b"avsig ") and scanned in (0, 1), (status, scanned, err[-200:]))

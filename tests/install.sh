@@ -25,8 +25,11 @@ check() {
 says_version() {
     "$1" --version | grep -q '^avscan [0-9]' && "$1" scan examples/test.avsig examples/letter.txt > /dev/null
 }
+# in 80 columns, with no warning, no wider line, no markdown and no name of a document that is not installed
 renders() {
-    if command -v man > /dev/null; then MANWIDTH=100 man --warnings -l "$1" > /dev/null; fi
+    command -v man > /dev/null || return 0
+    MANWIDTH=80 man --warnings -E UTF-8 -Tutf8 -l "$1" > "$room/page"
+    col -bx < "$room/page" | grep -nE '.{81}|`|\*\*|\]\(|\.md\b|docs/|examples/' >&2 || true
 }
 
 make -s install-built PROGRAM="$program" DESTDIR="$room" PREFIX=/usr > "$room/log"

@@ -34,7 +34,10 @@ FILE_KEYS = {
 }
 VERSION = 7
 SET = b"avsig 1\nversion 7\nfirst 5959\ntwo.x 5858\n"
-NAMES = ["plain", "other", "a b", 'q"uote', "back\\slash", "tab\there", "bell\x07", "delete\x7f", "é", "日本", "🦊", '{"file":1}', "line\u2028"]
+NAMES = ["plain", "other", "a b", 'q"uote', "back\\slash", "tab\there", "bell\x07", "delete\x7f", "é", "日本", "🦊", '{"file":1}', "line\u2028",
+         "next\x85line", "controls\x80\x9f\xa0", "\u061cmark", "left\u200eright\u200f", "evil\u202egpj.exe", "\\\u202a\u202d", "\u2066isolate\u2069"]
+# What a terminal or an editor acts on instead of showing it: DEL, the controls after it, and marks of the direction of a text.
+HIDDEN = re.compile("[\x7f-\x9f\u061c\u200e\u200f\u202a-\u202e\u2066-\u2069]")
 
 
 def once(pairs):
@@ -69,10 +72,16 @@ def body_of(told):
     return FORMS[kind].format_map(fields)
 
 
+def spelt(told):
+    """The line of an object: hidden characters are escapes, and all others that JSON doesn't escape are as they are."""
+    line = json.dumps(told, separators=(",", ":"), ensure_ascii=False)
+    return HIDDEN.sub(lambda hidden: f"\\u{ord(hidden[0]):04x}", line)
+
+
 def read_back(line):
     """What a line of JSON tells, where it is written as it is read."""
     told = json.loads(line, object_pairs_hook=once)
-    if json.dumps(told, separators=(",", ":"), ensure_ascii=False) != line:
+    if spelt(told) != line:
         raise ValueError(f"{line} is not written as it is read")
     return told
 
@@ -108,12 +117,12 @@ def file_line(line):
 
 
 def check_files(cases, program, work, command, *words):
-    """What a command writes as JSON goes back to what it writes in words, and its faults and status are the same."""
+    """What a command writes as JSON goes back to what it writes in words under the names as they are, and its faults and status are the same."""
     def run(*form):
         done = subprocess.run([program, command, *form, *words], cwd=work, stdout=subprocess.PIPE, stderr=subprocess.PIPE, timeout=SECONDS)
         return done.returncode, done.stderr, done.stdout.decode()
 
-    status, faults, lines = run()
+    status, faults, lines = run("--print0")
     got_status, got_faults, objects = run("--json")
     name = f"{command} --json {' '.join(words)}"
     try:
@@ -121,7 +130,7 @@ def check_files(cases, program, work, command, *words):
     except (ValueError, LookupError) as wrong:
         cases.check(name, False, repr(wrong))
         return
-    cases.same(name, (got_status, got_faults, "".join(f"{line}\n" for line, _ in back)), (status, faults, lines))
+    cases.same(name, (got_status, got_faults, "".join(f"{line}\0" for line, _ in back)), (status, faults, lines))
     cases.check(f"{name}: the version", all(version == VERSION for _, version in back), objects)
 
 

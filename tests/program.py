@@ -1,9 +1,9 @@
 #!/usr/bin/env python3
 """The built program over devices that fail and memory that is refused: what no case of files can set up.
 
-Standard output on a full device, closed, and a pipe that nobody reads, with one line and with thousands: the status is 4, or
-the process is ended by the signal, and never 0 with lines lost. Each request for memory refused in turn: one line, status 3,
-and a front of the output. Help texts, and one line for words that are not understood. Progress on a terminal, and nowhere else. What is no regular file is named. A word that is not UTF-8 is named. The order of faults of `scan`: words, set, files.
+Standard output on a full device, closed, and a pipe that nobody reads, with one line and with thousands: the status is 4, and never 0
+with lines lost; of the pipe no line is said. Each request for memory refused in turn: one line, status 3,
+and a front of the output. Help texts, and one line for words that are not understood. Progress and the reasons of faults on a terminal, and nowhere else. What is no regular file is named. A word that is not UTF-8 is named. The order of faults of `scan`: words, set, files.
 The last line says how many passed and how many failed."""
 import os, pty, re, signal, subprocess, sys, tempfile, threading, time
 
@@ -30,7 +30,8 @@ def devices(cases, program):
             ("a help text", [program, "--help"], b""), ("a picture", [program, "chart", SCRIPT], b""), ("a random script", [program, "generate", "--seed", "1", "--commands", "9"], b""),
             ("an import", [program, "import", IMPORTED[2]], b"")]
     for name, words, given in jobs:
-        told = (4, run(words, given, stdout=subprocess.DEVNULL).stderr + b"avscan: device\n")
+        before = run(words, given, stdout=subprocess.DEVNULL).stderr
+        told = (4, before + b"avscan: device\n")
         with open("/dev/full", "wb") as full:
             done = run(words, given, stdout=full)
         cases.same(f"{name} on a full device", (done.returncode, done.stderr), told)
@@ -40,8 +41,7 @@ def devices(cases, program):
         os.close(reading)
         done = run(words, given, stdout=writing)
         os.close(writing)
-        gone = done.returncode == -signal.SIGPIPE or done.returncode == 4
-        cases.check(f"{name} on a pipe that nobody reads", gone, f"status {done.returncode}")
+        cases.same(f"{name} on a pipe that nobody reads", (done.returncode, done.stderr), (4, before))
     closed = run(["sh", "-c", '"$@" <&-', "sh", program, "run", "-"], stdout=subprocess.PIPE)
     cases.check("a closed input", closed.returncode == 4 and closed.stderr == b"avscan: device\n", f"status {closed.returncode}, {closed.stderr!r}")
 
@@ -70,7 +70,8 @@ def memory(cases, program):
 
 def memory_of_host(cases, program, *flags):
     """A host, with a spare where the flags say so, with each request refused in turn: all files opened as ever, or one line that says why not, and of each file that has
-    a line what it was told: its verdict, or that the service was lost (3) or is not there (6). What was told by then is written first."""
+    a line what it was told: its verdict, or that the service is not there (3) or was lost (6). What was told by then is written first. A loop that had no memory for what a
+    file waits for leaves a question open: the gate is not closed, so the run is not certified, and no file has a line."""
     names = [LETTER, os.path.join(EXAMPLES, "eicar.com.txt")]
     words = [program, "host", *flags, SET, *names]
     name = " ".join(["avscan host", *flags])
@@ -78,7 +79,7 @@ def memory_of_host(cases, program, *flags):
     told = [{line, *(f"{name} denied cause {cause}".encode() for cause in (3, 6))} for name, line in zip(names, whole.splitlines())]
     with tempfile.TemporaryDirectory() as work:
         library = built(work, "fail_nth")
-        refused, with_lines, in_a_row, number = 0, 0, 0, 0
+        refused, with_lines, without_lines, in_a_row, number = 0, 0, 0, 0, 0
         while in_a_row < 50:
             number += 1
             done = run(words, stdout=subprocess.PIPE, env=dict(os.environ, LD_PRELOAD=library, FAIL_NTH=str(number)))
@@ -89,11 +90,13 @@ def memory_of_host(cases, program, *flags):
             in_a_row = in_a_row + 1 if is_whole else 0
             refused += is_told
             with_lines += is_told and lines != []
+            without_lines += is_told and lines == []
             if not is_whole and not is_told:
                 cases.check(name, False, f"request {number} refused: status {done.returncode}, {done.stdout!r} {done.stderr!r}")
                 return
         cases.check(name, refused > 0, "no request was refused")
         cases.check(f"{name}: answers before the line that says why not", with_lines > 0, "no run without memory wrote what was told")
+        cases.check(f"{name}: a run that is not certified writes no line", without_lines > 0, "each run without memory wrote lines")
 
 
 class Guarded:
@@ -154,7 +157,7 @@ def devices_of_ask(cases, program):
             os.close(reading)
             done = run(words, stdout=writing)
             os.close(writing)
-            cases.check(f"{name} on a pipe that nobody reads", done.returncode in (-signal.SIGPIPE, 4), f"status {done.returncode}")
+            cases.same(f"{name} on a pipe that nobody reads", (done.returncode, done.stderr), (4, b""))
         cases.same("the guard behind clients that could not write", guarded.await_answer(program, ASKED).stdout, ANSWERED)
 
 
@@ -183,8 +186,8 @@ def memory_of_ask(cases, program):
                 number += 1
                 done = run(words, stdout=subprocess.PIPE, env=dict(os.environ, LD_PRELOAD=library, FAIL_NTH=str(number)))
                 spared = (done.returncode, done.stdout, done.stderr) == (0, whole, b"")
-                lost = b"avscan: %s: the guard was lost\n" % os.fsencode(guarded.opens)
-                told = (done.returncode, done.stderr) in ((3, b"avscan: no memory\n"), (4, b"avscan: device\n"), (4, lost)) and whole.startswith(done.stdout)
+                lost = [(4, b"avscan: %s: %s\n" % (os.fsencode(guarded.opens), why)) for why in (b"the guard was lost", b"the guard gave no answer: it was lost, or has no room for another client")]
+                told = (done.returncode, done.stderr) in [(3, b"avscan: no memory\n"), (4, b"avscan: device\n"), *lost] and whole.startswith(done.stdout)
                 in_a_row = in_a_row + 1 if spared else 0
                 refused += told
                 if not told and not spared:
@@ -222,7 +225,19 @@ def words(cases, program):
         with open(line, "wb") as file:
             file.write(b"abc")
         done = run([program, "scan", SET, line], stdout=subprocess.PIPE)
-        cases.check("a name with a line feed is written as it is", done.stdout == os.fsencode(line) + b" clean\n", f"{done}")
+        shown = b'"' + os.fsencode(line).replace(b"\n", b"\\n") + b'" clean\n'
+        cases.check("a name with a line feed stands in quotes", done.stdout == shown, f"{done}")
+        done = run([program, "scan", "--print0", SET, line], stdout=subprocess.PIPE)
+        cases.check("a name with a line feed for a program", done.stdout == os.fsencode(line) + b" clean\0", f"{done}")
+        at = [os.path.join(work, name) for name in "osc"]
+        rows = [([at[0], at[0]], at[0]), ([at[0], at[1], "--clamd", at[0]], at[0]), ([at[0], at[1], "--clamd", at[1]], at[1])]
+        for words, path in rows:
+            done = run([program, "guard", *words], stdout=subprocess.PIPE)
+            cases.check("two sockets of a guard with one path", (done.returncode, done.stderr) == (2, f"avscan: {path}: two sockets have one path\n".encode()) and not os.path.exists(path), f"{done}")
+        done = run([program, "guard", *at[:2], "--names", SET], stdout=subprocess.PIPE)
+        cases.check("names without a socket for clamd", done.returncode == 2 and b"--clamd" in done.stderr and done.stderr.count(b"\n") == 1, f"{done}")
+        done = run([program, "scan", "--json", "--print0", SET, line], stdout=subprocess.PIPE)
+        cases.check("JSON ended by zero bytes", (done.returncode, done.stdout) == (2, b"") and done.stderr.count(b"\n") == 1, f"{done}")
 
 
 def order(cases, program):
@@ -245,9 +260,11 @@ def order(cases, program):
 
 
 def helps(cases, program):
-    texts = [(["--help"], [b"avscan run examples/late_reply.avs", b"avscan scan examples/test.avsig", b"Exit status: 0 all done, 1 input refused, 2 usage, 3 memory, 4 device, 5 something is infected (with --found-status)."]),
-             (["run", "--help"], [b"SCRIPT", b"volume 1 closed", b"open NAME [LEAST]", b"restart filter|service", b"docs/FORMATS.md"]),
-             (["scan", "--help"], [b"SET", b"FILE", b"avsig 1", b"1,048,576 bytes", b"docs/FORMATS.md", b"--recursive", b"--files-from <LIST>", b"--max-size <BYTES>"])]
+    texts = [(["--help"], [b"avscan run examples/late_reply.avs", b"avscan scan examples/test.avsig", b"Exit status: 0 all done, 1 input refused, 2 usage, 3 memory, 4 device; with --found-status 5 something is infected,", b"6 something is infected and some files were not scanned."]),
+             (["run", "--help"], [b"SCRIPT", b"volume 1 closed", b"open NAME [LEAST]", b"restart filter|service", b"man avscript"]),
+             (["scan", "--help"], [b"SET", b"FILE", b"avsig 1", b"1,048,576 bytes", b"man avsig", b"--recursive", b"--files-from <LIST>", b"--max-size <BYTES>", b"--allow-empty", b"--print0", b"Without -k one file that can't be read"]),
+             (["host", "--help"], [b"There is no -k here", b"`avscan scan -k`"]), (["filter", "--help"], [b"There is no -k here", b"`avscan scan -k`"]),
+             (["guard", "--help"], [b"--service-mode <MODE>", b"--least <V>", b"--most-version <V>", b"--state <FILE>"]), (["check", "--help"], [b"<SET>...", b"SET: version V, N signatures"])]
     for words, wanted in texts:
         done = run([program] + words, stdout=subprocess.PIPE)
         for text in wanted:
@@ -265,11 +282,11 @@ def built(work, name):
     return library
 
 
-def on_terminal(words, environment):
+def on_terminal(words, environment, stdout=subprocess.PIPE):
     """Runs a program with a terminal for standard error: its status, what it wrote to standard output, and what was written to the
     terminal."""
     ours, theirs = pty.openpty()
-    process = subprocess.Popen(words, stdin=subprocess.DEVNULL, stdout=subprocess.PIPE, stderr=theirs, env=environment)
+    process = subprocess.Popen(words, stdin=subprocess.DEVNULL, stdout=stdout, stderr=theirs, env=environment)
     os.close(theirs)
     shown = []
 
@@ -286,6 +303,37 @@ def on_terminal(words, environment):
     reader.join()
     os.close(ours)
     return process.returncode, out, b"".join(shown)
+
+
+def reasons(cases, program):
+    """A person at a terminal has a second line with the reason of a fault; a program that reads a pipe has the first one alone."""
+    with tempfile.TemporaryDirectory() as work:
+        bad, gone, pipe, script = (os.path.join(work, name) for name in ("bad.avsig", "gone", "pipe", "script"))
+        for path, content in ((bad, b"avsig 1\nversion 1\nx 5858\ny 58zz\n"), (script, b"volume 1 closed\nx\n")):
+            with open(path, "wb") as file:
+                file.write(content)
+        os.mkfifo(pipe)
+        unread = lambda path, reason: (4, b"", [f"{path}: cannot read", f"{path}: {reason}"])
+        of_set = (1, b"", ["set line 4: kind 4", f"{bad}:4: not pairs of hexadecimal digits"])
+        no_file = unread(gone, "No such file or directory (os error 2)")
+        rows = [(["scan", bad, LETTER], of_set), (["host", bad, LETTER], of_set), (["service", pipe, bad], of_set), (["guard", pipe + "o", pipe + "s", "--clamd", pipe + "c", "--names", bad], of_set),
+                (["scan", gone, LETTER], no_file), (["scan", SET, gone], no_file), (["scan", "-k", SET, gone], no_file), (["host", SET, gone], no_file), (["filter", pipe + "f", gone], no_file),
+                (["scan", "-k", "--files-from", gone, SET], no_file), (["run", gone], no_file), (["import", gone], no_file), (["chart", gone], no_file),
+                (["scan", SET, work], unread(work, "is a folder (-r scans it)")), (["host", SET, work], unread(work, "is a folder")), (["scan", work, LETTER], unread(work, "is a folder")),
+                (["scan", SET, pipe], unread(pipe, "is no regular file")), (["run", script], (1, b"", ["line 2: bad script"]))]
+        for words, (status, out, lines) in rows:
+            shown = b"".join(f"avscan: {line}\r\n".encode() for line in lines)
+            cases.same(f"{words[0]} on a terminal, {lines[-1]}", on_terminal([program, *words, "--quiet"] if words[0] in ("scan", "host", "filter") else [program, *words], None), (status, out, shown))
+            done = run([program, *words], stdout=subprocess.PIPE)
+            cases.same(f"{words[0]} without a terminal, {lines[-1]}", (done.returncode, done.stdout, done.stderr), (status, out, f"avscan: {lines[0]}\n".encode()))
+        with open("/dev/full", "wb") as full:
+            got = on_terminal([program, "scan", "-q", SET, LETTER], None, full)
+        cases.same("a full device on a terminal", got, (4, None, b"avscan: device\r\navscan: standard output: No space left on device (os error 28)\r\n"))
+        reading, writing = os.pipe()
+        os.close(reading)
+        got = on_terminal([program, "scan", "-q", SET, LETTER], None, writing)
+        os.close(writing)
+        cases.same("a pipe that nobody reads on a terminal", got, (4, None, b""))
 
 
 def lines_of(verb, counts):
@@ -312,7 +360,7 @@ def progress(cases, program):
             done = run([*words, *files], stdout=subprocess.PIPE, env=environment)
             cases.check(f"{command} without a terminal", (done.returncode, done.stdout, done.stderr) == (0, out, b""), f"{done}")
             status, out, shown = on_terminal([*words, *files[:3], gone], environment)
-            told = b"avscan: %s: cannot read\r\n" % os.fsencode(gone)
+            told = b"avscan: %s: cannot read\r\navscan: %s: No such file or directory (os error 2)\r\n" % (os.fsencode(gone), os.fsencode(gone))
             # A host looks at each file before it reads one.
             before = rb"" if command == "host" else lines_of(b"scanned", b"123")
             fine = (status, out) == (4, b"") and shown.endswith(told) and re.fullmatch(before, shown[: -len(told)])
@@ -387,7 +435,7 @@ def main():
     if len(sys.argv) != 2:
         sys.exit("usage: tests/program.py PROGRAM")
     cases = Cases()
-    for part in (devices, devices_of_ask, guard_that_can_say_nothing, memory, memory_of_host, lambda *words: memory_of_host(*words, "--spare"), memory_of_ask, memory_of_guard, words, order, helps, progress, alone, kinds):
+    for part in (devices, devices_of_ask, guard_that_can_say_nothing, memory, memory_of_host, lambda *words: memory_of_host(*words, "--spare"), memory_of_ask, memory_of_guard, words, order, helps, reasons, progress, alone, kinds):
         try:
             part(cases, os.path.abspath(sys.argv[1]))
         except Exception as fault:

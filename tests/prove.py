@@ -9,8 +9,8 @@ program. As many are proved at once as there are processors and memory for them,
 --jobs says how many processors to use, else all; --times adds a line a crate to a file. No crate is begun once the clock (seconds since
 1970) is past --until.
 
-The first proof of a crate keeps nothing where it has one processor, which takes about two thirds of the time; with more of them, and once
-the crate was proved before, what is proved is kept in out/, so that the next run proves what has changed.
+Each crate is proved in one process, which keeps in out/ what it proves, so that the next run proves what has changed. Several processes
+for one crate would each load all that it stands on, and take longer together.
 """
 import argparse
 import fcntl
@@ -33,16 +33,15 @@ class Proof:
         self.crates, self.times, self.keys = crates, times, {}
         self.proved, self.kept, self.failed, self.used = 0, 0, 0, 0
 
-    def begin(self, crate, jobs, ended):
+    def begin(self, crate, _jobs, ended):
         folder = f"{CRATES}/{crate}"
         os.makedirs(f"{folder}/out/rlib", exist_ok=True)
         self.keys[crate] = rooms.key(crate, self.crates)
         if rooms.is_made(crate, self.crates):
             return rooms.Job(["true"], folder, f"{folder}/out/prove.log", ended)
-        keeps = jobs > 1 or os.path.isdir(f"{folder}/out/incremental") or os.path.isfile(f"{folder}/out/made-of")
-        words = rooms.prover_words("build", crate, self.crates, jobs=jobs, keeps=keeps)
+        words = rooms.prover_words("build", crate, self.crates)
         words += ["--toolchain", f"{rooms.kit()}/toolchain", "-o", f"out/{crate}.o"] if rooms.is_program(crate) else ["-o", rooms.library(crate)]
-        return rooms.Job(words, folder, f"{folder}/out/prove.log", ended, jobs)
+        return rooms.Job(words, folder, f"{folder}/out/prove.log", ended)
 
     def ended_with(self, crate, job):
         self.used += job.used

@@ -197,11 +197,16 @@ class Tables:
             file.write(content)
         with open(letter, "wb") as file:
             file.write(b"")
+        lines = content.split(b"\n")
+        is_empty = answer[1] is None and lines[2:] == [b""]
+        told = b"avscan: %s: %s has no signatures\n" % (os.fsencode(path), lines[1]) if is_empty else b""
         if answer[1] is None:
-            wanted = (0, os.fsencode(letter) + b" clean\n", b"")
+            wanted = (0, os.fsencode(letter) + b" clean\n", told)
         else:
             wanted = (1, b"", b"avscan: set line %d: kind %d\n" % answer)
-        self.check(content, wanted, self.run(["scan", path, letter]))
+        self.check(content, wanted, self.run(["scan", "--allow-empty", path, letter]))
+        if is_empty:
+            self.check(content, (1, b"", told), self.run(["scan", path, letter]))
 
 
 def main():

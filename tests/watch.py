@@ -157,7 +157,7 @@ def a_newer_set_begins_the_jobs_anew(cases, program):
         cases.same("the reply is of the newer version", service.hear(reply), reply)
         cases.check("a rename is taken once", service.is_silent())
         cases.same("a watching service ends as another one", service.close(), (0, b"closed\n"))
-        cases.same("the version is said", service.lines(), b"avscan: version 2\n")
+        cases.same("the version is said", service.lines(), b"avscan: version 2, 1 signatures\n")
 
 
 def appends_are_taken_once_behind_the_last(cases, program):
@@ -174,7 +174,7 @@ def appends_are_taken_once_behind_the_last(cases, program):
             cases.same(f"eight appends {pause} s apart are taken", service.hear(updated(2)), updated(2))
             cases.check(f"eight appends {pause} s apart are taken whole", service.judge(1, b"xxHH", infected(1, 2, 7, 4)))
             cases.check(f"eight appends {pause} s apart are taken once", service.is_silent())
-            cases.same(f"eight appends {pause} s apart are told once", service.lines(), b"avscan: version 2\n")
+            cases.same(f"eight appends {pause} s apart are told once", service.lines(), b"avscan: version 2, 8 signatures\n")
 
 
 def a_copy_that_stays_cut_is_told_and_not_taken(cases, program):
@@ -188,7 +188,7 @@ def a_copy_that_stays_cut_is_told_and_not_taken(cases, program):
         service.write(service.set, whole)
         cases.same("the whole copy is taken", service.hear(updated(2)), updated(2))
         cases.check("the whole copy is judged by", service.judge(2, b"XXCD", infected(2, 2, 1, 4)))
-        cases.same("both are told", service.lines(), b"avscan: set line 4: kind 8\navscan: version 2\n")
+        cases.same("both are told", service.lines(), b"avscan: set line 4: kind 8\navscan: version 2, 2 signatures\n")
 
 
 def older_versions_and_the_same_one_are_told(cases, program):
@@ -204,7 +204,7 @@ def older_versions_and_the_same_one_are_told(cases, program):
         service.put(signatures(18446744073709551615, b"AB"))
         cases.same("the greatest version is taken", service.hear(updated(18446744073709551615)), updated(18446744073709551615))
         service.put(signatures(5, b"AB"))
-        told += b"avscan: version 18446744073709551615\n" + service.told(b"avscan: %s: version 5 is not above 18446744073709551615\n")
+        told += b"avscan: version 18446744073709551615, 1 signatures\n" + service.told(b"avscan: %s: version 5 is not above 18446744073709551615\n")
         cases.same("a version below the greatest is told", service.await_lines(told), told)
 
 
@@ -234,18 +234,50 @@ def a_file_that_goes_away_is_no_set(cases, program):
         os.rename(service.set, aside)
         cases.check("a file that is gone is waited for", service.is_silent() and service.lines() == b"")
         os.rename(aside, service.set)
-        cases.check("the same file back again is nothing new", service.is_silent() and service.lines() == b"")
+        again = service.told(b"avscan: %s: version 1 is not above 1\n")
+        told = again
+        cases.same("the same file back again is read, and is nothing new", service.await_lines(told), told)
         for make in (os.mkdir, os.mkfifo):
             os.rename(service.set, aside)
             make(service.set)
-            cases.check(f"{make.__name__}: what is no regular file is not read", service.is_silent() and service.lines() == b"")
+            cases.check(f"{make.__name__}: what is no regular file is not read", service.is_silent() and service.lines() == told)
             (os.rmdir if make is os.mkdir else os.unlink)(service.set)
             os.rename(aside, service.set)
+            told += again
+            cases.same(f"{make.__name__}: the file behind it is", service.await_lines(told), told)
         cases.check("the service goes on meanwhile", service.judge(1, b"XX", infected(1, 1, 0, 2)))
         os.unlink(service.set)
         service.put(Y)
         cases.same("another file in its place is taken", service.hear(updated(2)), updated(2))
-        cases.same("its version alone is told", service.lines(), b"avscan: version 2\n")
+        cases.same("its version is told", service.lines(), told + b"avscan: version 2, 1 signatures\n")
+
+
+def a_file_that_is_written_in_place_with_its_time_put_back_is_taken(cases, program):
+    with Service(program, X) as service:
+        service.hear(hello(1))
+        before = os.stat(service.set)
+        with open(service.set, "r+b") as file:
+            file.write(Y)
+        os.utime(service.set, ns=(before.st_atime_ns, before.st_mtime_ns))
+        after = os.stat(service.set)
+        cases.check("its length and time are as they were", (before.st_size, before.st_mtime_ns) == (after.st_size, after.st_mtime_ns))
+        cases.same("it is taken all the same", service.hear(updated(2)), updated(2))
+
+
+def a_set_without_signatures_is_told_and_not_taken(cases, program):
+    empty = b"avsig 1\nversion 2\n"
+    with Service(program, X) as service:
+        service.hear(hello(1))
+        service.put(empty)
+        told = service.told(b"avscan: %s: version 2 has no signatures\n")
+        cases.same("it is told", service.await_lines(told), told)
+        cases.check("the service goes on under the set that it has", service.judge(1, b"XX", infected(1, 1, 0, 2)))
+    with Service(program, X, "--watch", "1", "--allow-empty") as service:
+        service.hear(hello(1))
+        service.put(empty)
+        cases.same("with --allow-empty it is taken", service.hear(updated(2)), updated(2))
+        told = service.told(b"avscan: %s: version 2 has no signatures\n") + b"avscan: version 2, 0 signatures\n"
+        cases.same("and told too", service.await_lines(told), told)
 
 
 def many_versions_leave_no_memory_but_their_sets(cases, program):
@@ -318,7 +350,7 @@ def memory_that_is_refused_is_told(cases, program, refused_at):
                 while not service.lines() and time.time() < limit and service.process.poll() is None:
                     time.sleep(0.01)
                 lines, status = service.lines(), service.process.poll()
-                if lines == b"avscan: version 2\n":
+                if lines == b"avscan: version 2, 1 signatures\n":
                     holds = service.hear(updated(2)) == updated(2) and service.judge(1, b"AB", infected(1, 2, 0, 2))
                 elif status is None:
                     holds = lines == b"avscan: no memory\n" and service.judge(1, b"XX", infected(1, 1, 0, 2))
@@ -331,9 +363,9 @@ def a_service_without_standard_error_says_its_lines_nowhere(cases, program):
     """Above all not to the filter, whose connection would else have the number of standard error."""
     with tempfile.TemporaryDirectory() as folder:
         without = os.path.join(folder, "without")
-        with open(without, "w") as file:
-            file.write(f"#!/bin/sh\nexec '{program}' \"$@\" 2>&-\n")
-        os.chmod(without, 0o700)
+        # (a process of its own writes it: a child that another thread forks meanwhile would hold it open, and it could not be run)
+        script = f"#!/bin/sh\nexec '{program}' \"$@\" 2>&-\n"
+        subprocess.run(["sh", "-c", 'cat > "$0" && chmod 700 "$0"', without], input=script.encode(), check=True)
         with Service(without, X) as service:
             service.hear(hello(1))
             service.put(Y)
@@ -381,7 +413,7 @@ def a_guard_is_asked_all_the_while(cases, program):
         told = guard.communicate()[1]
         cases.same("the guard keeps its service", told, b"avscan: service of version 1 connected\n")
         out, err = service.communicate(timeout=SECONDS)
-        cases.same("the service ends with the guard", (service.returncode, out, err), (0, b"closed\n", b"avscan: version 2\n"))
+        cases.same("the service ends with the guard", (service.returncode, out, err), (0, b"closed\n", b"avscan: version 2, 1 signatures\n"))
 
 
 def main():
@@ -389,7 +421,8 @@ def main():
         sys.exit("usage: tests/watch.py PROGRAM")
     program, cases = os.path.abspath(sys.argv[1]), Cases()
     parts = [a_newer_set_begins_the_jobs_anew, appends_are_taken_once_behind_the_last, a_copy_that_stays_cut_is_told_and_not_taken, older_versions_and_the_same_one_are_told,
-             bad_files_are_told_and_the_service_goes_on, a_file_that_goes_away_is_no_set, many_versions_leave_no_memory_but_their_sets, an_idle_service_waits_and_does_not_spin,
+             bad_files_are_told_and_the_service_goes_on, a_file_that_goes_away_is_no_set, a_file_that_is_written_in_place_with_its_time_put_back_is_taken,
+             a_set_without_signatures_is_told_and_not_taken, many_versions_leave_no_memory_but_their_sets, an_idle_service_waits_and_does_not_spin,
              a_busy_service_looks_at_its_file, a_service_without_standard_error_says_its_lines_nowhere, a_guard_is_asked_all_the_while]
     jobs = [(part, ()) for part in parts] + [(memory_that_is_refused_is_told, (range(first, 100, 10),)) for first in range(1, 11)]
 
