@@ -2,7 +2,7 @@
 _avscan() {
     local word=${COMP_WORDS[COMP_CWORD]} before=${COMP_WORDS[COMP_CWORD - 1]} command=${COMP_WORDS[1]-} options
     if [ "$COMP_CWORD" = 1 ]; then
-        COMPREPLY=($(compgen -W "run scan host filter service guard ask chart generate import help --help --version" -- "$word"))
+        COMPREPLY=($(compgen -W "run scan host filter service guard ask chart generate import check help --help --version" -- "$word"))
         return
     fi
     case $before in
@@ -30,23 +30,24 @@ _avscan() {
         COMPREPLY=($(compgen -W "deep uniform" -- "$word"))
         return
         ;;
-    --mode)
+    --mode | --service-mode)
         COMPREPLY=($(compgen -W "600 660 666" -- "$word"))
         return
         ;;
     esac
     case $command in
     run) options="--json --help" ;;
-    scan) options="--recursive --keep-going --max-size --infected --json --files-from --null --found-status --summary --quiet --help" ;;
-    host) options="--openers --workers --spare --infected --json --files-from --null --found-status --summary --quiet --help" ;;
-    filter) options="--wait --mode --infected --json --files-from --null --found-status --summary --quiet --help" ;;
-    service) options="--wait --watch --help" ;;
-    guard) options="--open --wait --keep --questions --clamd --names --mode --help" ;;
-    ask) options="--recursive --keep-going --infected --json --files-from --null --found-status --summary --wait --quiet --help" ;;
+    scan) options="--recursive --keep-going --max-size --allow-empty --infected --json --print0 --files-from --null --found-status --summary --quiet --help" ;;
+    host) options="--openers --workers --spare --allow-empty --infected --json --print0 --files-from --null --found-status --summary --quiet --help" ;;
+    filter) options="--wait --mode --infected --json --print0 --files-from --null --found-status --summary --quiet --help" ;;
+    service) options="--wait --watch --allow-empty --help" ;;
+    guard) options="--open --wait --keep --questions --clamd --names --mode --service-mode --least --most-version --state --help" ;;
+    ask) options="--recursive --keep-going --infected --json --print0 --files-from --null --found-status --summary --wait --quiet --help" ;;
     chart) options="--from --to --help" ;;
     generate) options="--seed --commands --profile --help" ;;
     import) options="--set-version --any-target --format-1 --all --help" ;;
-    help) options="run scan host filter service guard ask chart generate import" ;;
+    help) options="run scan host filter service guard ask chart generate import check" ;;
+    check) options="--help" ;;
     *) options="--help" ;;
     esac
     case $command:$word in

@@ -1,5 +1,5 @@
 # Completion of avscan for fish.
-set -l commands run scan host filter service guard ask chart generate import help
+set -l commands run scan host filter service guard ask chart generate import check help
 complete -c avscan -n "not __fish_seen_subcommand_from $commands" -f
 complete -c avscan -n "not __fish_seen_subcommand_from $commands" -a run -d "Run a script and print what each command did"
 complete -c avscan -n "not __fish_seen_subcommand_from $commands" -a scan -d "Scan files for signatures"
@@ -11,6 +11,7 @@ complete -c avscan -n "not __fish_seen_subcommand_from $commands" -a ask -d "Ask
 complete -c avscan -n "not __fish_seen_subcommand_from $commands" -a chart -d "Run a script and draw what happened"
 complete -c avscan -n "not __fish_seen_subcommand_from $commands" -a generate -d "Print a random script"
 complete -c avscan -n "not __fish_seen_subcommand_from $commands" -a import -d "Write a signature file of signatures of other products"
+complete -c avscan -n "not __fish_seen_subcommand_from $commands" -a check -d "Check signature files"
 complete -c avscan -n "not __fish_seen_subcommand_from $commands" -a help -d "Print a help text"
 complete -c avscan -n "not __fish_seen_subcommand_from $commands" -s V -l version -d "Print the version"
 complete -c avscan -n "__fish_seen_subcommand_from run scan host filter ask" -l json -d "Print JSON objects, one a line"
@@ -20,9 +21,11 @@ complete -c avscan -n "__fish_seen_subcommand_from scan ask" -s r -l recursive -
 complete -c avscan -n "__fish_seen_subcommand_from scan ask" -s k -l keep-going -d "Pass over what can not be scanned"
 complete -c avscan -n "__fish_seen_subcommand_from scan" -l max-size -x -a "1048576 10000000 100000000 1000000000" -d "The most bytes of a file"
 complete -c avscan -n "__fish_seen_subcommand_from scan host filter ask" -s i -l infected -d "Print only what was found"
+complete -c avscan -n "__fish_seen_subcommand_from scan host service" -l allow-empty -d "Take a set without signatures"
+complete -c avscan -n "__fish_seen_subcommand_from scan host filter ask" -l print0 -d "End each line with a zero byte, print names as they are"
 complete -c avscan -n "__fish_seen_subcommand_from scan host filter ask" -l files-from -r -d "A list of further files"
 complete -c avscan -n "__fish_seen_subcommand_from scan host filter ask" -s 0 -l null -d "A zero byte ends each name of the list"
-complete -c avscan -n "__fish_seen_subcommand_from scan host filter ask" -l found-status -d "End with status 5 where something is infected"
+complete -c avscan -n "__fish_seen_subcommand_from scan host filter ask" -l found-status -d "End with status 5 or 6 where something is infected"
 complete -c avscan -n "__fish_seen_subcommand_from scan host filter ask" -l summary -d "Say at the end how many files were scanned"
 complete -c avscan -n "__fish_seen_subcommand_from host" -l openers -x -a "(seq 16)" -d "Threads that open files"
 complete -c avscan -n "__fish_seen_subcommand_from host" -l workers -x -a "(seq 16)" -d "Threads that scan"
@@ -30,6 +33,10 @@ complete -c avscan -n "__fish_seen_subcommand_from host" -l spare -d "A second s
 complete -c avscan -n "__fish_seen_subcommand_from service" -l watch -x -a "5 10 60 300" -d "Seconds between two looks at the signature file"
 complete -c avscan -n "__fish_seen_subcommand_from filter service guard ask" -l wait -x -a "5 30 60 300" -d "Seconds to wait for the other side"
 complete -c avscan -n "__fish_seen_subcommand_from filter guard" -l mode -x -a "600 660 666" -d "Who may join at the socket"
+complete -c avscan -n "__fish_seen_subcommand_from guard" -l service-mode -x -a "600 660 666" -d "Who may join as the service"
+complete -c avscan -n "__fish_seen_subcommand_from guard" -l least -x -d "The least version that is believed"
+complete -c avscan -n "__fish_seen_subcommand_from guard" -l most-version -x -d "The greatest version that a service may begin with"
+complete -c avscan -n "__fish_seen_subcommand_from guard" -l state -r -d "A file that keeps the greatest version"
 complete -c avscan -n "__fish_seen_subcommand_from guard" -l open -d "Let opens through that can not be judged"
 complete -c avscan -n "__fish_seen_subcommand_from guard" -l keep -x -a "0 67108864 1073741824" -d "Bytes of contents that are kept"
 complete -c avscan -n "__fish_seen_subcommand_from guard" -l questions -x -a "1 64 256" -d "Contents that are scanned at a time"

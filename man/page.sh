@@ -3,11 +3,13 @@
 # The formats come from docs/FORMATS.md and the commands from the help of PROGRAM, so that page, document and help say the same.
 set -eu
 here=$(dirname "$0")
-commands="run scan host filter service guard ask chart generate import"
+commands="run scan host filter service guard ask chart generate import check"
 formats=$here/../docs/FORMATS.md
 
 title() { # NAME SECTION WHAT
     printf '.TH %s %s "" "Vizdroun" "%s"\n' "$1" "$2" "$3"
+    # lines are not stretched: a table of formats has words that fill half of one
+    printf '.ad l\n.nh\n'
 }
 
 part() { # HEADING: the part of docs/FORMATS.md under this heading, as far as the next one of its kind
@@ -19,10 +21,8 @@ part() { # HEADING: the part of docs/FORMATS.md under this heading, as far as th
     ' "$formats" | awk -f "$here/roff.awk"
 }
 
-words() { # a text of plain lines
-    echo .nf
-    sed -e 's/\\/\\e/g' -e 's/-/\\-/g' -e "s/'/\\\\(aq/g" -e 's/^\./\\\&./'
-    echo .fi
+words() { # a help text
+    awk -f "$here/help.awk"
 }
 
 command_page() { # PROGRAM

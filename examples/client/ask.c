@@ -6,6 +6,7 @@
 #include <stdio.h>
 
 enum { DONE = 0, REFUSED = 1, USAGE = 2, DEVICE = 4 }; /* the status, which is the greatest of the faults */
+enum { INFECTED = 2 };                                 /* the cause of a denial that says that a signature occurs */
 
 /* Says on standard error what went wrong with a file or a socket. */
 static int failed(int status, const char *name, const char *fault) {
@@ -39,10 +40,10 @@ static int ask(int guard, const char *name, int *is_lost) {
         return DONE;
     case AV_DENIED:
         printf("%s denied cause %d\n", name, answer.cause);
-        return DONE;
+        return answer.cause == INFECTED ? DONE : DEVICE; /* for any other cause nobody has judged the file */
     case AV_UNSCANNED:
         printf("%s unscanned generation %" PRIu64 " cause %d\n", name, answer.generation, answer.cause);
-        return DONE;
+        return DEVICE;
     case AV_TOO_LARGE:
         return failed(REFUSED, name, "TooLarge");
     default:
