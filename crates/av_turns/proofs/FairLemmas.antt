@@ -1,8 +1,10 @@
 -- Whoever stands before another does so until it comes to the front.
 use Rattle.std.proofs.lemmas.Bool.Decides.{nat_tests}
-use Rattle.std.proofs.Common.{arith, ◌≡◌, ℕ, true, false, List, [], ◌∷◌, ◌++◌, drop, nat_eq, subst, sym}
+use Rattle.std.proofs.Common.{arith, ◌≡◌, ℕ, true, false, List, [], ◌∷◌, ◌++◌, drop, length, ◌≤◌, nat_eq, nat_le, subst, sym}
 use Rattle.std.specs.List.{list_any}
 use Rattle.std.specs.Set.{remove_key}
+use Rattle.av_turns.specs.Budget.{is_spent, Spend, spent}
+use Rattle.av_turns.specs.declared.budget.Budget.{Budget}
 use Rattle.av_turns.specs.Fair.{Does, Lead, Step, Turns, Leaves, Joins, Goes, is_before, is_front}
 
 pub first : (m n : ℕ) (xs : List ℕ) → list_any (nat_eq m) xs ≡ true → list_any (nat_eq n) xs ≡ false → is_before m n (xs ++ n ∷ []) ≡ true
@@ -32,3 +34,10 @@ pub run : (m n : ℕ) (steps : List Step) (old new : List ℕ) → Lead steps ol
 run m n [] old new lead apart h = subst (λ r. is_before m n r ≡ true) (sym lead) h
 run m n (s ∷ ss) old new lead apart h =
     run m n ss lead.0 new lead.2 (grind (arith, apart)) (step m n s old lead.0 lead.1 (grind (arith, apart)) h)
+
+-- each thing that was parsed is one of those that may be
+pub bounded : (things : List ℕ) (old new : Budget) → Spend things old new → length things ≤ old.asks
+bounded [] old new h = grind (arith)
+bounded (bytes ∷ rest) old new h =
+    let left = bounded rest (spent bytes old) new h.1 in
+    grind (arith, h.0, left)

@@ -1,9 +1,9 @@
 -- Entries of times.
-use Rattle.std.proofs.Common.{arith, ap, ◌∙◌, refl, length, ◌≤◌, List, [], ◌∷◌, ◌≡◌, ℕ, Bool, true, false, not, cond, ◌&&◌, ◌||◌, nat_eq, Option, None, Some}
+use Rattle.std.proofs.Common.{arith, ap, ◌∙◌, refl, ◌≤◌, List, ◌≡◌, ℕ, Bool, true, false, not, cond, ◌&&◌, ◌||◌, nat_eq, nat_le, min, Option, None, Some, IfSome, inl, inr, ◌⊎◌, sym, subst}
 use Rattle.std.specs.Ordering.{is_eq, is_gt}
 use Rattle.std.specs.Option.{option_eq}
 use Rattle.std.proofs.lemmas.Bool.Decides.{nat_tests}
-use Rattle.av_turns.specs.Times.{by_time, Changes, has, is_time}
+use Rattle.av_turns.specs.Times.{by_time, Changes, earlier, has, is_time}
 
 -- an entry is found by its time and its number
 pub same_entry : (t n d q : ℕ) → is_eq (by_time (t, n) (d, q)) ≡ (nat_eq q n && nat_eq t d)
@@ -42,3 +42,17 @@ changes_at old new number a b c d e f h = λ q time. h q time ∙ ap (λ o. (nat
 -- an entry that is not behind another has no later time
 pub not_later : (t n d q : ℕ) → is_gt (by_time (t, n) (d, q)) ≡ false → t ≤ d
 not_later t n d q h = grind (arith, nat_tests, h)
+
+one_by : (b : Bool) (m n : ℕ) → nat_le m n ≡ b → (min m n ≡ m) ⊎ (min m n ≡ n)
+one_by true m n e = inl (grind (arith, e))
+one_by false m n e = inr (grind (arith, e))
+
+-- the earlier of two times is one of them
+pub earlier_is : (P : ℕ → Type 0) (a b : Option ℕ) → IfSome a P → IfSome b P → IfSome (earlier a b) P
+earlier_is P None other one both = both
+earlier_is P (Some a) None one both = one
+earlier_is P (Some a) (Some b) one both =
+    elim (one_by (nat_le a b) a b refl) [
+      | inl e ↦ subst P (sym e) one
+      | inr e ↦ subst P (sym e) both
+    ]

@@ -1,22 +1,26 @@
 -- What a change of the clients comes to.
-use Rattle.std.proofs.Common.{arith, List, [], ◌∷◌, ◌++◌, length, sym, subst, refl, ◌∙◌, ◌≡◌, ℕ, true, false, Option, None, Some, Result, Ok, Err, IfSome, OnOk}
+use Rattle.std.proofs.Common.{arith, List, [], ◌∷◌, ◌++◌, length, sym, subst, refl, ◌∙◌, ◌≡◌, ℕ, true, false, Option, None, Some, Result, Ok, Err, IfSome, OnOk, inl, inr}
 use Rattle.std.specs.Option.{option_map}
 use Rattle.std.specs.declared.alloc.AllocError.{AllocError}
+use Rattle.av_turns.specs.declared.budget.Budget.{Budget}
 use Rattle.av_turns.specs.declared.client.Client.{Client}
+use Rattle.av_turns.specs.Budget.{is_spent}
 use Rattle.av_turns.specs.Client.{large_stood, settled, small_stood}
-use Rattle.av_turns.specs.Clients.{AreGranted, at, IsNoneBefore, IsNoneDue, Puts, PutsBy, State, Steps}
-use Rattle.av_turns.specs.Questions.{IsNoneAsked, IsNoneAskedBefore, Running}
-use Rattle.av_turns.specs.Times.{earlier}
-use Rattle.av_turns.specs.Turns.{All, Tells, TellsBy, Waits, WaitsLarge, WaitsSmall}
+use Rattle.av_turns.specs.Clients.{AreGranted, at, is_due, IsNoneBefore, IsNoneDue, Puts, PutsBy, State, Steps}
+use Rattle.av_turns.specs.Places.{since_of}
+use Rattle.av_turns.specs.Questions.{is_asked, IsNoneAsked, IsNoneAskedBefore, question_at, Running}
+use Rattle.av_turns.specs.Times.{after, earlier}
+use Rattle.av_turns.specs.Turns.{All, IsDeadline, Tells, TellsBy, WaitsLarge, WaitsSmall}
 use Rattle.av_turns.specs.Line.{Asked, Lined, Stands}
 use Rattle.av_turns.proofs.ClientsLemmas.{if_some}
+use Rattle.av_turns.proofs.TimesLemmas.{earlier_is}
 
 pub told_by : (o : Option Client) (s : All) (after : State) (n : ℕ) (c k : Client) (step : Client → Client) → o ≡ Some c → k ≡ step c
     → IfSome o (λ was. Puts s.clients after n was (settled k)) → TellsBy o s (record s { clients = after }) n step
 told_by None s after n c k step some is puts = grind (arith, some)
 told_by (Some d) s after n c k step some is puts =
     let same : d ≡ c = cc in
-    (subst (λ e. Puts s.clients after n d (settled (step e))) (sym same) (subst (λ j. Puts s.clients after n d (settled j)) is puts), record { smalls = refl; larges = refl; passed = refl; may_jump = refl; most = refl; wait = refl; places = refl; questions = refl })
+    (subst (λ e. Puts s.clients after n d (settled (step e))) (sym same) (subst (λ j. Puts s.clients after n d (settled j)) is puts), record { smalls = refl; larges = refl; passed = refl; may_jump = refl; most = refl; wait = refl; places = refl; questions = refl; budget = refl })
 
 pub tells : (s : All) (after : State) (n : ℕ) (c k : Client) (step : Client → Client) (r : Result (Unit {0}) AllocError) → at s.clients.clients n ≡ Some c → k ≡ step c
     → OnOk r (IfSome (at s.clients.clients n) (λ was. Puts s.clients after n was (settled k))) → OnOk r (Tells s (record s { clients = after }) n step)
@@ -44,15 +48,15 @@ never (Some a) None (Some x) s none h = grind (arith, h)
 never (Some a) (Some b) None s none h = grind (arith, h)
 never (Some a) (Some b) (Some x) s none h = grind (arith, h)
 
-pub small_waits : (s : All) (after : State) (line : Lined) (n : ℕ) (c k : Client) (a : Asked) → at s.clients.clients n ≡ Some c → k ≡ small_stood (length a.content) a.first c
-    → IfSome (at s.clients.clients n) (λ was. Puts s.clients after n was (settled k)) → Stands s.smalls line n a → IfSome (at s.clients.clients n) (λ d. WaitsSmall s (record s { clients = after; smalls = line }) n d a)
-small_waits s after line n c k a some is puts stands =
-    if_some _ c _ some (record { counts = subst (λ j. Puts s.clients after n c (settled j)) is (subst (λ o. IfSome o (λ was. Puts s.clients after n was (settled k))) some puts); asks = stands; larges = refl; passed = refl; may_jump = refl; rest = record { most = refl; wait = refl; places = refl; questions = refl } })
+pub small_waits : (s : All) (after : State) (line : Lined) (none : Budget) (n : ℕ) (c k : Client) (a : Asked) → at s.clients.clients n ≡ Some c → k ≡ small_stood (length a.content) a.first c
+    → IfSome (at s.clients.clients n) (λ was. Puts s.clients after n was (settled k)) → Stands s.smalls line n a → is_spent s.budget ≡ false → none ≡ record { asks = 0; said = 0 } → IfSome (at s.clients.clients n) (λ d. WaitsSmall s (record s { clients = after; smalls = line; budget = none }) n d a)
+small_waits s after line none n c k a some is puts stands left is_none =
+    if_some _ c _ some (record { counts = subst (λ j. Puts s.clients after n c (settled j)) is (subst (λ o. IfSome o (λ was. Puts s.clients after n was (settled k))) some puts); asks = stands; larges = refl; passed = refl; may_jump = refl; turn = record { some = left; none = is_none }; rest = record { most = refl; wait = refl; places = refl; questions = refl; budget = refl } })
 
-pub large_waits : (s : All) (after : State) (line : Lined) (n : ℕ) (c k : Client) (a : Asked) → at s.clients.clients n ≡ Some c → k ≡ large_stood (length a.content) a.first c
-    → IfSome (at s.clients.clients n) (λ was. Puts s.clients after n was (settled k)) → Stands s.larges line n a → IfSome (at s.clients.clients n) (λ d. WaitsLarge s (record s { clients = after; larges = line }) n d a)
-large_waits s after line n c k a some is puts stands =
-    if_some _ c _ some (record { counts = subst (λ j. Puts s.clients after n c (settled j)) is (subst (λ o. IfSome o (λ was. Puts s.clients after n was (settled k))) some puts); asks = stands; smalls = refl; passed = refl; may_jump = refl; rest = record { most = refl; wait = refl; places = refl; questions = refl } })
+pub large_waits : (s : All) (after : State) (line : Lined) (none : Budget) (n : ℕ) (c k : Client) (a : Asked) → at s.clients.clients n ≡ Some c → k ≡ large_stood (length a.content) a.first c
+    → IfSome (at s.clients.clients n) (λ was. Puts s.clients after n was (settled k)) → Stands s.larges line n a → is_spent s.budget ≡ false → none ≡ record { asks = 0; said = 0 } → IfSome (at s.clients.clients n) (λ d. WaitsLarge s (record s { clients = after; larges = line; budget = none }) n d a)
+large_waits s after line none n c k a some is puts stands left is_none =
+    if_some _ c _ some (record { counts = subst (λ j. Puts s.clients after n c (settled j)) is (subst (λ o. IfSome o (λ was. Puts s.clients after n was (settled k))) some puts); asks = stands; smalls = refl; passed = refl; may_jump = refl; turn = record { some = left; none = is_none }; rest = record { most = refl; wait = refl; places = refl; questions = refl; budget = refl } })
 
 pub not_bare : (xs : List Asked) (a : Asked) → xs ++ a ∷ [] ≡ [] → ⊥
 not_bare [] a e = grind (arith, e)
@@ -95,3 +99,22 @@ steps_some old between new n c k step some is puts grants =
 
 pub same_front : (order rest others : List ℕ) (n m : ℕ) → order ≡ n ∷ rest → order ≡ m ∷ others → n ≡ m
 same_front order rest others n m one other = grind (arith, sym one ∙ other)
+
+of_service : (s : All) (p : Option ℕ) → p ≡ after (since_of s.places.service) s.wait → IfSome p (λ t. IsDeadline s t)
+of_service s None e = tt
+of_service s (Some t) e = inr (inr (sym e))
+
+of_question : (s : All) (q : Option (ℕ × ℕ)) → IfSome q (λ x. is_asked (question_at s.questions.running x.1) x.0 ≡ true) → IfSome (option_map (λ x. x.0) q) (λ t. IsDeadline s t)
+of_question s None h = tt
+of_question s (Some x) h = inr (inl (x.1, h))
+
+of_client : (s : All) (f : Option (ℕ × ℕ)) → IfSome f (λ x. is_due s.clients.wait (at s.clients.clients x.1) x.0 ≡ true) → IfSome (option_map (λ x. x.0) f) (λ t. IsDeadline s t)
+of_client s None h = tt
+of_client s (Some x) h = inl (x.1, h)
+
+-- the earliest of all times is one of them
+pub deadline : (s : All) (p : Option ℕ) (q f : Option (ℕ × ℕ)) → p ≡ after (since_of s.places.service) s.wait → IfSome q (λ x. is_asked (question_at s.questions.running x.1) x.0 ≡ true)
+    → IfSome f (λ x. is_due s.clients.wait (at s.clients.clients x.1) x.0 ≡ true) → IfSome (earlier p (earlier (option_map (λ x. x.0) q) (option_map (λ x. x.0) f))) (λ t. IsDeadline s t)
+deadline s p q f service question client =
+    earlier_is (λ t. IsDeadline s t) p (earlier (option_map (λ x. x.0) q) (option_map (λ x. x.0) f)) (of_service s p service)
+    (earlier_is (λ t. IsDeadline s t) (option_map (λ x. x.0) q) (option_map (λ x. x.0) f) (of_question s q question) (of_client s f client))

@@ -1,13 +1,15 @@
 -- All that is known of the guard's clients, and what each call does to it.
 use Rattle.std.specs.Prelude.{◌≡◌, ◌≤◌, ◌<◌, ◌+◌, min, ◌⊎◌, ℕ, Bool, true, false, List, [], drop, length, Option, None, Some, Result, Ok, Err, IfSome, is_some, if◌then◌else◌}
 use Rattle.std.specs.Option.{unwrap_or}
-use Rattle.av_turns.specs.Client.{asked, large_left, large_stood, room_of, said, settled, small_left, small_stood}
+use Rattle.av_turns.specs.Budget.{is_spent, spent}
+use Rattle.av_turns.specs.Client.{asked, large_left, large_stood, reply_of, room_of, said, settled, small_left, small_stood}
 use Rattle.av_turns.specs.Clients.{Admits, at, Goes, is_due, IsGone, longest_idle, NobodyMayTurn, Puts, State, Steps, Looks}
 use Rattle.av_turns.specs.Line.{Asked, Forgets, IsFirst, IsInFront, IsNobodyInLine, Lined, Pulls, SameAsks, Skips, Stands, Takes}
 use Rattle.av_turns.specs.Questions.{Ends, is_asked, question_at, Running}
-use Rattle.av_turns.specs.Places.{is_late, is_over}
+use Rattle.av_turns.specs.Places.{is_late, is_over, since_of}
 use Rattle.av_turns.specs.Times.{after}
 use Rattle.av_turns.specs.Windows.{has_room}
+use Rattle.av_turns.specs.declared.budget.Budget.{Budget}
 use Rattle.av_turns.specs.declared.line.First.{First}
 use Rattle.av_turns.specs.declared.client.Client.{Client}
 use Rattle.av_turns.specs.declared.clients.Look.TheVariants.{Turn as LookTurn}
@@ -22,14 +24,15 @@ use Rattle.av_turns.specs.declared.turns.Late.TheVariants.{Close, Deny, Nothing,
 use Rattle.av_turns.specs.declared.turns.Next.{Next}
 use Rattle.av_turns.specs.declared.turns.Next.TheVariants.{Turn, Later, Nobody}
 use Rattle.av_turns.specs.declared.turns.Parsed.{Parsed}
-use Rattle.av_turns.specs.declared.turns.Parsed.TheVariants.{TurnEnds}
+use Rattle.av_turns.specs.declared.turns.Parsed.TheVariants.{GoesOn, TurnEnds}
 use Rattle.av_turns.specs.declared.turns.Thing.{Thing}
 use Rattle.av_turns.specs.declared.turns.Thing.TheVariants.{Said, Known, New}
 use Rattle.av_turns.specs.declared.turns.Why.{Why}
 use Rattle.av_turns.specs.declared.turns.Why.TheVariants.{Idle, SaidNothing, TookNothing}
 
 -- the clients, their small and their large asks in line, how many clients there may be, how long each thing may take, the places of the service and of its
--- successor, the questions that run, how many small asks left the line behind the last large one, and whether one may go ahead
+-- successor, the questions that run, how many small asks left the line behind the last large one, whether one may go ahead, and what is left of the turn that
+-- is on
 pub record All : Type 0 where
   pub clients : State
   pub smalls : Lined
@@ -40,6 +43,7 @@ pub record All : Type 0 where
   pub wait : ℕ
   pub places : Places
   pub questions : Running
+  pub budget : Budget
 
 -- what the line of asks does not touch
 pub record IsBeside (old new : All) : Type 0 where
@@ -47,6 +51,7 @@ pub record IsBeside (old new : All) : Type 0 where
   pub wait : new.wait ≡ old.wait
   pub places : new.places ≡ old.places
   pub questions : new.questions ≡ old.questions
+  pub budget : new.budget ≡ old.budget
 
 -- nobody is there yet
 abbrev pub nobody_yet : ℕ → ℕ → All
@@ -61,6 +66,7 @@ nobody_yet most wait =
       wait = wait;
       places = record { service = NoService; successor = false; misses = 0 };
       questions = record { running = []; windows = record { small = 0; large = 0 } };
+      budget = record { asks = 0; said = 0 };
     }
 
 -- all but the clients is as before
@@ -73,6 +79,7 @@ pub record IsApart (old new : All) : Type 0 where
   pub wait : new.wait ≡ old.wait
   pub places : new.places ≡ old.places
   pub questions : new.questions ≡ old.questions
+  pub budget : new.budget ≡ old.budget
 
 -- a client's counts are changed by this step, and it is where it belongs
 abbrev pub TellsBy : Option Client → All → All → ℕ → (Client → Client) → Type 0
@@ -82,12 +89,28 @@ TellsBy (Some c) old new n step = Puts old.clients new.clients n c (settled (ste
 abbrev pub Tells : All → All → ℕ → (Client → Client) → Type 0
 Tells old new n step = TellsBy (at old.clients.clients n) old new n step
 
+-- all but the turn that is on
+abbrev pub in_turn_of : All → All → All
+in_turn_of old new = record new { budget = old.budget }
+
 -- a turn: the ring's front goes to its back, and gets bytes within its room and its part of the round
 abbrev pub Nexts : All → All → Next → Type 0
 Nexts old new (Turn n bytes asks) =
-    Looks old.clients new.clients (LookTurn n) × IfSome (at new.clients.clients n) (λ c. bytes ≤ room_of c) × (bytes ≤ 65536) × (asks ≤ 16) × IsApart old new
+    Looks old.clients new.clients (LookTurn n) × IfSome (at new.clients.clients n) (λ c. bytes ≤ room_of c) × (bytes ≤ 65536) × (asks ≤ 16)
+    × (new.budget ≡ record { asks = asks; said = 0 }) × IsApart old (in_turn_of old new)
 Nexts old new Later = (new.clients.ring ≡ drop 1 old.clients.ring) × IsApart old new
 Nexts old new Nobody = (new ≡ old) × NobodyMayTurn old.clients
+
+-- a thing that ends the turn was parsed
+pub record EndsTurn (old new : All) : Type 0 where
+  pub some : is_spent old.budget ≡ false
+  pub none : new.budget ≡ record { asks = 0; said = 0 }
+
+-- a thing was parsed, and put so many bytes into the output: the turn goes on until nothing of it is left
+pub record Spends (old new : All) (bytes : ℕ) (p : Parsed) : Type 0 where
+  pub some : is_spent old.budget ≡ false
+  pub left : new.budget ≡ spent bytes old.budget
+  pub ends : p ≡ (if is_spent new.budget then TurnEnds else GoesOn)
 
 -- a small ask of a client is in line
 pub record WaitsSmall (old new : All) (n : ℕ) (c : Client) (a : Asked) : Type 0 where
@@ -96,7 +119,8 @@ pub record WaitsSmall (old new : All) (n : ℕ) (c : Client) (a : Asked) : Type 
   pub larges : new.larges ≡ old.larges
   pub passed : new.passed ≡ old.passed
   pub may_jump : new.may_jump ≡ old.may_jump
-  pub rest : IsBeside old new
+  pub turn : EndsTurn old new
+  pub rest : IsBeside old (in_turn_of old new)
 
 -- a large ask of a client is in line
 pub record WaitsLarge (old new : All) (n : ℕ) (c : Client) (a : Asked) : Type 0 where
@@ -105,18 +129,30 @@ pub record WaitsLarge (old new : All) (n : ℕ) (c : Client) (a : Asked) : Type 
   pub smalls : new.smalls ≡ old.smalls
   pub passed : new.passed ≡ old.passed
   pub may_jump : new.may_jump ≡ old.may_jump
-  pub rest : IsBeside old new
+  pub turn : EndsTurn old new
+  pub rest : IsBeside old (in_turn_of old new)
 
 -- an ask of a client is in line: a large one where it filled a share
 abbrev pub Waits : Bool → All → All → ℕ → Client → Asked → Type 0
 Waits true old new n c a = WaitsLarge old new n c a
 Waits false old new n c a = WaitsSmall old new n c a
 
--- a thing was parsed: a command was answered; a known ask waits for its answer and no line has changed; another ask is in line
-abbrev pub Parses : All → All → ℕ → ℕ → Thing → Type 0
-Parses old new n now (Said bytes) = Tells old new n (said bytes now)
-Parses old new n now Known = Tells old new n asked
-Parses old new n now (New tag content) = IfSome (at old.clients.clients n) (λ c. Waits c.filling old new n c (record { tag = tag; first = unwrap_or c.first now; content = content.items }))
+-- a command was answered
+pub record ParsesCommand (old new : All) (n bytes now : ℕ) (p : Parsed) : Type 0 where
+  pub counts : Tells old (in_turn_of old new) n (said bytes now)
+  pub turn : Spends old new bytes p
+
+-- a known ask waits for its answer, for which there is room
+pub record ParsesKnown (old new : All) (n : ℕ) (p : Parsed) : Type 0 where
+  pub counts : Tells old (in_turn_of old new) n asked
+  pub turn : IfSome (at old.clients.clients n) (λ c. Spends old new (reply_of c.kind) p)
+
+-- a thing was parsed: a command was answered; a known ask waits for its answer and no line has changed; another ask is in line, and ends the turn
+abbrev pub Parses : All → All → ℕ → ℕ → Thing → Parsed → Type 0
+Parses old new n now (Said bytes) p = ParsesCommand old new n bytes now p
+Parses old new n now Known p = ParsesKnown old new n p
+Parses old new n now (New tag content) p =
+    IfSome (at old.clients.clients n) (λ c. Waits c.filling old new n c (record { tag = tag; first = unwrap_or c.first now; content = content.items })) × (p ≡ TurnEnds)
 
 -- what a call that parses nothing passes back: the thing that it took
 abbrev pub IsNew : ℕ → List ℕ → Thing → Type 0
@@ -261,15 +297,15 @@ pub record IsNoneGiven (old new : All) : Type 0 where
 abbrev pub IsNoneLate : State → ℕ → Type 0
 IsNoneLate s now = (n t : ℕ) → is_due s.wait (at s.clients n) t ≡ true → now < t
 
--- an ask whose content is not known ends the turn
-abbrev pub EndsAtNew : Thing → Parsed → Type 0
-EndsAtNew (Said bytes) p = Unit {0}
-EndsAtNew Known p = Unit {0}
-EndsAtNew (New tag content) p = p ≡ TurnEnds
-
 -- no question's time is up
 abbrev pub IsNoQuestionLate : Running → ℕ → Type 0
 IsNoQuestionLate r now = (n t : ℕ) → is_asked (question_at r.running n) t ≡ true → now < t
+
+-- the time of some client, of some question or of the service is up then
+abbrev pub IsDeadline : All → ℕ → Type 0
+IsDeadline s t =
+    ((n : ℕ) × (is_due s.clients.wait (at s.clients.clients n) t ≡ true)) ⊎ ((seq : ℕ) × (is_asked (question_at s.questions.running seq) t ≡ true))
+    ⊎ (after (since_of s.places.service) s.wait ≡ Some t)
 
 -- a question whose time was up runs no more, and had no reply
 pub record EndsLate (old new : All) (now seq : ℕ) : Type 0 where

@@ -1,6 +1,7 @@
 //! Who is read next, and who holds how much memory: no socket, no clock but the one that is handed in.
 #![tactic(auto)]
 
+pub mod budget;
 pub mod client;
 pub mod clients;
 pub mod laws;

@@ -135,6 +135,7 @@ impl Line {
     /// How long the first ask of a client is, and when the first byte of the one behind it came.
     pub fn first_of(&self, client: u64) -> Option<First>
         ensures some { IfSome result (λ f. (f.client ≡ client) × IsFirst self.now.asks f) }
+        ensures none { IfNone result (queue_of self.now.asks client ≡ []) }
     {
         let length = length_of(&self.asks, client)?;
         let next = second_of(&self.asks, client);

@@ -1,4 +1,4 @@
-use Rattle.std.proofs.Common.{arith, ap, sym, ◌∙◌, ◌≡◌, ℕ, Option, None, Some, inl, inr}
+use Rattle.std.proofs.Common.{arith, ap, sym, ◌∙◌, ℕ, Option, None, inl, inr}
 use Rattle.std.specs.Option.{option_map}
 use Rattle.av_turns.specs.Clients.{longest_from}
 use Rattle.av_turns.proofs.ClientsLemmas.{idle_there}

@@ -19,5 +19,6 @@ loop-self-preserved c =
       λ q. c.grant.ensures.there q ∙ i.7 q,
       fewer,
       i.9,
-      (suc i.10.0, grants_more i.10.0 c.self.inside.clients c.loop-self.self-inside.clients c.grant.new.self i.10.1 (c.grant.ensures.given given)),
+      i.10,
+      (suc i.11.0, grants_more i.11.0 c.self.inside.clients c.loop-self.self-inside.clients c.grant.new.self i.11.1 (c.grant.ensures.given given)),
     )

@@ -6,6 +6,6 @@ use Rattle.av_turns.proofs.turns.Turns.read.Goals as goal
 
 pub returns-clause-ok : goal.returns-clause-ok
 returns-clause-ok c =
-    let s : All = record { clients = c.self.inside.clients; smalls = c.self.inside.smalls; larges = c.self.inside.larges; passed = c.self.inside.passed; may_jump = c.self.inside.may_jump; most = c.self.inside.most_clients; wait = c.self.inside.wait; places = c.self.inside.places; questions = c.self.inside.questions } in
+    let s : All = record { clients = c.self.inside.clients; smalls = c.self.inside.smalls; larges = c.self.inside.larges; passed = c.self.inside.passed; may_jump = c.self.inside.may_jump; most = c.self.inside.most_clients; wait = c.self.inside.wait; places = c.self.inside.places; questions = c.self.inside.questions; budget = c.self.inside.budget } in
     subst (λ t. OnOk c.put.result (Tells t (record s { clients = c.put.new.self }) c.args.client (came c.args.count c.args.more c.args.now))) c.self.view_is
     (tells s c.put.new.self c.args.client c.in-Some.counts c.came.result (came c.args.count c.args.more c.args.now) c.put.result (sym c.get.ensures.value ∙ c.in-Some.is) c.came.ensures.value c.put.ensures.ok)

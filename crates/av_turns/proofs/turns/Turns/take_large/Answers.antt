@@ -2,7 +2,7 @@ use Rattle.std.proofs.Common.{ap, sym, subst, refl, ◌∙◌, ◌≡◌}
 use Rattle.av_turns.specs.Client.{large_left}
 use Rattle.av_turns.specs.Clients.{AreGranted, Steps}
 use Rattle.av_turns.specs.Line.{Takes}
-use Rattle.av_turns.specs.Turns.{standing_of, TakesLarge}
+use Rattle.av_turns.specs.Turns.{standing_of}
 use Rattle.av_turns.proofs.TurnsLemmas.{same_front, steps_none, steps_some}
 use Rattle.av_turns.proofs.turns.Turns.take_large.Goals.{in-Some+in_ok-put, in_default}
 use Rattle.av_turns.proofs.turns.Turns.take_large.Goals as goal
@@ -47,5 +47,6 @@ returns-clause-some c =
             wait = apart.wait ∙ ap (λ i. i.wait) (rest c) ∙ ap (λ t. t.wait) c.self.view_is;
             places = apart.places ∙ ap (λ i. i.places) (rest c) ∙ ap (λ t. t.places) c.self.view_is;
             questions = apart.questions ∙ ap (λ i. i.questions) (rest c) ∙ ap (λ t. t.questions) c.self.view_is;
+            budget = apart.budget ∙ ap (λ i. i.budget) (rest c) ∙ ap (λ t. t.budget) c.self.view_is;
           };
     }
