@@ -46,7 +46,10 @@ step() {
         ;;
     esac
     failed=$((failed + count))
-    [ "$count" = 0 ] || not_whole="$not_whole $name"
+    if [ "$count" != 0 ]; then
+        not_whole="$not_whole $name"
+        { echo "gate: the last lines of $name:"; tail -n 20 "$room/log"; } >> "$room/failed"
+    fi
     done_with "$name"
 }
 
@@ -110,6 +113,6 @@ echo "gate: must-fail edits, over the libraries that were built"
 step edits python3 tests/edits.py --times "$times" --until $((begun + 7500)) --over "$room/whole/crates"
 echo "gate: $(nproc) processors, $(($(date +%s) - begun)) s; out/gate-times has what each part took"
 echo "gate: seconds, and of a processor:$(awk '$1 == "part" { printf " %s %d %d;", $2, $4, $5 }' "$times")"
-[ -z "$not_whole" ] || echo "gate: something failed in:$not_whole"
+[ -z "$not_whole" ] || { cat "$room/failed"; echo "gate: something failed in:$not_whole"; }
 echo "$passed passed, $failed failed"
 [ "$failed" = 0 ]
