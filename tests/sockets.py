@@ -776,14 +776,15 @@ def filter_groups(cases, programs):
     """A filter of more files than one group holds: fourteen of half a mebibyte are one."""
     names, wanted = half_mebibytes(programs, 200)
     peaks = []
-    for count in (30, 200):
+    # The few files go by so fast that a look now and then may miss the most that they took: they go by three times.
+    for count in (30, 30, 30, 200):
         told, service = [], programs.service()
         peaks.append(peak_of(programs.filter(*names[:count], mode=("--summary",)), told))
         infected = sum(b"denied" in line for line in wanted[:count])
         summary = b"avscan: %d files scanned, %d infected, 0 not scanned\n" % (count, infected)
         cases.same(f"{count} files of half a mebibyte: filter", told, [(0, b"".join(wanted[:count]), summary)])
         cases.same(f"{count} files of half a mebibyte: service", ended(service), (0, b"closed\n", b""))
-    cases.check("a filter's memory is that of one group", 0 < peaks[1] < min(peaks[0] + 8, 32), f"{peaks} MiB")
+    cases.check("a filter's memory is that of one group", 0 < peaks[-1] < min(max(peaks[:-1]) + 8, 32), f"{peaks} MiB")
     lost_in_the_midst(cases, programs, names, wanted)
     alone = b"".join(b"%s denied cause 3\n" % name.encode() for name in names[:40])
     cases.same("no service for several groups", ended(programs.filter(*names[:40], wait="1")), (4, alone, b"avscan: %s: no service came\n" % programs.socket.encode()))
