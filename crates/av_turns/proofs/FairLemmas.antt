@@ -1,9 +1,9 @@
 -- Whoever stands before another does so until it comes to the front.
 use Rattle.std.proofs.lemmas.Bool.Decides.{nat_tests}
-use Rattle.std.proofs.Common.{arith, ◌≡◌, ℕ, true, false, List, [], ◌∷◌, ◌++◌, drop, length, ◌≤◌, nat_eq, nat_le, subst, sym}
+use Rattle.std.proofs.Common.{arith, ◌≡◌, ℕ, true, false, List, [], ◌∷◌, ◌++◌, drop, length, ◌≤◌, nat_eq, subst, sym}
 use Rattle.std.specs.List.{list_any}
 use Rattle.std.specs.Set.{remove_key}
-use Rattle.av_turns.specs.Budget.{is_spent, Spend, spent}
+use Rattle.av_turns.specs.Budget.{Spend, spent}
 use Rattle.av_turns.specs.declared.budget.Budget.{Budget}
 use Rattle.av_turns.specs.Fair.{Does, Lead, Step, Turns, Leaves, Joins, Goes, is_before, is_front}
 

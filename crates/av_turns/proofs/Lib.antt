@@ -1,4 +1,5 @@
 pub mod ClientsLemmas
+pub mod CountsLemmas
 pub mod FairLemmas
 pub mod LineLemmas
 pub mod QuestionsLemmas

@@ -74,11 +74,21 @@ pub record Puts (old new : State) (n : ℕ) (was c : Client) : Type 0 where
   pub shared : new.shared + was.share ≡ old.shared + c.share
   pub wait : new.wait ≡ old.wait
 
+-- the front of the ring may not be read, and left
+pub record LeavesRing (old new : State) : Type 0 where
+  pub who : ℕ
+  pub was : Client
+  pub there : at old.clients who ≡ Some was
+  pub may_not : may_turn was ≡ false
+  pub front : old.ring ≡ who ∷ new.ring
+  pub counts : new.clients ≡ set_value (is_at (nat_cmp who)) old.clients (record was { is_ready = false })
+  pub rest : new ≡ record old { clients = new.clients; ring = new.ring }
+
 -- a look at the front of the ring: the turn of one that may be read, who goes to the back; or the front leaves; or nobody is there
 abbrev pub Looks : State → State → Look → Type 0
 Looks old new (Turn n) =
     (old.ring ≡ n ∷ drop 1 old.ring) × (new ≡ record old { ring = drop 1 old.ring ++ n ∷ [] }) × IsSomeAnd (at old.clients n) (λ c. may_turn c ≡ true)
-Looks old new Later = new.ring ≡ drop 1 old.ring
+Looks old new Later = LeavesRing old new
 Looks old new Nobody = (new ≡ old) × (old.ring ≡ [])
 
 -- a client that may be read is in the ring

@@ -1,6 +1,7 @@
 pub mod Budget
 pub mod Client
 pub mod Clients
+pub mod Counts
 pub mod Fair
 pub mod Line
 pub mod Places

@@ -1,9 +1,9 @@
 -- All that is known of the guard's clients, and what each call does to it.
-use Rattle.std.specs.Prelude.{◌≡◌, ◌≤◌, ◌<◌, ◌+◌, min, ◌⊎◌, ℕ, Bool, true, false, List, [], drop, length, Option, None, Some, Result, Ok, Err, IfSome, is_some, if◌then◌else◌}
+use Rattle.std.specs.Prelude.{◌≡◌, ◌≤◌, ◌<◌, ◌+◌, min, ◌⊎◌, ℕ, Bool, true, false, List, [], length, Option, None, Some, Result, Ok, Err, IfSome, is_some, if◌then◌else◌}
 use Rattle.std.specs.Option.{unwrap_or}
 use Rattle.av_turns.specs.Budget.{is_spent, spent}
 use Rattle.av_turns.specs.Client.{asked, large_left, large_stood, reply_of, room_of, said, settled, small_left, small_stood}
-use Rattle.av_turns.specs.Clients.{Admits, at, Goes, is_due, IsGone, longest_idle, NobodyMayTurn, Puts, State, Steps, Looks}
+use Rattle.av_turns.specs.Clients.{Admits, at, Goes, is_due, IsGone, LeavesRing, longest_idle, NobodyMayTurn, Puts, State, Steps, Looks}
 use Rattle.av_turns.specs.Line.{Asked, Forgets, IsFirst, IsInFront, IsNobodyInLine, Lined, Pulls, SameAsks, Skips, Stands, Takes}
 use Rattle.av_turns.specs.Questions.{Ends, is_asked, question_at, Running}
 use Rattle.av_turns.specs.Places.{is_late, is_over, since_of}
@@ -98,7 +98,7 @@ abbrev pub Nexts : All → All → Next → Type 0
 Nexts old new (Turn n bytes asks) =
     Looks old.clients new.clients (LookTurn n) × IfSome (at new.clients.clients n) (λ c. bytes ≤ room_of c) × (bytes ≤ 65536) × (asks ≤ 16)
     × (new.budget ≡ record { asks = asks; said = 0 }) × IsApart old (in_turn_of old new)
-Nexts old new Later = (new.clients.ring ≡ drop 1 old.clients.ring) × IsApart old new
+Nexts old new Later = LeavesRing old.clients new.clients × IsApart old new
 Nexts old new Nobody = (new ≡ old) × NobodyMayTurn old.clients
 
 -- a thing that ends the turn was parsed

@@ -1,4 +1,4 @@
-ghost use Rattle.std.specs.Prelude.{◌≡◌, ◌≤◌, ◌<◌, ◌+◌, ◌||◌, ℕ, true, false, None, [], length, is_some, OnOk, OnErr, IfSome, IfNone, IsSome, IsSomeAnd, nat_eq};
+ghost use Rattle.std.specs.Prelude.{◌≡◌, ◌≤◌, ◌<◌, ◌+◌, ◌||◌, ℕ, true, false, None, [], length, is_some, OnOk, OnErr, IfSome, IfNone, IsSome, IsSomeAnd, nat_eq, if◌then◌else◌};
 ghost use Rattle.std.specs.VecDeque.{deque_len, deque_capacity};
 ghost use Rattle.std.specs.Ordering.{nat_cmp};
 ghost use Rattle.std.specs.BTreeMap.{is_at, insert_entry};
@@ -208,6 +208,7 @@ impl Clients {
     pub fn lost(&mut self, number: u64)
         ensures some { IfSome (at self.old.clients number) (λ _. IsGone self.old self.new number) }
         ensures none { IfNone (at self.old.clients number) (self.new ≡ self.old) }
+        ensures others { (q : ℕ) → at self.new.clients q ≡ (if nat_eq q number then None else at self.old.clients q) }
         ensures gone { at self.new.clients number ≡ None }
         ensures count { is_some (at self.old.clients number) ≡ true → length self.new.clients + 1 ≡ length self.old.clients }
         ensures less { length self.new.clients ≤ length self.old.clients }

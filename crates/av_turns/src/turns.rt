@@ -1,6 +1,7 @@
 ghost use Rattle.std.specs.Prelude.{◌≡◌, ◌≤◌, ◌+◌, min, [], ℕ, is_some, length, false, None, IfSome, OnOk, OnErr};
 ghost use Rattle.av_turns.specs.Client.{answered, came, new_of, over, room_of, told, written};
 ghost use Rattle.av_turns.specs.Clients.{AreGranted, at, EachIsFit, NobodyIsForgotten, shared_in, Steps};
+ghost use Rattle.av_turns.specs.Counts.{AreCounted};
 ghost use Rattle.av_turns.specs.Line.{EachIsInLine};
 ghost use Rattle.av_turns.specs.Questions.{Asks, Ends, question_at};
 ghost use Rattle.av_turns.specs.Places.{came_of, greeted_of, lost_of};
@@ -134,13 +135,14 @@ pub enum Late {
 
 impl Model for Turns {
     ghost use Rattle.std.specs.Prelude.{◌≤◌, length};
+    ghost use Rattle.av_turns.specs.Counts.{AreCounted};
     ghost use Rattle.av_turns.specs.Turns.{All};
 
     ghost Value = { All };
 
     ghost view = { λ t. record { clients = t.clients; smalls = t.smalls; larges = t.larges; passed = t.passed; may_jump = t.may_jump; most = t.most_clients; wait = t.wait; places = t.places; questions = t.questions; budget = t.budget } };
 
-    ghost invariant = { λ t. length t.clients.clients ≤ t.most_clients };
+    ghost invariant = { λ t. (length t.clients.clients ≤ t.most_clients) × AreCounted t.clients.clients t.smalls.asks t.larges.asks };
 }
 
 impl Turns {
@@ -206,7 +208,7 @@ impl Turns {
             Look::Nobody => return Next::Nobody,
         };
         let Some(counts) = self.clients.get(client) else {
-            return Next::Later;
+            unreachable!()
         };
         let many = self.clients.ready().max(1);
         let asks = (ROUND_KNOWNS / many).clamp(1, KNOWNS);
@@ -323,6 +325,14 @@ impl Turns {
         self.clients.nobody_is_forgotten();
         self.smalls.nobody_is_forgotten();
         self.larges.nobody_is_forgotten();
+    }
+
+    /// What is counted of each client's asks in line are those asks: when the first byte of the next one came, and how many there are.
+    /// So a deadline that `late` and `timer` count is that of an ask in line.
+    pub fn asks_are_counted(&self)
+        ensures { AreCounted self.now.clients.clients self.now.smalls.asks self.now.larges.asks }
+    {
+        let _most = self.most_clients;
     }
 
     /// At most so many clients are there as may be.

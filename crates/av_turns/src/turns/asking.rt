@@ -74,10 +74,11 @@ impl Turns {
         ensures some { IfOk result (λ given. IsSomeAnd given (λ s. Jumps self.old self.new s)) }
         ensures err { OnErr result (self.new ≡ self.old) }
     {
-        if let Some(counts) = self.clients.get(client) {
-            self.clients
-                .put(client, counts.small_left(first.length, first.next))?;
-        }
+        let Some(counts) = self.clients.get(client) else {
+            unreachable!()
+        };
+        self.clients
+            .put(client, counts.small_left(first.length, first.next))?;
         let _ = self.ahead.pop_front();
         self.may_jump = false;
         self.passed = self.passed.saturating_add(1);
@@ -94,10 +95,11 @@ impl Turns {
         ensures some { IfOk result (λ given. IsSomeAnd given (λ s. TakesSmall self.old self.new s)) }
         ensures err { OnErr result (self.new ≡ self.old) }
     {
-        if let Some(counts) = self.clients.get(first.client) {
-            self.clients
-                .put(first.client, counts.small_left(first.length, first.next))?;
-        }
+        let Some(counts) = self.clients.get(first.client) else {
+            unreachable!()
+        };
+        self.clients
+            .put(first.client, counts.small_left(first.length, first.next))?;
         self.passed = self.passed.saturating_add(1);
         self.may_jump = true;
         let Some(standing) = self.smalls.take() else {
@@ -113,10 +115,11 @@ impl Turns {
         ensures some { IfOk result (λ given. IsSomeAnd given (λ s. TakesLarge self.old self.new s)) }
         ensures err { OnErr result (self.new ≡ self.old) }
     {
-        if let Some(counts) = self.clients.get(first.client) {
-            self.clients
-                .put(first.client, counts.large_left(first.length))?;
-        }
+        let Some(counts) = self.clients.get(first.client) else {
+            unreachable!()
+        };
+        self.clients
+            .put(first.client, counts.large_left(first.length))?;
         self.passed = 0;
         self.may_jump = true;
         let Some(standing) = self.larges.take() else {

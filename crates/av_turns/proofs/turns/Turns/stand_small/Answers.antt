@@ -5,6 +5,7 @@ use Rattle.av_turns.specs.Clients.{at}
 use Rattle.av_turns.specs.Line.{asked_of}
 use Rattle.av_turns.specs.Turns.{All, WaitsSmall}
 use Rattle.av_turns.proofs.TurnsLemmas.{small_waits}
+use Rattle.av_turns.proofs.CountsLemmas.{small_stands}
 use Rattle.av_turns.proofs.turns.Turns.stand_small.Goals as goal
 
 pub returns-clause-ok : goal.returns-clause-ok
@@ -14,3 +15,9 @@ returns-clause-ok c =
     subst (λ t. IfSome (at c.args.self.now.clients.clients c.args.client) (λ d. WaitsSmall c.args.self.now t c.args.client d (asked_of c.args.ask))) (sym c.let_ahead.ensures)
     (subst (λ t. IfSome (at t.clients.clients c.args.client) (λ d. WaitsSmall t (record s { clients = c.put.new.self; smalls = c.stand.new.self; budget = c.of-self-inside.result }) c.args.client d (asked_of c.args.ask))) c.self.view_is
     (small_waits s c.put.new.self c.stand.new.self c.of-self-inside.result c.args.client c.in-Some.counts c.small_stood.result (asked_of c.args.ask) (sym c.get.ensures.value ∙ c.in-Some.is) (c.small_stood.ensures.value ∙ ap (λ l. small_stood l c.args.ask.first c.in-Some.counts) long) c.in-Ok.ensures.ok c.in_ok-stand.ensures.ok (sym c.is_spent.ensures ∙ c.if-is_spent.false) c.of-self-inside.ensures))
+
+pub invariant_of-self-2 : goal.invariant_of-self-2
+invariant_of-self-2 c =
+    let long : c.len.result ≡ length c.args.ask.content.items = grind (arith, common_steps) in
+    small_stands c.self.inside.clients c.put.new.self c.self.inside.most_clients c.args.client c.self.inside.smalls.asks c.stand.new.self.asks c.self.inside.larges.asks c.in-Some.counts c.small_stood.result (asked_of c.args.ask) c.self.invariant (sym c.get.ensures.value ∙ c.in-Some.is)
+    (c.small_stood.ensures.value ∙ ap (λ l. small_stood l c.args.ask.first c.in-Some.counts) long) c.in-Ok.ensures.ok c.in_ok-stand.ensures.ok.asks c.put.ensures.count
