@@ -2,6 +2,7 @@ pub mod ClientsLemmas
 pub mod CountsLemmas
 pub mod FairLemmas
 pub mod LineLemmas
+pub mod OnceLemmas
 pub mod QuestionsLemmas
 pub mod RingLemmas
 pub mod TimesLemmas

@@ -4,6 +4,7 @@ pub mod Clients
 pub mod Counts
 pub mod Fair
 pub mod Line
+pub mod Once
 pub mod Places
 pub mod Questions
 pub mod Times
