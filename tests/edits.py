@@ -1,7 +1,7 @@
 #!/usr/bin/env python3
 """Tries every must-fail edit (crates/NAME/must-fail/*.edit): the prover has to refuse the very function that the edit changes.
 
-usage: edits.py [--until SECONDS] [--times FILE] [--over FOLDER] [--changed] [CRATE ...]
+usage: edits.py [--until SECONDS] [--again SECONDS | --changed] [--times FILE] [--over FOLDER] [CRATE ...]
 
 `rt must-fail NAME` tries each edit in a check of its own, most of which goes to reading libraries. Here edits of different
 functions share a check of a copy of the crate, in which only the functions that edits change are proved, and what they call. The
@@ -12,14 +12,16 @@ the clock (seconds since 1970) is past --until: a line says how many edits were 
 first, one a lane, and of the others each day begins with another one, so that it is not always the same that are left. The last lines
 name the edits that failed and count those that were tried.
 
-With --changed an edit is passed over that was refused before here, if it, its file and the crate's specs/ are as they were then: for
-work between commits, since the proof of an edit rests on more.
+That an edit was refused is kept on this machine, for every clone: with the day, and a digest of the edit, and of the code but tests and
+the specs of its crate and of all below. With --changed an edit is passed over that stands so. With --again those that don't stand are
+tried first, and then the others, those first that were refused longest ago, until the clock is past that second.
 
 The libraries below a crate are those that `rt ci` or `rt lib` built of FOLDER/NAME (of this repository's crates/NAME, where none is
 named). What a check kept of the crate itself is taken where it is there.
 """
 import argparse
 import concurrent.futures
+import datetime
 import hashlib
 import os
 import re
@@ -34,8 +36,8 @@ from rooms import CRATES, TOP
 # How many edits one lane takes of a crate, about, where there are more lanes than crates: each part proves anew what its edits'
 # functions call, so that a lane takes a crate whole where it can.
 PART = 24
-# The digests of edits that were refused here, a line each.
-REFUSED = f"{TOP}/out/edits-refused"
+# The edits that were refused on this machine, a line each: the day, and the digest.
+REFUSED = os.path.join(os.environ.get("XDG_CACHE_HOME") or os.path.expanduser("~/.cache"), "vizdroun", "edits-refused")
 # How many edits share a check at most, so that none takes too long.
 MOST = 40
 HEAD = re.compile(r"((?: {4})?)(?:pub(?:\(\w+\))? )?(?:const )?fn (\w+)")
@@ -73,14 +75,11 @@ class Edit:
             text = text.replace(old, new)
         return text
 
-    def digest(self):
-        """A digest of the edit, the file that it changes and the crate's specs."""
-        paths = [f"{CRATES}/{self.crate}/{self.file}", f"{CRATES}/{self.crate}/must-fail/{self.name}.edit"]
-        paths += sorted(f"{at}/{it}" for at, _, names in os.walk(f"{CRATES}/{self.crate}/specs") for it in names)
-        digest = hashlib.sha256()
-        for path in paths:
-            with open(path, "rb") as file:
-                digest.update(file.read())
+    def digest(self, crates):
+        """A digest of the edit and of what its proof rests on."""
+        digest = hashlib.sha256(repr((self.crate, self.name, self.file, self.pairs)).encode())
+        for crate in rooms.below(crates, [self.crate]):
+            digest.update(rooms.definitions(crate).encode())
         return digest.hexdigest()
 
     def paths(self):
@@ -208,19 +207,37 @@ class Copy:
         return found
 
 
+def refused_before():
+    """The last day on which each edit was refused, by its digest."""
+    try:
+        with open(REFUSED, encoding="utf-8") as file:
+            return {digest: day for day, digest in (line.split() for line in file if len(line.split()) == 2)}
+    except OSError:
+        return {}
+
+
+def keep(digest):
+    """Keeps that an edit was refused today. Where that can't be written, it is tried anew the next time."""
+    try:
+        os.makedirs(os.path.dirname(REFUSED), exist_ok=True)
+        with open(REFUSED, "a", encoding="utf-8") as file:
+            file.write(f"{datetime.date.today()} {digest}\n")
+    except OSError:
+        pass
+
+
 class Tally:
     """What became of the edits of a crate, with a line for each that was tried."""
 
-    def __init__(self, until):
-        self.copy, self.until = None, until
+    def __init__(self, until, crates):
+        self.copy, self.until, self.crates = None, until, crates
         self.refused = self.untried = 0
         self.failed = []
 
     def tell(self, edit, is_refused, text):
         print(f"must-fail {edit.crate}/{edit.name}: {text}", flush=True)
         if is_refused:
-            with open(REFUSED, "a", encoding="utf-8") as file:
-                file.write(f"{edit.digest()}\n")
+            keep(edit.digest(self.crates))
         self.refused += is_refused
         self.failed += [] if is_refused else [f"{edit.crate}/{edit.name}"]
 
@@ -276,7 +293,7 @@ class Tally:
 
 def tried(crate, edits, crates, libraries, until, times):
     """Tries edits of a crate in a room of their own. Where the machine has no room for it, those that are left count as not tried."""
-    begun, tally = time.time(), Tally(until)
+    begun, tally = time.time(), Tally(until, crates)
     built = [rooms.library(it, libraries) for it in rooms.below(crates, [crate]) if it != crate]
     if tally.is_over(len(edits)) or not all(map(os.path.exists, built)):
         tally.untried = len(edits)
@@ -298,11 +315,11 @@ def tried(crate, edits, crates, libraries, until, times):
     return tally
 
 
-def edits_of(crate, known):
-    """A crate's edits, but those whose digests are known, those of one file together."""
+def edits_of(crate):
+    """A crate's edits, those of one file together."""
     folder = f"{CRATES}/{crate}/must-fail"
     edits = [Edit(crate, f"{folder}/{name}") for name in sorted(os.listdir(folder)) if name.endswith(".edit")]
-    return sorted((it for it in edits if not known or it.digest() not in known), key=lambda it: it.file)
+    return sorted(edits, key=lambda it: it.file)
 
 
 def parts_of(edits, lanes):
@@ -320,33 +337,46 @@ def in_turn(edits, lanes, day):
     return [*first, *others[at:], *others[:at]]
 
 
+def all_tried(edits, crates, asked, until):
+    """Tries the edits of these crates, in their order, as many crates at once as there are processors: what became of each crate's."""
+    lanes = rooms.processors()
+    each = max(1, lanes // max(len(edits), 1))
+    parts = [(it, part) for it in edits for part in parts_of(edits[it], each) if part]
+    with concurrent.futures.ThreadPoolExecutor(lanes) as pool:
+        begun = [pool.submit(tried, crate, part, crates, os.path.abspath(asked.over), until, asked.times) for crate, part in parts]
+    return [run.result() for run in begun]
+
+
 def main(words):
     asked = argparse.ArgumentParser(add_help=False)
     asked.add_argument("--until", type=float, default=float("inf"))
+    asked.add_argument("--again", type=float)
     asked.add_argument("--times")
     asked.add_argument("--over", default=CRATES)
     asked.add_argument("--changed", action="store_true")
     asked.add_argument("crates", nargs="*")
     asked = asked.parse_args(words)
-    crates, lanes = rooms.listed(), rooms.processors()
+    crates = rooms.listed()
     with_edits = [it for it in crates if (not asked.crates or it in asked.crates) and os.path.isdir(f"{CRATES}/{it}/must-fail")]
-    known = set()
-    if asked.changed and os.path.isfile(REFUSED):
-        with open(REFUSED, encoding="utf-8") as file:
-            known = set(file.read().split())
-    edits = {it: edits_of(it, known) for it in with_edits}
-    each = max(1, lanes // max(len(edits), 1))
-    parts = [(it, part) for it in in_turn(edits, lanes, int(time.time() / 86400)) for part in parts_of(edits[it], each)]
+    edits = {it: edits_of(it) for it in with_edits}
+    before = refused_before() if asked.changed or asked.again is not None else {}
+    days = {(it.crate, it.name): before.get(it.digest(crates)) for each in edits.values() for it in each}
+    day_of = lambda it: days[it.crate, it.name]
     os.makedirs(f"{TOP}/out", exist_ok=True)
-    with concurrent.futures.ThreadPoolExecutor(lanes) as pool:
-        begun = [pool.submit(tried, crate, part, crates, os.path.abspath(asked.over), asked.until, asked.times) for crate, part in parts]
-    tallies = [run.result() for run in begun]
-    refused, untried = (sum(getattr(it, name) for it in tallies) for name in ("refused", "untried"))
-    failed = sorted(name for it in tallies for name in it.failed)
-    print(f"edits: {sum(len(part) for _, part in parts)}, of which {untried} were not tried, for want of time or of room")
+    new = {it: [edit for edit in edits[it] if not day_of(edit)] for it in edits}
+    tallies = all_tried({it: new[it] for it in in_turn(new, rooms.processors(), int(time.time() / 86400))}, crates, asked, asked.until)
+    never = sum(it.untried for it in tallies)
+    standing = {it: sorted((edit for edit in edits[it] if day_of(edit)), key=day_of) for it in edits}
+    oldest_first = sorted((it for it in standing if standing[it]), key=lambda it: day_of(standing[it][0]))
+    if asked.again is not None and time.time() < asked.again:
+        tallies += all_tried({it: standing[it] for it in oldest_first}, crates, asked, asked.again)
+    refused, failed = sum(it.refused for it in tallies), sorted(name for it in tallies for name in it.failed)
+    stand = sum(map(len, standing.values()))
+    since = f", the oldest since {day_of(standing[oldest_first[0]][0])}" if stand else ""
+    print(f"edits: {refused + len(failed)} tried now; {stand} were refused before as they are{since}; {never} were never tried as they are")
     print("\n".join(f"edits: {name} failed" for name in failed), end="\n" * bool(failed))
     print(f"{refused} passed, {len(failed)} failed")
-    return 1 if failed or untried and not refused else 0
+    return 1 if failed or never and not refused else 0
 
 
 sys.exit(main(sys.argv[1:]))

@@ -151,6 +151,18 @@ def key(crate, crates):
     return digest.hexdigest()
 
 
+@functools.cache
+def definitions(crate):
+    """A digest of what a proof over a crate rests on: its line of crates.txt, its code but tests, and its specs."""
+    digest = hashlib.sha256(lines()[crate].encode())
+    walked = [f"{at}/{name}" for part in ("src", "specs") for at, _, names in os.walk(f"{CRATES}/{crate}/{part}") for name in names]
+    for path in sorted(it for it in walked if "tests" not in os.path.splitext(it)[0].split("/src/")[-1].split("/")):
+        with open(path, "rb") as file:
+            text = file.read()
+        digest.update(f"{os.path.relpath(path, TOP)} {len(text)}\n".encode() + text)
+    return digest.hexdigest()
+
+
 def is_made(crate, crates):
     """Whether what a proof of a crate makes is there, made of what is there now."""
     try:
