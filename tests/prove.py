@@ -9,6 +9,9 @@ program. As many are proved at once as there are processors and memory for them,
 --jobs says how many processors to use, else all; --times adds a line a crate to a file. No crate is begun once the clock (seconds since
 1970) is past --until.
 
+As each crate ends, a line says how many are left and how long they may take, by the lines of their files and the pace so far; on a
+terminal it is one line that moves.
+
 Each crate is proved in one process, which keeps in out/ what it proves, so that the next run proves what has changed. Several processes
 for one crate would each load all that it stands on, and take longer together.
 """
@@ -26,11 +29,34 @@ from rooms import CRATES
 TOLD = re.compile(r"^error|: error|error\[|no proof|not proved")
 
 
+class Pace:
+    """How long the crates that are left may take, by their lines and those that were proved in a second so far."""
+
+    def __init__(self, tasks, lanes):
+        self.left, self.lanes, self.lines, self.seconds = dict(tasks), lanes, 0, 0
+
+    def passed_over(self, crate):
+        self.left.pop(crate)
+
+    def proved(self, crate, seconds):
+        self.lines += self.left.pop(crate)[0]
+        self.seconds += seconds
+
+    def told(self):
+        """How many are left, and about how many minutes: those of the longest chain, or of all on so many processors."""
+        tasks = {it: (size, [below for below in waits if below in self.left]) for it, (size, waits) in self.left.items()}
+        if not tasks:
+            return "none left"
+        lines = max(sum(size for size, _ in tasks.values()) / self.lanes, *rooms.behind(tasks).values())
+        minutes = -(-lines * self.seconds / max(self.lines, 1) // 60)
+        return f"{len(tasks)} left, about {minutes:.0f} min"
+
+
 class Proof:
     """Each crate is proved in its own folder, unless what its proof makes is there already."""
 
-    def __init__(self, crates, times):
-        self.crates, self.times, self.keys = crates, times, {}
+    def __init__(self, crates, times, pace):
+        self.crates, self.times, self.keys, self.pace = crates, times, {}, pace
         self.proved, self.kept, self.failed, self.used = 0, 0, 0, 0
 
     def begin(self, crate, _jobs, ended):
@@ -47,10 +73,14 @@ class Proof:
         self.used += job.used
         if job.words == ["true"]:
             self.kept += 1
+            self.pace.passed_over(crate)
             return True
         is_well = not job.status and (not rooms.is_program(crate) or rooms.linked(rooms.made(crate)))
+        self.pace.proved(crate, job.seconds)
         word = "proved" if is_well else "NOT PROVED"
-        print(f"{crate}: {word}, {job.seconds:.0f} s, {job.used:.0f} processor seconds, {job.mebibytes} MiB, jobs {job.jobs}", flush=True)
+        moves = is_well and sys.stdout.isatty()
+        line = f"{crate}: {word}, {job.seconds:.0f} s, {job.used:.0f} processor seconds, {job.mebibytes} MiB; {self.pace.told()}"
+        print(f"\r\x1b[K{line}" if sys.stdout.isatty() else line, end="" if moves else "\n", flush=True)
         rooms.note(self.times, "proof", crate, 1, job.seconds, job.used, job.mebibytes)
         if not is_well:
             self.failed += 1
@@ -85,12 +115,13 @@ def main(words):
         except BlockingIOError:
             print("prove.py: waiting for another run to end", file=sys.stderr)
             fcntl.flock(lock, fcntl.LOCK_EX)
-        proof = Proof(crates, asked.times and os.path.abspath(asked.times))
         tasks = {it: (rooms.size(it), crates[it]) for it in wanted}
+        proof = Proof(crates, asked.times and os.path.abspath(asked.times), Pace(tasks, asked.jobs))
         left = rooms.in_lanes(tasks, proof.begin, proof.ended_with, asked.jobs, asked.until)
     if left:
         print(f"not tried, for want of time or of what they stand on: {' '.join(left)}", flush=True)
     seconds = time.time() - begun
+    print("\n" * (sys.stdout.isatty() and proof.proved > 0), end="")
     print(f"proved {proof.proved} of {len(wanted)} crates, {proof.kept} stood as they were, {seconds:.0f} s, {proof.used:.0f} processor seconds", flush=True)
     return 0 if not proof.failed and (not left or time.time() > asked.until) else 1
 
