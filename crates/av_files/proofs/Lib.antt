@@ -2,3 +2,4 @@ pub mod LineLemmas
 pub mod PieceLemmas
 pub mod QuotedLemmas
 pub mod TallyLemmas
+pub mod VolumeLemmas

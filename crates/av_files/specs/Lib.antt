@@ -4,4 +4,5 @@ pub mod Opened
 pub mod Quoted
 pub mod Scan
 pub mod Streams
+pub mod Volume
 pub mod Walk

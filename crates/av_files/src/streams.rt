@@ -1,4 +1,4 @@
-ghost use Rattle.std.specs.Prelude.{◌≡◌, ◌≤◌, false, is_some, true, IfErr, IfSome, OnErr, OnOk};
+ghost use Rattle.std.specs.Prelude.{[], ◌≡◌, ◌≤◌, false, is_some, true, IfErr, IfSome, OnErr, OnOk};
 ghost use Rattle.std.specs.BTreeSet.{contains, insert_key, IsUnchanged};
 ghost use Rattle.std.specs.Cmp.Lexicographic.{slice_cmp};
 ghost use Rattle.std.specs.Option.{option_copied};
@@ -7,6 +7,7 @@ ghost use Rattle.av_base.specs.Limits.{greatest_values};
 ghost use Rattle.av_store.specs.Store.{empty_store, is_name};
 ghost use Rattle.av_base.specs.Answers.{Steps};
 ghost use Rattle.av_files.specs.Streams.{HasFile, IsRefused, IsStop, joined_of, looked_of};
+ghost use Rattle.av_files.specs.Volume.{AddsFile, volume_of_files};
 ghost use Rattle.av_status.specs.Status.{IsFault};
 
 use crate::scanner::{Input, MAX_FILE};
@@ -27,6 +28,7 @@ pub const VOLUME: u64 = 1;
 /// The volume of a program's files: number 1, never mounted, with no stream yet.
 pub fn empty_volume(alloc: Global) -> Volume
     ensures empty { result ≡ empty_store VOLUME greatest_values }
+    ensures files { result ≡ volume_of_files [] }
 {
     Volume::new(alloc, VOLUME, Limits::greatest())
 }
@@ -101,6 +103,7 @@ pub fn add_file<E: Write>(
     err: &mut E,
 ) -> Result<(), Status>
     ensures file { OnOk result (HasFile volume.old volume.new file.entry.name.now (option_copied file.entry.content)) }
+    ensures added { OnOk result (AddsFile volume.old volume.new file.entry.name.now (option_copied file.entry.content)) }
     ensures status { IfErr result (λ status. IsFault status) }
 {
     let content = file.readable(err)?;
