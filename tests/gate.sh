@@ -104,9 +104,9 @@ echo "gate: what the documents name"
 step documents python3 tests/docs.py "$program"
 echo "gate: the figures of README.md, as bench/ has them"
 step figures python3 bench/figures.py --check
-echo "gate: the tests"
+echo "gate: the tests, those of refused memory with each request refused in turn"
 step tests python3 tests/run_tests.py --times "$times" --only run
-echo "gate: refused memory"
+echo "gate: refused memory, in tests that are built as for use"
 step refused-memory sh tests/refused-memory.sh $(for crate in $tested; do echo "$room/whole/crates/$crate/out/${crate}_tests"; done)
 echo "gate: values that must be spent"
 step must-be-spent python3 tests/must_be_spent.py

@@ -4,8 +4,10 @@
 usage: run_tests.py [--times FILE] [--above] [--only run|built] [CRATE ...]
 
 Each test of the named crates (all, without a name; with --above those that stand on them too) is run without a proof, compiled with
-checks for bad accesses (`rt try --test`). The tests whose names begin with `refused_or_not_` are proved too, where the libraries below
-their crate are built, built and run: tests/refused-memory.sh runs what is built, crates/NAME/out/NAME_tests, over a `malloc` that refuses.
+checks for bad accesses (`rt try --test`). Tests whose names begin with `refused_or_not_` run with each request for memory of their
+calls refused in turn (tests/refuse_each.c, which is linked to them): in each crate that is named, and without a name in REFUSED. They
+are proved too, where the libraries below their crate are built, built and run: tests/refused-memory.sh runs what is built,
+crates/NAME/out/NAME_tests, over a `malloc` that refuses.
 --only does one of the two. The last line counts the tests.
 """
 import argparse
@@ -20,6 +22,8 @@ import rooms
 from rooms import CRATES, TOP
 
 KEPT = "refused_or_not_"
+# The crates whose tests of refused memory run with each request refused, where no crate is named: those of which it was seen.
+REFUSED = {"av_cache", "av_context", "av_desk", "av_filter", "av_gate", "av_service", "av_store"}
 COUNT = re.compile(r"^test result: \w+\. (\d+) passed; (\d+) failed", re.M)
 FAILED = re.compile(r"^test \S+ \.\.\. (?!ok$)|FAILED|^rt: |: error|error\[|fault|proved=no$", re.M)
 
@@ -34,11 +38,29 @@ def named(crate, prefix=""):
     return count
 
 
-class Runs:
-    """Two runs a crate: (NAME, "run") without a proof, and (NAME, "built") of what has to be built, in a copy that has those tests alone."""
+def put_refusals(folder, report):
+    """Puts C code into a crate's copy by which its tests are run with each request for memory refused. It adds the counts to a file."""
+    os.makedirs(f"{folder}/c")
+    with open(f"{TOP}/tests/refuse_each.c", encoding="utf-8") as file:
+        code = file.read()
+    with open(f"{folder}/c/refuse_each.c", "w", encoding="utf-8") as file:
+        file.write(f'#define REPORT "{report}"\n{code}')
 
-    def __init__(self, crates, room, times):
-        self.crates, self.room, self.times = crates, room, times
+
+def refused(report):
+    """Of each test that has told so how many requests were refused to it, and the processor seconds which that took."""
+    if not os.path.isfile(report):
+        return []
+    with open(report, encoding="utf-8") as file:
+        return [(int(count), int(millis) / 1000) for _, count, millis in map(str.split, file)]
+
+
+class Runs:
+    """Two runs a crate: (NAME, "run") without a proof, in a copy of it and those below, and (NAME, "built") of what has to be built, in a
+    copy that has those tests alone."""
+
+    def __init__(self, crates, room, times, refused_in):
+        self.crates, self.room, self.times, self.refused_in = crates, room, times, refused_in
         self.passed = self.failed = 0
         words = f"tar -c --exclude=must-fail --exclude=out HANDLES crates.txt crates | tar -x -C {room}"
         subprocess.run(["sh", "-c", words], cwd=TOP, check=True)
@@ -49,7 +71,10 @@ class Runs:
         os.makedirs(f"{CRATES}/{crate}/out", exist_ok=True)
         log = f"{CRATES}/{crate}/out/tests-{kind}.log"
         if kind == "run":
-            return rooms.Job(["rt", "try", "--test", "--seconds", "300"], f"{CRATES}/{crate}", log, ended)
+            folder = rooms.put_up(f"{self.room}/run/{crate}", crate, self.crates)
+            if crate in self.refused_in:
+                put_refusals(folder, f"{self.room}/run/{crate}/refused")
+            return rooms.Job(["rt", "try", "--test", "--seconds", "300"], folder, log, ended)
         folder = f"{self.room}/crates/{crate}"
         os.makedirs(f"{folder}/out")
         if os.path.isdir(f"{CRATES}/{crate}/out/incremental"):
@@ -72,10 +97,14 @@ class Runs:
         said = job.said() + (self.run_built(crate) if kind == "built" and job.status == 0 else "")
         count = COUNT.search(said)
         passed, wanted = int(count[1]) if count else 0, named(crate, KEPT if kind == "built" else "")
-        is_well = job.status == 0 and passed == wanted
+        how, is_well = "proved, built and run", job.status == 0 and passed == wanted
+        if kind == "run":
+            told = refused(f"{self.room}/run/{crate}/refused")
+            counts, used = sum(count for count, _ in told), sum(seconds for _, seconds in told)
+            how = f"run, {len(told)} of them with {counts} requests for memory refused in turn ({used:.1f} processor seconds)" if told else "run"
+            is_well = is_well and len(told) == (named(crate, KEPT) if crate in self.refused_in else 0)
         self.passed += passed
         self.failed += max(wanted - passed, 0 if is_well else 1)
-        how = "proved, built and run" if kind == "built" else "run"
         print(f"{crate}: {passed} of {wanted} tests passed, {how}, {job.seconds:.0f} s, {job.used:.0f} processor seconds", flush=True)
         if not is_well:
             print("\n".join([line for line in said.split("\n") if FAILED.search(line)][-30:]), flush=True)
@@ -96,8 +125,10 @@ def main(words):
     has_libraries = {it: all(os.path.isdir(rooms.library(low)) for low in rooms.below(crates, [it]) if low != it) for it in wanted}
     built = [it for it in wanted if named(it, KEPT) and has_libraries[it]]
     os.makedirs(f"{TOP}/out", exist_ok=True)
+    # (so that `rt try` links what put_refusals puts into a copy of a crate; no crate of the repository has C code)
+    os.environ["RT_ALLOW_C"] = "1"
     with tempfile.TemporaryDirectory(prefix="tests-", dir=f"{TOP}/out", ignore_cleanup_errors=True) as room:
-        runs = Runs(crates, room, asked.times)
+        runs = Runs(crates, room, asked.times, {it for it in wanted if named(it, KEPT) and (asked.crates or it in REFUSED)})
         tasks = {} if asked.only == "built" else {(it, "run"): (300, []) for it in wanted}
         if asked.only != "run":
             tasks.update({(it, "built"): (rooms.size(it), []) for it in built})

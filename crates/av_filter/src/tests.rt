@@ -34,7 +34,11 @@ fn run_all(alloc: Global, rt: &impl Abort, rows: &[Row<'_>]) -> Result<(), Fail>
 // The place of the first step that is answered otherwise. The restart is 100, and those after it count on from there.
 fn run_row(alloc: Global, row: &Row<'_>) -> Result<Option<usize>, Fail> {
     let (field, value) = row.limit;
-    let limits = Limits::check(LimitValues::greatest().with(field, value))?;
+    // (a cache of few verdicts, since this is run hundreds of times)
+    let values = LimitValues::greatest()
+        .with(LimitField::Cache, 8)
+        .with(field, value);
+    let limits = Limits::check(values)?;
     let mut volume = volume_of_two(alloc)?;
     let mut filter = Filter::mount(alloc, &mut volume, row.mode, limits)?;
     let before = run_steps(alloc, &mut filter, &mut volume, row.steps);
