@@ -7,7 +7,7 @@ use crate::script::{Script, parse_script};
 use crate::tests::port_rows::PORT_ROWS;
 use crate::tests::rows::{CONNECTED, CONNECTED_LINES, Head, ROWS, Row, SCANNED, SCANNED_LINES};
 use crate::world::World;
-use av_base::{Port, Refusal};
+use av_base::{LimitField, Limits, Port, Refusal};
 use av_fakes::{may_refuse, refuse_no_more};
 use std::alloc::Global;
 use std::collections::VecDeque;
@@ -38,8 +38,15 @@ fn try_rows<R: Abort>(rt: &R, alloc: Global, rows: &[Row]) -> Result<(), Fail> {
         };
         let printed = printed_by(rt, alloc, script)?;
         assert_eq!(rt; printed.as_slice(), lines.as_slice(), "{}", row.name);
+        row_is_compared(alloc);
     }
     Ok(())
+}
+
+// Marks that nothing is left to be compared of what came before: the rows behind this one begin anew. (The size is one that
+// tests/refuse_each.c knows.)
+fn row_is_compared(alloc: Global) {
+    let _ = Vec::<u8>::with_capacity(alloc, 7_654_323);
 }
 
 // The text of a row with that of its head in front.
@@ -67,7 +74,9 @@ fn with_head(
 fn printed_by<R: Abort>(rt: &R, alloc: Global, script: Script) -> Result<Vec<u8>, Fail> {
     let mut out = Vec::new(alloc);
     out.extend_from_slice(b"boot 1\n")?;
-    let (number, mode, limits) = (script.number(), script.mode(), script.limits());
+    let (number, mode) = (script.number(), script.mode());
+    // (caches of few verdicts, since this is run hundreds of times)
+    let limits = Limits::check(script.limits().values().with(LimitField::Cache, 8))?;
     may_refuse(alloc);
     let first = World::new(alloc, number, mode, limits);
     refuse_no_more(alloc);
