@@ -5,7 +5,7 @@ FILES := examples/test.avsig examples/letter.txt examples/eicar.com.txt
 PREFIX ?= /usr/local
 SHARE = $(DESTDIR)$(PREFIX)/share
 
-.PHONY: build run try test gate-times bench install install-built clean kit
+.PHONY: build run try test proofs gate-times bench install install-built clean kit
 
 build: kit
 	@echo "building: proving each crate and compiling avscan (README.md says how long the first time takes)"
@@ -24,6 +24,9 @@ try: kit
 
 test: kit
 	@if [ -n "$(CRATE)" ]; then tests/crate.sh "$(CRATE)"; else tests/gate.sh; fi
+
+proofs: kit
+	@room=$$(mktemp -d) && trap 'rm -rf "$$room"' EXIT && sh tests/whole.sh "$$room"
 
 gate-times:
 	@python3 tests/times.py

@@ -1,11 +1,9 @@
 #!/bin/sh
 # Proves every crate from nothing and builds the program: `rt ci` in the empty folder that is named, in a copy without edits, and without
-# tests but those that strip_tests.py keeps by the words behind the folder.
+# tests but those of refused memory of three crates, which are built as for use.
 set -eu
 cd "$(dirname "$0")/.."
 tar -c --exclude=must-fail --exclude=out HANDLES crates.txt crates tests | tar -x -C "$1"
-folder=$1
-shift
-python3 tests/strip_tests.py "$@" "$folder" > "$folder/log"
-cd "$folder"
+python3 tests/strip_tests.py --keep refused_or_not_ --of av_cache,av_context,av_store "$1" > "$1/log"
+cd "$1"
 exec rt ci 2>&1
