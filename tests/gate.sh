@@ -107,7 +107,7 @@ echo "gate: the tests, those of refused memory with each request refused in turn
 step tests python3 tests/run_tests.py --times "$times" --only run
 echo "gate: refused memory, in tests that are built as for use"
 step refused-memory sh tests/refused-memory.sh "$room"/whole/crates/*/out/*_tests
-echo "gate: values that must be spent"
+echo "gate: values that must be spent, once"
 step must-be-spent python3 tests/must_be_spent.py
 echo "gate: must-fail edits, over the libraries that were built"
 step edits python3 tests/edits.py --times "$times" --until $((begun + 7500)) --again $((begun + 3600)) --over "$room/whole/crates"
