@@ -1,3 +1,6 @@
+ghost use Rattle.std.specs.Prelude.{◌≡◌, IfSome};
+
+use crate::contents::{Contents, content_of};
 use crate::listed::{Failing, listed, with_listed};
 use crate::opened::{Opened, conclude_opened, count_opened, print_opened};
 use crate::quoted::quoted_name;
@@ -562,6 +565,48 @@ fn a_look_tells_the_first_fault(rt: HostRuntime) -> Result<(), Fail> {
         let mut err = FakeWriter::new(rt.alloc());
         let looked = look_at(rt.alloc(), &mut seen, name, size, &mut err);
         assert!(&rt; looked == ended && err.taken() == line);
+    }
+    Ok(())
+}
+
+// A file in memory: what a read of it gives is known.
+#[derive(Drop)]
+struct Held<'a> {
+    content: &'a [u8],
+}
+
+impl<'a> Contents for Held<'a> {
+    ghost has_content = { λ held _ content. content ≡ held.content.now };
+
+    fn read(&self, _name: &str, buffer: &mut [u8]) -> Option<usize> {
+        let count = self.content.len();
+        if buffer.len() < count {
+            return None;
+        }
+        buffer[..count].copy_from_slice(self.content);
+        Some(count)
+    }
+}
+
+// So the content of it is known too.
+fn content_held<'a>(held: &Held<'_>, buffer: &'a mut [u8]) -> Option<&'a [u8]>
+    ensures { IfSome result (λ content. content.now ≡ held.now.content.now) }
+{
+    content_of(held, "a", buffer)
+}
+
+#[test]
+fn a_content_is_what_a_read_gave(rt: HostRuntime) -> Result<(), Fail> {
+    let cases: [(&[u8], Option<&[u8]>); 4] = [
+        (b"", Some(b"")),
+        (b"A", Some(b"A")),
+        (b"ABC", Some(b"ABC")),
+        (b"ABCD", None),
+    ];
+    for (content, wanted) in cases {
+        let mut buffer = [7u8; 3];
+        let held = Held { content };
+        assert!(&rt; content_held(&held, &mut buffer) == wanted);
     }
     Ok(())
 }
