@@ -1,3 +1,4 @@
+mod FileLemmas
 mod GroupLemmas
 mod LineLemmas
 mod ReceiptLemmas

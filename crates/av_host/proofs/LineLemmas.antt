@@ -15,7 +15,7 @@ use Rattle.av_sigset.specs.Set.{NumberedSet, patterns_of}
 use Rattle.av_store.specs.Store.{Store}
 use Rattle.av_host.specs.Lines.{AreDeniedRight, AreOfTheirFiles, AreTrueLines, IsDeniedRight, IsOfItsFile, IsSameStream, IsTrueAnswer, IsTrueLine}
 
-each_push : {A : Type 0} (P : A → Type 0) (xs : List A) (x : A) → Each P xs → P x → Each P (xs ++ x ∷ [])
+pub each_push : {A : Type 0} (P : A → Type 0) (xs : List A) (x : A) → Each P xs → P x → Each P (xs ++ x ∷ [])
 each_push P [] x all one = (one, tt)
 each_push P (y ∷ ys) x all one = (all.0, each_push P ys x all.1 one)
 

@@ -7,6 +7,8 @@ use Rattle.std.specs.Option.{option_map}
 use Rattle.av_engines.specs.declared.end.End.{End}
 use Rattle.av_engines.specs.declared.end.End.TheVariants.{Done}
 use Rattle.av_files.specs.Opened.{ended_tally, opened_lines, tally_from}
+use Rattle.av_files.specs.Scan.{SpellsSet}
+use Rattle.av_files.specs.Volume.{AreRead, FileRead, volume_of_files}
 use Rattle.av_files.specs.declared.opened.Opened.{Opened}
 use Rattle.av_files.specs.declared.scanner.Input.{Input}
 use Rattle.av_pend.specs.declared.answer.Answer.{Answer}
@@ -15,6 +17,7 @@ use Rattle.av_status.specs.Tally.{concluded, no_files}
 use Rattle.av_status.specs.declared.status.Status.{Status}
 use Rattle.av_status.specs.declared.tally.Tally.{Tally}
 use Rattle.av_status.specs.declared.tally.Wishes.{Wishes}
+use Rattle.av_host.specs.Files.{AreTrueOfFiles}
 use Rattle.av_host.specs.Lines.{AreTrueLines}
 use Rattle.av_host.specs.declared.opener.Brought.{Brought}
 use Rattle.av_sigset.specs.Set.{NumberedSet}
@@ -59,11 +62,19 @@ pub record AreTold (volume : Store) (set : NumberedSet) (openers : ℕ) (names :
   pub counted : after ≡ tally_from before opened
   pub ended : status ≡ status_of_end end
 
--- all these files were to be opened by so many openers, under this set, and the status is that of the files which were
-pub record AreHosted (openers : ℕ) (files : List Input) (wishes : Wishes) (old new : Option (List ℕ)) (status : Status) : Type 0 where
+-- The same of a volume of these files and no others: each line is true of the content that was read for its name.
+pub record AreToldOf (files : List FileRead) (set : NumberedSet) (openers : ℕ) (names : List (Bor (List ℕ))) (wishes : Wishes) (before after : Tally) (old new : Option (List ℕ)) (status : Status) : Type 0 where
+  pub told : AreTold (volume_of_files files) set openers names wishes before after old new status
+  pub contents : AreTrueOfFiles files set told.opened
+
+-- All these inputs were read, and were to be opened by so many openers, under the set that the signature file of this content spells. The
+-- status is that of the files which were opened.
+pub record AreHosted (spelling : Option (List ℕ)) (openers : ℕ) (inputs : List Input) (wishes : Wishes) (old new : Option (List ℕ)) (status : Status) : Type 0 where
   pub tally : Tally
   pub ended : Status
-  pub volume : Store
   pub set : NumberedSet
-  pub told : AreTold volume set openers (map (λ f. f.name) files) wishes no_files tally old new ended
-  pub concluded : status ≡ concluded wishes (ended_tally tally (length files) ended)
+  pub spelled : SpellsSet spelling set
+  pub files : List FileRead
+  pub read : AreRead inputs files
+  pub told : AreToldOf files set openers (map (λ f. f.name) inputs) wishes no_files tally old new ended
+  pub concluded : status ≡ concluded wishes (ended_tally tally (length inputs) ended)

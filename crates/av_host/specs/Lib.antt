@@ -1,4 +1,5 @@
 pub mod Brought
 pub mod Ends
+pub mod Files
 pub mod Groups
 pub mod Lines

@@ -1,4 +1,7 @@
-ghost use Rattle.std.specs.Prelude.{◌≤◌, ◌<◌, IfErr, IfOk, length};
+ghost use Rattle.std.specs.Prelude.{[], ◌≡◌, ◌≤◌, ◌<◌, IfErr, IfOk, IfSome, length, take};
+ghost use Rattle.std.specs.Option.{option_copied};
+ghost use Rattle.av_files.specs.Volume.{volume_of_files};
+ghost use Rattle.av_host.specs.Files.{HoldsContents};
 ghost use Rattle.av_host.specs.Groups.{AreHostedInGroups, AreOpened};
 ghost use Rattle.av_status.specs.Status.{EndsWell, IsFault};
 
@@ -31,7 +34,7 @@ pub fn host_groups<R: Hosting, F: Contents, C: Clock, W: Write, E: Write>(
     out: &mut W,
     err: &mut Progress<'_, C, E>,
 ) -> Status
-    ensures { EndsWell result → AreHostedInGroups signatures.now crew.openers names.now wishes (W.contents out.old) (W.contents out.new) result }
+    ensures { EndsWell result → AreHostedInGroups (F.has_content files.now) signatures.now crew.openers names.now wishes (W.contents out.old) (W.contents out.new) result }
 {
     let mut tally = Tally::new();
     match open_groups(
@@ -56,7 +59,7 @@ fn open_groups<R: Hosting, F: Contents, C: Clock, W: Write, E: Write>(
     out: &mut W,
     err: &mut Progress<'_, C, E>,
 ) -> Result<Status, Status>
-    ensures told { IfOk result (λ ended. AreOpened signatures.now crew.openers names.now wishes tally.old tally.new (W.contents out.old) (W.contents out.new) ended) }
+    ensures told { IfOk result (λ ended. AreOpened (F.has_content files.now) signatures.now crew.openers names.now wishes tally.old tally.new (W.contents out.old) (W.contents out.new) ended) }
     ensures failed { IfErr result (λ status. IsFault status) }
 {
     let Ok(mut buffer) = vec![in alloc; 0u8; MAX_FILE + 2] else {
@@ -95,6 +98,7 @@ fn read_group<F: Contents, C: Clock, E: Write>(
 ) -> Result<(Volume, usize), Status>
     requires { 1 ≤ length rest.names.now }
     ensures count { IfOk result (λ r. (1 ≤ r.1) × (r.1 ≤ length rest.entry.names.now)) }
+    ensures files { IfOk result (λ r. HoldsContents (F.has_content files.now) (take r.1 rest.entry.names.now) r.0) }
     ensures failed { IfErr result (λ status. IsFault status) }
 {
     let mut volume = empty_volume(alloc);
@@ -113,8 +117,10 @@ fn add_files<F: Contents, C: Clock, E: Write>(
     buffer: &mut [u8],
     err: &mut Progress<'_, C, E>,
 ) -> Result<usize, Status>
-    requires { 1 ≤ length rest.names.now }
+    requires names { 1 ≤ length rest.names.now }
+    requires empty { volume.old ≡ volume_of_files [] }
     ensures count { IfOk result (λ count. (1 ≤ count) × (count ≤ length rest.entry.names.now)) }
+    ensures files { IfOk result (λ count. HoldsContents (F.has_content files.now) (take count rest.entry.names.now) volume.new) }
     ensures failed { IfErr result (λ status. IsFault status) }
 {
     let mut count = 0usize;
@@ -134,7 +140,10 @@ fn add_files<F: Contents, C: Clock, E: Write>(
 }
 
 // A file, with its content where it can be read.
-fn file_of<'a, F: Contents>(files: &F, name: &'a str, buffer: &'a mut [u8]) -> Input<'a> {
+fn file_of<'a, F: Contents>(files: &F, name: &'a str, buffer: &'a mut [u8]) -> Input<'a>
+    ensures name { result.name.now ≡ name.now }
+    ensures content { IfSome (option_copied result.content) (λ bytes. F.has_content files.now name.now bytes) }
+{
     let content = content_of(files, name, buffer);
     Input { name, content }
 }

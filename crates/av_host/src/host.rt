@@ -1,9 +1,11 @@
 ghost use Rattle.std.specs.Prelude.{◌≡◌, IfErr, IfOk, IfSome, IsTrue, OnOk, map, vec_len};
 ghost use Rattle.std.specs.Io.KnownBytes.{Appends};
+ghost use Rattle.std.specs.Option.{option_copied};
 ghost use Rattle.av_engines.specs.declared.end.End.TheVariants.{Done};
 ghost use Rattle.av_files.specs.Opened.{opened_lines, tally_from};
 ghost use Rattle.av_gate.specs.Seats.{IsSeatOf};
 ghost use Rattle.av_gate.specs.Claims.{IsLegal};
+ghost use Rattle.av_host.specs.Files.{HoldsInputs};
 ghost use Rattle.av_host.specs.Lines.{AreGiven, AreTrueLines, HaveReceipts, receipts_of};
 ghost use Rattle.av_shared.specs.History.{IsDeskAudit};
 ghost use Rattle.av_shared.specs.Still.{TellsTrue};
@@ -79,7 +81,7 @@ pub fn host_files<R: Hosting, W: Write, E: Write>(
     out: &mut W,
     err: &mut E,
 ) -> Status
-    ensures { EndsWell result → AreHosted crew.openers files.now wishes (W.contents out.old) (W.contents out.new) result }
+    ensures { EndsWell result → AreHosted (option_copied set.entry.content) crew.openers files.now wishes (W.contents out.old) (W.contents out.new) result }
 {
     let set = match read_set(alloc, set, err) {
         Ok(set) => set,
@@ -88,16 +90,10 @@ pub fn host_files<R: Hosting, W: Write, E: Write>(
     let Ok(signatures) = Signatures::build(alloc, set) else {
         return out_of_memory(err);
     };
-    let mut volume = empty_volume(alloc);
-    let mut names = Vec::new(alloc);
-    'files: for file in files {
-        if let Err(status) = add_file(alloc, &mut volume, *file, err) {
-            return status;
-        }
-        if names.push(file.name).is_err() {
-            return out_of_memory(err);
-        }
-    }
+    let (volume, names) = match read_inputs(alloc, files, err) {
+        Ok(read) => read,
+        Err(status) => return status,
+    };
     let group = Group {
         names: names.as_slice(),
         before: 0,
@@ -120,6 +116,27 @@ pub fn host_files<R: Hosting, W: Write, E: Write>(
         Ok(ended) => conclude_opened(tally, files.len(), ended, wishes, &mut quiet),
         Err(failed) => failed,
     }
+}
+
+// A volume of these files, each read and written once, and their names.
+fn read_inputs<'a, E: Write>(
+    alloc: Global,
+    files: &[Input<'a>],
+    err: &mut E,
+) -> Result<(Volume, Vec<&'a str>), Status>
+    ensures volume { IfOk result (λ r. HoldsInputs files.now r.0) }
+    ensures names { IfOk result (λ r. r.1.items ≡ map (λ f. f.name) files.now) }
+    ensures failed { IfErr result (λ status. IsFault status) }
+{
+    let mut volume = empty_volume(alloc);
+    let mut names = Vec::new(alloc);
+    'files: for file in files {
+        add_file(alloc, &mut volume, *file, err)?;
+        if names.push(file.name).is_err() {
+            return Err(out_of_memory(err));
+        }
+    }
+    Ok((volume, names))
 }
 
 /// Opens the streams of a volume by their names, as `host_files` does, and counts those that were opened: Ok says how that ended.
