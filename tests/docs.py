@@ -9,7 +9,7 @@ ROOT = os.path.dirname(os.path.dirname(os.path.abspath(__file__)))
 PAGES = ["README.md", "bench/README.md"] + [f"docs/{name}.md" for name in ("ARCHITECTURE", "CONDUCT", "DECISIONS", "FORMATS", "GATE", "READING", "OPERATING", "PROMISES", "SCANNER", "THREADS")]
 # words of the language, of std and of formats that stand in backticks too
 OUTSIDE = set("make test run install scan rt clang slab lru bytes hex clap thiserror itoa std memchr Drop Display Error From Ok Err Some None "
-              "true false requires ensures main malloc grep yara clamscan clamonacc clamd cargo valgrind".split())
+              "true false requires ensures main malloc grep nice yara clamscan clamonacc clamd cargo valgrind".split())
 
 
 def text_of(path):
@@ -18,8 +18,8 @@ def text_of(path):
 
 
 def sources():
-    """All words of code and definitions."""
-    words = set()
+    """All words of code and definitions, and the names of edits."""
+    words = {os.path.basename(path)[: -len(".edit")] for path in glob.glob(os.path.join(ROOT, "crates/*/must-fail/*.edit"))}
     for pattern in ("crates/*/src/**/*.rt", "crates/*/specs/**/*.antt", "crates/*/proofs/*.antt", "crates/*/proofs/**/*.antt", "tests/*.py", "tests/*.sh", "tests/*.c", "bench/*/*", "examples/*/*", "Makefile", "crates.txt"):
         for path in glob.glob(os.path.join(ROOT, pattern), recursive=True):
             if os.path.isfile(path) and "/out/" not in path:
