@@ -73,7 +73,7 @@ fn host_all<R: Hosting, W: Write, E: Write>(
     out: &mut W,
     err: &mut Progress<'_, HostRuntime, E>,
 ) -> Status
-    ensures { EndsWell result → AreHostedInGroups signatures.now asked.now.openers names.now asked.now.named.wishes (W.contents out.old) (W.contents out.new) result }
+    ensures { EndsWell result → AreHostedInGroups (λ _ _. Unit {0}) signatures.now asked.now.openers names.now asked.now.named.wishes (W.contents out.old) (W.contents out.new) result }
 {
     if let Err(status) = look_over(rt, alloc, names, err) {
         return status;
