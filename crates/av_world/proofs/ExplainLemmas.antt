@@ -3,12 +3,13 @@ use Rattle.std.proofs.Common.{◌≡◌, ℕ, ◌+◌, ◌<◌, ◌≤◌, Bool,
 use Rattle.std.proofs.Common.{Some, None, if◌then◌else◌, ◌==◌, nat_lt, max, refl, sym, ap, ◌∙◌, subst, arith, inl, inr}
 use Rattle.std.specs.List.{AllByRecursion as Each, list_any}
 use Rattle.std.specs.Option.{option_map}
-use Rattle.std.proofs.lemmas.Bool.{and_parts, and_cases, and_from, or_right, true≢false, ltb-true, ltb-false, leb-true}
+use Rattle.std.proofs.lemmas.Bool.{and_parts, and_cases, and_from, false_from_ne_true, or_right, true≢false, ltb-true, ltb-false, leb-true}
 use Rattle.av_base.proofs.AmongLemmas.{among_each, each_self}
-use Rattle.av_base.proofs.KeyLemmas.{same_id-true}
+use Rattle.av_base.proofs.KeyLemmas.{same_id-refl, same_id-true}
 use Rattle.av_base.specs.Among.{Among}
 use Rattle.av_base.specs.MessageId.{same_id}
 use Rattle.av_base.specs.declared.cause.Cause.{Cause}
+use Rattle.av_base.specs.declared.cause.Cause.TheVariants as cause
 use Rattle.av_base.specs.declared.cause.Cause.TheVariants.{NotConnected, Busy, TimedOut, PortDisconnected, ScanFailed, Unsettled, StreamRemoved, FilterRestart}
 use Rattle.av_base.specs.declared.message_id.MessageId.{MessageId}
 use Rattle.av_base.specs.declared.mode.Mode.{Mode}
@@ -26,7 +27,7 @@ use Rattle.av_filter.specs.Rows
 use Rattle.av_filter.specs.Rows.{AgainRow, Hinders, OpenRow, Row, without}
 use Rattle.av_filter.specs.Reaction.{Reaction}
 use Rattle.av_filter_table.specs.Answering.{all_judged, by_mode, judged, refused_now}
-use Rattle.av_filter_table.specs.Table.{Table, context_of, next_id, on_port, opens_of, question_on, raised, sequence_left, waits_for}
+use Rattle.av_filter_table.specs.Table.{Table, context_of, next_id, on_port, opens_of, question_at, question_on, raised, sequence_left, waits_for}
 use Rattle.av_filter.specs.declared.note.Note.{Note}
 use Rattle.av_filter_table.specs.declared.pended.Pended.{Pended}
 use Rattle.av_filter_table.specs.declared.question.Question.{Question}
@@ -52,8 +53,8 @@ use Rattle.av_world.proofs.FilterLemmas.{Comes, Runs, order_just, current_right,
 use Rattle.av_world.proofs.FitLemmas.{Fits as FilterFits, core, OutcomeFits, about}
 use Rattle.av_world.specs.Held.{Asked, asked}
 use Rattle.av_world.specs.Past.{Past, IsVerdictOf}
-use Rattle.av_world.specs.Safety.{Waits, Explains, IsByMode, IsExplained, Moves, Submission, next_open}
-use Rattle.av_filter.specs.Fit.{AreInOrder, Fits, IsGiven, RunOnOpen}
+use Rattle.av_world.specs.Safety.{Waits, Explains, IsByMode, IsExplained, IsRightFor, Moves, Submission, next_open}
+use Rattle.av_filter.specs.Fit.{AreInOrder, Fits, IsAsked, IsGiven, RunOnOpen}
 
 -- what the open of each number asked for
 abbrev pub Wanted : Type 0
@@ -79,9 +80,14 @@ pub record Fair (wanted : Wanted) (p : Past) (t : Table) (v : Store) (f : Filter
 raised_floor : (wanted : Wanted) (m n : ℕ) → m ≤ n → (ps : List Pended) → Stand wanted m ps → Stand wanted n ps
 raised_floor wanted m n le = each_weaker (Stands wanted m) (Stands wanted n) (λ o h. (h.0, omega (arith, h.1, le)))
 
+-- a cause that lets an open through in fail-open mode is no signature
+right_by_mode : (wanted : Wanted) (p : Past) (n : ℕ) (c : Cause) → IsByMode c → IsRightFor wanted p n c
+right_by_mode wanted p n cause.Infected by = absurd (by.1 refl)
+right_by_mode wanted p n _ by = tt
+
 explained-refused : (wanted : Wanted) (p : Past) (t : Table) (v : Store) (f : FilterEvent) (floor : ℕ) (mode : Mode) (g : ℕ) (c : Cause) (o : Waiting) → wanted o.open_id ≡ Some (record { stream = o.stream; least = o.least }) → IsByMode c → Explains p t v f o.open_id c
     → IsExplained wanted p t v f floor (refused mode g c o)
-explained-refused wanted p t v f floor FailClosed g c o is by h = h
+explained-refused wanted p t v f floor FailClosed g c o is by h = (h, right_by_mode wanted p o.open_id c by)
 explained-refused wanted p t v f floor FailOpen g c o is by h = (ap (option_map (λ (x : Submission). x.stream)) is, by, h)
 
 busy : IsByMode Busy
@@ -234,7 +240,10 @@ module _ (wanted : Wanted) (p : Past) (t : Table) (v : Store) (down : List Lette
   verdict_answer f Clean here h = (now, omega arith, refl)
   verdict_answer f (Infected i e) here h =
       let present = (present_content p.streams v.streams s f fits.present here).1 in
-      Explains.judged_now s least (max t.floor least) i e (omega arith) (subst (λ g. IsVerdictOf p s g (max t.floor least) (Infected i e)) present h)
+      let right = subst (λ g. IsVerdictOf p s g (max t.floor least) (Infected i e)) present h in (
+        Explains.judged_now s least (max t.floor least) i e (omega arith) right,
+        record { asked = record { stream = s; least = least }; wanted_is = now; version = max t.floor least; index = i; end_at = e; least = omega arith; found = right },
+      )
 
   one_more : (t' : Table) (id : MessageId) (ms : List Letter) → t'.floor ≡ max t.floor least → t'.pended ≡ t.pended → Fair wanted p t v (Opens s least) (pends t' (taken v) s least id ms)
   one_more t' id ms fl pe = record {
@@ -263,7 +272,7 @@ module _ (wanted : Wanted) (p : Past) (t : Table) (v : Store) (down : List Lette
 
   open_fair : {r : Reaction} → OpenRow (raised least t) (taken v) s least r → Fair wanted p t v (Opens s least) r
   unfolding asks
-  open_fair (Rows.no_stream at) = one_answer _ _ refl refl (Explains.no_stream s least at)
+  open_fair (Rows.no_stream at) = one_answer _ _ refl refl (Explains.no_stream s least at, tt)
   open_fair (Rows.known f r at known) =
       one_answer _ _ refl refl (verdict_answer f r at (current_right p v.streams s (max t.floor least) f r (context_of t.contexts s) (fits.contexts s) at known))
   open_fair (Rows.hindered f c at why) = hindered f c why
@@ -332,6 +341,29 @@ nothing_walked : (t : Table) (v : Store) → (again_each t v []).table ≡ t
 unfolding again_each
 nothing_walked t v = refl
 
+-- an earlier id is another
+other_id : (i j : MessageId) → i.seq < j.seq → same_id i j ≡ false
+other_id i j less = false_from_ne_true (same_id i j) (λ e. let same : i.seq ≡ j.seq = ap (λ (k : MessageId). k.seq) (same_id-true i j e) in omega (arith, same, less))
+
+-- the question of an id on a port is the one of that id
+found_on : (port : Port) (id : MessageId) (qs : List Question) (q : Question) → AreInOrder qs → question_on port id qs ≡ Some q → question_at q.id qs ≡ Some q
+found_on port id [] q order at = absurd cc
+found_on port id (k ∷ qs) q order at =
+    (elim (same_id k.id id && same_port k.port port) as (λ b. (if b then Some k else question_on port id qs) ≡ Some q → question_at q.id (k ∷ qs) ≡ Some q) [
+      | true ↦ λ h. let same : k ≡ q = cc in subst (λ (x : Question). question_at x.id (k ∷ qs) ≡ Some x) same (rw (same_id-refl k.id) refl)
+      | false ↦ λ h.
+          let later : k.id.seq < q.id.seq = find_each (λ (x : Question). k.id.seq < x.id.seq) (λ x. same_id x.id id && same_port x.port port) qs q order.0 h in
+          rw (other_id k.id q.id later) (found_on port id qs q order.1 h)
+    ]) at
+
+-- an open that waits for it is of its stream
+pub question_stream : {qs : List Question} (q : Question) (o : Pended) → question_at q.id qs ≡ Some q → IsAsked qs o → waits_for q.id o ≡ true → q.stream ≡ o.held.stream
+question_stream {qs} q o at a waiting =
+    let id : o.question ≡ q.id = same_id-true o.question q.id waiting in
+    let both : Some a.question ≡ Some q = sym a.runs ∙ (ap (λ i. question_at i qs) id ∙ at) in
+    let same : a.question ≡ q = cc (both) in
+    ap (λ (x : Question). x.stream) (sym same) ∙ a.stream
+
 -- the other events
 module _ (wanted : Wanted) (p : Past) (t : Table) (v : Store) (down : List Letter) (fits : FilterFits p v.streams (core t) down) (sits : Fits t v) (runs_on : RunOnOpen t) (stand : Stand wanted t.floor t.pended) where
   submitted_so : (o : Pended) → Among o t.pended → wanted o.held.open_id ≡ Some (record { stream = o.held.stream; least = o.held.least })
@@ -352,12 +384,23 @@ module _ (wanted : Wanted) (p : Past) (t : Table) (v : Store) (down : List Lette
       let right : IsVerdictOf p q.stream q.generation version r = subst (λ (a : Asked). IsVerdictOf p a.stream a.generation version r) about_it h.right in
       opens_get (IsExplained wanted p t v (Receives (via port (Reply id (Judged version r)))) version) t q.id (λ (o : Pended). judged r q.generation version o.held) (λ o a w.
       let stands : Stands wanted t.floor o = among_each (Stands wanted t.floor) t.pended o stand a in
-      by_verdict o (waits t q.id o a w) refl stands.0 (omega (arith, stands.1, up)) r (subst (λ g. IsVerdictOf p q.stream g version r) run.present right))
+      by_verdict o (waits t q.id o a w) refl (question_stream q o (found_on port id t.questions q sits.order at) (among_each (IsAsked t.questions) t.pended o sits.asked a) w) stands.0 (omega (arith, stands.1, up)) r (subst (λ g. IsVerdictOf p q.stream g version r) run.present right))
     where
-      by_verdict : (o : Pended) (w : Waits t q.id o.held.open_id) → w.waiting ≡ o → wanted o.held.open_id ≡ Some (record { stream = o.held.stream; least = o.held.least }) → o.held.least ≤ version → (x : Verdict) → IsVerdictOf p q.stream (generation_of p.streams q.stream) version x
+      by_verdict : (o : Pended) (w : Waits t q.id o.held.open_id) → w.waiting ≡ o → q.stream ≡ o.held.stream → wanted o.held.open_id ≡ Some (record { stream = o.held.stream; least = o.held.least }) → o.held.least ≤ version → (x : Verdict) → IsVerdictOf p q.stream (generation_of p.streams q.stream) version x
           → IsExplained wanted p t v (Receives (via port (Reply id (Judged version r)))) version (judged x q.generation version o.held)
-      by_verdict o w is so least Clean right = (so, least, refl)
-      by_verdict o w is so least (Infected i e) right = Explains.judged_late port id (Judged version r) q o.held.open_id version i e at w (subst (λ (z : Pended). z.held.least ≤ version) (sym is) least) right
+      by_verdict o w is of so least Clean right = (so, least, refl)
+      by_verdict o w is of so least (Infected i e) right = (
+        Explains.judged_late port id (Judged version r) q o.held.open_id version i e at w (subst (λ (z : Pended). z.held.least ≤ version) (sym is) least) right,
+        record {
+          asked = record { stream = o.held.stream; least = o.held.least };
+          wanted_is = so;
+          version = version;
+          index = i;
+          end_at = e;
+          least = least;
+          found = subst (λ s. IsVerdictOf p s (generation_of p.streams s) version (Infected i e)) of right;
+        },
+      )
 
   -- ---- a port is lost
 
@@ -401,7 +444,7 @@ module _ (wanted : Wanted) (p : Past) (t : Table) (v : Store) (down : List Lette
       again_fair wanted _ t v _ _ k _ (left_for (λ (x : Question). x.stream == s) k at) stand
       (λ x w a e le. Explains.unsettled_changed c s k x.held.open_id of at (waits t k.id x a e) le) (λ n w le. Explains.no_number_changed c s k n of at w le)
   row_fair (Rows.gone s k at) now h =
-      ended_fair wanted _ t v _ _ k None (λ (o : Pended). denied StreamRemoved o.held) _ _ stand (λ x a w. Explains.removed s k x.held.open_id at (waits t k.id x a w))
+      ended_fair wanted _ t v _ _ k None (λ (o : Pended). denied StreamRemoved o.held) _ _ stand (λ x a w. (Explains.removed s k x.held.open_id at (waits t k.id x a w), tt))
   row_fair (Rows.greeted port number version same free up) now h = quiet_fair wanted p t v _ _ (raised_floor wanted t.floor version (ltb-false version t.floor up) t.pended stand) refl
   row_fair (Rows.updated port version) now h = quiet_fair wanted p t v _ _ (raised_floor wanted t.floor (max t.floor version) (omega arith) t.pended stand) refl
   row_fair (Rows.failed port id why q at) now h =

@@ -7,7 +7,7 @@ use Rattle.std.proofs.lemmas.List.Filters.{length-filter_both}
 use Rattle.std.specs.Int.{div_ceil}
 use Rattle.std.specs.List.{AllByRecursion as Each}
 use Rattle.av_base.proofs.AmongLemmas.{among_left, among_right}
-use Rattle.av_base.proofs.KeyLemmas.{same_id-refl, same_id-true, same_port-refl, same_port-true}
+use Rattle.av_base.proofs.KeyLemmas.{same_id-refl, same_port-refl, same_port-true}
 use Rattle.av_base.specs.Among.{Among}
 use Rattle.av_base.specs.declared.limits.LimitValues.{LimitValues}
 use Rattle.av_base.specs.declared.mode.Mode.{Mode}
@@ -27,6 +27,7 @@ use Rattle.av_pend.specs.declared.answer.Answer.{Answer}
 use Rattle.av_service.specs.Desk.{Desk, job_at}
 use Rattle.av_service.specs.Scanning.{most_leases}
 use Rattle.av_sigset.specs.Catalogue.{latest}
+use Rattle.av_world.proofs.ExplainLemmas.{question_stream}
 use Rattle.av_world.proofs.FilterLemmas.{Runs}
 use Rattle.av_world.proofs.PlaceLemmas.{by_port}
 use Rattle.av_world.proofs.PathLemmas as path
@@ -260,11 +261,7 @@ module _ (mode : Mode) (w : WorldState) (st : Idle mode w) (q : Question) (qs : 
   generation = run.generation ∙ ap stream_generation (sym run.here)
 
   of_stream : (p : Pended) → waits_for q.id p ≡ true → IsAsked w.table.questions p → q.stream ≡ p.held.stream
-  of_stream p waits a =
-      let id : p.question ≡ q.id = same_id-true p.question q.id waits in
-      let both : Some a.question ≡ Some q = sym a.runs ∙ (ap (λ i. question_at i w.table.questions) id ∙ found_at) in
-      let same : a.question ≡ q = cc (both) in
-      ap (λ (k : Question). k.stream) (sym same) ∙ a.stream
+  of_stream p waits a = question_stream q p found_at a waits
 
   gets : (more : List Given) (p : Pended) → q.stream ≡ p.held.stream → Among (given_at one.event (answer p)) given → GetsVerdict w (given ++ more) p
   gets more p same among = record {

@@ -166,14 +166,30 @@ submission (_ ∷ es) n = submission es n
 abbrev pub IsByMode : Cause → Type 0
 IsByMode c = (c ≢ NoStream) × (c ≢ cause.Infected) × (c ≢ StreamRemoved)
 
+-- a signature occurs in the present content of the stream that the open of this number asked for, under a version that is not below the
+-- least that it asked for
+pub record IsFoundFor (wanted : ℕ → Option Submission) (p : Past) (n : ℕ) : Type 0 where
+  pub asked : Submission
+  pub wanted_is : wanted n ≡ Some asked
+  pub version : ℕ
+  pub index : ℕ
+  pub end_at : ℕ
+  pub least : asked.least ≤ version
+  pub found : IsVerdictOf p asked.stream (generation_of p.streams asked.stream) version (Infected index end_at)
+
+-- so it is of an open that is denied for that
+abbrev pub IsRightFor : (ℕ → Option Submission) → Past → ℕ → Cause → Type 0
+IsRightFor wanted p n cause.Infected = IsFoundFor wanted p n
+IsRightFor wanted p n _ = Unit {0}
+
 -- a grant is at the floor, not below the least version that its open asked for, and of the stream that it asked for; every
--- other answer is explained, and one that lets an open through is of its stream too
+-- other answer is explained, one that lets an open through is of its stream too, and a denial for a signature is right for its open
 abbrev pub IsExplained : (ℕ → Option Submission) → Past → Table → Store → FilterEvent → ℕ → Answer → Type 0
 IsExplained wanted p t v f floor (Granted n least s g version) =
     (wanted n ≡ Some (record { stream = s; least = least })) × (least ≤ version) × (version ≡ floor)
 IsExplained wanted p t v f floor (Unscanned n s g c) =
     (option_map (λ o. o.stream) (wanted n) ≡ Some s) × IsByMode c × Explains p t v f n c
-IsExplained wanted p t v f floor (Denied n c) = Explains p t v f n c
+IsExplained wanted p t v f floor (Denied n c) = Explains p t v f n c × IsRightFor wanted p n c
 
 -- so is each answer that an event of the world gave
 abbrev pub AnswersExplained : WorldState → Event → WorldState → Type 0
