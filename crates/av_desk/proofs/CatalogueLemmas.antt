@@ -1,5 +1,6 @@
 -- The publications of a catalogue.
-use Rattle.std.proofs.Common.{◌≡◌, ℕ, ◌-◌, ◌<◌, ◌≤◌, ◌==◌, suc, true, List, [], ◌∷◌, length, map, drop, Some, None, refl, sym, ap, arith, eq-eqb}
+use Rattle.std.proofs.Common.{◌≡◌, ℕ, ◌-◌, ◌<◌, ◌≤◌, ◌==◌, suc, true, List, [], ◌∷◌, length, map, drop, Some, None, refl, sym, ap, ◌∙◌, subst, arith, eq-eqb}
+use Rattle.std.proofs.lemmas.List.{length-map}
 use Rattle.std.specs.List.{AllByRecursion as Each}
 use Rattle.av_desk.specs.Book.{IsBuilt, compiled, opened_at}
 use Rattle.av_service.specs.Audit.{IsCatalogue}
@@ -48,3 +49,10 @@ all_opened sets = let none : length sets - length sets ≡ 0 = omega arith in ap
 -- one more leaves those that were there at first
 pub opened_more : (p : Publication) (sets : List Publication) (n : ℕ) → n ≤ length sets → opened_at n (p ∷ sets) ≡ opened_at n sets
 opened_more p sets n few = let more : length (p ∷ sets) - n ≡ suc (length sets - n) = omega arith in ap (λ k. drop k (p ∷ sets)) more
+
+-- sets of which all were there at first are a catalogue
+pub opened_first : (sets : List NumberedSet) (n : ℕ) → n ≡ length sets → IsFalling sets → Each IsSet sets → IsCatalogue (opened_at n (map publication_of sets))
+opened_first sets n all falling each =
+    let same : length (map publication_of sets) ≡ n = length-map sets publication_of ∙ sym all in
+    let whole : IsCatalogue (opened_at (length (map publication_of sets)) (map publication_of sets)) = subst IsCatalogue (sym (all_opened (map publication_of sets))) (is_catalogue sets falling each) in
+    subst (λ (k : ℕ). IsCatalogue (opened_at k (map publication_of sets))) same whole

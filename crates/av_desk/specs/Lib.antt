@@ -3,3 +3,4 @@ pub mod Book
 pub mod Call
 pub mod Entry
 pub mod Lent
+pub mod Setup

@@ -8,6 +8,7 @@ use crate::audit::Audit;
 use crate::fault::DeskFault;
 use crate::lent::Taken;
 use crate::locked::Locked;
+use crate::setup::Setup;
 use crate::shared::SharedAutomaton;
 use av_base::{Limits, Port, Refusal, Refused};
 use av_frame::Message;
@@ -28,9 +29,13 @@ struct Inner {
 pub struct Desk {
     inner: Mutex<Inner>,
     came: Condvar,
+    // Beside the lock, since no proof knows what a lock gives back.
+    setup: Setup,
 }
 
 impl Desk {
+    ghost use Rattle.av_desk.specs.Setup.{setup_of, recorded_by};
+
     /// A service just started at this port over this catalogue. Builds the automaton of the set published last. Where memory is
     /// refused, the catalogue is handed back.
     pub fn new(
@@ -40,10 +45,17 @@ impl Desk {
         catalogue: Catalogue,
         limits: Limits,
     ) -> Result<Desk, AllocFailed<Catalogue>>
-        ensures { IfErr result (λ e. e.value ≡ catalogue) }
+        ensures setup { IfOk result (λ d. setup_of d
+            ≡ record { volume_number = volume_number; port = port; limits = limits }) }
+        ensures back { IfErr result (λ e. e.value ≡ catalogue) }
     {
+        let setup = Setup {
+            volume_number,
+            port,
+            limits,
+        };
         match Locked::new(alloc, volume_number, port, catalogue, limits) {
-            Ok(locked) => Ok(Desk::of(locked)),
+            Ok(locked) => Ok(Desk::of(locked, setup)),
             Err(failed) => Err(failed),
         }
     }
@@ -58,21 +70,31 @@ impl Desk {
         limits: Limits,
     ) -> Result<Desk, AllocFailed<Catalogue>>
         requires { IsBuilt (map publication_of catalogue.sets) automaton }
-        ensures { IfErr result (λ e. e.value ≡ catalogue) }
+        ensures setup { IfOk result (λ d. setup_of d
+            ≡ record { volume_number = volume_number; port = port; limits = limits }) }
+        ensures back { IfErr result (λ e. e.value ≡ catalogue) }
     {
+        let setup = Setup {
+            volume_number,
+            port,
+            limits,
+        };
         match Locked::over(alloc, volume_number, port, catalogue, automaton, limits) {
-            Ok(locked) => Ok(Desk::of(locked)),
+            Ok(locked) => Ok(Desk::of(locked, setup)),
             Err(refused) => Err(refused),
         }
     }
 
-    fn of(locked: Locked) -> Desk {
+    fn of(locked: Locked, setup: Setup) -> Desk
+        ensures { setup_of result ≡ setup }
+    {
         Desk {
             inner: Mutex::new(Inner {
                 locked,
                 is_stopped: false,
             }),
             came: Condvar::new(),
+            setup,
         }
     }
 
@@ -220,15 +242,20 @@ impl Desk {
 
     /// Ends the desk and gives its audit. Takes no memory, and waits for nobody.
     pub fn close(self) -> Audit
+        ensures setup { recorded_by result ≡ setup_of self }
         ensures legal { IsServiceAudit (opened_by result) (started_by result) result.events.items }
         ensures catalogue { IsCatalogue (opened_by result) }
         ensures sets { map publication_of result.catalogue.sets ≡ sets_end (opened_by result) result.events.items }
     {
-        let Desk { inner, came: _ } = self;
+        let Desk {
+            inner,
+            came: _,
+            setup,
+        } = self;
         let Inner {
             locked,
             is_stopped: _,
         } = inner.into_inner();
-        locked.into_audit()
+        setup.checked(locked.into_audit())
     }
 }

@@ -18,6 +18,7 @@ pub mod fault;
 mod given;
 pub mod lent;
 pub mod locked;
+pub mod setup;
 pub mod shared;
 #[cfg(test)]
 mod tests;
@@ -29,4 +30,5 @@ pub use event::Event;
 pub use fault::DeskFault;
 pub use lent::{Lent, LentParcel, Taken};
 pub use locked::Locked;
+pub use setup::Setup;
 pub use shared::SharedAutomaton;

@@ -119,6 +119,7 @@ impl Gate {
         ensures later { floor_seen seat.old ≤ floor_seen seat.new }
         ensures call { AddsOpen seat.old seat.new name.now result }
         ensures least { IfOk result (λ t. floor_seen seat.old ≤ t.least) }
+        ensures seen { IfOk result (λ t. t.least ≤ floor_seen seat.new) }
     {
         let least = self.floor.load(&mut seat.floor);
         let call = self.prepare(seat, Call::open(alloc, name, least))?;

@@ -148,7 +148,8 @@ fn check_second_port<R: Wait + Abort>(rt: &R, alloc: Global) -> Result<(), Fail>
     let sent = desk.take_outgoing(rt, alloc)?;
     let ports: Vec<Port> = sent.iter().map(|message| message.port()).collect(alloc)?;
     assert_eq!(rt; ports.as_slice(), [Port::Two, Port::Two].as_slice());
-    assert_eq!(rt; desk.close().port, Port::Two);
+    let audit = desk.close();
+    assert_eq!(rt; (audit.port, audit.events.len()), (Port::Two, 3));
     Ok(())
 }
 
