@@ -18,4 +18,4 @@ computed = true
 
 pub are_worked : AreWorked
 unfolding computed
-are_worked = record { serves = refl; renews = refl; may = (tt, (refl, (refl, (tt, tt)))); published = refl; watches = refl; grants = refl; is_over = refl; nothing_behind = refl; not_before = refl; at_once = refl; grants_then = refl; none_at_once = refl; not_at_two = refl; others = refl; none_served_at_two = refl; lost = refl }
+are_worked = record { serves = refl; renews = refl; may = (tt, (refl, (refl, (tt, tt)))); published = refl; watches = refl; grants = refl; is_over = refl; nothing_behind = refl; not_before = refl; behind_a_message = refl; at_once = refl; grants_then = refl; none_at_once = refl; not_at_two = refl; others = refl; none_served_at_two = refl; lost = refl }

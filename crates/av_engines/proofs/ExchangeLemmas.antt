@@ -1,5 +1,5 @@
 -- What an engine had of its input, and sent, when its exchange stops.
-use Rattle.std.proofs.Common.{ℕ, ◌≡◌, List, [], ◌++◌, sym, ap, subst, ◌∙◌, append_assoc, append-nil}
+use Rattle.std.proofs.Common.{ℕ, ◌≡◌, List, [], ◌++◌, refl, sym, ap, subst, ◌∙◌, append_assoc, append-nil}
 use Rattle.std.specs.Prelude.{Option, Some, None, IfSome}
 use Rattle.std.specs.Io.KnownBytes.{Appends}
 use Rattle.std.specs.List.{flat_map}
@@ -13,48 +13,56 @@ use Rattle.av_engines.specs.declared.end.End.{End}
 use Rattle.av_engines.specs.declared.end.End.TheVariants.{Done, ReadFault, WriteFault, Frame, Closed, Memory, AuditFull}
 use Rattle.av_engines.specs.declared.exchange.Exchange.{Exchange}
 use Rattle.av_engines.specs.Exchange.{Passes, StopsAs}
+use Rattle.av_engines.specs.FilterEnd.{input_of}
 use Rattle.av_engines.specs.Incoming.{Received, Takes, EndsAs, unread}
 use Rattle.av_engines.specs.Spelled.{SpellsFirst, SpellsAll, SpellsUpToFault, AreSpelled, IsSent}
 use Rattle.av_engines.proofs.IncomingLemmas.{takes_then}
 
--- the bytes that came of a stream from its start on
-came : (r s : Received) (a b : Option (List ℕ)) (ms : List Letter) → unread r ≡ [] → (t : Takes r s a b ms) → t.bytes ≡ flat_map frame ms ++ unread s
-came r s a b ms none t = ap (λ l. l ++ t.bytes) (sym none) ∙ t.whole
+-- what was unread and what came of a stream, where it is known
+came : (r s : Received) (xs ys : List ℕ) (ms : List Letter) → (t : Takes r s (Some xs) (Some ys) ms) → unread r ++ xs ≡ flat_map frame ms ++ (unread s ++ ys)
+came r s xs ys ms t =
+    ap (λ l. unread r ++ l) t.came
+    ∙ sym (append_assoc (unread r) t.bytes ys)
+    ∙ ap (λ l. l ++ ys) t.whole
+    ∙ append_assoc (flat_map frame ms) (unread s) ys
 
 -- the messages that were taken are the first of the input
-pub first_spelled : (r s : Received) (a b : Option (List ℕ)) (ms : List Letter) → unread r ≡ [] → Takes r s a b ms → IfSome a (SpellsFirst ms)
-first_spelled r s None b ms none t = tt
-first_spelled r s (Some xs) None ms none t = absurd t.came
-first_spelled r s (Some xs) (Some ys) ms none t = record {
-  more = unread s ++ ys;
-  whole = t.came ∙ ap (λ l. l ++ ys) (came r s (Some xs) (Some ys) ms none t) ∙ append_assoc (flat_map frame ms) (unread s) ys;
-  in_range = t.in_range;
-}
+pub first_taken : (r s : Received) (a b : Option (List ℕ)) (ms : List Letter) → Takes r s a b ms → IfSome (input_of r a) (SpellsFirst ms)
+first_taken r s None b ms t = tt
+first_taken r s (Some xs) None ms t = absurd t.came
+first_taken r s (Some xs) (Some ys) ms t = record { more = unread s ++ ys; whole = came r s xs ys ms t; in_range = t.in_range }
 
 -- they are all, where the input ended
-all_spelled : (r s : Received) (a b : Option (List ℕ)) (ms : List Letter) → unread r ≡ [] → Takes r s a b ms → EndsAs Closed s b → IfSome a (SpellsAll ms)
-all_spelled r s None b ms none t ends = tt
-all_spelled r s (Some xs) None ms none t ends = absurd t.came
-all_spelled r s (Some xs) (Some ys) ms none t ends =
-    let whole = t.came ∙ ap (λ l. t.bytes ++ l) ends.1 ∙ append-nil t.bytes ∙ came r s (Some xs) (Some ys) ms none t in
+all_taken : (r s : Received) (a b : Option (List ℕ)) (ms : List Letter) → Takes r s a b ms → EndsAs Closed s b → IfSome (input_of r a) (SpellsAll ms)
+all_taken r s None b ms t ends = tt
+all_taken r s (Some xs) None ms t ends = absurd t.came
+all_taken r s (Some xs) (Some ys) ms t ends =
+    let whole = came r s xs ys ms t ∙ ap (λ l. flat_map frame ms ++ (unread s ++ l)) ends.1 ∙ ap (λ l. flat_map frame ms ++ l) (append-nil (unread s)) in
     (unread s, record { whole = whole; in_range = t.in_range; ends = ends.0 })
 
 -- or all before a fault, which stays whatever comes behind it
-up_to_fault : FaultStays → (r s : Received) (a b : Option (List ℕ)) (ms : List Letter) → unread r ≡ [] → Takes r s a b ms → EndsAs Frame s b → IfSome a (SpellsUpToFault ms)
-up_to_fault stays r s None b ms none t ends = tt
-up_to_fault stays r s (Some xs) None ms none t ends = absurd t.came
-up_to_fault stays r s (Some xs) (Some ys) ms none t ends =
-    let whole = t.came ∙ ap (λ l. l ++ ys) (came r s (Some xs) (Some ys) ms none t) ∙ append_assoc (flat_map frame ms) (unread s) ys in
-    (unread s ++ ys, ends.0, record { whole = whole; in_range = t.in_range; ends = stays (unread s) ys ends.0 ends.1 })
+taken_to_fault : FaultStays → (r s : Received) (a b : Option (List ℕ)) (ms : List Letter) → Takes r s a b ms → EndsAs Frame s b → IfSome (input_of r a) (SpellsUpToFault ms)
+taken_to_fault stays r s None b ms t ends = tt
+taken_to_fault stays r s (Some xs) None ms t ends = absurd t.came
+taken_to_fault stays r s (Some xs) (Some ys) ms t ends =
+    (unread s ++ ys, ends.0, record { whole = came r s xs ys ms t; in_range = t.in_range; ends = stays (unread s) ys ends.0 ends.1 })
 
-spelled : FaultStays → (e : End) (r s : Received) (a b : Option (List ℕ)) (ms : List Letter) → unread r ≡ [] → Takes r s a b ms → EndsAs e s b → AreSpelled e a ms
-spelled stays Done r s a b ms none t ends = absurd ends
-spelled stays ReadFault r s a b ms none t ends = first_spelled r s a b ms none t
-spelled stays WriteFault r s a b ms none t ends = absurd ends
-spelled stays Frame r s a b ms none t ends = up_to_fault stays r s a b ms none t ends
-spelled stays Closed r s a b ms none t ends = all_spelled r s a b ms none t ends
-spelled stays Memory r s a b ms none t ends = first_spelled r s a b ms none t
-spelled stays AuditFull r s a b ms none t ends = absurd ends
+taken_as : FaultStays → (e : End) (r s : Received) (a b : Option (List ℕ)) (ms : List Letter) → Takes r s a b ms → EndsAs e s b → AreSpelled e (input_of r a) ms
+taken_as stays Done r s a b ms t ends = absurd ends
+taken_as stays ReadFault r s a b ms t ends = first_taken r s a b ms t
+taken_as stays WriteFault r s a b ms t ends = absurd ends
+taken_as stays Frame r s a b ms t ends = taken_to_fault stays r s a b ms t ends
+taken_as stays Closed r s a b ms t ends = all_taken r s a b ms t ends
+taken_as stays Memory r s a b ms t ends = first_taken r s a b ms t
+taken_as stays AuditFull r s a b ms t ends = absurd ends
+
+-- a stream from its start on has nothing that is unread
+pub from_start : (r : Received) (a : Option (List ℕ)) → unread r ≡ [] → input_of r a ≡ a
+from_start r None none = refl
+from_start r (Some xs) none = ap (λ l. Some (l ++ xs)) none
+
+pub first_spelled : (r s : Received) (a b : Option (List ℕ)) (ms : List Letter) → unread r ≡ [] → Takes r s a b ms → IfSome a (SpellsFirst ms)
+first_spelled r s a b ms none t = subst (λ k. IfSome k (SpellsFirst ms)) (from_start r a none) (first_taken r s a b ms t)
 
 -- a whole text is a front of it
 pub prefix_whole : (w v : Option (List ℕ)) (text : List ℕ) → Appends w v text → AppendsPrefix w v text
@@ -75,16 +83,20 @@ stopped_sent Memory x y b c w v u written went stops = prefix_whole w u (written
 stopped_sent AuditFull x y b c w v u written went stops = absurd stops.1
 
 -- and had taken what the input spells
-ends_spelled : FaultStays → (e : End) (r : Received) (x y : Exchange) (a b c v u : Option (List ℕ)) (ms : List Letter) → unread r ≡ [] → Takes r x.incoming a b ms
-    → Passes x y b c v u [] × EndsAs e y.incoming c → AreSpelled e a ms
-ends_spelled stays e r x y a b c v u ms none t stops = spelled stays e r y.incoming a c ms none (taken_still r x.incoming y.incoming a b c ms t stops.0.taken) stops.1
+ends_taken : FaultStays → (e : End) (r : Received) (x y : Exchange) (a b c v u : Option (List ℕ)) (ms : List Letter) → Takes r x.incoming a b ms
+    → Passes x y b c v u [] × EndsAs e y.incoming c → AreSpelled e (input_of r a) ms
+ends_taken stays e r x y a b c v u ms t stops = taken_as stays e r y.incoming a c ms (taken_still r x.incoming y.incoming a b c ms t stops.0.taken) stops.1
+
+pub stopped_taken : FaultStays → (e : End) (r : Received) (x y : Exchange) (a b c v u : Option (List ℕ)) (ms : List Letter) → Takes r x.incoming a b ms
+    → StopsAs e x y b c v u → AreSpelled e (input_of r a) ms
+stopped_taken stays Done r x y a b c v u ms t stops = ends_taken stays Done r x y a b c v u ms t stops
+stopped_taken stays ReadFault r x y a b c v u ms t stops = ends_taken stays ReadFault r x y a b c v u ms t stops
+stopped_taken stays WriteFault r x y a b c v u ms t stops = first_taken r x.incoming a b ms t
+stopped_taken stays Frame r x y a b c v u ms t stops = ends_taken stays Frame r x y a b c v u ms t stops
+stopped_taken stays Closed r x y a b c v u ms t stops = ends_taken stays Closed r x y a b c v u ms t stops
+stopped_taken stays Memory r x y a b c v u ms t stops = ends_taken stays Memory r x y a b c v u ms t stops
+stopped_taken stays AuditFull r x y a b c v u ms t stops = ends_taken stays AuditFull r x y a b c v u ms t stops
 
 pub stopped_spelled : FaultStays → (e : End) (r : Received) (x y : Exchange) (a b c v u : Option (List ℕ)) (ms : List Letter) → unread r ≡ [] → Takes r x.incoming a b ms
     → StopsAs e x y b c v u → AreSpelled e a ms
-stopped_spelled stays Done r x y a b c v u ms none t stops = ends_spelled stays Done r x y a b c v u ms none t stops
-stopped_spelled stays ReadFault r x y a b c v u ms none t stops = ends_spelled stays ReadFault r x y a b c v u ms none t stops
-stopped_spelled stays WriteFault r x y a b c v u ms none t stops = first_spelled r x.incoming a b ms none t
-stopped_spelled stays Frame r x y a b c v u ms none t stops = ends_spelled stays Frame r x y a b c v u ms none t stops
-stopped_spelled stays Closed r x y a b c v u ms none t stops = ends_spelled stays Closed r x y a b c v u ms none t stops
-stopped_spelled stays Memory r x y a b c v u ms none t stops = ends_spelled stays Memory r x y a b c v u ms none t stops
-stopped_spelled stays AuditFull r x y a b c v u ms none t stops = ends_spelled stays AuditFull r x y a b c v u ms none t stops
+stopped_spelled stays e r x y a b c v u ms none t stops = subst (λ k. AreSpelled e k ms) (from_start r a none) (stopped_taken stays e r x y a b c v u ms t stops)

@@ -33,13 +33,16 @@ takes_then r s t a b c ms ns first second = record {
   few = omega (arith, first.few, second.few, length-append first.bytes second.bytes);
 }
 
--- the frames that were taken off came in as many reads as are made
-pub takes_few : (r s : Received) (a b : Option (List ℕ)) (ms : List Letter) → unread r ≡ [] → Takes r s a b ms → CameIn r.turns ms
-takes_few r s a b ms none takes =
+-- the frames that were taken off had come, or came in as many reads as are made
+pub takes_within : (r s : Received) (a b : Option (List ℕ)) (ms : List Letter) → Takes r s a b ms → length (flat_map frame ms) ≤ budget r
+takes_within r s a b ms takes =
     let size = ap length takes.whole in
     let left = length-append (unread r) takes.bytes in
     let right = length-append (flat_map frame ms) (unread s) in
-    omega (arith, size, left, right, ap length none, takes.few)
+    omega (arith, size, left, right, takes.few)
+
+pub takes_few : (r s : Received) (a b : Option (List ℕ)) (ms : List Letter) → unread r ≡ [] → Takes r s a b ms → CameIn r.turns ms
+takes_few r s a b ms none takes = omega (arith, ap length none, takes_within r s a b ms takes)
 
 length-frame : (m : Letter) → 4 ≤ length (frame m)
 unfolding field4

@@ -24,12 +24,12 @@ use Rattle.av_engines.specs.declared.end.End.{End}
 use Rattle.av_engines.specs.declared.end.End.TheVariants.{Done, ReadFault, WriteFault, Frame, Closed, Memory, AuditFull}
 use Rattle.av_engines.specs.declared.exchange.Exchange.{Exchange}
 use Rattle.av_engines.specs.Exchange.{Passes, StopsAs}
-use Rattle.av_engines.specs.FilterEnd.{Hears, IsAmid, IsAt, IsLeft, IsStill, IsWithin, Leaves, Puts, RunsTo, WatchesTo}
-use Rattle.av_engines.specs.Incoming.{Received, Takes, unread}
+use Rattle.av_engines.specs.FilterEnd.{GoesOn, Hears, IsAmid, IsAt, IsLeft, IsStill, IsWithin, Leaves, Puts, RunsOver, WatchesOver, WatchesTo, input_of}
+use Rattle.av_engines.specs.Incoming.{Received, Takes, nothing_yet}
 use Rattle.av_engines.specs.Spelled.{AreSpelled, IsSent, SpellsAll, SpellsFirst, SpellsUpToFault}
-use Rattle.av_engines.specs.Watching.{Led, Standing, all_happened, due, events_of, filter_run, filter_text, happened, heard, heard_all, is_done, joined, later, opens_of, standing, unled}
-use Rattle.av_engines.proofs.IncomingLemmas.{takes_few, takes_none, takes_then}
-use Rattle.av_engines.proofs.ExchangeLemmas.{first_spelled, prefix_whole, stopped_sent, stopped_spelled}
+use Rattle.av_engines.specs.Watching.{Led, Standing, all_happened, begun, due, events_of, filter_run, filter_text, happened, heard, heard_all, is_done, joined, later, opens_of, run_from, standing, text_from, unled}
+use Rattle.av_engines.proofs.IncomingLemmas.{takes_none, takes_then, takes_within}
+use Rattle.av_engines.proofs.ExchangeLemmas.{first_taken, from_start, prefix_whole, stopped_sent, stopped_taken}
 
 -- events after others
 happened_then : (w : Led) (es fs : List FilterEvent) → all_happened w (es ++ fs) ≡ all_happened (all_happened w es) fs
@@ -111,9 +111,6 @@ puts_then w t t' v v' answers answers' waited waits more fs first second =
           ∙ ap (λ l. waited ++ l) (sym (flat_map-append frame w.sent x.sent))
           ∙ ap (λ (k : Led). waited ++ flat_map frame k.sent) (sym same);
     }
-
-pub amid_none : (t : Table) (v : Store) (answers : List Answer) (all : List FilterEvent) → IsAmid (unled t v answers) all t v answers
-amid_none t v answers all = record { events = []; rest = all; first = refl; at = record { table = refl; volume = refl; answered = refl } }
 
 -- one open more was submitted
 pub submitted_more : (w : Led) (t t' : Table) (v v' : Store) (answers answers' : List Answer) (waited waits more : List ℕ) (ss ts : List ℕ) (s : ℕ)
@@ -260,54 +257,52 @@ heard_more opens first s (k ∷ ms) m left =
     (λ h. heard_more opens first (heard opens s k) ms m h)
 
 -- Some messages were handled. The frames that were written, and those that wait to go out, are the text of them.
-pub record IsWatching (opens : List ℕ) (old : Table) (store : Store) (from now : Received) (waits : List ℕ) (a b w u : Option (List ℕ)) (t : Table) (v : Store) (answers : List Answer) (submitted : Bool) : Type 0 where
+pub record IsWatching (at_once : Bool) (opens : List ℕ) (old : Table) (store : Store) (from now : Received) (waits : List ℕ) (a b w u : Option (List ℕ)) (t : Table) (v : Store) (answers : List Answer) (submitted : Bool) : Type 0 where
   pub messages : List Letter
   pub taken : Takes from now a b messages
-  pub at : IsAt (filter_run old store opens messages).led t v answers
-  pub submitted_is : submitted ≡ (filter_run old store opens messages).submitted
+  pub at : IsAt (run_from at_once old store opens messages).led t v answers
+  pub submitted_is : submitted ≡ (run_from at_once old store opens messages).submitted
   pub written : List ℕ
   pub went : Appends w u written
-  pub text : filter_text old store opens messages ≡ written ++ waits
+  pub text : text_from at_once old store opens messages ≡ written ++ waits
 
-pub watching_begins : (opens : List ℕ) (t t' : Table) (v v' : Store) (from : Received) (waits more : List ℕ) (a w : Option (List ℕ)) (answers answers' : List Answer) (before submitted : Bool)
-    → waits ≡ [] → answers ≡ [] → before ≡ false → Hears (joined opens before (unled t v answers)) t' v' answers' submitted waits more
-    → IsWatching opens t v from from more a a w w t' v' answers' submitted
-watching_begins opens t t' v v' from waits more a w answers answers' before submitted none first not_yet hears =
-    let start : Standing = joined opens false (unled t v []) in
-    let same : joined opens before (unled t v answers) ≡ start = ap (λ b. joined opens b (unled t v answers)) not_yet ∙ ap (λ l. joined opens false (unled t v l)) first in
-    let h : Hears start t' v' answers' submitted waits more = subst (λ k. Hears k t' v' answers' submitted waits more) same hears in
+pub watching_begins : (at_once : Bool) (opens : List ℕ) (t t' : Table) (v v' : Store) (from : Received) (waits more : List ℕ) (a w : Option (List ℕ)) (answers' : List Answer) (submitted : Bool)
+    → waits ≡ [] → Hears (begun at_once opens (unled t v [])) t' v' answers' submitted waits more
+    → IsWatching at_once opens t v from from more a a w w t' v' answers' submitted
+watching_begins at_once opens t t' v v' from waits more a w answers' submitted none hears =
+    let start : Standing = begun at_once opens (unled t v []) in
     record {
       messages = [];
       taken = takes_none from a;
-      at = h.puts.at;
-      submitted_is = h.submitted_is;
+      at = hears.puts.at;
+      submitted_is = hears.submitted_is;
       written = [];
       went = Appends-nil w;
-      text = sym (h.puts.sent ∙ ap (λ l. l ++ flat_map frame start.led.sent) none);
+      text = sym (hears.puts.sent ∙ ap (λ l. l ++ flat_map frame start.led.sent) none);
     }
 
 -- whether all opens are answered, by what the code counts
-pub done_is : (opens : List ℕ) (old : Table) (store : Store) (from now : Received) (waits : List ℕ) (a b w u : Option (List ℕ)) (t : Table) (v : Store) (answers : List Answer) (submitted : Bool) (first answered : ℕ)
-    → (h : IsWatching opens old store from now waits a b w u t v answers submitted) → first ≡ store.opens → answered ≡ later first answers
-    → is_done store.opens (length opens) (filter_run old store opens h.messages) ≡ nat_eq answered (length opens)
-done_is opens old store from now waits a b w u t v answers submitted first answered h same counted =
+pub done_is : (at_once : Bool) (opens : List ℕ) (old : Table) (store : Store) (from now : Received) (waits : List ℕ) (a b w u : Option (List ℕ)) (t : Table) (v : Store) (answers : List Answer) (submitted : Bool) (first answered : ℕ)
+    → (h : IsWatching at_once opens old store from now waits a b w u t v answers submitted) → first ≡ store.opens → answered ≡ later first answers
+    → is_done store.opens (length opens) (run_from at_once old store opens h.messages) ≡ nat_eq answered (length opens)
+done_is at_once opens old store from now waits a b w u t v answers submitted first answered h same counted =
     let all = ap (later first) h.at.answered in
-    ap (λ n. nat_eq n (length opens)) (sym (counted ∙ all ∙ ap (λ n. later n (filter_run old store opens h.messages).led.answers) same))
+    ap (λ n. nat_eq n (length opens)) (sym (counted ∙ all ∙ ap (λ n. later n (run_from at_once old store opens h.messages).led.answers) same))
 
-pub watching_goes_on : (opens : List ℕ) (old : Table) (store : Store) (from : Received) (x y : Exchange) (a b c w v u : Option (List ℕ))
+pub watching_goes_on : (at_once : Bool) (opens : List ℕ) (old : Table) (store : Store) (from : Received) (x y : Exchange) (a b c w v u : Option (List ℕ))
     (t t' : Table) (k k' : Store) (answers answers' : List Answer) (submitted submitted' : Bool) (m : Letter) (waits : List ℕ)
-    → (h : IsWatching opens old store from x.incoming x.outgoing a b w v t k answers submitted)
-    → is_done store.opens (length opens) (filter_run old store opens h.messages) ≡ false
+    → (h : IsWatching at_once opens old store from x.incoming x.outgoing a b w v t k answers submitted)
+    → is_done store.opens (length opens) (run_from at_once old store opens h.messages) ≡ false
     → Passes x y b c v u (m ∷ [])
     → Hears (heard opens (standing t k answers submitted) m) t' k' answers' submitted' y.outgoing waits
-    → IsWatching opens old store from y.incoming waits a c w u t' k' answers' submitted'
-watching_goes_on opens old store from x y a b c w v u t t' k k' answers answers' submitted submitted' m waits h left passes hears =
-    let before = filter_run old store opens h.messages in
+    → IsWatching at_once opens old store from y.incoming waits a c w u t' k' answers' submitted'
+watching_goes_on at_once opens old store from x y a b c w v u t t' k k' answers answers' submitted submitted' m waits h left passes hears =
+    let before = run_from at_once old store opens h.messages in
     let here : standing t k answers submitted ≡ record { led = restarted before.led; submitted = before.submitted } =
     ap (λ l. record { led = l; submitted = submitted }) (found before.led t k answers h.at) ∙ ap (λ s. record { led = restarted before.led; submitted = s }) h.submitted_is in
     let after = heard opens (standing t k answers submitted) m in
-    let more : filter_run old store opens (h.messages ++ m ∷ []) ≡ behind_all before.led after =
-    heard_more opens store.opens (joined opens false (unled old store [])) h.messages m left ∙ heard_from opens before m ∙ ap (λ s. behind_all before.led (heard opens s m)) (sym here) in
+    let more : run_from at_once old store opens (h.messages ++ m ∷ []) ≡ behind_all before.led after =
+    heard_more opens store.opens (begun at_once opens (unled old store [])) h.messages m left ∙ heard_from opens before m ∙ ap (λ s. behind_all before.led (heard opens s m)) (sym here) in
     record {
       messages = h.messages ++ m ∷ [];
       taken = takes_then from x.incoming y.incoming a b c h.messages (m ∷ []) h.taken passes.taken;
@@ -336,58 +331,73 @@ still Closed x y b c v u done w t k answers stops left at within here = (left, a
 still Memory x y b c v u done w t k answers stops left at within here = here at
 still AuditFull x y b c v u done w t k answers stops left at within here = absurd stops.1
 
-pub watching_stops : FaultStays → (e : End) (opens : List ℕ) (old : Table) (store : Store) (from : Received) (x y : Exchange) (a b c w v u : Option (List ℕ))
-    (t : Table) (k : Store) (answers : List Answer) (submitted : Bool) → unread from ≡ []
-    → (h : IsWatching opens old store from x.incoming x.outgoing a b w v t k answers submitted)
-    → is_done store.opens (length opens) (filter_run old store opens h.messages) ≡ false
-    → StopsAs e x y b c v u → RunsTo opens old store t k answers a w u from.turns e
-watching_stops stays e opens old store from x y a b c w v u t k answers submitted none h ongoing stops = record {
+-- what stopped was not done
+not_done : (e : End) (x y : Exchange) (b c v u : Option (List ℕ)) (P : Type 0) → StopsAs e x y b c v u → GoesOn e P
+not_done Done x y b c v u P stops = absurd stops.1
+not_done ReadFault x y b c v u P stops = tt
+not_done WriteFault x y b c v u P stops = tt
+not_done Frame x y b c v u P stops = tt
+not_done Closed x y b c v u P stops = tt
+not_done Memory x y b c v u P stops = tt
+not_done AuditFull x y b c v u P stops = tt
+
+pub watching_stops : FaultStays → (e : End) (at_once : Bool) (opens : List ℕ) (old : Table) (store : Store) (from : Received) (x y : Exchange) (a b c w v u : Option (List ℕ))
+    (t : Table) (k : Store) (answers : List Answer) (submitted : Bool)
+    → (h : IsWatching at_once opens old store from x.incoming x.outgoing a b w v t k answers submitted)
+    → is_done store.opens (length opens) (run_from at_once old store opens h.messages) ≡ false
+    → StopsAs e x y b c v u → RunsOver at_once opens old store t k answers from y.incoming a c w u e
+watching_stops stays e at_once opens old store from x y a b c w v u t k answers submitted h ongoing stops = record {
   messages = h.messages;
-  spelled = stopped_spelled stays e from x y a b c v u h.messages none h.taken stops;
+  spelled = stopped_taken stays e from x y a b c v u h.messages h.taken stops;
+  few = takes_within from x.incoming a b h.messages h.taken;
+  taken = not_done e x y b c v u _ stops;
   sent = subst (IsSent e w u) (sym h.text) (stopped_sent e x y b c w v u h.written h.went stops);
-  few = takes_few from x.incoming a b h.messages none h.taken;
   left = still e x y b c v u _ _ t k answers stops ongoing h.at _ IsWithin.between;
 }
 
 -- memory was refused to the message that came last
-pub watching_fails : (opens : List ℕ) (old : Table) (store : Store) (from : Received) (x y : Exchange) (a b c w v u : Option (List ℕ))
-    (t t' : Table) (k k' : Store) (answers answers' : List Answer) (submitted : Bool) (m : Letter) → unread from ≡ []
-    → (h : IsWatching opens old store from x.incoming x.outgoing a b w v t k answers submitted)
-    → is_done store.opens (length opens) (filter_run old store opens h.messages) ≡ false
-    → Passes x y b c v u (m ∷ []) → IsAmid (unled t k answers) (events_of opens (standing t k answers submitted) m) t' k' answers' → RunsTo opens old store t' k' answers' a w u from.turns Memory
-watching_fails opens old store from x y a b c w v u t t' k k' answers answers' submitted m none h ongoing passes amid =
-    let before : Standing = filter_run old store opens h.messages in
+pub watching_fails : (at_once : Bool) (opens : List ℕ) (old : Table) (store : Store) (from : Received) (x y : Exchange) (a b c w v u : Option (List ℕ))
+    (t t' : Table) (k k' : Store) (answers answers' : List Answer) (submitted : Bool) (m : Letter)
+    → (h : IsWatching at_once opens old store from x.incoming x.outgoing a b w v t k answers submitted)
+    → is_done store.opens (length opens) (run_from at_once old store opens h.messages) ≡ false
+    → Passes x y b c v u (m ∷ []) → IsAmid (unled t k answers) (events_of opens (standing t k answers submitted) m) t' k' answers'
+    → RunsOver at_once opens old store t' k' answers' from y.incoming a c w u Memory
+watching_fails at_once opens old store from x y a b c w v u t t' k k' answers answers' submitted m h ongoing passes amid =
+    let before : Standing = run_from at_once old store opens h.messages in
     let here : standing t k answers submitted ≡ record { led = restarted before.led; submitted = before.submitted } =
     ap (λ l. record { led = l; submitted = submitted }) (found before.led t k answers h.at) ∙ ap (λ s. record { led = restarted before.led; submitted = s }) h.submitted_is in
     let events : events_of opens (standing t k answers submitted) m ≡ events_of opens before m = ap (λ s. events_of opens s m) here in
     record {
       messages = h.messages;
-      spelled = first_spelled from x.incoming a b h.messages none h.taken;
-      few = takes_few from x.incoming a b h.messages none h.taken;
+      spelled = first_taken from x.incoming a b h.messages h.taken;
+      few = takes_within from x.incoming a b h.messages h.taken;
+      taken = tt;
       sent = prefix_whole w u _ (subst (Appends w u) (sym h.text) (Appends-trans w v u h.written x.outgoing h.went passes.sent));
       left =
-          IsWithin.amid m (first_spelled from y.incoming a c (h.messages ++ m ∷ []) none (takes_then from x.incoming y.incoming a b c h.messages (m ∷ []) h.taken passes.taken)) ongoing
+          IsWithin.amid m (first_taken from y.incoming a c (h.messages ++ m ∷ []) (takes_then from x.incoming y.incoming a b c h.messages (m ∷ []) h.taken passes.taken)) ongoing
           (subst (λ es. IsAmid before.led es t' k' answers') events (amid_then before.led [] _ t t' k k' answers answers' h.at amid));
     }
 
 -- all opens are answered, and what waited to go out went out, or a front of it
-pub watching_ends : (opens : List ℕ) (old : Table) (store : Store) (from now : Received) (waits : List ℕ) (a b w v u : Option (List ℕ)) (t : Table) (k : Store) (answers : List Answer) (submitted : Bool)
-    → unread from ≡ [] → (h : IsWatching opens old store from now waits a b w v t k answers submitted)
-    → is_done store.opens (length opens) (filter_run old store opens h.messages) ≡ true → Appends v u waits → RunsTo opens old store t k answers a w u from.turns Done
-watching_ends opens old store from now waits a b w v u t k answers submitted none h done sent = record {
+pub watching_ends : (at_once : Bool) (opens : List ℕ) (old : Table) (store : Store) (from now : Received) (waits : List ℕ) (a b w v u : Option (List ℕ)) (t : Table) (k : Store) (answers : List Answer) (submitted : Bool)
+    → (h : IsWatching at_once opens old store from now waits a b w v t k answers submitted)
+    → is_done store.opens (length opens) (run_from at_once old store opens h.messages) ≡ true → Appends v u waits → RunsOver at_once opens old store t k answers from now a b w u Done
+watching_ends at_once opens old store from now waits a b w v u t k answers submitted h done sent = record {
   messages = h.messages;
-  spelled = first_spelled from now a b h.messages none h.taken;
-  few = takes_few from now a b h.messages none h.taken;
+  spelled = first_taken from now a b h.messages h.taken;
+  few = takes_within from now a b h.messages h.taken;
+  taken = h.taken;
   sent = subst (Appends w u) (sym h.text) (Appends-trans w v u h.written waits h.went sent);
   left = (done, h.at);
 }
 
-pub watching_breaks : (opens : List ℕ) (old : Table) (store : Store) (from now : Received) (waits : List ℕ) (a b w v u : Option (List ℕ)) (t : Table) (k : Store) (answers : List Answer) (submitted : Bool)
-    → unread from ≡ [] → IsWatching opens old store from now waits a b w v t k answers submitted → AppendsPrefix v u waits → RunsTo opens old store t k answers a w u from.turns WriteFault
-watching_breaks opens old store from now waits a b w v u t k answers submitted none h sent = record {
+pub watching_breaks : (at_once : Bool) (opens : List ℕ) (old : Table) (store : Store) (from now : Received) (waits : List ℕ) (a b w v u : Option (List ℕ)) (t : Table) (k : Store) (answers : List Answer) (submitted : Bool)
+    → IsWatching at_once opens old store from now waits a b w v t k answers submitted → AppendsPrefix v u waits → RunsOver at_once opens old store t k answers from now a b w u WriteFault
+watching_breaks at_once opens old store from now waits a b w v u t k answers submitted h sent = record {
   messages = h.messages;
-  spelled = first_spelled from now a b h.messages none h.taken;
-  few = takes_few from now a b h.messages none h.taken;
+  spelled = first_taken from now a b h.messages h.taken;
+  few = takes_within from now a b h.messages h.taken;
+  taken = tt;
   sent = subst (AppendsPrefix w u) (sym h.text) (prefix_after w v u h.written waits h.went sent);
   left = h.at;
 }
@@ -428,54 +438,114 @@ left_at w t t' v answers answers' first second = at_then w t t' v v answers answ
 kept_at : (w : Led) (t t' : Table) (v : Store) (answers answers' : List Answer) → IsAt w t v answers → t' ≡ t → answers' ≡ answers → IsAt w t' v answers'
 kept_at w t t' v answers answers' at table same = record { table = table ∙ at.table; volume = at.volume; answered = same ∙ at.answered }
 
-kept_within : (opens : List ℕ) (from : Led) (a : Option (List ℕ)) (messages : List Letter) (s : Standing) (t t' : Table) (v : Store) (answers answers' : List Answer) → t' ≡ t → answers' ≡ answers
-    → IsWithin opens from a messages s t v answers → IsWithin opens from a messages s t' v answers'
-kept_within opens from a messages s t t' v answers answers' table same within = subst (λ k. IsWithin opens from a messages s k v answers') (sym table) (subst (IsWithin opens from a messages s t v) (sym same) within)
+kept_within : (at_once : Bool) (opens : List ℕ) (from : Led) (a : Option (List ℕ)) (messages : List Letter) (s : Standing) (t t' : Table) (v : Store) (answers answers' : List Answer) → t' ≡ t → answers' ≡ answers
+    → IsWithin at_once opens from a messages s t v answers → IsWithin at_once opens from a messages s t' v answers'
+kept_within at_once opens from a messages s t t' v answers answers' table same within = subst (λ k. IsWithin at_once opens from a messages s k v answers') (sym table) (subst (IsWithin at_once opens from a messages s t v) (sym same) within)
 
--- an engine that would end otherwise than by Memory, with this left of its run, ends so or with Memory
-ends_as : (opens : List ℕ) (old : Table) (store : Store) (a w u : Option (List ℕ)) (turns : ℕ) (e end : End) (t t' : Table) (v : Store) (answers answers' : List Answer)
-    → (runs : RunsTo opens old store t v answers a w u turns e) → IsAt (filter_run old store opens runs.messages).led t v answers
-    → (IsAt (happened (filter_run old store opens runs.messages).led (Disconnects One)) t' v answers' → IsLeft e (IsWithin opens (unled old store []) a runs.messages (filter_run old store opens runs.messages) t' v answers') (is_done store.opens (length opens) (filter_run old store opens runs.messages)) (filter_run old store opens runs.messages).led t' v answers')
-    → ((end ≡ e) × IsAt (happened (unled t v answers) (Disconnects One)) t' v answers') ⊎ ((end ≡ Memory) × (t' ≡ t) × (answers' ≡ answers))
-    → WatchesTo opens old store t' v answers' a w u turns end
-ends_as opens old store a w u turns e end t t' v answers answers' runs at left (inl k) =
-    subst (λ x. WatchesTo opens old store t' v answers' a w u turns x) (sym k.0)
-    (record { messages = runs.messages; spelled = runs.spelled; few = runs.few; sent = runs.sent; left = left (left_at _ t t' v answers answers' at k.1) })
-ends_as opens old store a w u turns e end t t' v answers answers' runs at left (inr k) =
-    subst (λ x. WatchesTo opens old store t' v answers' a w u turns x) (sym k.0)
-    (record {
-      messages = runs.messages;
-      spelled = refused_spelled e runs.messages a runs.spelled;
-      few = runs.few;
-      sent = refused_sent e w u _ runs.sent;
-      left = IsWithin.between (kept_at _ t t' v answers answers' at k.1 k.2);
-    })
+module _ (at_once : Bool) (opens : List ℕ) (old : Table) (store : Store) (from now : Received) (a b w u : Option (List ℕ)) where
+  abbrev Watches : Table → Store → List Answer → End → Type 0
+  Watches t v answers e = WatchesOver at_once opens old store t v answers from now a b w u e
 
-pub watched : (opens : List ℕ) (old : Table) (store : Store) (a w u : Option (List ℕ)) (turns : ℕ) (e end : End) (t t' : Table) (v : Store) (answers answers' : List Answer)
-    → RunsTo opens old store t v answers a w u turns e → Leaves e end t v answers t' answers' → WatchesTo opens old store t' v answers' a w u turns end
-watched opens old store a w u turns Done end t t' v answers answers' runs leaves =
-    subst (λ x. WatchesTo opens old store t' v answers' a w u turns x) (sym leaves.0)
-    (record { messages = runs.messages; spelled = runs.spelled; few = runs.few; sent = runs.sent; left = (runs.left.0, kept_at _ t t' v answers answers' runs.left.1 leaves.1 leaves.2) })
-watched opens old store a w u turns ReadFault end t t' v answers answers' runs leaves = ends_as opens old store a w u turns ReadFault end t t' v answers answers' runs runs.left.1 (λ at. (runs.left.0, at)) leaves
-watched opens old store a w u turns WriteFault end t t' v answers answers' runs leaves = ends_as opens old store a w u turns WriteFault end t t' v answers answers' runs runs.left (λ at. at) leaves
-watched opens old store a w u turns Frame end t t' v answers answers' runs leaves = ends_as opens old store a w u turns Frame end t t' v answers answers' runs runs.left.1 (λ at. (runs.left.0, at)) leaves
-watched opens old store a w u turns Closed end t t' v answers answers' runs leaves = ends_as opens old store a w u turns Closed end t t' v answers answers' runs runs.left.1 (λ at. (runs.left.0, at)) leaves
-watched opens old store a w u turns Memory end t t' v answers answers' runs leaves =
-    subst (λ x. WatchesTo opens old store t' v answers' a w u turns x) (sym leaves.0)
-    (record { messages = runs.messages; spelled = runs.spelled; few = runs.few; sent = runs.sent; left = kept_within opens (unled old store []) a runs.messages _ t t' v answers answers' leaves.1 leaves.2 runs.left })
-watched opens old store a w u turns AuditFull end t t' v answers answers' runs leaves = absurd runs.spelled
+  abbrev Runs : Table → Store → List Answer → End → Type 0
+  Runs t v answers e = RunsOver at_once opens old store t v answers from now a b w u e
+
+  abbrev left_by : End → Table → Store → List Answer → List Letter → Type 0
+  left_by e t v answers messages =
+      IsLeft e (IsWithin at_once opens (unled old store []) (input_of from a) messages (run_from at_once old store opens messages) t v answers)
+      (is_done store.opens (length opens) (run_from at_once old store opens messages)) (run_from at_once old store opens messages).led t v answers
+
+  -- an engine that would end otherwise than by Memory, with this left of its run, ends so or with Memory
+  ends_as : (e end : End) (t t' : Table) (v : Store) (answers answers' : List Answer)
+      → (runs : Runs t v answers e) → IsAt (run_from at_once old store opens runs.messages).led t v answers
+      → (IsAt (happened (run_from at_once old store opens runs.messages).led (Disconnects One)) t' v answers' → left_by e t' v answers' runs.messages)
+      → ((end ≡ e) × IsAt (happened (unled t v answers) (Disconnects One)) t' v answers') ⊎ ((end ≡ Memory) × (t' ≡ t) × (answers' ≡ answers))
+      → Watches t' v answers' end
+  ends_as e end t t' v answers answers' runs at left (inl k) =
+      subst (λ x. Watches t' v answers' x) (sym k.0)
+      (record { messages = runs.messages; spelled = runs.spelled; few = runs.few; taken = runs.taken; sent = runs.sent; left = left (left_at _ t t' v answers answers' at k.1) })
+  ends_as e end t t' v answers answers' runs at left (inr k) =
+      subst (λ x. Watches t' v answers' x) (sym k.0)
+      (record {
+        messages = runs.messages;
+        spelled = refused_spelled e runs.messages (input_of from a) runs.spelled;
+        few = runs.few;
+        taken = tt;
+        sent = refused_sent e w u _ runs.sent;
+        left = IsWithin.between (kept_at _ t t' v answers answers' at k.1 k.2);
+      })
+
+  pub watched : (e end : End) (t t' : Table) (v : Store) (answers answers' : List Answer)
+      → Runs t v answers e → Leaves e end t v answers t' answers' → Watches t' v answers' end
+  watched Done end t t' v answers answers' runs leaves =
+      subst (λ x. Watches t' v answers' x) (sym leaves.0)
+      (record { messages = runs.messages; spelled = runs.spelled; few = runs.few; taken = runs.taken; sent = runs.sent; left = (runs.left.0, kept_at _ t t' v answers answers' runs.left.1 leaves.1 leaves.2) })
+  watched ReadFault end t t' v answers answers' runs leaves = ends_as ReadFault end t t' v answers answers' runs runs.left.1 (λ at. (runs.left.0, at)) leaves
+  watched WriteFault end t t' v answers answers' runs leaves = ends_as WriteFault end t t' v answers answers' runs runs.left (λ at. at) leaves
+  watched Frame end t t' v answers answers' runs leaves = ends_as Frame end t t' v answers answers' runs runs.left.1 (λ at. (runs.left.0, at)) leaves
+  watched Closed end t t' v answers answers' runs leaves = ends_as Closed end t t' v answers answers' runs runs.left.1 (λ at. (runs.left.0, at)) leaves
+  watched Memory end t t' v answers answers' runs leaves =
+      subst (λ x. Watches t' v answers' x) (sym leaves.0)
+      (record { messages = runs.messages; spelled = runs.spelled; few = runs.few; taken = tt; sent = runs.sent; left = kept_within at_once opens (unled old store []) (input_of from a) runs.messages _ t t' v answers answers' leaves.1 leaves.2 runs.left })
+  watched AuditFull end t t' v answers answers' runs leaves = absurd runs.spelled
+
+not_done_yet : Memory ≡ Done → ⊥
+not_done_yet same = cc
+
+-- it is done only where it would be
+pub done_by : (would end : End) (t t' : Table) (v : Store) (answers answers' : List Answer) → Leaves would end t v answers t' answers' → end ≡ Done → would ≡ Done
+done_by Done end t t' v answers answers' leaves done = refl
+done_by ReadFault end t t' v answers answers' (inl k) done = sym k.0 ∙ done
+done_by ReadFault end t t' v answers answers' (inr k) done = absurd (not_done_yet (sym k.0 ∙ done))
+done_by WriteFault end t t' v answers answers' (inl k) done = sym k.0 ∙ done
+done_by WriteFault end t t' v answers answers' (inr k) done = absurd (not_done_yet (sym k.0 ∙ done))
+done_by Frame end t t' v answers answers' (inl k) done = sym k.0 ∙ done
+done_by Frame end t t' v answers answers' (inr k) done = absurd (not_done_yet (sym k.0 ∙ done))
+done_by Closed end t t' v answers answers' (inl k) done = sym k.0 ∙ done
+done_by Closed end t t' v answers answers' (inr k) done = absurd (not_done_yet (sym k.0 ∙ done))
+done_by Memory end t t' v answers answers' leaves done = sym leaves.0 ∙ done
+done_by AuditFull end t t' v answers answers' leaves done = sym leaves.0 ∙ done
+
+-- over a stream from its start on
+from_start_on : (opens : List ℕ) (old : Table) (store : Store) (turns : ℕ) (now : Received) (a b w u : Option (List ℕ)) (t : Table) (v : Store) (answers : List Answer) (e : End)
+    → WatchesOver false opens old store t v answers (nothing_yet turns) now a b w u e → WatchesTo opens old store t v answers a w u turns e
+from_start_on opens old store turns now a b w u t v answers e h =
+    let input = from_start (nothing_yet turns) a refl in
+    record {
+      messages = h.messages;
+      spelled = subst (λ k. AreSpelled e k h.messages) input h.spelled;
+      few = omega (arith, h.few);
+      sent = h.sent;
+      left = subst (λ k. IsLeft e (IsWithin false opens (unled old store []) k h.messages (filter_run old store opens h.messages) t v answers) (is_done store.opens (length opens) (filter_run old store opens h.messages)) (filter_run old store opens h.messages).led t v answers) input h.left;
+    }
+
+pub watches_to : (at_once : Bool) (opens : List ℕ) (old : Table) (store : Store) (turns : ℕ) (from now : Received) (a b w u : Option (List ℕ)) (t : Table) (v : Store) (answers : List Answer) (e : End)
+    → at_once ≡ false → from ≡ nothing_yet turns → WatchesOver at_once opens old store t v answers from now a b w u e → WatchesTo opens old store t v answers a w u turns e
+watches_to at_once opens old store turns from now a b w u t v answers e behind start h =
+    from_start_on opens old store turns now a b w u t v answers e
+    (subst (λ r. WatchesOver false opens old store t v answers r now a b w u e) start (subst (λ k. WatchesOver k opens old store t v answers from now a b w u e) behind h))
 
 nothing_spelled : (a : Option (List ℕ)) → IfSome a (SpellsFirst [])
 nothing_spelled None = tt
 nothing_spelled (Some xs) = record { more = xs; whole = refl; in_range = tt }
 
 -- memory was refused before the first read
-pub nothing_watched : (opens : List ℕ) (t t' : Table) (v v' : Store) (a w : Option (List ℕ)) (turns : ℕ) (answers answers' : List Answer) (before : Bool)
-    → answers ≡ [] → before ≡ false → IsAmid (unled t v answers) (due opens before t) t' v' answers' → RunsTo opens t v t' v' answers' a w w turns Memory
-nothing_watched opens t t' v v' a w turns answers answers' before none not_yet amid = record {
+pub nothing_watched : (at_once : Bool) (opens : List ℕ) (t t' : Table) (v v' : Store) (from now : Received) (a b w : Option (List ℕ)) (answers' : List Answer)
+    → at_once ≡ true → IsAmid (unled t v []) (due opens false t) t' v' answers' → RunsOver at_once opens t v t' v' answers' from now a b w w Memory
+nothing_watched at_once opens t t' v v' from now a b w answers' true_is amid = record {
+  messages = [];
+  spelled = nothing_spelled (input_of from a);
+  few = omega arith;
+  taken = tt;
+  sent = record { front = []; back = text_from at_once t v opens []; parts = refl; appended = Appends-nil w };
+  left = IsWithin.begun true_is refl amid;
+}
+
+-- or to the stream itself
+pub nothing_begun : (opens : List ℕ) (t : Table) (v : Store) (a w : Option (List ℕ)) (turns : ℕ) (answers : List Answer) → answers ≡ [] → WatchesTo opens t v t v answers a w w turns Memory
+nothing_begun opens t v a w turns answers none = record {
   messages = [];
   spelled = nothing_spelled a;
   few = omega arith;
   sent = record { front = []; back = filter_text t v opens []; parts = refl; appended = Appends-nil w };
-  left = IsWithin.begun refl (subst (λ b. IsAmid (unled t v []) (due opens b t) t' v' answers') not_yet (subst (λ l. IsAmid (unled t v l) (due opens before t) t' v' answers') none amid));
+  left = IsWithin.between (record { table = refl; volume = refl; answered = none });
 }

@@ -20,7 +20,7 @@ use Rattle.av_sigset.specs.declared.signature.Pattern.{Pattern}
 use Rattle.av_store.specs.Store.{Store}
 use Rattle.av_engines.specs.Fresh.{Happening, Comes, Renews, Refuses, AllMayHappen, all_published, fresh_run}
 use Rattle.av_engines.specs.Serving.{service_run}
-use Rattle.av_engines.specs.Watching.{filter_run, happened, is_done, unled}
+use Rattle.av_engines.specs.Watching.{filter_run, further_run, happened, is_done, unled}
 
 -- a volume with one stream of three bytes
 abbrev pub worked_store : Store
@@ -84,7 +84,7 @@ abbrev pub greeted_table : Table
 greeted_table = (happened (unled worked_table worked_store []) (Receives (via One (Hello 1 1)))).table
 
 -- Each side's text of what the other sends is that of the worked run. A message behind the last answer changes nothing; where
--- the service is lost before its reply, the open is denied; and a filter that was greeted before submits at once. A newer set
+-- the service is lost before its reply, the open is denied; and a filter that was greeted before submits further opens at once. A newer set
 -- begins the scan anew, and is what its reply names. What comes at the second port changes nothing, also between others.
 pub record AreWorked : Type 0 where
   pub serves : (service_run worked_patterns worked_desk down).sent ≡ up
@@ -99,8 +99,9 @@ pub record AreWorked : Type 0 where
   pub nothing_behind : filter_run worked_table worked_store (1 ∷ []) (up ++ via One (Read first_id 0 3) ∷ [])
       ≡ filter_run worked_table worked_store (1 ∷ []) up
   pub not_before : (filter_run worked_table worked_store (1 ∷ []) (via One (Hello 2 1) ∷ [])).led.sent ≡ []
-  pub at_once : (filter_run greeted_table worked_store (1 ∷ []) []).led.sent ≡ via One (Scan first_id 1 2 3) ∷ []
-  pub grants_then : (filter_run greeted_table worked_store (1 ∷ [])
+  pub behind_a_message : (filter_run greeted_table worked_store (1 ∷ []) []).led.sent ≡ []
+  pub at_once : (further_run greeted_table worked_store (1 ∷ []) []).led.sent ≡ via One (Scan first_id 1 2 3) ∷ []
+  pub grants_then : (further_run greeted_table worked_store (1 ∷ [])
       (map (via One) (Read first_id 0 3 ∷ Reply first_id (Judged 1 Clean) ∷ []))).led
       ≡ record {
         table = (filter_run worked_table worked_store (1 ∷ []) up).led.table;

@@ -1,5 +1,5 @@
--- The filter over a stream of frames at port One, port Two not connected: what it sends and answers as messages come, the opens
--- submitted as soon as it is connected, at once or right after a message.
+-- The filter over a stream of frames at port One, port Two not connected: what it sends and answers as messages come. The opens are
+-- submitted right after the first message that leaves it connected; further opens of a stream that goes on also at once.
 use Rattle.std.specs.Prelude.{ℕ, ◌&&◌, ◌==◌, Bool, true, false, not, nat_lt, List, [], ◌∷◌, ◌++◌, length, map, if◌then◌else◌}
 use Rattle.std.specs.List.{count_by, flat_map}
 use Rattle.av_base.specs.Port.{same_port}
@@ -83,10 +83,25 @@ unled t v answers = record { table = t; volume = v; sent = []; answers = answers
 abbrev pub standing : Table → Store → List Answer → Bool → Standing
 standing t v answers submitted = record { led = unled t v answers; submitted = submitted }
 
--- where messages lead an engine
-abbrev pub filter_run : Table → Store → List ℕ → List Letter → Standing
-filter_run t v opens ms = heard_all opens v.opens (joined opens false (unled t v [])) ms
+-- an engine before any message: its opens are submitted where that may be at once and the filter is connected
+abbrev pub begun : Bool → List ℕ → Led → Standing
+begun at_once opens w = if at_once then joined opens false w else record { led = w; submitted = false }
+
+-- where messages lead it
+abbrev pub run_from : Bool → Table → Store → List ℕ → List Letter → Standing
+run_from at_once t v opens ms = heard_all opens v.opens (begun at_once opens (unled t v [])) ms
 
 -- what is written meanwhile
+abbrev pub text_from : Bool → Table → Store → List ℕ → List Letter → List ℕ
+text_from at_once t v opens ms = flat_map frame (run_from at_once t v opens ms).led.sent
+
+-- where messages lead an engine whose opens wait for a message that leaves the filter connected, and what it writes
+abbrev pub filter_run : Table → Store → List ℕ → List Letter → Standing
+filter_run = run_from false
+
 abbrev pub filter_text : Table → Store → List ℕ → List Letter → List ℕ
-filter_text t v opens ms = flat_map frame (filter_run t v opens ms).led.sent
+filter_text = text_from false
+
+-- the same of further opens, which are submitted at once where the filter is connected
+abbrev pub further_run : Table → Store → List ℕ → List Letter → Standing
+further_run = run_from true

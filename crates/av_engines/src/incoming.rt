@@ -49,6 +49,13 @@ impl Incoming {
         })
     }
 
+    /// From now on at most `turns` reads are made.
+    pub fn allow(&mut self, turns: u64)
+        ensures { self.new ≡ record { fed = self.old.fed; waiting = self.old.waiting; turns = turns } }
+    {
+        self.turns = turns;
+    }
+
     /// The next whole message of the stream, for which as many reads are made as are needed: none where it came with an
     /// earlier one. Else Frame, where what came next is no frame of a message, also at every later call; Closed, where the
     /// input ended, also within a frame; ReadFault, where a read failed or none is left; Memory. All but Frame may be called

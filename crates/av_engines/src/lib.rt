@@ -9,7 +9,7 @@
 #![tactic(auto)]
 
 pub mod end;
-mod exchange;
+pub mod exchange;
 pub mod fresh;
 pub mod incoming;
 pub mod laws;
@@ -22,8 +22,9 @@ mod tests;
 pub mod watching;
 
 pub use end::End;
+pub use exchange::Exchange;
 pub use fresh::Fresh;
 pub use incoming::Incoming;
 pub use outgoing::Outgoing;
 pub use serving::{serve_fresh, serve_service};
-pub use watching::{Watched, serve_filter};
+pub use watching::{Watched, serve_filter, serve_further};

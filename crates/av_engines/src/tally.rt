@@ -8,28 +8,31 @@ use av_filter::Filter;
 use av_pend::Answer;
 use std::alloc::{AllocError, Global};
 
-/// The answers that a filter gave so far, and how many of them are to opens behind a number; and whether those opens were
-/// submitted.
+/// The answers that a filter gave so far, and how many of them are to opens behind a number; whether those opens may be submitted
+/// before a message comes, and whether they were.
 #[derive(Drop)]
 pub struct Tally {
     pub answers: Vec<Answer>,
     pub first: u64,
     pub answered: usize,
+    pub at_once: bool,
     pub submitted: bool,
     ghost counted: { answered ≡ later first answers.items },
 }
 
 impl Tally {
     /// No answer. It takes no memory.
-    pub fn new(alloc: Global, first: u64) -> Tally
+    pub fn new(alloc: Global, first: u64, at_once: bool) -> Tally
         ensures answers { result.answers.items ≡ [] }
         ensures first { result.first ≡ first }
+        ensures at_once { result.at_once ≡ at_once }
         ensures submitted { result.submitted ≡ false }
     {
         Tally {
             answers: Vec::new(alloc),
             first,
             answered: 0,
+            at_once,
             submitted: false,
         }
     }

@@ -13,10 +13,10 @@ mod wrong_to_filter;
 mod wrong_to_service;
 
 use self::cut::CutReader;
-use self::frames::{DOWN, UP};
-use self::sides::{served, watched, watched_again};
+use self::frames::{DOWN, HELLO, UP};
+use self::sides::{served, watched, watched_again, watched_further};
 use self::text::bytes_of;
-use self::told::{LOST, Told, denied, granted};
+use self::told::{LOST, Told, denied, granted, granted_of};
 use crate::end::End;
 use crate::watching::Watched;
 use av_base::{Cause, StreamId};
@@ -74,23 +74,87 @@ fn runs_in_pieces(alloc: Global, piece: usize) -> Result<bool, Fail> {
 }
 
 #[test]
-fn a_filter_that_is_connected_submits_at_once(rt: HostRuntime) -> Result<(), Fail> {
+fn a_filter_that_is_connected_waits_for_a_message(rt: HostRuntime) -> Result<(), Fail> {
     let alloc = rt.alloc();
     let mut writer = FakeWriter::new(alloc);
     let nothing = &mut FakeReader::new(&[]);
-    let known = watched_again(alloc, &[StreamId::new(1)], nothing, &mut writer)?;
+    let unheard = watched_again(alloc, &[StreamId::new(2)], nothing, &mut writer)?;
+    assert_eq!(rt; unheard.end, End::Closed);
+    assert_eq!(rt; unheard.answers.len(), 0);
+    assert_eq!(rt; writer.taken().len(), 0);
+    let greeting = bytes_of(alloc, &[HELLO])?;
+    let known = watched_again(
+        alloc,
+        &[StreamId::new(1)],
+        &mut FakeReader::new(&greeting),
+        &mut writer,
+    )?;
     assert_eq!(rt; known.end, End::Done);
     assert_eq!(rt; known.answers.as_slice(), [granted(2, 1)].as_slice());
-    assert_eq!(rt; writer.taken().len(), 0);
-    let nothing = &mut FakeReader::new(&[]);
-    let asked = watched_again(alloc, &[StreamId::new(2)], nothing, &mut writer)?;
+    let asked = watched_again(
+        alloc,
+        &[StreamId::new(2)],
+        &mut FakeReader::new(&greeting),
+        &mut writer,
+    )?;
     assert_eq!(rt; asked.end, End::Closed);
     assert_eq!(rt;
         asked.answers.as_slice(),
         [denied(2, Cause::PortDisconnected)].as_slice()
     );
-    let scan = bytes_of(alloc, &["0000002a 0101 [1] [2] [2] [2] [3]"])?;
+    let scan = bytes_of(alloc, &[SCAN_OF_TWO])?;
     assert_eq!(rt; writer.taken(), scan.as_slice());
+    Ok(())
+}
+
+// What comes behind the worked run, and what is sent for an open of the second stream.
+const BEHIND: [&str; 2] = [
+    "0000001e 0601 [1] [2] [0] 00000003",
+    "0000001b 0701 [1] [2] 00 [1]",
+];
+
+const SCAN_OF_TWO: &str = "0000002a 0101 [1] [2] [2] [2] [3]";
+
+const CHUNK_OF_TWO: &str = "0000001d 0201 [1] [2] [0] 415858";
+
+#[test]
+fn further_opens_take_what_came_behind_the_ones_before(rt: HostRuntime) -> Result<(), Fail> {
+    for piece in [1, 7, 40, 87, 88, 100, 8_192] {
+        assert!(rt; goes_on(rt.alloc(), piece)?, "in pieces of {piece}");
+    }
+    Ok(())
+}
+
+fn goes_on(alloc: Global, piece: usize) -> Result<bool, Fail> {
+    let mut comes = Vec::new(alloc);
+    comes.extend_from_slice(&UP)?;
+    comes.extend_from_slice(&bytes_of(alloc, &BEHIND)?)?;
+    let mut sends = Vec::new(alloc);
+    sends.extend_from_slice(&DOWN)?;
+    sends.extend_from_slice(&bytes_of(alloc, &[SCAN_OF_TWO, CHUNK_OF_TWO])?)?;
+    let mut reader = FakeReader::new(&comes).in_pieces_of(piece);
+    let mut writer = FakeWriter::new(alloc);
+    let (first, second) = watched_further(alloc, &[StreamId::new(2)], &mut reader, &mut writer)?;
+    let ends = first.end == End::Done && second.end == End::Done;
+    let grants = second.answers.as_slice() == [granted_of(2, 2, 1)].as_slice();
+    Ok(ends && grants && writer.taken() == sends.as_slice())
+}
+
+#[test]
+fn further_opens_of_a_filter_that_is_connected_are_submitted_at_once(
+    rt: HostRuntime,
+) -> Result<(), Fail> {
+    let alloc = rt.alloc();
+    let mut writer = FakeWriter::new(alloc);
+    let comes = &mut FakeReader::new(&UP);
+    let (_, asked) = watched_further(alloc, &[StreamId::new(2)], comes, &mut writer)?;
+    assert_eq!(rt; asked.end, End::Closed);
+    assert_eq!(rt;
+        asked.answers.as_slice(),
+        [denied(2, Cause::PortDisconnected)].as_slice()
+    );
+    let scan = bytes_of(alloc, &[SCAN_OF_TWO])?;
+    assert_eq!(rt; &writer.taken()[79..], scan.as_slice());
     Ok(())
 }
 

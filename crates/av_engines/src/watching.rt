@@ -1,10 +1,10 @@
-ghost use Rattle.std.specs.Prelude.{◌≡◌, ◌≤◌, ◌<◌, ◌+◌, ◌++◌, ◌∷◌, [], length, false, IfOk, OnErr, OnOk, vec_len};
+ghost use Rattle.std.specs.Prelude.{◌≡◌, ◌≤◌, ◌<◌, ◌+◌, ◌++◌, ◌∷◌, [], length, true, false, IfOk, OnErr, OnOk, vec_len};
 ghost use Rattle.std.specs.List.{flat_map};
 ghost use Rattle.std.specs.Vec.{vec_capacity};
 ghost use Rattle.av_base.specs.declared.port.Port.TheVariants.{One, Two};
-ghost use Rattle.av_engines.specs.FilterEnd.{Hears, IsAmid, IsAt, Leaves, Puts, RunsTo, WatchesTo};
-ghost use Rattle.av_engines.specs.Incoming.{unread};
-ghost use Rattle.av_engines.specs.Watching.{all_happened, due, events_of, happened, heard, joined, opens_of, standing, unled};
+ghost use Rattle.av_engines.specs.FilterEnd.{Hears, IsAmid, IsAt, Leaves, Puts, RunsOver, WatchesOver, WatchesTo};
+ghost use Rattle.av_engines.specs.Watching.{all_happened, begun, due, events_of, happened, heard, joined, opens_of, standing, unled};
+ghost use Rattle.av_engines.specs.declared.end.End.TheVariants.{Done};
 ghost use Rattle.av_filter.specs.Call.{MeetsAlways};
 ghost use Rattle.av_filter.specs.Conduct.{Disconnects, Opens, Receives, filter_step};
 ghost use Rattle.av_filter.specs.Fit.{Fits};
@@ -47,11 +47,11 @@ impl Watched {
 
 /// Runs a filter over a stream of frames at its first port, where no service is connected at the other one: it handles each
 /// message of this port that comes, passes over those of the other, and submits an open of each of these streams, in order, for any
-/// version, as soon as it is connected: at once, or right after the message that connects it. It ends with Done once all of them
-/// are answered, at once where there are none, and what was sent went out. Else with ReadFault, also once `turns` reads were made;
-/// WriteFault; Frame; Closed; each of these disconnects the port, so that each open that was submitted is answered; or with
-/// Memory, also where it is refused to that: the filter is where the messages led, or within the next of them. It holds the
-/// answers, a buffer, and the frames of one message.
+/// version, right after the first message that leaves it connected. It ends with Done once all of them are answered, before any read
+/// where there are none, and what was sent went out. Else with ReadFault, also once `turns` reads were made; WriteFault; Frame;
+/// Closed; each of these disconnects the port, so that each open that was submitted is answered; or with Memory, also where it is
+/// refused to that: the filter is where the messages led, or within the next of them. It holds the answers, a buffer, and the frames
+/// of one message.
 pub fn serve_filter<R: Read, W: Write>(
     alloc: Global,
     volume: &mut Volume,
@@ -68,44 +68,72 @@ pub fn serve_filter<R: Read, W: Write>(
         (R.remaining reader.old) (W.contents writer.old) (W.contents writer.new) turns result.end }
     ensures fits { Fits filter.new volume.new }
 {
-    let taken = volume.opens();
-    let mut tally = Tally::new(alloc, taken);
-    let would = begin(
-        alloc, volume, filter, opens, &mut tally, reader, writer, turns,
-    );
-    let end = leave(alloc, volume, filter, &mut tally, would);
-    Watched::of(end, tally)
+    let tally = Tally::new(alloc, volume.opens(), false);
+    match Exchange::new(alloc, turns) {
+        Ok(mut exchange) => {
+            let line = &mut exchange;
+            serve(alloc, volume, filter, opens, tally, line, reader, writer)
+        }
+        Err(_) => Watched::of(End::Memory, tally),
+    }
 }
 
-// The same, without the disconnection.
-fn begin<R: Read, W: Write>(
+/// The same for further opens over a stream that goes on: they are submitted at once where the filter is connected, else right after
+/// the message that connects it. What had come behind the last message before is taken first, and what comes behind the last one now
+/// is left to the next call, where this one ended with Done.
+pub fn serve_further<R: Read, W: Write>(
     alloc: Global,
     volume: &mut Volume,
     filter: &mut Filter,
     opens: &[StreamId],
-    tally: &mut Tally,
+    exchange: &mut Exchange,
     reader: &mut R,
     writer: &mut W,
-    turns: u64,
-) -> End
+) -> Watched
     requires fits { Fits filter.old volume.old }
+    requires alone { is_open Two filter.old.connected ≡ false }
     requires left { volume.old.opens + length opens.now ≤ greatest }
-    requires none { (tally.old.answers.items ≡ []) × (tally.old.first ≡ volume.old.opens) × (tally.old.submitted ≡ false) }
-    ensures runs { RunsTo opens.now filter.old volume.old filter.new volume.new tally.new.answers.items (R.remaining reader.old)
-        (W.contents writer.old) (W.contents writer.new) turns result }
+    requires nothing { exchange.old.outgoing ≡ [] }
+    ensures watches { WatchesOver true opens.now filter.old volume.old filter.new volume.new result.answers.items
+        exchange.old.incoming exchange.new.incoming (R.remaining reader.old) (R.remaining reader.new) (W.contents writer.old)
+        (W.contents writer.new) result.end }
+    ensures nothing { result.end ≡ Done → exchange.new.outgoing ≡ [] }
     ensures fits { Fits filter.new volume.new }
 {
-    match Exchange::new(alloc, turns) {
-        Ok(mut exchange) => {
-            let line = &mut exchange;
-            watch(alloc, volume, filter, opens, tally, line, reader, writer)
-        }
-        Err(_) => End::Memory,
-    }
+    let tally = Tally::new(alloc, volume.opens(), true);
+    serve(
+        alloc, volume, filter, opens, tally, exchange, reader, writer,
+    )
 }
 
-// Submits the opens where the filter is connected, and handles each message that comes, until all opens are answered or none
-// comes.
+// The same, with a tally that has no answer yet.
+fn serve<R: Read, W: Write>(
+    alloc: Global,
+    volume: &mut Volume,
+    filter: &mut Filter,
+    opens: &[StreamId],
+    mut tally: Tally,
+    exchange: &mut Exchange,
+    reader: &mut R,
+    writer: &mut W,
+) -> Watched
+    requires fits { Fits filter.old volume.old }
+    requires left { volume.old.opens + length opens.now ≤ greatest }
+    requires nothing { exchange.old.outgoing ≡ [] }
+    requires none { (tally.answers.items ≡ []) × (tally.first ≡ volume.old.opens) × (tally.submitted ≡ false) }
+    ensures watches { WatchesOver tally.at_once opens.now filter.old volume.old filter.new volume.new result.answers.items
+        exchange.old.incoming exchange.new.incoming (R.remaining reader.old) (R.remaining reader.new) (W.contents writer.old)
+        (W.contents writer.new) result.end }
+    ensures nothing { result.end ≡ Done → exchange.new.outgoing ≡ [] }
+    ensures fits { Fits filter.new volume.new }
+{
+    let line = &mut tally;
+    let would = watch(alloc, volume, filter, opens, line, exchange, reader, writer);
+    let end = leave(alloc, volume, filter, &mut tally, would);
+    Watched::of(end, tally)
+}
+
+// Submits the opens where that may be at once, and handles each message that comes, until all opens are answered or none comes.
 fn watch<R: Read, W: Write>(
     alloc: Global,
     volume: &mut Volume,
@@ -118,15 +146,17 @@ fn watch<R: Read, W: Write>(
 ) -> End
     requires fits { Fits filter.old volume.old }
     requires left { volume.old.opens + length opens.now ≤ greatest }
-    requires nothing { (unread exchange.old.incoming ≡ []) × (exchange.old.outgoing ≡ []) }
+    requires nothing { exchange.old.outgoing ≡ [] }
     requires none { (tally.old.answers.items ≡ []) × (tally.old.first ≡ volume.old.opens) × (tally.old.submitted ≡ false) }
-    ensures runs { RunsTo opens.now filter.old volume.old filter.new volume.new tally.new.answers.items (R.remaining reader.old)
-        (W.contents writer.old) (W.contents writer.new) exchange.old.incoming.turns result }
+    ensures runs { RunsOver tally.old.at_once opens.now filter.old volume.old filter.new volume.new tally.new.answers.items
+        exchange.old.incoming exchange.new.incoming (R.remaining reader.old) (R.remaining reader.new) (W.contents writer.old)
+        (W.contents writer.new) result }
+    ensures nothing { result ≡ Done → exchange.new.outgoing ≡ [] }
     ensures fits { Fits filter.new volume.new }
 {
     bytes_spell_one_list();
     let outgoing = &mut exchange.outgoing;
-    match join(alloc, volume, filter, opens, tally, outgoing) {
+    match begin(alloc, volume, filter, opens, tally, outgoing) {
         Ok(()) => {}
         Err(_) => return End::Memory,
     }
@@ -145,6 +175,33 @@ fn watch<R: Read, W: Write>(
         Ok(()) => End::Done,
         Err(_) => End::WriteFault,
     }
+}
+
+// Submits the opens where that may be before any message, and the filter is connected.
+fn begin(
+    alloc: Global,
+    volume: &mut Volume,
+    filter: &mut Filter,
+    opens: &[StreamId],
+    tally: &mut Tally,
+    outgoing: &mut Outgoing,
+) -> Result<(), AllocError>
+    requires fits { Fits filter.old volume.old }
+    requires left { volume.old.opens + length opens.now ≤ greatest }
+    requires none { (tally.old.answers.items ≡ []) × (tally.old.submitted ≡ false) }
+    ensures ok { OnOk result
+        (Hears (begun tally.old.at_once opens.now (unled filter.old volume.old [])) filter.new volume.new
+        tally.new.answers.items tally.new.submitted outgoing.old outgoing.new) }
+    ensures amid { OnErr result ((tally.old.at_once ≡ true)
+        × IsAmid (unled filter.old volume.old []) (due opens.now false filter.old) filter.new volume.new tally.new.answers.items) }
+    ensures left { OnOk result (tally.new.submitted ≡ false → volume.new.opens ≡ volume.old.opens) }
+    ensures fits { Fits filter.new volume.new }
+    ensures first { tally.new.first ≡ tally.old.first }
+{
+    if !tally.at_once {
+        return Ok(());
+    }
+    join(alloc, volume, filter, opens, tally, outgoing)
 }
 
 // Handles a message of the first port, and submits the opens where it connects the filter.

@@ -1,9 +1,10 @@
 // Both engines over a volume of two streams, `ABC` and `AXX`, and a set of version 1 with the pattern `XX`.
 
 use crate::end::End;
+use crate::exchange::Exchange;
 use crate::serving::serve_service;
 use crate::tests::frames::{DOWN, UP};
-use crate::watching::{Watched, serve_filter};
+use crate::watching::{Watched, serve_filter, serve_further};
 use av_base::{LimitField, LimitValues, Limits, Mode, Port, StreamId, Version};
 use av_fakes::{FakeReader, FakeWriter, may_refuse, refuse_no_more};
 use av_filter::Filter;
@@ -103,47 +104,85 @@ pub fn watched_within<R: Read, W: Write>(
     Ok(watched)
 }
 
-// The filter's engine, on a filter that was greeted in a run of one open.
+// The filter's engine, on a filter that was greeted in a run of one open over a stream of its own.
 pub fn watched_again<R: Read, W: Write>(
     alloc: Global,
     opens: &[StreamId],
     reader: &mut R,
     writer: &mut W,
 ) -> Result<Watched, Unmade> {
+    let (mut volume, mut filter) = mounted(alloc)?;
+    let one = [StreamId::new(1)];
+    let greeting = &mut FakeReader::new(&UP);
+    let unheard = &mut FakeWriter::new(alloc);
+    let first = watched_over(alloc, &mut volume, &mut filter, &one, greeting, unheard);
+    let watched = watched_over(alloc, &mut volume, &mut filter, opens, reader, writer);
+    filter.abandon();
+    match first?.end {
+        End::Done => watched,
+        _ => Err(Unmade),
+    }
+}
+
+fn watched_over<R: Read, W: Write>(
+    alloc: Global,
+    volume: &mut Volume,
+    filter: &mut Filter,
+    opens: &[StreamId],
+    reader: &mut R,
+    writer: &mut W,
+) -> Result<Watched, Unmade> {
+    if filter.connected(Port::Two) || volume.opens_left() < opens.len() as u64 {
+        return Err(Unmade);
+    }
+    Ok(serve_filter(alloc, volume, filter, opens, reader, writer, 1_000))
+}
+
+// A filter just mounted.
+fn mounted(alloc: Global) -> Result<(Volume, Filter), Unmade> {
     let mut volume = volume_of_two(alloc)?;
-    let Ok(mut filter) = Filter::mount(alloc, &mut volume, Mode::FailClosed, Limits::greatest())
-    else {
+    match Filter::mount(alloc, &mut volume, Mode::FailClosed, Limits::greatest()) {
+        Ok(filter) => Ok((volume, filter)),
+        Err(_) => Err(Unmade),
+    }
+}
+
+// One open of the first stream, and then these further opens over the same stream of frames.
+pub fn watched_further<R: Read, W: Write>(
+    alloc: Global,
+    opens: &[StreamId],
+    reader: &mut R,
+    writer: &mut W,
+) -> Result<(Watched, Watched), Unmade> {
+    let (mut volume, mut filter) = mounted(alloc)?;
+    let watched = further_over(alloc, &mut volume, &mut filter, opens, reader, writer);
+    filter.abandon();
+    watched
+}
+
+fn further_over<R: Read, W: Write>(
+    alloc: Global,
+    volume: &mut Volume,
+    filter: &mut Filter,
+    opens: &[StreamId],
+    reader: &mut R,
+    writer: &mut W,
+) -> Result<(Watched, Watched), Unmade> {
+    let Ok(mut exchange) = Exchange::new(alloc, 1_000) else {
         return Err(Unmade);
     };
-    if volume.opens_left() < 1 {
-        filter.abandon();
+    if filter.connected(Port::Two) || volume.opens_left() < 1 {
         return Err(Unmade);
     }
-    let first = serve_filter(
-        alloc,
-        &mut volume,
-        &mut filter,
-        &[StreamId::new(1)],
-        &mut FakeReader::new(&UP),
-        &mut FakeWriter::new(alloc),
-        1_000,
-    );
-    let is_other_connected = filter.connected(Port::Two);
-    if first.end != End::Done || is_other_connected || volume.opens_left() < opens.len() as u64 {
-        filter.abandon();
+    let one = [StreamId::new(1)];
+    let first = serve_further(alloc, volume, filter, &one, &mut exchange, reader, writer);
+    let is_over = first.end != End::Done || filter.connected(Port::Two);
+    if is_over || volume.opens_left() < opens.len() as u64 {
         return Err(Unmade);
     }
-    let watched = serve_filter(
-        alloc,
-        &mut volume,
-        &mut filter,
-        opens,
-        reader,
-        writer,
-        1_000,
-    );
-    filter.abandon();
-    Ok(watched)
+    exchange.incoming.allow(1_000);
+    let second = serve_further(alloc, volume, filter, opens, &mut exchange, reader, writer);
+    Ok((first, second))
 }
 
 // The service's engine.

@@ -26,10 +26,14 @@ impl Told {
 
 // That open of stream 1, which has `ABC`, may go on.
 pub fn granted(open: u64, version: u64) -> Answer {
+    granted_of(1, open, version)
+}
+
+pub fn granted_of(stream: u64, open: u64, version: u64) -> Answer {
     Answer::Granted {
         open_id: OpenId::new(open),
         least: Version::new(0),
-        stream: StreamId::new(1),
+        stream: StreamId::new(stream),
         generation: Generation::new(2),
         version: Version::new(version),
     }

@@ -6,27 +6,27 @@ use Rattle.av_engines.proofs.WatchingLemmas.{done_is, nothing_watched, watching_
 use Rattle.av_engines.proofs.watching.watch.Goals as goal
 
 pub returns-in-Err-clause-runs : goal.returns-in-Err-clause-runs
-returns-in-Err-clause-runs g c = nothing_watched _ _ _ _ _ _ _ _ _ _ _ c.requires.none.0 c.requires.none.2 c.in-Err.ensures.amid
+returns-in-Err-clause-runs g c = nothing_watched _ _ _ _ _ _ _ _ _ _ _ _ c.in-Err.ensures.amid.0 c.in-Err.ensures.amid.1
 
 pub messages-init : goal.messages-init
 messages-init g c = record {
-  watching = watching_begins _ _ _ _ _ _ _ _ _ _ _ _ _ _ c.requires.nothing.1 c.requires.none.0 c.requires.none.2 c.in-Ok.ensures.ok;
-  left = λ before. let kept = c.in-Ok.ensures.left before in subst (λ n. n + length c.args.opens.now ≤ greatest) (sym kept.1) c.requires.left;
-  fits = c.join.ensures.fits;
-  first = c.join.ensures.first ∙ c.requires.none.1;
+  watching = watching_begins _ _ _ _ _ _ _ _ _ _ _ _ _ c.requires.nothing c.in-Ok.ensures.ok;
+  left = λ before. subst (λ n. n + length c.args.opens.now ≤ greatest) (sym (c.in-Ok.ensures.left before)) c.requires.left;
+  fits = c.begin.ensures.fits;
+  first = c.begin.ensures.first ∙ c.requires.none.1;
 }
 
 pub returns-in-Err-next-clause-runs : goal.returns-in-Err-next-clause-runs
 returns-in-Err-next-clause-runs g c =
     let h = c.messages.invariant.watching in
-    let open_still = done_is _ _ _ _ _ _ _ _ _ _ _ _ _ _ _ _ h c.messages.invariant.first c.messages.tally.counted ∙ ne_eqb _ _ c.messages-test.true in
-    watching_stops c.bytes_spell_one_list.ensures.fault _ _ _ _ _ c.messages.exchange c.next.new.self _ _ _ _ _ _ _ _ _ _ c.requires.nothing.0 h open_still c.in-Err-next.ensures.stops
+    let open_still = done_is _ _ _ _ _ _ _ _ _ _ _ _ _ _ _ _ _ h c.messages.invariant.first c.messages.tally.counted ∙ ne_eqb _ _ c.messages-test.true in
+    watching_stops c.bytes_spell_one_list.ensures.fault _ _ _ _ _ _ c.messages.exchange c.next.new.self _ _ _ _ _ _ _ _ _ _ h open_still c.in-Err-next.ensures.stops
 
 pub returns-in-Err-hear-clause-runs : goal.returns-in-Err-hear-clause-runs
 returns-in-Err-hear-clause-runs g c =
     let h = c.messages.invariant.watching in
-    let open_still = done_is _ _ _ _ _ _ _ _ _ _ _ _ _ _ _ _ h c.messages.invariant.first c.messages.tally.counted ∙ ne_eqb _ _ c.messages-test.true in
-    watching_fails _ _ _ _ c.messages.exchange c.next.new.self _ _ _ _ _ _ _ _ _ _ _ _ _ _ c.requires.nothing.0 h open_still c.in-Ok-next.ensures.message c.in-Err-hear.ensures.amid
+    let open_still = done_is _ _ _ _ _ _ _ _ _ _ _ _ _ _ _ _ _ h c.messages.invariant.first c.messages.tally.counted ∙ ne_eqb _ _ c.messages-test.true in
+    watching_fails _ _ _ _ _ c.messages.exchange c.next.new.self _ _ _ _ _ _ _ _ _ _ _ _ _ _ h open_still c.in-Ok-next.ensures.message c.in-Err-hear.ensures.amid
 
 pub messages-smaller-in-Ok-hear : goal.messages-smaller-in-Ok-hear
 messages-smaller-in-Ok-hear g c = takes_less _ _ _ _ _ c.in-Ok-next.ensures.message.taken
@@ -37,9 +37,9 @@ messages-smaller g c = takes_less _ _ _ _ _ c.in-Ok-next.ensures.message.taken
 pub messages-preserved-in-Ok-hear : goal.messages-preserved-in-Ok-hear
 messages-preserved-in-Ok-hear g c =
     let h = c.messages.invariant.watching in
-    let open_still = done_is _ _ _ _ _ _ _ _ _ _ _ _ _ _ _ _ h c.messages.invariant.first c.messages.tally.counted ∙ ne_eqb _ _ c.messages-test.true in
+    let open_still = done_is _ _ _ _ _ _ _ _ _ _ _ _ _ _ _ _ _ h c.messages.invariant.first c.messages.tally.counted ∙ ne_eqb _ _ c.messages-test.true in
     record {
-      watching = watching_goes_on _ _ _ _ c.messages.exchange c.next.new.self _ _ _ _ _ _ _ _ _ _ _ _ _ _ _ _ h open_still c.in-Ok-next.ensures.message c.in-Ok-hear.ensures.ok;
+      watching = watching_goes_on _ _ _ _ _ c.messages.exchange c.next.new.self _ _ _ _ _ _ _ _ _ _ _ _ _ _ _ _ h open_still c.in-Ok-next.ensures.message c.in-Ok-hear.ensures.ok;
       left = λ before. let kept = c.in-Ok-hear.ensures.left before in subst (λ n. n + length c.args.opens.now ≤ greatest) (sym kept.1) (c.messages.invariant.left kept.0);
       fits = c.hear.ensures.fits;
       first = c.hear.ensures.first ∙ c.messages.invariant.first;
@@ -48,9 +48,9 @@ messages-preserved-in-Ok-hear g c =
 pub messages-preserved : goal.messages-preserved
 messages-preserved g c =
     let h = c.messages.invariant.watching in
-    let open_still = done_is _ _ _ _ _ _ _ _ _ _ _ _ _ _ _ _ h c.messages.invariant.first c.messages.tally.counted ∙ ne_eqb _ _ c.messages-test.true in
+    let open_still = done_is _ _ _ _ _ _ _ _ _ _ _ _ _ _ _ _ _ h c.messages.invariant.first c.messages.tally.counted ∙ ne_eqb _ _ c.messages-test.true in
     record {
-      watching = watching_goes_on _ _ _ _ c.messages.exchange c.next.new.self _ _ _ _ _ _ _ _ _ _ _ _ _ _ _ _ h open_still c.in-Ok-next.ensures.message c.in-Ok-hear.ensures.ok;
+      watching = watching_goes_on _ _ _ _ _ c.messages.exchange c.next.new.self _ _ _ _ _ _ _ _ _ _ _ _ _ _ _ _ h open_still c.in-Ok-next.ensures.message c.in-Ok-hear.ensures.ok;
       left = λ before. let kept = c.in-Ok-hear.ensures.left before in subst (λ n. n + length c.args.opens.now ≤ greatest) (sym kept.1) (c.messages.invariant.left kept.0);
       fits = c.hear.ensures.fits;
       first = c.hear.ensures.first ∙ c.messages.invariant.first;
@@ -59,9 +59,9 @@ messages-preserved g c =
 pub returns-in-Ok-flush-clause-runs : goal.returns-in-Ok-flush-clause-runs
 returns-in-Ok-flush-clause-runs g c =
     let h = c.messages.invariant.watching in
-    let done = done_is _ _ _ _ _ _ _ _ _ _ _ _ _ _ _ _ h c.messages.invariant.first c.messages.tally.counted ∙ eq-eqb _ _ c.messages-test.false in
-    watching_ends _ _ _ _ _ _ _ _ _ _ _ _ _ _ _ c.requires.nothing.0 h done c.in-Ok-flush.ensures.writes
+    let done = done_is _ _ _ _ _ _ _ _ _ _ _ _ _ _ _ _ _ h c.messages.invariant.first c.messages.tally.counted ∙ eq-eqb _ _ c.messages-test.false in
+    watching_ends _ _ _ _ _ _ _ _ _ _ _ _ _ _ _ _ h done c.in-Ok-flush.ensures.writes
 
 pub returns-in-Err-flush-clause-runs : goal.returns-in-Err-flush-clause-runs
 returns-in-Err-flush-clause-runs g c =
-    watching_breaks _ _ _ _ _ _ _ _ _ _ _ _ _ _ _ c.requires.nothing.0 c.messages.invariant.watching c.in-Err-flush.ensures.writes
+    watching_breaks _ _ _ _ _ _ _ _ _ _ _ _ _ _ _ _ c.messages.invariant.watching c.in-Err-flush.ensures.writes

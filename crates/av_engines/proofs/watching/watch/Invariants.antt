@@ -9,7 +9,7 @@ use Rattle.av_engines.proofs.watching.watch.Given as goal
 abbrev pub invariant-messages : goal.invariant-messages
 invariant-messages g l = record {
   watching :
-      IsWatching l.initial.opens l.fn.filter l.fn.volume l.initial.exchange.incoming l.exchange.incoming l.exchange.outgoing
+      IsWatching l.fn.tally.at_once l.initial.opens l.fn.filter l.fn.volume l.initial.exchange.incoming l.exchange.incoming l.exchange.outgoing
       (g.R.Read.remaining l.initial.reader) (g.R.Read.remaining l.reader) (g.W.Write.contents l.initial.writer) (g.W.Write.contents l.writer) l.filter l.volume l.tally.answers.items l.tally.submitted;
   left : l.tally.submitted ≡ false → l.volume.opens + length l.opens ≤ greatest;
   fits : Fits l.filter l.volume;
