@@ -11,10 +11,17 @@ use std::alloc::Global;
 use std::io::{Read, Write};
 use std::sync::Wait;
 
+// Who runs a work after which no further message has come whole.
+#[derive(Clone, Copy)]
+enum Runner {
+    Pool,
+    Reader,
+}
+
 /// Hands each message that a stream of frames spells to the desk, until the stream ends, fails, or was read `turns` times:
 /// Closed, ReadFault, Frame, each of which is a disconnection of the desk, and so is WriteFault; Memory and AuditFull, which are
-/// none. A work that a message gives out goes to the pool where a further message has come whole; else it is run here. What the
-/// desk sends meanwhile is written before the stream is read again. At its end it wakes who takes from the pool.
+/// none. Each work that a message gives out goes to the pool. What the desk sends meanwhile is written before the stream is read
+/// again. At its end it wakes who takes from the pool.
 pub fn desk_in<R: Wait, S: Read, W: Write>(
     rt: &R,
     alloc: Global,
@@ -27,8 +34,53 @@ pub fn desk_in<R: Wait, S: Read, W: Write>(
     ensures same { giver.new.channel ≡ giver.old.channel }
     ensures end { result ≢ Done }
 {
+    let runner = Runner::Pool;
+    read_to_end(rt, alloc, desk, giver, reader, sender, turns, runner)
+}
+
+/// Does what [`desk_in`] does, but runs a work itself if no further message has come whole. For such a work no other thread has
+/// to be woken.
+pub fn desk_in_running_works<R: Wait, S: Read, W: Write>(
+    rt: &R,
+    alloc: Global,
+    desk: &Desk,
+    giver: &mut Giver,
+    reader: &mut S,
+    sender: &Sender<W>,
+    turns: u64,
+) -> End
+    ensures same { giver.new.channel ≡ giver.old.channel }
+    ensures end { result ≢ Done }
+{
+    let runner = Runner::Reader;
+    read_to_end(rt, alloc, desk, giver, reader, sender, turns, runner)
+}
+
+// Both loops into a desk.
+fn read_to_end<R: Wait, S: Read, W: Write>(
+    rt: &R,
+    alloc: Global,
+    desk: &Desk,
+    giver: &mut Giver,
+    reader: &mut S,
+    sender: &Sender<W>,
+    turns: u64,
+    runner: Runner,
+) -> End
+    ensures same { giver.new.channel ≡ giver.old.channel }
+    ensures end { result ≢ Done }
+{
     let end = match Incoming::new(alloc, turns) {
-        Ok(mut incoming) => take_messages(rt, alloc, desk, giver, reader, sender, &mut incoming),
+        Ok(mut incoming) => take_messages(
+            rt,
+            alloc,
+            desk,
+            giver,
+            reader,
+            sender,
+            &mut incoming,
+            runner,
+        ),
         Err(_) => End::Memory,
     };
     giver.wake(rt);
@@ -44,13 +96,16 @@ fn take_messages<R: Wait, S: Read, W: Write>(
     reader: &mut S,
     sender: &Sender<W>,
     incoming: &mut Incoming,
+    runner: Runner,
 ) -> End
     ensures same { giver.new.channel ≡ giver.old.channel }
     ensures end { result ≢ Done }
 {
     let mut lent = None;
     'messages: for _ in rt.forever() {
-        let message = match next_message(rt, alloc, desk, giver, reader, sender, incoming, lent) {
+        let message = match next_message(
+            rt, alloc, desk, giver, reader, sender, incoming, runner, lent,
+        ) {
             Ok(message) => message,
             Err(end) => return end,
         };
@@ -79,7 +134,7 @@ fn after_sending<R: Wait, W: Write>(
     }
 }
 
-// The next message. Before it is waited for, the work that the last one gave out is run, and what waits is sent.
+// The next message. Before it is waited for, the work that the last one gave out is run or given, and what waits is sent.
 fn next_message<R: Wait, S: Read, W: Write>(
     rt: &R,
     alloc: Global,
@@ -88,6 +143,7 @@ fn next_message<R: Wait, S: Read, W: Write>(
     reader: &mut S,
     sender: &Sender<W>,
     incoming: &mut Incoming,
+    runner: Runner,
     lent: Option<Lent>,
 ) -> Result<Message, End>
     ensures same { giver.new.channel ≡ giver.old.channel }
@@ -100,7 +156,10 @@ fn next_message<R: Wait, S: Read, W: Write>(
         return Ok(message);
     }
     if let Some(lent) = lent {
-        finish(rt, alloc, desk, sender, lent.run())?;
+        match runner {
+            Runner::Pool => giver.give(rt, lent),
+            Runner::Reader => finish(rt, alloc, desk, sender, lent.run())?,
+        }
     }
     send(rt, alloc, desk, sender)?;
     match incoming.next(reader) {

@@ -1,4 +1,8 @@
+pub mod AmongLemmas
 mod ApartLemmas
-pub mod MergeLemmas
+mod MergeLemmas
+mod OnlyLemmas
+mod StepLemmas
 pub mod StillLemmas
+mod StuckLemmas
 mod WorkLemmas

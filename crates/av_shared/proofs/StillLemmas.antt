@@ -1,5 +1,5 @@
 -- What the grants of a still run say of the opening.
-use Rattle.std.proofs.Common.{if◌then◌else◌, ◌≡◌, ◌==◌, ◌⊎◌, ℕ, Bool, true, false, eq-eqb, eqb-true, List, [], ◌∷◌, ◌++◌, map, Option, None, Some, length, arith, refl, sym, ap, ◌∙◌, subst, inl, inr}
+use Rattle.std.proofs.Common.{if◌then◌else◌, ◌≡◌, ◌==◌, ◌⊎◌, ℕ, Bool, true, false, eq-eqb, eqb-true, List, [], ◌∷◌, ◌++◌, map, Option, None, Some, refl, sym, ap, ◌∙◌, subst, inl, inr}
 use Rattle.std.specs.List.{AllByRecursion as Each, list_all}
 use Rattle.std.proofs.lemmas.Bool.{true≢false}
 use Rattle.std.specs.Option.{IfSome, option_map}
@@ -27,7 +27,6 @@ use Rattle.av_shared.specs.Works.{SpareIsOpenedWith}
 use Rattle.av_shared.specs.Certified.{IsCertified}
 use Rattle.av_shared.specs.History.{HaveOneSets, IsDeskAudit, IsMerge, events_of, opened_as, sets_at}
 use Rattle.av_sigset.specs.Publication.{Publication, publication_of, published_as}
-use Rattle.av_sigset.specs.Catalogue.{set_at}
 use Rattle.av_sigset.specs.Set.{NumberedSet}
 use Rattle.av_sigset.specs.declared.signature.Pattern.{Pattern}
 use Rattle.av_store.proofs.HistoryLemmas.{remembers}
@@ -35,11 +34,11 @@ use Rattle.av_store.proofs.SeenLemmas.{stream_seen}
 use Rattle.av_store.specs.Files.{File, file_of}
 use Rattle.av_store.specs.History.{StreamHistory, content, generation_after, generation_of, now}
 use Rattle.av_store.specs.Rows.{stream_at}
-use Rattle.av_store.specs.Seen.{Keeps, seen, stream_of}
+use Rattle.av_store.specs.Seen.{Keeps, stream_of}
 use Rattle.av_store.specs.Store.{Store}
 use Rattle.av_store.specs.declared.stream.Stream.{Stream}
 use Rattle.av_shared.proofs.ApartLemmas.{each_by}
-use Rattle.av_shared.proofs.MergeLemmas.{among_split}
+use Rattle.av_shared.proofs.AmongLemmas.{among_split}
 use Rattle.av_world.proofs.UnionLemmas.{union_only}
 use Rattle.av_world.specs.Audits.{AuditsGrantOnlyClean, OfFilter, OfService, SideEntry, answers_in, filter_side, service_side, sets_end}
 use Rattle.av_world.specs.Headline.{IsJustified}
@@ -200,16 +199,6 @@ true_under v sets set of (Granted n least s g u) h = λ x at.
     (said.0, named.0, subst (λ ps. Clean ≡ verdict ps x.bytes) named.1 said.1.clean)
 true_under v sets set of (Unscanned n s g cause) h = h
 true_under v sets set of (Denied n cause) h = tt
-
-pub only_set : (sets : List NumberedSet) (version : ℕ) (s : NumberedSet) → length sets ≡ 1 → set_at sets version ≡ Some s → sets ≡ s ∷ []
-unfolding set_at
-only_set [] version s one at = absurd (none-some s at)
-only_set (x ∷ []) version s one at =
-    (elim (x.version == version) as (λ b. (if b then Some x else None) ≡ Some s → x ∷ [] ≡ s ∷ []) [
-      | true ↦ λ h. let same : x ≡ s = cc (h) in ap (λ (y : NumberedSet). y ∷ []) same
-      | false ↦ λ h. absurd (none-some s h)
-    ]) at
-only_set (x ∷ y ∷ xs) version s one at = absurd (omega (arith, one))
 
 -- ---- the catalogues of a still run
 

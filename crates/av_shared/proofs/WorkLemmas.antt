@@ -1,7 +1,6 @@
 -- One entry more of a desk that finishes its own works.
-use Rattle.std.proofs.Common.{◌≡◌, ℕ, ◌<◌, ◌⊎◌, zero, suc, List, [], ◌∷◌, ◌++◌, Some, take, length, get_or, slice_get, refl, sym, ap, ◌∙◌, subst, inl, inr, ◌+◌, arith}
+use Rattle.std.proofs.Common.{◌≡◌, ℕ, ◌<◌, zero, suc, List, [], ◌∷◌, ◌++◌, Some, take, length, get_or, slice_get, refl, sym, ap, ◌∙◌, subst, arith}
 use Rattle.std.proofs.lemmas.Option.{get_or_from_slice_get, slice_get_within}
-use Rattle.std.specs.List.{AllByRecursion as Each}
 use Rattle.av_base.proofs.AmongLemmas.{among_each, among_left, among_right}
 use Rattle.av_base.specs.Among.{Among}
 use Rattle.av_service.specs.Audit.{Call, ServiceEntry, lent_by, sets_after}
@@ -10,7 +9,6 @@ use Rattle.av_sigset.specs.Publication.{Publication}
 use Rattle.av_base.specs.declared.message_id.MessageId.{MessageId}
 use Rattle.av_base.specs.declared.port.Port.{Port}
 use Rattle.av_frame.specs.Message.{Letter, via}
-use Rattle.av_frame.specs.declared.message.Body.{Body}
 use Rattle.av_frame.specs.declared.message.Body.TheVariants.{Chunk}
 use Rattle.av_service.proofs.LendLemmas.{IsOfMessage, lends_what_came}
 use Rattle.av_service.specs.Audit.{By, IsServiceAudit, Publishes, respond}

@@ -73,6 +73,12 @@ pub record IsMerge (gate : GateAudit) (desk : DeskAudit) (spare : Option DeskAud
   pub services : (port : Port) → service_side port history ≡ entries_at desk spare port
   pub delivered : IsDelivered [] [] history
 
+-- the spare, if there is one, was at the other port, and there is such a history
+pub record HaveHistory (gate : GateAudit) (desk : DeskAudit) (spare : Option DeskAudit) : Type 0 where
+  pub beside : IsSpare desk spare
+  pub history : List SideEntry
+  pub merge : IsMerge gate desk spare history
+
 -- each work that came back to a desk is one that it lent, run under the set of its version
 abbrev pub AreOwnWorks : DeskAudit → Option DeskAudit → Type 0
 AreOwnWorks desk spare = (port : Port) → FinishesItsWorks (sets_at desk spare port) [] (entries_at desk spare port)

@@ -1,9 +1,9 @@
-ghost use Rattle.std.specs.Prelude.{◌≡◌, ◌≤◌, IsSome, IsTrue, length, take};
-ghost use Rattle.av_base.specs.Among.{Among};
-ghost use Rattle.av_shared.specs.Merged.{AreMerged, AreTaken, Brings, Takes, WasSentUp, sent_of_filter, sent_of_service};
+ghost use Rattle.std.specs.Prelude.{◌≡◌, ◌↔◌, ◌<◌, IsFalse, IsTrue, drop, length};
 ghost use Rattle.av_desk.specs.Entry.{call_of};
 ghost use Rattle.av_gate.specs.Calls.{event_of};
+ghost use Rattle.av_shared.specs.Merged.{AreAllTaken, AreMerged, AreStuck, AreTaken, Brings, FilterGoesOn, ServiceGoesOn, Takes, WasSentAt, WasSentDown, WasSentUp, events_left};
 
+use crate::sent::{Look, Place, START, was_sent};
 use av_base::Port;
 use av_desk::{Entry as DeskEntry, Event as DeskEvent};
 use av_frame::Message;
@@ -25,13 +25,6 @@ pub struct Taken {
     pub two: usize,
 }
 
-// A message among those that a side sent: the number of its event, and its own within that.
-#[derive(Clone, Copy)]
-struct Place {
-    entry: usize,
-    message: usize,
-}
-
 // Where to look next for what comes up from each desk, and for what comes down to it: what was sent before came already, or was
 // lost.
 #[derive(Clone, Copy)]
@@ -42,21 +35,13 @@ struct Places {
     down_two: Place,
 }
 
-// Where a message is looked for: behind the last one that came there, or anywhere, as one that comes late or again.
-#[derive(Clone, Copy, PartialEq, Eq)]
-enum Look {
-    Ahead,
-    Anywhere,
-}
-
-const START: Place = Place {
-    entry: 0,
-    message: 0,
-};
-
 /// Whether there is one history of all these events, in which each message that came had been sent by the other side before.
+///
+/// It takes the next event of any side that can come, until none is left. Nothing is lost by taking one early: if there is a history, the
+/// first of its events that is not taken yet can come.
 pub fn are_merged(sides: Sides<'_>) -> bool
-    ensures { IsTrue result → AreMerged sides.entry.gate.now sides.entry.one.now sides.entry.two.now }
+    ensures sound { let s = sides.entry in IsTrue result → AreMerged s.gate.now s.one.now s.two.now }
+    ensures complete { let s = sides.entry in AreMerged s.gate.now s.one.now s.two.now → IsTrue result }
 {
     let mut taken = Taken {
         gate: 0,
@@ -69,19 +54,17 @@ pub fn are_merged(sides: Sides<'_>) -> bool
         down_one: START,
         down_two: START,
     };
-    let desks = sides.one.len().saturating_add(sides.two.len());
-    'events: for _ in 0..sides.gate.len().saturating_add(desks) {
+    'events: while !are_all_taken(sides, taken) {
         if !take_any(sides, &mut taken, &mut places) {
             return false;
         }
     }
-    are_all(sides, taken)
+    true
 }
 
 // Whether no event is left.
-fn are_all(sides: Sides<'_>, taken: Taken) -> bool
-    ensures { IsTrue result → (length sides.entry.gate.now ≤ taken.gate) × (length sides.entry.one.now ≤ taken.one)
-        × (length sides.entry.two.now ≤ taken.two) }
+fn are_all_taken(sides: Sides<'_>, taken: Taken) -> bool
+    ensures { let s = sides.entry in IsTrue result ↔ AreAllTaken s.gate.now s.one.now s.two.now taken }
 {
     sides.gate.len() <= taken.gate && sides.one.len() <= taken.one && sides.two.len() <= taken.two
 }
@@ -89,35 +72,67 @@ fn are_all(sides: Sides<'_>, taken: Taken) -> bool
 // Takes the next event of any side, where one can come now.
 fn take_any(sides: Sides<'_>, taken: &mut Taken, places: &mut Places) -> bool
     requires { AreTaken sides.gate.now sides.one.now sides.two.now taken.old }
-    ensures { AreTaken sides.entry.gate.now sides.entry.one.now sides.entry.two.now taken.new }
+    ensures taken { let s = sides.entry in AreTaken s.gate.now s.one.now s.two.now taken.new }
+    ensures fewer { let s = sides.entry in IsTrue result
+        → events_left s.gate.now s.one.now s.two.now taken.new < events_left s.gate.now s.one.now s.two.now taken.old }
+    ensures stuck { let s = sides.entry in IsFalse result → AreStuck s.gate.now s.one.now s.two.now taken.old }
 {
     take_next(sides, taken, places, Look::Ahead) || take_next(sides, taken, places, Look::Anywhere)
 }
 
+// The same, with messages looked for ahead alone, or anywhere.
 fn take_next(sides: Sides<'_>, taken: &mut Taken, places: &mut Places, look: Look) -> bool
     requires { AreTaken sides.gate.now sides.one.now sides.two.now taken.old }
-    ensures { AreTaken sides.entry.gate.now sides.entry.one.now sides.entry.two.now taken.new }
+    ensures taken { let s = sides.entry in AreTaken s.gate.now s.one.now s.two.now taken.new }
+    ensures fewer { let s = sides.entry in IsTrue result
+        → events_left s.gate.now s.one.now s.two.now taken.new < events_left s.gate.now s.one.now s.two.now taken.old }
+    ensures same { IsFalse result → taken.new ≡ taken.old }
+    ensures stuck { let s = sides.entry in look ≡ Look.Anywhere → IsFalse result
+        → AreStuck s.gate.now s.one.now s.two.now taken.old }
 {
-    take_of_gate(sides, taken, places, look)
-        || take_of_one(sides, taken, places, look)
-        || take_of_two(sides, taken, places, look)
-}
-
-fn take_of_gate(sides: Sides<'_>, taken: &mut Taken, places: &mut Places, look: Look) -> bool
-    requires { AreTaken sides.gate.now sides.one.now sides.two.now taken.old }
-    ensures { AreTaken sides.entry.gate.now sides.entry.one.now sides.entry.two.now taken.new }
-{
-    let Some(entry) = sides.gate.get(taken.gate) else {
-        return false;
-    };
-    if !can_come(sides, *taken, places, look, entry.event()) {
-        return false;
+    if gate_goes_on(sides, *taken, places, look) {
+        taken.gate += 1;
+        return true;
     }
-    taken.gate += 1;
-    true
+    if desk_goes_on(
+        sides.one,
+        taken.one,
+        sides.gate,
+        taken.gate,
+        &mut places.down_one,
+        look,
+    ) {
+        taken.one += 1;
+        return true;
+    }
+    if desk_goes_on(
+        sides.two,
+        taken.two,
+        sides.gate,
+        taken.gate,
+        &mut places.down_two,
+        look,
+    ) {
+        taken.two += 1;
+        return true;
+    }
+    false
 }
 
-// Whether an event of the gate brings no message, or one that a desk has sent.
+// Whether the next event of the gate can come: it brings no message, or one that is found among those that the desks sent.
+fn gate_goes_on(sides: Sides<'_>, taken: Taken, places: &mut Places, look: Look) -> bool
+    ensures left { IsTrue result → taken.gate < length sides.entry.gate.now }
+    ensures sound { let s = sides.entry in IsTrue result
+        → FilterGoesOn (WasSentUp s.one.now s.two.now taken) (drop taken.gate s.gate.now) }
+    ensures complete { let s = sides.entry in look ≡ Look.Anywhere
+        → FilterGoesOn (WasSentUp s.one.now s.two.now taken) (drop taken.gate s.gate.now) → IsTrue result }
+{
+    match sides.gate.get(taken.gate) {
+        None => false,
+        Some(entry) => can_come(sides, taken, places, look, entry.event()),
+    }
+}
+
 fn can_come(
     sides: Sides<'_>,
     taken: Taken,
@@ -125,7 +140,9 @@ fn can_come(
     look: Look,
     event: &GateEvent,
 ) -> bool
-    ensures { IsTrue result → Brings (WasSentUp sides.entry.one.now sides.entry.two.now taken) (event_of event.now) }
+    ensures sound { let s = sides.entry in IsTrue result → Brings (WasSentUp s.one.now s.two.now taken) (event_of event.now) }
+    ensures complete { let s = sides.entry in look ≡ Look.Anywhere
+        → Brings (WasSentUp s.one.now s.two.now taken) (event_of event.now) → IsTrue result }
 {
     match event {
         GateEvent::Receive { message } => came_up(sides, taken, places, look, message),
@@ -133,6 +150,7 @@ fn can_come(
     }
 }
 
+// Whether a desk sent this message. A desk sends at its own port, so the other one is asked last.
 fn came_up(
     sides: Sides<'_>,
     taken: Taken,
@@ -140,144 +158,66 @@ fn came_up(
     look: Look,
     message: &Message,
 ) -> bool
-    ensures { IsTrue result → WasSentUp sides.entry.one.now sides.entry.two.now taken message.now }
+    ensures sound { let s = sides.entry in IsTrue result → WasSentUp s.one.now s.two.now taken message.now }
+    ensures complete { let s = sides.entry in look ≡ Look.Anywhere
+        → WasSentUp s.one.now s.two.now taken message.now → IsTrue result }
 {
-    match message.port() {
-        Port::One => sent_by_service(sides.one, taken.one, &mut places.up_one, look, message),
-        Port::Two => sent_by_service(sides.two, taken.two, &mut places.up_two, look, message),
+    let port = message.port();
+    if came_from(sides, taken, places, look, port, message) {
+        return true;
     }
+    look == Look::Anywhere && came_from(sides, taken, places, look, port.other(), message)
 }
 
-fn take_of_one(sides: Sides<'_>, taken: &mut Taken, places: &mut Places, look: Look) -> bool
-    requires { AreTaken sides.gate.now sides.one.now sides.two.now taken.old }
-    ensures { AreTaken sides.entry.gate.now sides.entry.one.now sides.entry.two.now taken.new }
-{
-    let Some(entry) = sides.one.get(taken.one) else {
-        return false;
-    };
-    if !can_be_taken(sides, *taken, &mut places.down_one, look, entry.event()) {
-        return false;
-    }
-    taken.one += 1;
-    true
-}
-
-// Whether an event of a desk brings no message, or one that the gate has sent.
-fn can_be_taken(
+fn came_from(
     sides: Sides<'_>,
     taken: Taken,
+    places: &mut Places,
+    look: Look,
+    port: Port,
+    message: &Message,
+) -> bool
+    ensures sound { let s = sides.entry in IsTrue result → WasSentAt s.one.now s.two.now taken port message.now }
+    ensures complete { let s = sides.entry in look ≡ Look.Anywhere
+        → WasSentAt s.one.now s.two.now taken port message.now → IsTrue result }
+{
+    match port {
+        Port::One => was_sent(sides.one, taken.one, &mut places.up_one, look, message),
+        Port::Two => was_sent(sides.two, taken.two, &mut places.up_two, look, message),
+    }
+}
+
+// Whether the next event of a desk can come: it brings no message, or one that is found among those that the gate sent.
+fn desk_goes_on(
+    desk: &[DeskEntry],
+    at: usize,
+    gate: &[GateEntry],
+    count: usize,
+    place: &mut Place,
+    look: Look,
+) -> bool
+    ensures left { IsTrue result → at < length desk.now }
+    ensures sound { IsTrue result → ServiceGoesOn (WasSentDown gate.now count) (drop at desk.now) }
+    ensures complete { look ≡ Look.Anywhere → ServiceGoesOn (WasSentDown gate.now count) (drop at desk.now) → IsTrue result }
+{
+    match desk.get(at) {
+        None => false,
+        Some(entry) => can_be_taken(gate, count, place, look, entry.event()),
+    }
+}
+
+fn can_be_taken(
+    gate: &[GateEntry],
+    count: usize,
     place: &mut Place,
     look: Look,
     event: &DeskEvent,
 ) -> bool
-    ensures { IsTrue result → Takes (λ m. Among m (sent_of_filter (take taken.gate sides.entry.gate.now))) (call_of event.now) }
+    ensures sound { IsTrue result → Takes (WasSentDown gate.now count) (call_of event.now) }
+    ensures complete { look ≡ Look.Anywhere → Takes (WasSentDown gate.now count) (call_of event.now) → IsTrue result }
 {
     match event {
-        DeskEvent::Receive { message } => sent_by_filter(
-            sides.gate, taken.gate, place, look, message,
-        ),
+        DeskEvent::Receive { message } => was_sent(gate, count, place, look, message),
         _ => true,
     }
-}
-
-fn take_of_two(sides: Sides<'_>, taken: &mut Taken, places: &mut Places, look: Look) -> bool
-    requires { AreTaken sides.gate.now sides.one.now sides.two.now taken.old }
-    ensures { AreTaken sides.entry.gate.now sides.entry.one.now sides.entry.two.now taken.new }
-{
-    let Some(entry) = sides.two.get(taken.two) else {
-        return false;
-    };
-    if !can_be_taken(sides, *taken, &mut places.down_two, look, entry.event()) {
-        return false;
-    }
-    taken.two += 1;
-    true
-}
-
-fn sent_by_service(
-    events: &[DeskEntry],
-    count: usize,
-    place: &mut Place,
-    look: Look,
-    message: &Message,
-) -> bool
-    ensures { IsTrue result → Among message.now (sent_of_service (take count events.now)) }
-{
-    let from = begin(*place, look);
-    for at in from.entry..count {
-        let Some(entry) = events.get(at) else {
-            return false;
-        };
-        if let Some(next) = found(entry.messages(), first(from, at), message) {
-            move_on(place, look, at, next);
-            return true;
-        }
-    }
-    if place.entry < count {
-        move_on(place, look, count, 0);
-    }
-    false
-}
-
-fn sent_by_filter(
-    events: &[GateEntry],
-    count: usize,
-    place: &mut Place,
-    look: Look,
-    message: &Message,
-) -> bool
-    ensures { IsTrue result → Among message.now (sent_of_filter (take count events.now)) }
-{
-    let from = begin(*place, look);
-    for at in from.entry..count {
-        let Some(entry) = events.get(at) else {
-            return false;
-        };
-        if let Some(next) = found(entry.messages(), first(from, at), message) {
-            move_on(place, look, at, next);
-            return true;
-        }
-    }
-    if place.entry < count {
-        move_on(place, look, count, 0);
-    }
-    false
-}
-
-// Who looked ahead looks on from there.
-fn move_on(place: &mut Place, look: Look, entry: usize, message: usize) {
-    if look == Look::Ahead {
-        *place = Place { entry, message };
-    }
-}
-
-// Where to begin to look.
-fn begin(place: Place, look: Look) -> Place {
-    match look {
-        Look::Ahead => place,
-        Look::Anywhere => START,
-    }
-}
-
-// The first message of an event to look at.
-fn first(from: Place, at: usize) -> usize {
-    if at == from.entry { from.message } else { 0 }
-}
-
-// The place behind the first of these messages, from a place on, that is this one.
-fn found(messages: &[Message], from: usize, message: &Message) -> Option<usize>
-    ensures { IsSome result → Among message.now messages.now }
-{
-    for at in from..messages.len() {
-        if same_message(&messages[at], message) {
-            return Some(at + 1);
-        }
-    }
-    None
-}
-
-fn same_message(one: &Message, other: &Message) -> bool
-    ensures { IsTrue result → one.now ≡ other.now }
-{
-    one.port() == other.port() && one.body() == other.body()
 }

@@ -1,4 +1,4 @@
-ghost use Rattle.std.specs.Prelude.{◌≡◌, ◌∷◌, [], IsTrue, map};
+ghost use Rattle.std.specs.Prelude.{◌≡◌, ◌∷◌, [], IsTrue, map, slice_get};
 ghost use Rattle.std.specs.List.{list_all};
 ghost use Rattle.std.specs.Option.{option_copied};
 ghost use Rattle.av_desk.specs.Entry.{call_of};
@@ -14,7 +14,8 @@ use av_sigset::{Catalogue, Pattern, SignatureSet};
 
 /// Whether no stream changed and nothing was published. It takes no memory, and a look at each event.
 pub fn are_still(gate: &GateAudit, desk: &DeskAudit, spare: Option<&DeskAudit>) -> bool
-    ensures { IsTrue result → AreStill gate.now desk.now (option_copied spare.entry) }
+    ensures sound { IsTrue result → AreStill gate.now desk.now (option_copied spare.entry) }
+    ensures complete { AreStill gate.now desk.now (option_copied spare.entry) → IsTrue result }
 {
     changes_nothing(gate.events.as_slice())
         && publishes_nothing(desk.events.as_slice())
@@ -62,7 +63,8 @@ fn publishes_no_set(event: &DeskEvent) -> bool
 
 /// Whether a catalogue has the version and the patterns of this set, and no other set.
 pub fn has_only(catalogue: &Catalogue, set: &SignatureSet) -> bool
-    ensures { IsTrue result → map publication_of catalogue.now.sets ≡ publication_of set.now ∷ [] }
+    ensures sound { IsTrue result → map publication_of catalogue.now.sets ≡ publication_of set.now ∷ [] }
+    ensures complete { map publication_of catalogue.now.sets ≡ publication_of set.now ∷ [] → IsTrue result }
 {
     if catalogue.len() != 1 {
         return false;
@@ -75,32 +77,44 @@ pub fn has_only(catalogue: &Catalogue, set: &SignatureSet) -> bool
 
 // Whether two sets have one version and the same patterns, under whatever names.
 fn same_publication(one: &SignatureSet, other: &SignatureSet) -> bool
-    ensures { IsTrue result → publication_of one.now ≡ publication_of other.now }
+    ensures sound { IsTrue result → publication_of one.now ≡ publication_of other.now }
+    ensures complete { publication_of one.now ≡ publication_of other.now → IsTrue result }
 {
     one.version() == other.version() && same_patterns(one, other)
 }
 
 fn same_patterns(one: &SignatureSet, other: &SignatureSet) -> bool
-    ensures { IsTrue result → patterns_of one.now.signatures ≡ patterns_of other.now.signatures }
+    ensures sound { IsTrue result → patterns_of one.now.signatures ≡ patterns_of other.now.signatures }
+    ensures complete { patterns_of one.now.signatures ≡ patterns_of other.now.signatures → IsTrue result }
 {
     if one.len() != other.len() {
         return false;
     }
-    for i in 0..one.len() {
-        match (one.pattern(i), other.pattern(i)) {
-            (Some(a), Some(b)) => {
-                if !same_pattern(a, b) {
-                    return false;
-                }
-            }
-            _ => return false,
+    'patterns: for place in 0..one.len() {
+        if !same_pattern_at(one, other, place) {
+            return false;
         }
     }
     true
 }
 
+// Whether both have the same pattern at a place, or none.
+fn same_pattern_at(one: &SignatureSet, other: &SignatureSet, place: usize) -> bool
+    ensures sound { IsTrue result
+        → slice_get (patterns_of one.now.signatures) place ≡ slice_get (patterns_of other.now.signatures) place }
+    ensures complete { slice_get (patterns_of one.now.signatures) place ≡ slice_get (patterns_of other.now.signatures) place
+        → IsTrue result }
+{
+    match (one.pattern(place), other.pattern(place)) {
+        (None, None) => true,
+        (Some(a), Some(b)) => same_pattern(a, b),
+        _ => false,
+    }
+}
+
 fn same_pattern(one: &Pattern, other: &Pattern) -> bool
-    ensures { IsTrue result → one.now ≡ other.now }
+    ensures sound { IsTrue result → one.now ≡ other.now }
+    ensures complete { one.now ≡ other.now → IsTrue result }
 {
     one.bytes == other.bytes && one.span == other.span
 }

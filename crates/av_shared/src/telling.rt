@@ -3,9 +3,9 @@ ghost use Rattle.std.specs.Option.{option_copied};
 ghost use Rattle.av_desk.specs.Book.{compiled};
 ghost use Rattle.av_gate.specs.Claims.{IsLegal};
 ghost use Rattle.av_shared.specs.Certified.{IsCertified};
-ghost use Rattle.av_shared.specs.History.{AreOwnWorks, HaveOneSets, IsDeskAudit};
+ghost use Rattle.av_shared.specs.History.{AreOwnWorks, HaveHistory, IsDeskAudit};
 ghost use Rattle.av_shared.specs.Works.{IsOpenedWith, SpareIsOpenedWith};
-ghost use Rattle.av_shared.specs.Still.{HaveOnly, SpareHasOnly, TellsTrue};
+ghost use Rattle.av_shared.specs.Still.{AreStill, HaveOnly, SpareHasOnly, TellsTrue};
 ghost use Rattle.av_sigset.specs.Publication.{publication_of};
 
 use crate::certify::is_certified;
@@ -20,7 +20,8 @@ use std::alloc::{AllocError, Global};
 
 /// Whether this run shows by itself that each of its grants is true: the gate was fail-closed, no stream changed, each desk had this set
 /// and no other, and the events of all are one history. Then each answer that grants an open names the generation of its stream in the
-/// audit's volume, and no pattern of the set occurs in that content; nothing else lets an open through.
+/// audit's volume, and no pattern of the set occurs in that content; nothing else lets an open through. If it is false, one of these
+/// four is not so.
 pub fn tells_true(
     gate: &GateAudit,
     desk: &DeskAudit,
@@ -35,6 +36,9 @@ pub fn tells_true(
     ensures tells { IsTrue result → AreOwnWorks desk.now (option_copied spare.entry) → TellsTrue gate.now set.now }
     ensures opened { IsTrue result → IsOpenedWith desk.now (publication_of set.now) }
     ensures beside { IsTrue result → SpareIsOpenedWith (option_copied spare.entry) (publication_of set.now) }
+    ensures complete { gate.now.mode ≡ Mode.FailClosed → AreStill gate.now desk.now (option_copied spare.entry)
+        → HaveOnly desk.now (option_copied spare.entry) (publication_of set.now)
+        → HaveHistory gate.now desk.now (option_copied spare.entry) → IsTrue result }
 {
     if gate.mode != Mode::FailClosed
         || !are_still(gate, desk, spare)
@@ -47,13 +51,15 @@ pub fn tells_true(
 
 // Whether each desk had this set and no other.
 fn have_only(desk: &DeskAudit, spare: Option<&DeskAudit>, set: &SignatureSet) -> bool
-    ensures { IsTrue result → HaveOnly desk.now (option_copied spare.entry) (publication_of set.now) }
+    ensures sound { IsTrue result → HaveOnly desk.now (option_copied spare.entry) (publication_of set.now) }
+    ensures complete { HaveOnly desk.now (option_copied spare.entry) (publication_of set.now) → IsTrue result }
 {
     has_only(&desk.catalogue, set) && spare_has_only(spare, set)
 }
 
 fn spare_has_only(spare: Option<&DeskAudit>, set: &SignatureSet) -> bool
-    ensures { IsTrue result → SpareHasOnly (option_copied spare.entry) (publication_of set.now) }
+    ensures sound { IsTrue result → SpareHasOnly (option_copied spare.entry) (publication_of set.now) }
+    ensures complete { SpareHasOnly (option_copied spare.entry) (publication_of set.now) → IsTrue result }
 {
     match spare {
         None => true,

@@ -13,15 +13,16 @@ ghost use Rattle.av_shared.specs.History.{AreOwnWorks, IsDeskAudit};
 
 use self::between::{Between, Desks};
 use self::joined::joined;
-use self::rows::{APART, BESIDE, NONE_LEFT, ROWS, Row};
+use self::rows::{APART, BESIDE, NONE_LEFT, ROWS, Row, STRAYS};
 use crate::apart::are_apart;
-use crate::certify::is_certified;
+use crate::certify::{have_history, is_certified};
 use crate::closing::{Closed, NotClosed, close_all};
 use crate::merge::{Sides, are_merged};
 use av_base::{Limits, Mode, Port, StreamId, Version};
-use av_desk::{Audit as DeskAudit, Desk, Event as DeskEvent};
+use av_desk::{Audit as DeskAudit, Desk, Entry as DeskEntry, Event as DeskEvent};
 use av_ends::{Receipt, Ticket};
-use av_gate::{Audit as GateAudit, Event as GateEvent, Gate, Seat, Unclosed};
+use av_frame::Message;
+use av_gate::{Audit as GateAudit, Entry as GateEntry, Event as GateEvent, Gate, Seat, Unclosed};
 use av_sigset::{Catalogue, SignatureSet};
 use av_store::Volume;
 use std::alloc::Global;
@@ -292,35 +293,94 @@ fn opens_of_a_lost_port_are_answered_over_the_other(rt: HostRuntime) -> Result<(
     Ok(())
 }
 
-// A front of a side alone is no history: what came had not been sent.
 #[test]
-fn a_message_that_nobody_sent_is_seen(rt: HostRuntime) -> Result<(), Fail> {
+fn messages_that_come_again_late_in_another_order_or_never_are_one_history(
+    rt: HostRuntime,
+) -> Result<(), Fail> {
     let alloc = rt.alloc();
-    for row in &ROWS {
+    for row in &STRAYS {
         let (gate, desk) = run_closed(&rt, alloc, row)?;
-        for kept in 0..desk.events.len() {
-            let some = Sides {
-                gate: gate.events.as_slice(),
-                one: &desk.events.as_slice()[..kept],
-                two: &[],
-            };
-            let rest = Sides {
-                gate: &[],
-                one: &desk.events.as_slice()[kept..],
-                two: &[],
-            };
-            assert!(rt; !are_merged(rest) || kept >= 1, "{}, {kept}", row.name);
-            let _some = are_merged(some);
-        }
-        assert!(rt;
-            !are_merged(Sides {
-                gate: gate.events.as_slice(),
-                one: &[],
-                two: &[],
-            }),
+        let used_up = joined(alloc, &gate, &desk, None)?;
+        let all = (gate.events.len(), desk.events.len(), 0usize);
+        assert_eq!(rt; used_up, all, "{}", row.name);
+        assert_eq!(rt; gate.events.len(), row.filter_steps, "{}", row.name);
+        assert_eq!(rt;
+            finished(alloc, &desk)?.as_slice(),
+            row.finished,
             "{}",
             row.name
         );
     }
+    Ok(())
+}
+
+// The message that an event of the gate brings.
+fn heard(entry: &GateEntry) -> Option<&Message> {
+    match entry.event() {
+        GateEvent::Receive { message } => Some(message),
+        _ => None,
+    }
+}
+
+fn sends(entry: &DeskEntry, message: &Message) -> bool {
+    entry.messages().iter().any(|sent| sent.port() == message.port()
+        && sent.body() == message.body())
+}
+
+// Whether these events of a desk sent each message that the gate heard.
+fn sent_all(gate: &[GateEntry], desk: &[DeskEntry]) -> bool {
+    for entry in gate {
+        if let Some(message) = heard(entry) {
+            if !desk.iter().any(|sender| sends(sender, message)) {
+                return false;
+            }
+        }
+    }
+    true
+}
+
+fn takes_a_message(entry: &DeskEntry) -> bool {
+    match entry.event() {
+        DeskEvent::Receive { .. } => true,
+        _ => false,
+    }
+}
+
+// A run that is cut short on one side is a history just where each message that came had been sent.
+#[test]
+fn a_front_of_a_side_is_joined_where_it_sent_all_that_came(rt: HostRuntime) -> Result<(), Fail> {
+    let alloc = rt.alloc();
+    for row in ROWS.iter().chain(&STRAYS) {
+        let (gate, desk) = run_closed(&rt, alloc, row)?;
+        let (events, all) = (gate.events.as_slice(), desk.events.as_slice());
+        for kept in 0..=all.len() {
+            let front = Sides {
+                gate: events,
+                one: &all[..kept],
+                two: &[],
+            };
+            let rest = Sides {
+                gate: &[],
+                one: &all[kept..],
+                two: &[],
+            };
+            let sent = sent_all(events, &all[..kept]);
+            assert!(rt; are_merged(front) == sent, "{}, {kept}", row.name);
+            let alone = !all[kept..].iter().any(takes_a_message);
+            assert!(rt; are_merged(rest) == alone, "{}, {kept}", row.name);
+        }
+    }
+    Ok(())
+}
+
+#[test]
+fn the_events_of_two_runs_are_no_history(rt: HostRuntime) -> Result<(), Fail> {
+    let alloc = rt.alloc();
+    let (gate, desk) = run_closed(&rt, alloc, &ROWS[0])?;
+    let (other_gate, other_desk) = run_closed(&rt, alloc, &ROWS[1])?;
+    for (gate, desk) in [(&gate, &other_desk), (&other_gate, &desk)] {
+        assert!(rt; !have_history(gate, desk, None));
+    }
+    assert!(rt; have_history(&gate, &desk, None) && have_history(&other_gate, &other_desk, None));
     Ok(())
 }

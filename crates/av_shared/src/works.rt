@@ -69,7 +69,6 @@ fn has_own_works(
     requires opened { IsOpenedWith audit.now (publication_of set.now) }
     ensures { IfOk result (λ yes. IsTrue yes → HasOwnWorks audit.now) }
 {
-    let _set = set.version();
     finishes_own(alloc, audit, automaton)
 }
 

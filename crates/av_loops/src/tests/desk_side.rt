@@ -2,7 +2,7 @@
 ghost use Rattle.std.specs.Prelude.{◌≡◌};
 
 use crate::tests::meeting::{Begun, Meeting};
-use crate::{Sender, desk_done, desk_in, desk_out};
+use crate::{Sender, desk_done, desk_in, desk_in_running_works, desk_out};
 use av_base::{Limits, Port, Version};
 use av_desk::{Audit, Desk, Event, Taken};
 use av_engines::{End, Incoming};
@@ -11,7 +11,6 @@ use av_pool::{Giver, Pool, Taker};
 use av_sigset::{Catalogue, SignatureSet};
 use std::alloc::Global;
 use std::process::Abort;
-use std::sync::atomic::AtomicU64;
 use std::sync::atomic::Ordering::SeqCst;
 use std::sync::{Arc, Wait};
 use std::test::Fail;
@@ -26,10 +25,6 @@ const TWO_CONTENTS: &[u8] =
 \0\0\0\x2a\x01\x01\0\0\0\0\0\0\0\x01\0\0\0\0\0\0\0\x02\0\0\0\0\0\0\0\x02\0\0\0\0\0\0\0\x02\0\0\0\0\0\0\0\x02\
 \0\0\0\x1c\x02\x01\0\0\0\0\0\0\0\x01\0\0\0\0\0\0\0\x01\0\0\0\0\0\0\0\0AB\
 \0\0\0\x1c\x02\x01\0\0\0\0\0\0\0\x01\0\0\0\0\0\0\0\x02\0\0\0\0\0\0\0\0XX";
-
-// The frame of Scan of 1.3, of stream 3 and length 2.
-const THIRD_SCAN: &[u8] =
-    b"\0\0\0\x2a\x01\x01\0\0\0\0\0\0\0\x01\0\0\0\0\0\0\0\x03\0\0\0\0\0\0\0\x03\0\0\0\0\0\0\0\x02\0\0\0\0\0\0\0\x02";
 
 // What is sent where the two contents are judged one after the other: Hello, Read of the 2 bytes of each, clean and infected.
 const TALK: &[u8] = b"\0\0\0\x12\x05\x01\0\0\0\0\0\0\0\x01\0\0\0\0\0\0\0\x01\
@@ -90,24 +85,15 @@ fn in_and_done<R: Wait>(
 #[test]
 fn two_workers_scan_what_a_stream_brings_at_once(rt: HostRuntime) -> Result<(), Fail> {
     let alloc = rt.alloc();
-    let begun = Arc::new(
-        alloc,
-        Begun {
-            works: AtomicU64::new(0),
-            met: AtomicU64::new(0),
-        },
-    )?;
+    let begun = Arc::new(alloc, Begun::none())?;
     let pace = Meeting {
         begun: Arc::try_clone(&begun)?,
     };
-    let mut text = Vec::new(alloc);
-    text.extend_from_slice(TWO_CONTENTS)?;
-    text.extend_from_slice(THIRD_SCAN)?;
     let desk = connected(&rt, alloc)?;
     let Ok((pool, mut giver, mut taker)) = Pool::start(rt, alloc, 2, pace) else {
         return Err(Fail::new("not started"));
     };
-    let mut reader = FakeReader::new(text.as_slice());
+    let mut reader = FakeReader::new(TWO_CONTENTS);
     let sender = Sender::new(alloc, FakeWriter::new(alloc));
     let ends = in_and_done(
         &rt,
@@ -118,11 +104,15 @@ fn two_workers_scan_what_a_stream_brings_at_once(rt: HostRuntime) -> Result<(), 
         &mut reader,
         &sender,
     );
-    pool.stop(&rt, giver, taker).discard();
+    let left = pool.stop(&rt, giver, taker);
+    let count = left.dones.len();
+    left.discard();
     assert!(&rt; ends == (End::Closed, End::Done));
-    assert!(&rt; begun.works.load(SeqCst) == 2 && begun.met.load(SeqCst) == 2);
+    assert!(&rt; begun.first.load(SeqCst) == 1 && begun.second.load(SeqCst) == 1);
+    assert!(&rt; begun.met.load(SeqCst) == 2);
+    // A mark may come out before a work that another worker still runs.
     let kinds = kinds(alloc, &desk.close())?;
-    assert!(&rt; kinds.starts_with(b"cmmmmmd"));
+    assert!(&rt; kinds.starts_with(b"cmmmmd") && count <= 2 && kinds.len() == 8 - count);
     Ok(())
 }
 
@@ -138,7 +128,7 @@ fn talk_in<R: Wait>(
     let desk = connected(rt, alloc)?;
     let sender = Sender::new(alloc, FakeWriter::new(alloc));
     let mut reader = FakeReader::new(TWO_CONTENTS).in_pieces_of(piece);
-    desk_in(rt, alloc, &desk, giver, &mut reader, &sender, 1_000);
+    desk_in_running_works(rt, alloc, &desk, giver, &mut reader, &sender, 1_000);
     Ok((sender.into_writer(), kinds(alloc, &desk.close())?))
 }
 

@@ -7,25 +7,42 @@ use std::sync::atomic::AtomicU64;
 use std::sync::atomic::Ordering::SeqCst;
 use std::thread;
 
-// How often a work was begun, and how many of them saw that both were.
+// How often `before` of each lease was called, and how often it saw that of the other.
 #[derive(Drop)]
 pub struct Begun {
-    pub works: AtomicU64,
+    pub first: AtomicU64,
+    pub second: AtomicU64,
     pub met: AtomicU64,
 }
 
-// Holds each work until two have begun, for a bounded time.
+impl Begun {
+    pub fn none() -> Begun {
+        Begun {
+            first: AtomicU64::new(0),
+            second: AtomicU64::new(0),
+            met: AtomicU64::new(0),
+        }
+    }
+}
+
+// Holds each of leases 1 and 2 until `before` of the other was called, for a bounded time.
 #[derive(Drop)]
 pub struct Meeting {
     pub begun: Arc<Begun, Global>,
 }
 
 impl Pace for Meeting {
-    fn before(&self, _lease: Lease) {
-        self.begun.works.fetch_add(1, SeqCst);
+    fn before(&self, lease: Lease) {
+        let begun = &*self.begun;
+        let (own, other) = if lease.get() == 1 {
+            (&begun.first, &begun.second)
+        } else {
+            (&begun.second, &begun.first)
+        };
+        own.fetch_add(1, SeqCst);
         for _ in 0..10_000_000u32 {
-            if self.begun.works.load(SeqCst) >= 2 {
-                self.begun.met.fetch_add(1, SeqCst);
+            if other.load(SeqCst) > 0 {
+                begun.met.fetch_add(1, SeqCst);
                 return;
             }
             thread::yield_now();

@@ -8,14 +8,14 @@ use Rattle.av_desk.specs.declared.audit.Audit.{Audit as DeskAudit}
 use Rattle.av_filter.specs.Audit.{IsFilterAudit}
 use Rattle.av_gate.specs.Claims.{IsLegal, table_of}
 use Rattle.av_gate.specs.declared.audit.Audit.{Audit as GateAudit}
-use Rattle.av_service.specs.Audit.{IsCatalogue, IsServiceAudit, ServiceEntry}
+use Rattle.av_service.specs.Audit.{IsCatalogue, IsServiceAudit}
 use Rattle.av_service.specs.Desk.{just_started}
-use Rattle.av_shared.specs.History.{AreOneHistory, HaveOneSets, IsDeskAudit, IsSpare, entries_at, events_of, opened_as, sets_at, told_as, told_at, told_by}
+use Rattle.av_shared.specs.History.{AreOneHistory, HaveOneSets, IsDeskAudit, IsSpare, events_of, opened_as, sets_at, told_as, told_at, told_by}
 use Rattle.av_shared.proofs.laws.headline_of_audits.Goals as goal
 use Rattle.av_sigset.specs.Publication.{Publication, latest_as, published_as}
 use Rattle.av_store.specs.Files.{File}
 use Rattle.av_store.specs.Seen.{Keeps}
-use Rattle.av_world.specs.Audits.{AreLegal, AreOneSets, FinishesItsWorks, SideEntry, service_side, sets_end}
+use Rattle.av_world.specs.Audits.{AreLegal, AreOneSets, FinishesItsWorks, SideEntry, sets_end}
 use Rattle.av_world.specs.Scene.{desk_at_first}
 
 -- the audit of a desk begins at its port

@@ -1,6 +1,4 @@
-use Rattle.std.proofs.Common.{◌≡◌, Some, sym, subst}
-use Rattle.av_match.specs.Scanning.{Compiled}
-use Rattle.av_sigset.specs.Publication.{Publication, publication_of, published_as}
+use Rattle.av_sigset.specs.Publication.{publication_of}
 use Rattle.av_shared.proofs.StillLemmas.{named_alone}
 use Rattle.av_shared.proofs.works.has_own_works.Goals as goal
 

@@ -1,13 +1,13 @@
-use Rattle.std.proofs.Common.{◌≡◌, ◌<◌, ◌∷◌, ℕ, List, [], Some, ap, inl, refl, sym, ◌∙◌, slice_get, subst, arith, rules}
+use Rattle.std.proofs.Common.{◌≡◌, ◌<◌, ℕ, List, [], Some, ap, inl, refl, sym, ◌∙◌, slice_get, subst, arith, rules}
 use Rattle.std.proofs.lemmas.Option.{slice_get_read}
 use Rattle.av_base.specs.Among.{Among}
 use Rattle.av_desk.specs.Audit.{opened_by, started_by}
 use Rattle.av_match.specs.Scanning.{ScanState, fitting, if_found, run}
-use Rattle.av_service.specs.Audit.{By, Call, ServiceEntry}
-use Rattle.av_service.specs.Conduct.{Finishes, Receives, ServiceEvent}
+use Rattle.av_service.specs.Audit.{Call, ServiceEntry}
+use Rattle.av_service.specs.Conduct.{Finishes, ServiceEvent}
 use Rattle.av_service.specs.Work.{WorkState}
 use Rattle.av_sigset.specs.Publication.{published_as}
-use Rattle.av_world.specs.World.{done, or_none}
+use Rattle.av_world.specs.World.{or_none}
 use Rattle.av_shared.proofs.WorkLemmas.{IsLentFor, bytes_of, lent_for, lent_has}
 use Rattle.av_shared.proofs.works.is_run.Goals as goal
 
