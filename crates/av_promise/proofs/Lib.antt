@@ -1,1 +1,4 @@
+pub mod ServedLemmas
 pub mod PromiseLemmas
+pub mod FilteredLemmas
+pub mod RangeLemmas

@@ -1,1 +1,3 @@
 pub mod Promise
+pub mod Filtered
+pub mod Ranges

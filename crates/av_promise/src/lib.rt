@@ -1,4 +1,6 @@
-//! What a guard and a scanning service promise together: a content that was granted is clean.
+//! What a guard, and a filter, promise together with a scanning service: a content that was granted is clean.
 #![tactic(auto)]
 
 pub mod laws;
+pub mod lines;
+pub mod ranges;

@@ -1,4 +1,5 @@
 pub mod AddLemmas
+pub mod RunLemmas
 pub mod GroupLemmas
 pub mod PlaceLemmas
 pub mod ServiceLemmas

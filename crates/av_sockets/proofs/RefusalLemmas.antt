@@ -1,8 +1,7 @@
 -- A refusal that is spelled is read.
-use Rattle.std.proofs.Common.{ℕ, ◌≡◌, ◌<◌, ◌^◌, refl, ap}
+use Rattle.std.proofs.Common.{refl, ap}
 use Rattle.std.specs.Prelude.{Some}
 use Rattle.std.proofs.lemmas.Nat.{from_be_bytes-to_be_bytes_8}
-use Rattle.av_sockets.specs.declared.refusal.TurnedAway.{TurnedAway}
 use Rattle.av_sockets.specs.declared.refusal.TurnedAway.TheVariants.{Older, Above, Full, OtherSocket}
 use Rattle.av_sockets.specs.Refusal.{IsReadBack, field8, refusal_of}
 

@@ -1,22 +1,23 @@
-ghost use Rattle.std.specs.Prelude.{◌≡◌, [], IfErr, IfOk, OnOk, map};
+ghost use Rattle.std.specs.Prelude.{◌≡◌, [], IfErr, IfOk, IsTrue, OnOk, map};
 ghost use Rattle.std.specs.List.{zip};
 ghost use Rattle.std.specs.List.Sorted.{IsNonDecreasingBy, IsPermutation};
-ghost use Rattle.av_filter.specs.Fit.{Fits};
 ghost use Rattle.av_pend.specs.Pend.{open_of};
-ghost use Rattle.av_sockets.specs.Filter.{AreFiltered, AreOpened, AreTold, GoesOn, PrintsInOrder, opened_as};
+ghost use Rattle.av_sockets.specs.Filter.{AreFiltered, AreOpened, AreTold, GoesOn, IsTold, PrintsInOrder, opened_as};
+ghost use Rattle.av_sockets.specs.Run.{AreOfTheirStreams, IsItsStream, IsOfItsStream, first};
 ghost use Rattle.av_status.specs.Status.{EndsWell, IsFault};
 
-use crate::line::Line;
 use crate::opener::Opener;
 use crate::sockets::Meeting;
+use av_base::{Generation, StreamId};
 use av_files::contents::{Contents, content_of};
 use av_files::opened::{Opened, conclude_opened, count_opened, print_opened};
 use av_files::scanner::MAX_FILE;
 use av_pend::Answer;
-use av_status::faults::out_of_memory;
+use av_status::faults::{not_certified, out_of_memory};
 use av_status::progress::Progress;
 use av_status::status::Status;
 use av_status::tally::{Tally, Wishes};
+use av_store::Volume;
 use std::alloc::{AllocError, Global};
 use std::fs::Files;
 use std::io::Write;
@@ -40,8 +41,7 @@ pub fn filter_files<R: Files + Net + Clock, F: Contents, C: Clock, W: Write, E: 
 ) -> Status
     ensures { EndsWell result → AreFiltered names.now wishes (W.contents out.old) (W.contents out.new) result }
 {
-    let line = Line::new(rt, alloc, meeting, mode);
-    let Ok(mut opener) = Opener::new(alloc, line) else {
+    let Ok(mut opener) = Opener::new(rt, alloc, meeting, mode) else {
         return out_of_memory(err);
     };
     let status = filter_over(&mut opener, files, names, wishes, out, err);
@@ -58,7 +58,7 @@ fn filter_over<'a, R: Files + Net + Clock, F: Contents, C: Clock, W: Write, E: W
     out: &mut W,
     err: &mut Progress<'_, C, E>,
 ) -> Status
-    requires fits { Fits opener.old.filter opener.old.volume }
+    requires first { opener.old.mount ≡ first }
     requires empty { opener.old.group.names.items ≡ [] }
     ensures { EndsWell result → AreFiltered names.now wishes (W.contents out.old) (W.contents out.new) result }
 {
@@ -82,9 +82,10 @@ fn open_all<'a, R: Files + Net + Clock, F: Contents, C: Clock, W: Write, E: Writ
     out: &mut W,
     err: &mut Progress<'_, C, E>,
 ) -> Result<(), Status>
-    requires fits { Fits opener.old.filter opener.old.volume }
     requires empty { opener.old.group.names.items ≡ [] }
-    ensures told { OnOk result (AreTold wishes tally.old (W.contents out.old) names.now tally.new (W.contents out.new)) }
+    ensures told { OnOk result
+        (AreTold wishes tally.old (W.contents out.old) opener.old.mount names.now tally.new
+        (W.contents out.new) opener.new.mount) }
     ensures failed { IfErr result (λ status. IsFault status) }
 {
     let Ok(mut buffer) = vec![in opener.alloc; 0u8; MAX_FILE + 2] else {
@@ -110,9 +111,9 @@ fn go_on<'a, R: Files + Net + Clock, C: Clock, W: Write, E: Write>(
     out: &mut W,
     err: &mut Progress<'_, C, E>,
 ) -> Result<(), Status>
-    requires fits { Fits opener.old.filter opener.old.volume }
-    ensures goes_on { OnOk result (GoesOn wishes name.entry opener.old.group.names.items opener.new.group.names.items tally.old tally.new (W.contents out.old) (W.contents out.new)) }
-    ensures fits { OnOk result (Fits opener.new.filter opener.new.volume) }
+    ensures goes_on { OnOk result
+        (GoesOn wishes name.entry opener.old.group.names.items opener.new.group.names.items tally.old tally.new (W.contents out.old)
+        (W.contents out.new) opener.old.mount opener.new.mount) }
     ensures failed { IfErr result (λ status. IsFault status) }
 {
     opener.add(name, content, err)?;
@@ -130,10 +131,10 @@ fn open_group<R: Files + Net + Clock, C: Clock, W: Write, E: Write>(
     out: &mut W,
     err: &mut Progress<'_, C, E>,
 ) -> Result<(), Status>
-    requires fits { Fits opener.old.filter opener.old.volume }
-    ensures opened { OnOk result (AreOpened wishes opener.old.group.names.items tally.old tally.new (W.contents out.old) (W.contents out.new)) }
+    ensures opened { OnOk result
+        (AreOpened wishes opener.old.group.names.items tally.old tally.new (W.contents out.old) (W.contents out.new)
+        opener.old.mount opener.new.mount) }
     ensures empty { OnOk result (opener.new.group.names.items ≡ []) }
-    ensures fits { OnOk result (Fits opener.new.filter opener.new.volume) }
     ensures failed { IfErr result (λ status. IsFault status) }
 {
     err.wipe();
@@ -141,28 +142,28 @@ fn open_group<R: Files + Net + Clock, C: Clock, W: Write, E: Write>(
     let Ok(answers) = opener.open() else {
         return Err(out_of_memory(err));
     };
-    let names = opener.group.names.as_slice();
-    tell(opener.alloc, names, answers, wishes, tally, out, err)?;
+    tell(opener, answers, wishes, tally, out, err)?;
     if opener.clear().is_err() {
         return Err(out_of_memory(err));
     }
     Ok(())
 }
 
-// Writes the lines of files that were opened, and counts them.
-fn tell<W: Write, E: Write>(
-    alloc: Global,
-    names: &[&str],
+// Writes the lines of the files of the group, and counts them.
+fn tell<R: Files + Net + Clock, W: Write, E: Write>(
+    opener: &Opener<'_, R>,
     answers: Vec<Answer>,
     wishes: Wishes,
     tally: &mut Tally,
     out: &mut W,
     err: &mut E,
 ) -> Result<(), Status>
-    ensures opened { OnOk result (AreOpened wishes names.now tally.old tally.new (W.contents out.old) (W.contents out.new)) }
+    ensures told { OnOk result
+        (IsTold wishes opener.now.group.names.items answers.items opener.now.mount.volume tally.old tally.new (W.contents out.old)
+        (W.contents out.new)) }
     ensures failed { IfErr result (λ status. IsFault status) }
 {
-    match print_answers(alloc, names, answers, wishes, out, err) {
+    match print_answers(opener, answers, wishes, out, err) {
         Ok(opened) => {
             count_opened(tally, opened.as_slice());
             Ok(())
@@ -171,26 +172,63 @@ fn tell<W: Write, E: Write>(
     }
 }
 
-// Writes the lines, in the order of the files, which is that of the opens' numbers, and gives the files with their answers.
-fn print_answers<'a, W: Write, E: Write>(
-    alloc: Global,
-    names: &[&'a str],
+// Writes the lines, in the order of the files, which is that of the opens' numbers, and gives the files with their answers. None is
+// written where a grant is not of the file's stream as it is.
+fn print_answers<'a, R: Files + Net + Clock, W: Write, E: Write>(
+    opener: &Opener<'a, R>,
     answers: Vec<Answer>,
     wishes: Wishes,
     out: &mut W,
     err: &mut E,
 ) -> Result<Vec<Opened<'a>>, Status>
-    ensures printed { IfOk result (λ opened. PrintsInOrder wishes names.now answers.items opened.items (W.contents out.old) (W.contents out.new)) }
+    ensures printed { IfOk result (λ opened.
+        PrintsInOrder wishes opener.now.group.names.items answers.items opened.items (W.contents out.old) (W.contents out.new)) }
+    ensures named { IfOk result (λ opened. AreOfTheirStreams opener.now.mount.volume opened.items) }
     ensures failed { IfErr result (λ status. IsFault status) }
 {
+    let names = opener.group.names.as_slice();
     let answers = in_order(answers);
-    let Ok(opened) = named(alloc, names, answers.as_slice()) else {
+    let Ok(opened) = named(opener.alloc, names, answers.as_slice()) else {
         return Err(out_of_memory(err));
     };
-    match print_opened(alloc, opened.as_slice(), wishes, out, err) {
+    if !are_of_their_streams(opened.as_slice(), opener.volume()) {
+        return Err(not_certified(err));
+    }
+    match print_opened(opener.alloc, opened.as_slice(), wishes, out, err) {
         Status::Done => Ok(opened),
         failed => Err(failed),
     }
+}
+
+// Whether each grant is of the stream that has the file's name, of its present generation.
+fn are_of_their_streams(opened: &[Opened<'_>], volume: &Volume) -> bool
+    ensures { IsTrue result → AreOfTheirStreams volume.now opened.now }
+{
+    'files: for line in opened {
+        if !is_of_its_stream(line.name, line.answer, volume) {
+            return false;
+        }
+    }
+    true
+}
+
+fn is_of_its_stream(name: &str, answer: Answer, volume: &Volume) -> bool
+    ensures { IsTrue result → IsOfItsStream volume.now name.now answer }
+{
+    match answer {
+        Answer::Granted {
+            stream,
+            generation,
+            ..
+        } => is_stream_of(name, stream, generation, volume),
+        _ => true,
+    }
+}
+
+fn is_stream_of(name: &str, stream: StreamId, generation: Generation, volume: &Volume) -> bool
+    ensures { IsTrue result → IsItsStream volume.now name.now stream generation }
+{
+    volume.find(name.as_bytes()) == Some(stream) && volume.generation(stream) == Some(generation)
 }
 
 // The answers in the order of their opens.

@@ -13,6 +13,7 @@ pub mod filter;
 pub mod group;
 mod line;
 pub mod looks;
+mod mount;
 mod opener;
 mod place;
 pub mod refusal;

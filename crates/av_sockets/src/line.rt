@@ -1,14 +1,26 @@
+ghost use Rattle.std.specs.Prelude.{◌≡◌, ◌≢◌, [], OnOk};
+ghost use Rattle.av_engines.specs.declared.end.End.TheVariants.{Done, Memory};
+ghost use Rattle.av_sockets.specs.Run.{LeadsOn};
+
 use crate::duplex::Duplex;
 use crate::fault::{SocketFault, socket_failed};
+use crate::mount::Mount;
 use crate::sockets::{Meeting, meet_service};
-use av_engines::End;
+use av_base::StreamId;
+use av_base::limits::MAX_JOBS;
+use av_engines::{End, Exchange};
+use av_files::streams::TURNS;
+use av_pend::Answer;
 use av_status::end_told;
 use av_status::status::Status;
-use std::alloc::Global;
+use std::alloc::{AllocError, Global};
 use std::fs::Files;
 use std::io::Write;
 use std::net::Net;
 use std::time::Clock;
+
+// How many files are opened at one time: as many as a service runs scans.
+const OPENS: usize = MAX_JOBS as usize;
 
 // The filter's line to the one service that may join it.
 #[derive(Drop)]
@@ -19,21 +31,30 @@ pub(crate) struct Line<'a, R> {
     mode: u32,
     // Whom it met, once it was waited for a service.
     met: Option<Result<Duplex<'a, R>, SocketFault>>,
+    // The frames that come over it.
+    exchange: Exchange,
     // How the opens over it ended so far.
-    pub end: End,
+    end: End,
+    ghost idle: { end ≡ Done → exchange.outgoing ≡ [] },
 }
 
 impl<'a, R: Files + Net + Clock> Line<'a, R> {
     // At this socket, of these rights, which is not made before the service is waited for.
-    pub(crate) fn new(rt: &'a R, alloc: Global, meeting: Meeting<'a>, mode: u32) -> Line<'a, R> {
-        Line {
+    pub(crate) fn new(
+        rt: &'a R,
+        alloc: Global,
+        meeting: Meeting<'a>,
+        mode: u32,
+    ) -> Result<Line<'a, R>, AllocError> {
+        Ok(Line {
             rt,
             alloc,
             meeting,
             mode,
             met: None,
+            exchange: Exchange::new(alloc, TURNS)?,
             end: End::Done,
-        }
+        })
     }
 
     // Waits for a service, where it was not done before.
@@ -44,12 +65,35 @@ impl<'a, R: Files + Net + Clock> Line<'a, R> {
         }
     }
 
-    // The connection, where a service came and was not lost.
-    pub(crate) fn duplex(&self) -> Option<&Duplex<'a, R>> {
-        match &self.met {
-            Some(Ok(duplex)) if self.end == End::Done => Some(duplex),
-            _ => None,
+    // Opens streams over the connection, as far as there is one and it goes on: as many at one time as a service runs scans, and the
+    // next ones once they have their answers.
+    pub(crate) fn open(
+        &mut self,
+        mount: &mut Mount,
+        streams: &[StreamId],
+        answers: &mut Vec<Answer>,
+    ) -> Result<(), AllocError>
+        ensures { OnOk result
+            (LeadsOn mount.old answers.old.items mount.new answers.new.items) }
+    {
+        let Some(Ok(duplex)) = &self.met else {
+            return Ok(());
+        };
+        if self.end != End::Done {
+            return Ok(());
         }
+        self.end = open_streams(
+            self.alloc,
+            mount,
+            streams,
+            &mut self.exchange,
+            duplex,
+            answers,
+        );
+        if self.end == End::Memory {
+            return Err(AllocError);
+        }
+        Ok(())
     }
 
     // How the filter's side ended, where that is a fault.
@@ -63,5 +107,35 @@ impl<'a, R: Files + Net + Clock> Line<'a, R> {
             }
             end => end_told(err, end),
         }
+    }
+}
+
+// Opens streams over the connection, so many at one time.
+fn open_streams<C: Clock>(
+    alloc: Global,
+    mount: &mut Mount,
+    streams: &[StreamId],
+    exchange: &mut Exchange,
+    duplex: &Duplex<'_, C>,
+    answers: &mut Vec<Answer>,
+) -> End
+    requires idle { exchange.old.outgoing ≡ [] }
+    ensures led { result ≢ Memory
+        → LeadsOn mount.old answers.old.items mount.new answers.new.items }
+    ensures idle { result ≡ Done → exchange.new.outgoing ≡ [] }
+{
+    'parts: for part in streams.chunks(OPENS) {
+        exchange.incoming.allow(TURNS);
+        let mut watched = mount.serve(alloc, part, exchange, duplex);
+        if answers.append(&mut watched.answers).is_err() {
+            return End::Memory;
+        }
+        if watched.end != End::Done {
+            return watched.end;
+        }
+    }
+    match duplex.finish() {
+        Ok(()) => End::Done,
+        Err(_) => End::WriteFault,
     }
 }

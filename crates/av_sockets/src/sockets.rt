@@ -1,6 +1,7 @@
 //! The socket at which a filter and its service meet: a file that the filter makes and the service finds.
 
-ghost use Rattle.std.specs.Prelude.{IfErr};
+ghost use Rattle.std.specs.Prelude.{◌≡◌, ◌*◌, IfErr};
+ghost use Rattle.std.specs.Duration.{as_nanos};
 ghost use Rattle.av_sockets.specs.Sockets.{IsUnjoined, IsUnmade, IsUnmet};
 
 use crate::duplex::Duplex;
@@ -32,6 +33,19 @@ pub struct Meeting<'a> {
     pub path: &'a str,
     /// How long each side waits for the other.
     pub wait: Duration,
+}
+
+impl<'a> Meeting<'a> {
+    /// At this path, where each side waits so many seconds for the other.
+    pub fn within(path: &'a str, seconds: u64) -> Meeting<'a>
+        ensures path { result.path ≡ path.entry }
+        ensures wait { as_nanos result.wait ≡ seconds * 1_000_000_000 }
+    {
+        Meeting {
+            path,
+            wait: Duration::from_secs(seconds),
+        }
+    }
 }
 
 /// A socket's file, told from any other that later has its path.

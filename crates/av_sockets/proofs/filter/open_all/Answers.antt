@@ -5,16 +5,10 @@ use Rattle.av_sockets.proofs.GroupLemmas.{at_end, at_start, one_more}
 use Rattle.av_sockets.proofs.filter.open_all.Goals as goal
 
 pub files-init : goal.files-init
-files-init g c = record {
-  fits = c.requires.fits;
-  so_far = at_start _ _ _ _ c.requires.empty;
-}
+files-init g c = at_start _ _ _ _ _ c.requires.empty
 
 pub files-preserved : goal.files-preserved
-files-preserved g c = record {
-  fits = c.in_ok-go_on.ensures.fits;
-  so_far = one_more _ _ _ _ _ _ _ _ _ _ _ _ c.files.invariant.so_far c.in_ok-go_on.ensures.goes_on (rw add-one (take-suc _ _ _ c.files-test.true));
-}
+files-preserved g c = one_more _ _ _ _ _ _ _ _ _ _ _ _ _ _ _ c.files.invariant c.in_ok-go_on.ensures.goes_on (rw add-one (take-suc _ _ _ c.files-test.true))
 
 pub returns-clause-told : goal.returns-clause-told
-returns-clause-told g c = at_end _ _ _ _ _ _ _ _ _ _ _ c.files.invariant.so_far c.open_group.ensures.opened (take_all _ _ c.files-test.false)
+returns-clause-told g c = at_end _ _ _ _ _ _ _ _ _ _ _ _ _ _ c.files.invariant c.open_group.ensures.opened (take_all _ _ c.files-test.false)

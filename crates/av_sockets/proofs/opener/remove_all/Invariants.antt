@@ -1,6 +1,6 @@
-use Rattle.av_filter.specs.Fit.{Fits}
+use Rattle.av_sockets.specs.Run.{LeadsLate}
 use Rattle.av_sockets.proofs.opener.remove_all.Given as goal
 
--- the filter fits the volume
+-- what was taken away so far led there
 abbrev pub invariant-streams : goal.invariant-streams
-invariant-streams l = Fits l.filter l.volume
+invariant-streams l = LeadsLate l.initial.mount l.mount

@@ -1,0 +1,78 @@
+-- The lines of a filter that a service joined over a socket, and the audit of that service, put together.
+use Rattle.std.specs.Prelude.{◌≡◌, ℕ, List, [], ◌∷◌, ◌++◌, Option, Some}
+use Rattle.std.specs.Borrow.{Bor}
+use Rattle.std.specs.List.{AllByRecursion as Each}
+use Rattle.av_base.specs.declared.limits.LimitValues.{LimitValues}
+use Rattle.av_base.specs.declared.verdict.Verdict.TheVariants.{Clean}
+use Rattle.av_files.specs.declared.opened.Opened.{Opened}
+use Rattle.av_filter.specs.Audit.{FilterEntry}
+use Rattle.av_filter.specs.Conduct.{FilterEvent, filter_step}
+use Rattle.av_filter_table.specs.Table.{Table}
+use Rattle.av_match.specs.Match.{verdict}
+use Rattle.av_pend.specs.declared.answer.Answer.{Answer}
+use Rattle.av_pend.specs.declared.answer.Answer.TheVariants.{Denied, Granted, Unscanned}
+use Rattle.av_promise.specs.Promise.{IsServed, published_by}
+use Rattle.av_sigset.specs.Publication.{Publication, published_as}
+use Rattle.av_sigset.specs.declared.signature.Pattern.{Pattern}
+use Rattle.av_sockets.specs.Filter.{AreFiltered, AreOpened, AreTold, more, nothing}
+use Rattle.av_sockets.specs.Run.{Mounted}
+use Rattle.av_status.specs.declared.status.Status.{Status}
+use Rattle.av_status.specs.declared.tally.Tally.{Tally}
+use Rattle.av_status.specs.declared.tally.Wishes.{Wishes}
+use Rattle.av_store.specs.Rows.{number_named, stream_at}
+use Rattle.av_store.specs.Store.{Store}
+use Rattle.av_store.specs.declared.stream.Stream.{Stream}
+use Rattle.av_world.specs.Audits.{SideEntry}
+
+-- an event of a filter, with what its conduct gives out at that place
+abbrev pub entry_of : Table → Store → FilterEvent → FilterEntry
+entry_of t v e =
+    record { event = e; answers = (filter_step t v e).answers; messages = (filter_step t v e).messages; note = (filter_step t v e).note }
+
+-- events that happened in turn
+abbrev pub entries_of : Table → Store → List FilterEvent → List FilterEntry
+entries_of t v [] = []
+entries_of t v (e ∷ es) = entry_of t v e ∷ entries_of (filter_step t v e).table (filter_step t v e).volume es
+
+-- what happened while a group of files was opened, and while their streams were taken away
+abbrev pub history_of_group : {wishes : Wishes} {names : List (Bor (List ℕ))} {before after : Tally} {old new : Option (List ℕ)} {m m' : Mounted}
+    → AreOpened wishes names before after old new m m' → List FilterEntry
+history_of_group {m = m} group =
+    entries_of m.table m.volume group.led.events ++ entries_of group.amid.table group.amid.volume group.cleared.leads.events
+
+-- and all groups
+abbrev pub history_of : {wishes : Wishes} {before : Tally} {old : Option (List ℕ)} {from : Mounted} {names : List (Bor (List ℕ))} {after : Tally} {new : Option (List ℕ)} {m : Mounted}
+    → AreTold wishes before old from names after new m → List FilterEntry
+history_of nothing = []
+history_of (more names group counted after held new m m' told opened) = history_of told ++ history_of_group opened
+
+-- A grant of this stream, generation and version: the stream has the file's name, and its content, of that generation, is clean under
+-- the patterns that were published as that version.
+pub record IsCleanGrant (sets : List Publication) (v : Store) (name : List ℕ) (stream generation version : ℕ) : Type 0 where
+  pub named : number_named name v.streams ≡ Some stream
+  pub content : Stream
+  pub there : stream_at stream v.streams ≡ Some content
+  pub generation_is : generation ≡ content.generation
+  pub patterns : List Pattern
+  pub published : published_as sets version ≡ Some patterns
+  pub clean : verdict patterns content.bytes ≡ Clean
+
+-- what a file was told lets it through only so
+abbrev pub IsRightOf : List Publication → Store → List ℕ → Answer → Type 0
+IsRightOf sets v name (Granted n least s g version) = IsCleanGrant sets v name s g version
+IsRightOf sets v name (Unscanned n s g cause) = ⊥
+IsRightOf sets v name (Denied n cause) = Unit {0}
+
+-- each line of each group, by the volume as it was when the line was written
+abbrev pub AreRight : {wishes : Wishes} {before : Tally} {old : Option (List ℕ)} {from : Mounted} {names : List (Bor (List ℕ))} {after : Tally} {new : Option (List ℕ)} {m : Mounted}
+    → List Publication → AreTold wishes before old from names after new m → Type 0
+AreRight sets nothing = Unit {0}
+AreRight sets (more names group counted after held new m m' told opened) =
+    AreRight sets told × Each (λ (o : Opened). IsRightOf sets opened.amid.volume o.name.now o.answer) opened.told.opened
+
+-- Of every run of a filter over files, by what its function ensures, and every service that keeps the conduct: each line is right.
+abbrev pub FilteredGrantsAreClean : Type 0
+FilteredGrantsAreClean =
+    (names : List (Bor (List ℕ))) (wishes : Wishes) (old new : Option (List ℕ)) (status : Status) (run : AreFiltered names wishes old new status)
+    (number : ℕ) (limits : LimitValues) (sets : List Publication) (es : List SideEntry) → IsServed (history_of run.told) number limits sets es
+    → AreRight (published_by sets es) run.told
