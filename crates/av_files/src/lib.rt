@@ -26,5 +26,5 @@ pub use opened::{Opened, conclude_opened, count_opened, print_opened};
 pub use quoted::quoted_name;
 pub use scan::{Scanned, is_infected, print_one, print_scanned, scan_files};
 pub use scanner::{Input, MAX_FILE, Scanner, admit_set, read_set};
-pub use streams::{TURNS, VOLUME, add_file, empty_volume, look_at};
+pub use streams::{TURNS, VOLUME, add_file, empty_volume, look_at, say_refused};
 pub use walk::{Met, Walk};

@@ -1,6 +1,6 @@
 ghost use Rattle.std.specs.Prelude.{◌≡◌};
 ghost use Rattle.std.specs.Io.KnownBytes.{Appends};
-ghost use Rattle.av_base.specs.Device.{Writes};
+ghost use Rattle.av_base.specs.Device.{AppendsPrefix, Writes};
 ghost use Rattle.av_files.specs.Opened.{answer_text, denied_text, ended_tally, is_granted, IsDoneOrFault, line_of, object_of, opened_line, opened_lines, tally_from, unscanned_text, worst_of};
 ghost use Rattle.av_status.specs.Tally.{concluded};
 ghost use Rattle.av_status.specs.declared.status.Status.TheVariants.{Done};
@@ -25,7 +25,9 @@ pub struct Opened<'a> {
     pub answer: Answer,
 }
 
-/// Writes a line for each file that was opened, as far as it is to be shown, and leaves none in a buffer.
+/// Writes a line for each file that was opened, as far as it is to be shown, and leaves none in a buffer. Where that fails a front of
+/// these lines was written.
+#[tactic(auto, using(av_base::proofs::DeviceLemmas::prefix_whole))]
 pub fn print_opened<W: Write, E: Write>(
     alloc: Global,
     opened: &[Opened<'_>],
@@ -34,6 +36,7 @@ pub fn print_opened<W: Write, E: Write>(
     err: &mut E,
 ) -> Status
     ensures lines { result ≡ Done → Appends (W.contents out.old) (W.contents out.new) (opened_lines wishes opened.now) }
+    ensures front { AppendsPrefix (W.contents out.old) (W.contents out.new) (opened_lines wishes opened.now) }
     ensures ended { IsDoneOrFault result }
 {
     if let Err(fault) = print_lines(alloc, opened, wishes, out) {

@@ -58,7 +58,7 @@ pub fn look_at<'a, E: Write>(
     };
     match join(alloc, seen, name, size) {
         Ok(()) => Ok(()),
-        Err(Refusal::Fault(fault)) => Err(refused(alloc, err, name, fault)),
+        Err(Refusal::Fault(fault)) => Err(say_refused(alloc, err, name, fault)),
         Err(Refusal::NoMemory) => Err(out_of_memory(err)),
     }
 }
@@ -109,7 +109,7 @@ pub fn add_file<E: Write>(
     let content = file.readable(err)?;
     match add_stream(alloc, volume, file.name.as_bytes(), content) {
         Ok(()) => Ok(()),
-        Err(Refusal::Fault(fault)) => Err(refused(alloc, err, file.name, fault)),
+        Err(Refusal::Fault(fault)) => Err(say_refused(alloc, err, file.name, fault)),
         Err(Refusal::NoMemory) => Err(out_of_memory(err)),
     }
 }
@@ -128,8 +128,8 @@ fn add_stream(
     Ok(())
 }
 
-// Says why a file can't be a stream.
-fn refused<E: Write>(alloc: Global, err: &mut E, file: &str, fault: StoreFault) -> Status
+/// Says why a file can't be a stream.
+pub fn say_refused<E: Write>(alloc: Global, err: &mut E, file: &str, fault: StoreFault) -> Status
     ensures { IsRefused result }
 {
     match format!(in alloc; "{fault}") {

@@ -42,21 +42,9 @@ fn files_are_scanned_until_the_first_fault(rt: HostRuntime) -> Result<(), Fail> 
             b"a clean\nb infected 0 x end 3\n",
             b"",
         ),
-        (
-            None,
-            None,
-            Status::Device,
-            b"",
-            b"avscan: set: cannot read\n",
-        ),
-        (
-            bad,
-            None,
-            Status::Refused,
-            b"",
-            b"avscan: set line 1: kind 1\n",
-        ),
-        (set, None, Status::Device, b"", b"avscan: b: cannot read\n"),
+        (None, None, Status::Device, b"", b"set: cannot read\n"),
+        (bad, None, Status::Refused, b"", b"set line 1: kind 1\n"),
+        (set, None, Status::Device, b"", b"b: cannot read\n"),
     ];
     for (set, second, status, lines, line) in cases {
         let files = [input("a", clean), input("b", second)];
@@ -244,7 +232,7 @@ fn a_set_without_signatures_is_told_and_refused_unless_it_is_allowed(
     rt: HostRuntime,
 ) -> Result<(), Fail> {
     let empty: &[u8] = b"avsig 1\nversion 7\n";
-    let line: &[u8] = b"avscan: set: version 7 has no signatures\n";
+    let line: &[u8] = b"set: version 7 has no signatures\n";
     let rows: [(&[u8], EmptySets, Result<(), Status>, &[u8]); 4] = [
         (SET, EmptySets::Refused, Ok(()), b""),
         (SET, EmptySets::Allowed, Ok(()), b""),
@@ -278,7 +266,7 @@ fn lines_that_can_not_be_written_are_told(rt: HostRuntime) -> Result<(), Fail> {
             let set = input("set", Some(SET));
             let ended = scan_files(rt.alloc(), set, files.as_slice(), PLAIN, &mut out, &mut err);
             assert_eq!(rt; ended, Status::Device, "{fault:?}");
-            assert_eq!(rt; err.taken(), b"avscan: device\n".as_slice());
+            assert_eq!(rt; err.taken(), b"device\n".as_slice());
         }
     }
     Ok(())
@@ -327,7 +315,7 @@ fn a_content_that_is_too_long_or_fails_is_told(rt: HostRuntime) -> Result<(), Fa
         let mut reader = FakeReader::new(content).in_pieces_of(piece);
         let got = scanner.scan_pieces("a", &mut reader, &mut buffer, 5, &mut err);
         assert!(&rt; got == Err(Status::Refused));
-        assert_eq!(rt; err.taken(), b"avscan: a: TooLarge\n".as_slice());
+        assert_eq!(rt; err.taken(), b"a: TooLarge\n".as_slice());
     }
     for place in 1..8 {
         let mut buffer = [0u8; 4];
@@ -335,7 +323,7 @@ fn a_content_that_is_too_long_or_fails_is_told(rt: HostRuntime) -> Result<(), Fa
         let mut reader = FakeReader::new(content).in_pieces_of(1).failing_at(place);
         let got = scanner.scan_pieces("a", &mut reader, &mut buffer, 6, &mut err);
         assert!(&rt; got == Err(Status::Device));
-        assert_eq!(rt; err.taken(), b"avscan: a: cannot read\n".as_slice());
+        assert_eq!(rt; err.taken(), b"a: cannot read\n".as_slice());
     }
     Ok(())
 }
@@ -384,7 +372,7 @@ fn a_name_that_is_no_text_ends_a_list_or_is_passed_over(rt: HostRuntime) -> Resu
                 assert!(&rt; failing == Failing::Ends && status == Status::Refused);
             }
         }
-        let line = b"avscan: list: name 2 is not UTF-8\n".as_slice();
+        let line = b"list: name 2 is not UTF-8\n".as_slice();
         assert_eq!(rt; err.taken(), line);
     }
     Ok(())
@@ -409,12 +397,12 @@ fn only_infected_files_are_shown_and_counted(rt: HostRuntime) -> Result<(), Fail
             (
                 Status::Done,
                 b"",
-                b"avscan: 1 files scanned, 0 infected, 0 not scanned\n",
+                b"1 files scanned, 0 infected, 0 not scanned\n",
             ),
             (
                 Status::Found,
                 b"b infected 0 x end 3\n",
-                b"avscan: 2 files scanned, 1 infected, 0 not scanned\n",
+                b"2 files scanned, 1 infected, 0 not scanned\n",
             ),
         ];
         let ended = scan_files(
@@ -540,24 +528,14 @@ fn a_look_tells_the_first_fault(rt: HostRuntime) -> Result<(), Fail> {
     let most = Some(1_048_576);
     let large = Some(1_048_577);
     let rows: [(&str, Option<u64>, Result<(), Status>, &[u8]); 9] = [
-        ("a", None, Err(Status::Device), b"avscan: a: cannot read\n"),
+        ("a", None, Err(Status::Device), b"a: cannot read\n"),
         ("a", most, Ok(()), b""),
-        ("a", None, Err(Status::Device), b"avscan: a: cannot read\n"),
-        (
-            "b b",
-            None,
-            Err(Status::Device),
-            b"avscan: b b: cannot read\n",
-        ),
-        (
-            "b b",
-            large,
-            Err(Status::Refused),
-            b"avscan: b b: BadName\n",
-        ),
-        ("a", large, Err(Status::Refused), b"avscan: a: Exists\n"),
-        ("a", Some(0), Err(Status::Refused), b"avscan: a: Exists\n"),
-        ("b", large, Err(Status::Refused), b"avscan: b: TooLarge\n"),
+        ("a", None, Err(Status::Device), b"a: cannot read\n"),
+        ("b b", None, Err(Status::Device), b"b b: cannot read\n"),
+        ("b b", large, Err(Status::Refused), b"b b: BadName\n"),
+        ("a", large, Err(Status::Refused), b"a: Exists\n"),
+        ("a", Some(0), Err(Status::Refused), b"a: Exists\n"),
+        ("b", large, Err(Status::Refused), b"b: TooLarge\n"),
         ("b", Some(0), Ok(()), b""),
     ];
     let mut seen = BTreeSet::new(rt.alloc());

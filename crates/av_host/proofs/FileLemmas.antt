@@ -18,7 +18,7 @@ use Rattle.av_status.specs.declared.status.Status.{Status}
 use Rattle.av_status.specs.declared.tally.Tally.{Tally}
 use Rattle.av_status.specs.declared.tally.Wishes.{Wishes}
 use Rattle.av_store.specs.Store.{Store}
-use Rattle.av_host.proofs.LineLemmas.{each_push}
+use Rattle.av_files.proofs.EachLemmas.{each_push}
 use Rattle.av_host.specs.Brought.{AreTold, AreToldOf}
 use Rattle.av_host.specs.Files.{AreTrueOfFiles, HoldsContents, HoldsInputs, IsTrueDenialOfFile, IsTrueOfFile}
 use Rattle.av_host.specs.Lines.{AreTrueLines, IsTrueAnswer, IsTrueDenial}

@@ -1,4 +1,5 @@
 mod FileLemmas
 mod GroupLemmas
 mod LineLemmas
+mod PartLemmas
 mod ReceiptLemmas

@@ -1,7 +1,6 @@
 -- Lines that are true, one after the other.
 use Rattle.std.proofs.Common.{◌≡◌, ◌<◌, ◌+◌, ℕ, List, [], ◌∷◌, ◌++◌, Some, get_or, length, take, refl, sym, ap, ◌∙◌, subst}
 use Rattle.std.specs.List.{AllByRecursion as Each}
-use Rattle.std.proofs.lemmas.List.{take_more}
 use Rattle.av_base.specs.Among.{Among}
 use Rattle.av_base.specs.declared.verdict.Verdict.TheVariants.{Clean}
 use Rattle.av_files.specs.declared.opened.Opened.{Opened}
@@ -14,14 +13,6 @@ use Rattle.av_shared.specs.Still.{TellsTrue}
 use Rattle.av_sigset.specs.Set.{NumberedSet, patterns_of}
 use Rattle.av_store.specs.Store.{Store}
 use Rattle.av_host.specs.Lines.{AreDeniedRight, AreOfTheirFiles, AreTrueLines, IsDeniedRight, IsOfItsFile, IsSameStream, IsTrueAnswer, IsTrueLine}
-
-pub each_push : {A : Type 0} (P : A → Type 0) (xs : List A) (x : A) → Each P xs → P x → Each P (xs ++ x ∷ [])
-each_push P [] x all one = (one, tt)
-each_push P (y ∷ ys) x all one = (all.0, each_push P ys x all.1 one)
-
-pub each_next : {A : Type 0} (P : A → Type 0) (xs : List A) (i : ℕ) (x : A) → i < length xs → x ≡ get_or xs i x → Each P (take i xs) → P x → Each P (take (i + 1) xs)
-each_next P xs i x lt at all one =
-    subst (Each P) (sym (take_more xs i x lt ∙ ap (λ y. take i xs ++ y ∷ []) (sym at))) (each_push P (take i xs) x all one)
 
 true_answer : (gate : GateAudit) (set : NumberedSet) (v : Store) (name : List ℕ) (a : Answer) → TellsTrue gate set → Among a (answers_given gate.events.items) → IsOfItsFile v gate.volume name a → IsDeniedRight v set name a → IsTrueAnswer v set name a
 true_answer gate set v name (Granted n least s g u) tells there same right =

@@ -17,7 +17,7 @@ use Rattle.av_host.specs.Lines.{HaveReceipts, answers_of, receipts_of}
 use Rattle.av_host.specs.declared.opener.Brought.{Brought}
 use Rattle.av_pend.specs.Pend.{open_of}
 use Rattle.av_pend.specs.declared.answer.Answer.{Answer}
-use Rattle.av_shared.proofs.MergeLemmas.{among_got}
+use Rattle.av_shared.proofs.AmongLemmas.{among_got}
 
 among_in : (bs : List Brought) (b : Brought) (r : Receipt) → Among b bs → Among r b.receipts.items → Among r (receipts_of bs)
 among_in [] b r there a = absurd there

@@ -4,6 +4,7 @@ use Rattle.std.specs.Borrow.{Bor}
 use Rattle.std.specs.Io.KnownBytes.{Appends}
 use Rattle.std.specs.List.{enumerate_from, filter_map}
 use Rattle.std.specs.Option.{option_map}
+use Rattle.av_base.specs.Device.{AppendsPrefix}
 use Rattle.av_engines.specs.declared.end.End.{End}
 use Rattle.av_engines.specs.declared.end.End.TheVariants.{Done}
 use Rattle.av_files.specs.Opened.{ended_tally, opened_lines, tally_from}
@@ -66,6 +67,13 @@ pub record AreTold (volume : Store) (set : NumberedSet) (openers : ℕ) (names :
 pub record AreToldOf (files : List FileRead) (set : NumberedSet) (openers : ℕ) (names : List (Bor (List ℕ))) (wishes : Wishes) (before after : Tally) (old new : Option (List ℕ)) (status : Status) : Type 0 where
   pub told : AreTold (volume_of_files files) set openers names wishes before after old new status
   pub contents : AreTrueOfFiles files set told.opened
+
+-- Of some lines a front was written, and these lines are true of the contents that the volume keeps, by this set: so it is of a group that
+-- ends with a fault. None may be written.
+pub record IsToldInPart (volume : Store) (set : NumberedSet) (wishes : Wishes) (old new : Option (List ℕ)) : Type 0 where
+  pub opened : List Opened
+  pub are_true : AreTrueLines volume set opened
+  pub front : AppendsPrefix old new (opened_lines wishes opened)
 
 -- All these inputs were read, and were to be opened by so many openers, under the set that the signature file of this content spells. The
 -- status is that of the files which were opened.

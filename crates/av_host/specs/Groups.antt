@@ -7,8 +7,8 @@ use Rattle.av_status.specs.declared.status.Status.{Status}
 use Rattle.av_status.specs.declared.status.Status.TheVariants.{Done}
 use Rattle.av_status.specs.declared.tally.Tally.{Tally}
 use Rattle.av_status.specs.declared.tally.Wishes.{Wishes}
-use Rattle.av_files.specs.Volume.{FileRead}
-use Rattle.av_host.specs.Brought.{AreToldOf}
+use Rattle.av_files.specs.Volume.{FileRead, volume_of_files}
+use Rattle.av_host.specs.Brought.{AreToldOf, IsToldInPart}
 use Rattle.av_host.specs.Files.{AreContentsOf}
 use Rattle.av_sigset.specs.Set.{NumberedSet}
 
@@ -29,6 +29,21 @@ pub record AreOpened (has_content : List ℕ → List ℕ → Type 0) (set : Num
   pub all : opened ++ left ≡ names
   pub told : AreInGroups has_content set openers wishes before old opened after new ended
   pub none_left : ended ≡ Done → left ≡ []
+
+-- Of files of these names the first ones were opened in groups, of which each line is true of the content that was read for its file.
+-- Behind their lines a front of the lines of one more group may have been written, which are as true; and nothing else was written.
+pub record AreTrueSoFar (has_content : List ℕ → List ℕ → Type 0) (set : NumberedSet) (openers : ℕ) (names : List (Bor (List ℕ))) (wishes : Wishes) (before : Tally) (old new : Option (List ℕ)) : Type 0 where
+  pub opened : List (Bor (List ℕ))
+  pub group : List (Bor (List ℕ))
+  pub left : List (Bor (List ℕ))
+  pub all : opened ++ (group ++ left) ≡ names
+  pub tally : Tally
+  pub ended : Status
+  pub held : Option (List ℕ)
+  pub told : AreInGroups has_content set openers wishes before old opened tally held ended
+  pub files : List FileRead
+  pub read : AreContentsOf has_content group files
+  pub last : IsToldInPart (volume_of_files files) set wishes held new
 
 -- files of these names were to be opened by so many openers, and the status is that of those which were
 pub record AreHostedInGroups (has_content : List ℕ → List ℕ → Type 0) (set : NumberedSet) (openers : ℕ) (names : List (Bor (List ℕ))) (wishes : Wishes) (old new : Option (List ℕ)) (status : Status) : Type 0 where

@@ -10,7 +10,7 @@ use av_desk::Desk;
 use av_engines::End;
 use av_files::streams::TURNS;
 use av_gate::{Gate, Seat};
-use av_loops::{desk_done, desk_in, gate_in, gate_out};
+use av_loops::{desk_done, desk_in_running_works, gate_in, gate_out};
 use av_pool::{Giver, Taker};
 use std::alloc::{AllocError, Global};
 use std::sync::Wait;
@@ -122,7 +122,7 @@ pub fn into_desk<R: Wait>(
 {
     make_room(alloc);
     let mut reader = wire.reader();
-    let end = desk_in(
+    let end = desk_in_running_works(
         rt,
         alloc,
         desk,

@@ -1,9 +1,10 @@
-ghost use Rattle.std.specs.Prelude.{[], ◌≡◌, ◌≤◌, ◌<◌, IfErr, IfOk, IfSome, length, take};
+ghost use Rattle.std.specs.Prelude.{[], ◌≡◌, ◌≤◌, ◌<◌, IfErr, IfOk, IfSome, OnErr, length, take};
 ghost use Rattle.std.specs.Option.{option_copied};
 ghost use Rattle.av_files.specs.Volume.{volume_of_files};
 ghost use Rattle.av_host.specs.Files.{HoldsContents};
-ghost use Rattle.av_host.specs.Groups.{AreHostedInGroups, AreOpened};
+ghost use Rattle.av_host.specs.Groups.{AreHostedInGroups, AreOpened, AreTrueSoFar};
 ghost use Rattle.av_status.specs.Status.{EndsWell, IsFault};
+ghost use Rattle.av_status.specs.Tally.{no_files};
 
 use crate::host::{Crew, Hosting, host_group};
 use crate::opener::Group;
@@ -22,7 +23,8 @@ use std::io::Write;
 use std::time::Clock;
 
 /// Opens files of these names, as `host_files` does those of contents that it is given, and holds one group of them at a time. A file
-/// that can't be read ends it behind the lines of the groups before.
+/// that can't be read ends it behind the lines of the groups before. Each line that was written is true, also of a run that ends with a
+/// fault.
 pub fn host_groups<R: Hosting, F: Contents, C: Clock, W: Write, E: Write>(
     rt: &R,
     alloc: Global,
@@ -34,7 +36,8 @@ pub fn host_groups<R: Hosting, F: Contents, C: Clock, W: Write, E: Write>(
     out: &mut W,
     err: &mut Progress<'_, C, E>,
 ) -> Status
-    ensures { EndsWell result → AreHostedInGroups (F.has_content files.now) signatures.now crew.openers names.now wishes (W.contents out.old) (W.contents out.new) result }
+    ensures so_far { AreTrueSoFar (F.has_content files.now) signatures.now crew.openers names.now wishes no_files (W.contents out.old) (W.contents out.new) }
+    ensures hosted { EndsWell result → AreHostedInGroups (F.has_content files.now) signatures.now crew.openers names.now wishes (W.contents out.old) (W.contents out.new) result }
 {
     let mut tally = Tally::new();
     match open_groups(
@@ -60,6 +63,7 @@ fn open_groups<R: Hosting, F: Contents, C: Clock, W: Write, E: Write>(
     err: &mut Progress<'_, C, E>,
 ) -> Result<Status, Status>
     ensures told { IfOk result (λ ended. AreOpened (F.has_content files.now) signatures.now crew.openers names.now wishes tally.old tally.new (W.contents out.old) (W.contents out.new) ended) }
+    ensures so_far { OnErr result (AreTrueSoFar (F.has_content files.now) signatures.now crew.openers names.now wishes tally.old (W.contents out.old) (W.contents out.new)) }
     ensures failed { IfErr result (λ status. IsFault status) }
 {
     let Ok(mut buffer) = vec![in alloc; 0u8; MAX_FILE + 2] else {

@@ -1,6 +1,7 @@
-ghost use Rattle.std.specs.Prelude.{◌≡◌, IfErr, IfOk, IfSome, IsTrue, OnOk, map, vec_len};
+ghost use Rattle.std.specs.Prelude.{◌≡◌, IfErr, IfOk, IfSome, IsTrue, OnErr, OnOk, map, vec_len};
 ghost use Rattle.std.specs.Io.KnownBytes.{Appends};
 ghost use Rattle.std.specs.Option.{option_copied};
+ghost use Rattle.av_base.specs.Device.{AppendsPrefix};
 ghost use Rattle.av_engines.specs.declared.end.End.TheVariants.{Done};
 ghost use Rattle.av_files.specs.Opened.{opened_lines, tally_from};
 ghost use Rattle.av_gate.specs.Seats.{IsSeatOf};
@@ -9,7 +10,7 @@ ghost use Rattle.av_host.specs.Files.{HoldsInputs};
 ghost use Rattle.av_host.specs.Lines.{AreGiven, AreTrueLines, HaveReceipts, receipts_of};
 ghost use Rattle.av_shared.specs.History.{IsDeskAudit};
 ghost use Rattle.av_shared.specs.Still.{TellsTrue};
-ghost use Rattle.av_host.specs.Brought.{AreBrought, AreHosted, AreTold, answer_at, opened_files};
+ghost use Rattle.av_host.specs.Brought.{AreBrought, AreHosted, AreTold, IsToldInPart, answer_at, opened_files};
 ghost use Rattle.av_status.specs.Status.{EndsWell, graver, gravest_from, IsFault, status_of_end};
 
 use crate::crew::{Met, PortSeats, meet};
@@ -30,10 +31,9 @@ use av_pend::Answer;
 use av_shared::closing::{Closed, NotClosed, close_all};
 use av_shared::telling::shows_true;
 use av_status::faults::{not_certified, out_of_memory};
-use av_status::progress::Progress;
 use av_status::status::Status;
 use av_status::tally::{Tally, Wishes};
-use av_status::{end_told, gravest};
+use av_status::{Prefixed, Progress, end_told, gravest};
 use av_store::Volume;
 use std::alloc::{AllocError, Global};
 use std::fs::Files;
@@ -100,7 +100,7 @@ pub fn host_files<R: Hosting, W: Write, E: Write>(
         all: names.len(),
     };
     let mut tally = Tally::new();
-    let mut quiet = Progress::new(rt, err, false);
+    let mut quiet = Progress::new(rt, Prefixed::plain(err), false);
     match host_group(
         rt,
         alloc,
@@ -140,7 +140,7 @@ fn read_inputs<'a, E: Write>(
 }
 
 /// Opens the streams of a volume by their names, as `host_files` does, and counts those that were opened: Ok says how that ended.
-/// Err where none was, or a line could not be written.
+/// Err where none was, or a line could not be written: what was written then is a front of lines that are as true.
 pub fn host_group<R: Hosting, C: Clock, W: Write, E: Write>(
     rt: &R,
     alloc: Global,
@@ -154,6 +154,7 @@ pub fn host_group<R: Hosting, C: Clock, W: Write, E: Write>(
     err: &mut Progress<'_, C, E>,
 ) -> Result<Status, Status>
     ensures told { IfOk result (λ status. AreTold volume signatures.now crew.openers group.entry.names.now wishes tally.old tally.new (W.contents out.old) (W.contents out.new) status) }
+    ensures part { OnErr result (IsToldInPart volume signatures.now wishes (W.contents out.old) (W.contents out.new)) }
     ensures failed { IfErr result (λ status. IsFault status) }
 {
     let Ok(before) = volume.copy() else {
@@ -188,6 +189,7 @@ fn host_over<R: Hosting, C: Clock, W: Write, E: Write>(
 ) -> Result<Status, Status>
     requires { IsSeatOf gate seat }
     ensures told { IfOk result (λ status. AreTold volume.now signatures.now crew.openers group.entry.names.now wishes tally.old tally.new (W.contents out.old) (W.contents out.new) status) }
+    ensures part { OnErr result (IsToldInPart volume.now signatures.now wishes (W.contents out.old) (W.contents out.new)) }
     ensures failed { IfErr result (λ status. IsFault status) }
 {
     let opened = open_at(rt, alloc, &gate, seat, desks, group, crew, err);
@@ -220,6 +222,7 @@ fn close_and_tell<W: Write, E: Write>(
     ensures counted { OnOk result (tally.new ≡ tally_from tally.old opening.entry.opened.items) }
     ensures lines { OnOk result (Appends (W.contents out.old) (W.contents out.new) (opened_lines wishes opening.entry.opened.items)) }
     ensures ended { IfOk result (λ status. status ≡ status_of_end opening.entry.end) }
+    ensures part { OnErr result (IsToldInPart volume.now signatures.now wishes (W.contents out.old) (W.contents out.new)) }
     ensures failed { IfErr result (λ status. IsFault status) }
 {
     let Opening {
@@ -328,6 +331,7 @@ fn tell<W: Write, E: Write>(
     ensures counted { OnOk result (tally.new ≡ tally_from tally.old opened.now) }
     ensures lines { OnOk result (Appends (W.contents out.old) (W.contents out.new) (opened_lines wishes opened.now)) }
     ensures ended { IfOk result (λ status. status ≡ status_of_end end) }
+    ensures front { OnErr result (AppendsPrefix (W.contents out.old) (W.contents out.new) (opened_lines wishes opened.now)) }
     ensures failed { IfErr result (λ status. IsFault status) }
 {
     match print_opened(alloc, opened, wishes, out, err) {

@@ -2,6 +2,7 @@ use Rattle.std.proofs.Common.{◌≡◌, ◌≢◌, ◌≤◌, ◌+◌, arith, l
 use Rattle.av_status.specs.declared.status.Status.TheVariants.{Done}
 use Rattle.av_host.specs.Groups.{nothing}
 use Rattle.av_host.proofs.GroupLemmas.{at_end, at_fault, goes_on}
+use Rattle.av_host.proofs.PartLemmas.{none_more, on_err, part_of_rest}
 use Rattle.av_host.proofs.groups.open_groups.Goals as goal
 
 pub groups-init : goal.groups-init
@@ -20,3 +21,16 @@ returns-then-ne-clause-told g c =
 
 pub returns-clause-told : goal.returns-clause-told
 returns-clause-told g c = at_end _ _ _ _ _ _ _ _ _ _ (omega (arith, c.groups-test.false)) c.groups.invariant.told
+
+pub returns-in_default-clause-so_far : goal.returns-in_default-clause-so_far
+returns-in_default-clause-so_far g c =
+    none_more (g.F.Contents.has_content c.args.files.now) c.args.signatures.now c.args.crew.openers c.args.names.now c.args.wishes c.args.tally.now (g.W.Write.contents c.args.out.now) 0 c.args.tally.now (g.W.Write.contents c.args.out.now) nothing
+
+pub returns-in_err-volume-clause-so_far : goal.returns-in_err-volume-clause-so_far
+returns-in_err-volume-clause-so_far g c = on_err c.from_residual.result
+    (none_more (g.F.Contents.has_content c.args.files.now) c.args.signatures.now c.args.crew.openers c.args.names.now c.args.wishes c.args.tally.now (g.W.Write.contents c.args.out.now) c.groups.done c.groups.tally (g.W.Write.contents c.groups.out) c.groups.invariant.told)
+
+pub returns-in_err-ended-clause-so_far : goal.returns-in_err-ended-clause-so_far
+returns-in_err-ended-clause-so_far g c = on_err c.from_residual-in_err-ended.result
+    (part_of_rest (g.F.Contents.has_content c.args.files.now) c.args.signatures.now c.args.crew.openers c.args.names.now c.args.wishes c.args.tally.now (g.W.Write.contents c.args.out.now) c.groups.done c.in_ok-volume.count c.groups.tally (g.W.Write.contents c.groups.out) (g.W.Write.contents c.host_group.new.out) c.in_ok-volume.volume
+    c.groups.invariant.told c.in_ok-volume.ensures.files c.in_err-ended.ensures.part)

@@ -7,6 +7,7 @@ use Rattle.av_files.specs.Opened.{opened_lines, tally_from}
 use Rattle.av_files.specs.declared.opened.Opened.{Opened}
 use Rattle.av_host.specs.Brought.{AreBrought, AreTold}
 use Rattle.av_host.specs.Lines.{AreTrueLines}
+use Rattle.av_host.proofs.PartLemmas.{nothing_told}
 use Rattle.av_sigset.specs.Set.{NumberedSet}
 use Rattle.av_status.specs.Status.{status_of_end}
 use Rattle.av_status.specs.declared.status.Status.{Status}
@@ -28,3 +29,6 @@ returns-in-Ok-clause-told g c =
     let o = c.in-Ok.opening in
     told c.args.volume.now c.args.signatures.now c.args.crew.openers c.args.group.names.now o.opened.items o.end c.args.wishes _ _ _ _ c.close_and_tell.result
     c.in-Ok.ensures.brought c.close_and_tell.ensures.shown c.close_and_tell.ensures.counted c.close_and_tell.ensures.lines c.close_and_tell.ensures.ended
+
+pub returns-in-Err-clause-part : goal.returns-in-Err-clause-part
+returns-in-Err-clause-part g c = nothing_told c.args.volume.now c.args.signatures.now c.args.wishes (g.W.Write.contents c.args.out.now)

@@ -1,7 +1,7 @@
 use Rattle.std.proofs.Common.{subst}
 use Rattle.std.proofs.lemmas.List.{take_all}
 use Rattle.av_files.specs.declared.opened.Opened.{Opened}
-use Rattle.av_host.proofs.LineLemmas.{each_next}
+use Rattle.av_files.proofs.EachLemmas.{each_next}
 use Rattle.av_host.specs.Lines.{AreDeniedRight, IsDeniedRight}
 use Rattle.av_host.proofs.lines.are_denied_right.Goals as goal
 
