@@ -1,22 +1,36 @@
 # Vizdroun: `make run` shows it at work, `make test` is the whole gate.
-PROGRAM := crates/avscan/out/avscan
+PROGRAMS := avscan avguard avtool
+# where they were built: a program lies at $(BUILT)/NAME/out/NAME
+BUILT := crates
+PROGRAM = $(BUILT)/avscan/out/avscan
 EXAMPLE := examples/late_reply.avs
 FILES := examples/test.avsig examples/letter.txt examples/eicar.com.txt
 PREFIX ?= /usr/local
 SHARE = $(DESTDIR)$(PREFIX)/share
 
-.PHONY: build run try test proofs gate-times bench install install-built clean kit
+# `run` shows the example before it proves, also with -j
+.NOTPARALLEL:
+.PHONY: build avscan run unproved try test proofs gate-times bench install install-built $(PROGRAMS:%=install-%) clean kit
 
 build: kit
+	@echo "building: proving each crate and compiling $(PROGRAMS) (README.md says how long the first time takes)"
+	@python3 tests/prove.py $(PROGRAMS) || { echo "make: not all of $(PROGRAMS) were built: the lines above say why" >&2; exit 1; }
+	@echo "built: $(foreach name,$(PROGRAMS),$(BUILT)/$(name)/out/$(name))"
+
+avscan: kit
 	@echo "building: proving each crate and compiling avscan (README.md says how long the first time takes)"
 	@python3 tests/prove.py avscan || { echo "make: avscan was not built: the lines above say why" >&2; exit 1; }
 	@echo "built: $(PROGRAM)"
 
-run: build
+run: unproved avscan
 	@echo "running: $(PROGRAM) host $(FILES)"
 	@$(PROGRAM) host $(FILES)
 	@echo "running: $(PROGRAM) run $(EXAMPLE)"
 	@$(PROGRAM) run $(EXAMPLE)
+
+# where no program was built yet: what the proof is for, within minutes
+unproved: kit
+	@test -e "$(PROGRAM)" || { echo "not proved yet: the lines until \`building\`"; $(MAKE) --no-print-directory try || echo "make: no example without a proof; the proof begins" >&2; }
 
 try: kit
 	@echo "trying $(EXAMPLE) without any proof: what this shows is not checked"
@@ -37,16 +51,19 @@ bench: build
 install: build
 	@$(MAKE) --no-print-directory install-built
 
-install-built:
-	@install -D -m 755 $(PROGRAM) "$(DESTDIR)$(PREFIX)/bin/avscan"
-	@install -d "$(SHARE)/man/man1" "$(SHARE)/man/man5"
-	@sh man/page.sh avscan.1 $(PROGRAM) > "$(SHARE)/man/man1/avscan.1"
+install-built: $(PROGRAMS:%=install-%)
+	@install -d "$(SHARE)/man/man5"
 	@sh man/page.sh avsig.5 $(PROGRAM) > "$(SHARE)/man/man5/avsig.5"
 	@sh man/page.sh avscript.5 $(PROGRAM) > "$(SHARE)/man/man5/avscript.5"
-	@install -D -m 644 completions/avscan.bash "$(SHARE)/bash-completion/completions/avscan"
-	@install -D -m 644 completions/_avscan "$(SHARE)/zsh/site-functions/_avscan"
-	@install -D -m 644 completions/avscan.fish "$(SHARE)/fish/vendor_completions.d/avscan.fish"
-	@echo "installed: $(DESTDIR)$(PREFIX)/bin/avscan, with its manual pages and completions in $(SHARE)"
+	@echo "installed: $(PROGRAMS) in $(DESTDIR)$(PREFIX)/bin, with their manual pages and completions in $(SHARE)"
+
+$(PROGRAMS:%=install-%): install-%:
+	@install -D -m 755 $(BUILT)/$*/out/$* "$(DESTDIR)$(PREFIX)/bin/$*"
+	@install -d "$(SHARE)/man/man1"
+	@sh man/page.sh $*.1 $(BUILT)/$*/out/$* > "$(SHARE)/man/man1/$*.1"
+	@install -D -m 644 completions/$*.bash "$(SHARE)/bash-completion/completions/$*"
+	@install -D -m 644 completions/_$* "$(SHARE)/zsh/site-functions/_$*"
+	@install -D -m 644 completions/$*.fish "$(SHARE)/fish/vendor_completions.d/$*.fish"
 
 clean:
 	@rm -rf crates/*/out

@@ -26,7 +26,7 @@ function example(on) {
     sub(/^ +/, "")
     at = match($0, /   +/)
     if (list) { match($0, /  +/); entry(RSTART ? substr($0, 1, RSTART - 1) : $0, RSTART ? substr($0, RSTART + RLENGTH) : ""); next }
-    if (at && /^avscan /) { example(0); entry(substr($0, 1, at - 1), substr($0, at + RLENGTH)); next }
+    if (at && /^av(scan|guard|tool) /) { example(0); entry(substr($0, 1, at - 1), substr($0, at + RLENGTH)); next }
     example(1)
     count = split($0, pieces, /   +/)
     for (i = 1; i <= count; i++) print plain(pieces[i])

@@ -1,9 +1,9 @@
 #!/bin/sh
-# Writes a manual page: page.sh avscan.1|avsig.5|avscript.5 PROGRAM
-# The formats come from docs/FORMATS.md and the commands from the help of PROGRAM, so that page, document and help say the same.
+# Writes a manual page: page.sh avscan.1|avguard.1|avtool.1|avsig.5|avscript.5 PROGRAM
+# The formats come from docs/FORMATS.md and the commands from the help of PROGRAM, the one of that name for a page of a program, so that
+# page, document and help say the same.
 set -eu
 here=$(dirname "$0")
-commands="run scan host filter service guard ask chart generate import check"
 formats=$here/../docs/FORMATS.md
 
 title() { # NAME SECTION WHAT
@@ -25,25 +25,40 @@ words() { # a help text
     awk -f "$here/help.awk"
 }
 
-command_page() { # PROGRAM
-    title AVSCAN 1 "User Commands"
+command_page() { # NAME WHAT PROGRAM COMMAND..
+    name=$1
+    program=$3
+    title "$(echo "$name" | tr a-z A-Z)" 1 "User Commands"
     echo .SH NAME
-    echo 'avscan \- hold opens of files until a scanning service has judged their content'
+    echo "$name \\- $2"
+    shift 3
     echo .SH SYNOPSIS
-    for command in $commands; do
-        "$1" "$command" --help | sed -n -e 's/-/\\-/g' -e 's/^Usage: \(avscan [a-z]*\) *\(.*\)/.br\n.B \1\n\2/p'
+    for command in "$@"; do
+        "$program" "$command" --help | sed -n -e 's/-/\\-/g' -e "s/^Usage: \\($name [a-z]*\\) *\\(.*\\)/.br\\n.B \\1\\n\\2/p"
     done
     echo .SH DESCRIPTION
-    "$1" --help | words
-    for command in $commands; do
-        echo ".SS avscan $command"
-        "$1" "$command" --help | words
+    "$program" --help | words
+    for command in "$@"; do
+        echo ".SS $name $command"
+        "$program" "$command" --help | words
     done
-    echo .SH "OUTPUT, STATUS AND FAULTS"
-    part "The program"
+}
+
+see_also() { # PAGE.SECTION..
     echo .SH "SEE ALSO"
-    echo '.BR avsig (5),'
-    echo '.BR avscript (5)'
+    while [ $# -gt 1 ]; do
+        echo ".BR ${1%.*} (${1##*.}),"
+        shift
+    done
+    echo ".BR ${1%.*} (${1##*.})"
+}
+
+# What avscan(1) says of all programs.
+of_all() {
+    echo .SH "OUTPUT, STATUS AND FAULTS"
+    echo 'The manual page'
+    echo '.BR avscan (1)'
+    echo 'lists the output, the exit statuses and the fault lines of all programs.'
 }
 
 format_page() { # NAME WHAT HEADING
@@ -52,12 +67,26 @@ format_page() { # NAME WHAT HEADING
     echo "$1 \\- $2"
     echo .SH DESCRIPTION
     part "$3"
-    echo .SH "SEE ALSO"
-    echo '.BR avscan (1)'
+    see_also avscan.1
 }
 
 case ${1-} in
-avscan.1) command_page "$2" ;;
+avscan.1)
+    command_page avscan "hold opens of files until a scanning service has judged their content" "$2" run scan host filter service check
+    echo .SH "OUTPUT, STATUS AND FAULTS"
+    part "The programs"
+    see_also avguard.1 avtool.1 avsig.5 avscript.5
+    ;;
+avguard.1)
+    command_page avguard "answer other programs whether a content may be opened" "$2" run ask
+    of_all
+    see_also avscan.1 avsig.5
+    ;;
+avtool.1)
+    command_page avtool "draw scripts, make random ones, take signatures of other products" "$2" chart generate import
+    of_all
+    see_also avscan.1 avsig.5 avscript.5
+    ;;
 avsig.5) format_page avsig "signature files of avscan" "Signature files" ;;
 avscript.5) format_page avscript "scripts of avscan" "Scripts" ;;
 *)

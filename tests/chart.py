@@ -9,6 +9,7 @@ import os, re, subprocess, sys, tempfile
 import xml.etree.ElementTree as tree
 import plain_world, random_scripts
 from cases import Cases
+from rooms import program_beside
 
 SECONDS = 60
 SCRIPTS = 60
@@ -29,7 +30,7 @@ ODD = (b"volume 1 closed\npublish 1 41\ncreate <&\">'\nwrite <&\">' 0 42\nconnec
 
 
 def run(program, words, **more):
-    return subprocess.run([program, "chart", *words], stderr=subprocess.PIPE, timeout=SECONDS, **{"stdout": subprocess.PIPE, **more})
+    return subprocess.run([program_beside(program, "avtool"), "chart", *words], stderr=subprocess.PIPE, timeout=SECONDS, **{"stdout": subprocess.PIPE, **more})
 
 
 def steps_of(script):
@@ -115,19 +116,19 @@ def faults(cases, program, work):
     with open(path, "wb") as file:
         file.write(b"volume 1 closed\nconnect\n")
     done = run(program, [path, "--from", "3", "--to", "9"])
-    cases.same("no command in the lines", (done.returncode, done.stdout, done.stderr), (1, b"", b"avscan: no command from line 3 to line 9\n"))
+    cases.same("no command in the lines", (done.returncode, done.stdout, done.stderr), (1, b"", b"avtool: no command from line 3 to line 9\n"))
     with open("/dev/full", "wb") as full:
         done = run(program, [path], stdout=full)
-    cases.same("a full device", (done.returncode, done.stderr), (4, b"avscan: device\n"))
+    cases.same("a full device", (done.returncode, done.stderr), (4, b"avtool: device\n"))
     with open(path, "wb") as file:
         file.write(b"volume 1 closed\nbogus\n")
     done = run(program, [path])
     asked = subprocess.run([program, "run", path], stdout=subprocess.PIPE, stderr=subprocess.PIPE, timeout=SECONDS)
-    cases.same("a bad script", (done.returncode, done.stdout, done.stderr), (asked.returncode, b"", asked.stderr))
+    cases.same("a bad script", (done.returncode, done.stdout, done.stderr), (asked.returncode, b"", asked.stderr.replace(b"avscan: ", b"avtool: ", 1)))
     missing = os.path.join(work, "nobody.avs")
     done = run(program, [missing])
     asked = subprocess.run([program, "run", missing], stdout=subprocess.PIPE, stderr=subprocess.PIPE, timeout=SECONDS)
-    cases.same("a script that isn't there", (done.returncode, done.stdout, done.stderr), (asked.returncode, b"", asked.stderr))
+    cases.same("a script that isn't there", (done.returncode, done.stdout, done.stderr), (asked.returncode, b"", asked.stderr.replace(b"avscan: ", b"avtool: ", 1)))
 
 
 def main():

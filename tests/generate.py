@@ -7,6 +7,7 @@ says how many passed and how many failed."""
 import collections, os, re, subprocess, sys
 import plain_world, rows
 from cases import Cases
+from rooms import program_beside
 
 SECONDS = 60
 HERE = os.path.dirname(os.path.abspath(__file__))
@@ -17,7 +18,7 @@ ROWS = 95
 
 
 def generate(program, *words, **how):
-    done = subprocess.run([program, "generate", *map(str, words)], stdout=how.get("stdout", subprocess.PIPE), stderr=subprocess.PIPE, timeout=SECONDS)
+    done = subprocess.run([program_beside(program, "avtool"), "generate", *map(str, words)], stdout=how.get("stdout", subprocess.PIPE), stderr=subprocess.PIPE, timeout=SECONDS)
     return done.returncode, done.stdout, done.stderr
 
 
@@ -68,9 +69,9 @@ def ends(cases, program):
     for words in (("--seed", "-1", "--commands", "1"), ("--seed", str(2**64), "--commands", "1"), ("--seed", "1", "--commands", "0"),
                   ("--seed", "1", "--commands", "100001"), ("--seed", "1"), ("--commands", "1"), ("--seed", "1", "--commands", "1", "--profile", "odd")):
         status, out, err = generate(program, *words)
-        cases.check(" ".join(words), (status, out) == (2, b"") and re.fullmatch(rb"avscan: [^\n]+\n", err), f"{status}, {out[:50]!r}, {err!r}")
+        cases.check(" ".join(words), (status, out) == (2, b"") and re.fullmatch(rb"avtool: [^\n]+\n", err), f"{status}, {out[:50]!r}, {err!r}")
     with open("/dev/full", "wb") as full:
-        cases.same("a full device", generate(program, "--seed", 1, "--commands", 100, stdout=full), (4, None, b"avscan: device\n"))
+        cases.same("a full device", generate(program, "--seed", 1, "--commands", 100, stdout=full), (4, None, b"avtool: device\n"))
 
 
 def main():

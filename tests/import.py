@@ -7,6 +7,7 @@ their places must be found by both alike. The last line says how many passed and
 import os, random, re, shutil, subprocess, sys, tempfile
 
 from cases import Cases
+from rooms import program_beside
 
 SECONDS = 60
 MUTATED = 2000
@@ -61,36 +62,36 @@ def stored(cases, program, folder):
     names = ["a.ndb", "b.yar", "c.hdb", "d.db"]
     for name in names:
         write(folder, name, read(name))
-    got = run([program, "import", "--set-version", "7", *names], folder)
+    got = run([program_beside(program, "avtool"), "import", "--set-version", "7", *names], folder)
     cases.same("the stored files", got, (0, read("all.format2.avsig"), read("all.format2.err")))
-    got = run([program, "import", "--any-target", "--format-1", "a.ndb"], folder)
+    got = run([program_beside(program, "avtool"), "import", "--any-target", "--format-1", "a.ndb"], folder)
     cases.same("the stored file in format 1", got, (0, read("any.format1.avsig"), read("any.format1.err")))
-    got = run([program, "import", "--all", "a.ndb"], folder)
+    got = run([program_beside(program, "avtool"), "import", "--all", "a.ndb"], folder)
     cases.same("--all writes nothing", got[:2], (1, b""))
 
 
 def reasons(cases, program, folder):
     for name, line, why in LINES:
         write(folder, name, line + b"\n")
-        status, out, err = run([program, "import", name], folder)
-        cases.same(line[:40], (status, out, err.decode().splitlines()[0]), (1, b"", f"avscan: {name}: line 1: n: {why}"))
+        status, out, err = run([program_beside(program, "avtool"), "import", name], folder)
+        cases.same(line[:40], (status, out, err.decode().splitlines()[0]), (1, b"", f"avtool: {name}: line 1: n: {why}"))
     for rule, why in RULES:
         write(folder, "r.yar", rule.encode())
-        status, out, err = run([program, "import", "r.yar"], folder)
-        cases.same(rule[:60], (status, out, err.decode().splitlines()[0]), (1, b"", f"avscan: r.yar: line 1: n: {why}"))
-    status, out, err = run([program, "import", "missing.ndb"], folder)
+        status, out, err = run([program_beside(program, "avtool"), "import", "r.yar"], folder)
+        cases.same(rule[:60], (status, out, err.decode().splitlines()[0]), (1, b"", f"avtool: r.yar: line 1: n: {why}"))
+    status, out, err = run([program_beside(program, "avtool"), "import", "missing.ndb"], folder)
     cases.same("a file that is missing", (status, out), (4, b""))
 
 
 def limits(cases, program, folder):
     write(folder, "many.db", b"".join(b"n%d=41\n" % i for i in range(1025)))
-    status, out, err = run([program, "import", "many.db"], folder)
+    status, out, err = run([program_beside(program, "avtool"), "import", "many.db"], folder)
     cases.check("1,025 signatures", out.count(b"\n") == 1026 and b"line 1025: n1024: 1,024 signatures were taken\n" in err, err[-200:])
     write(folder, "long.db", b"".join(b"n%d=%s\n" % (i, b"41" * 64) for i in range(257)) )
-    status, out, err = run([program, "import", "long.db"], folder)
+    status, out, err = run([program_beside(program, "avtool"), "import", "long.db"], folder)
     cases.check("16,385 bytes", out.count(b"\n") == 258 and b"line 257: n256: 16,384 bytes were taken\n" in err, err[-200:])
     write(folder, "large.ndb", b"".join(b"Win.Large-%d:1:*:4d5a??\n" % i for i in range(100000)))
-    status, out, err = run([program, "import", "large.ndb"], folder)
+    status, out, err = run([program_beside(program, "avtool"), "import", "large.ndb"], folder)
     cases.check("100,000 lines that are left out", status == 1 and not out and err.count(b"\n") == 100001, err[-200:])
 
 
@@ -112,8 +113,8 @@ def mutated(cases, program, folder):
             else:
                 content[at:at] = content[chance.randrange(len(content)):][:chance.randrange(1, 20)]
         write(folder, name, bytes(content))
-        status, out, err = run([program, "import", name], folder)
-        if b"\navscan: 0 signatures taken, " in b"\n" + err:
+        status, out, err = run([program_beside(program, "avtool"), "import", name], folder)
+        if b"\navtool: 0 signatures taken, " in b"\n" + err:
             cases.same(f"mutated {turn}, nothing taken", (status, out), (1, b""))
             continue
         write(folder, "got.avsig", out)
@@ -156,7 +157,7 @@ def beside_yara(cases, program, folder):
         print("yara is not installed: not run beside it")
         return
     write(folder, "b.yar", read("b.yar"))
-    status, out, err = run([program, "import", "b.yar"], folder)
+    status, out, err = run([program_beside(program, "avtool"), "import", "b.yar"], folder)
     signatures = signatures_of(out.decode())
     left = set(re.findall(r": line \d+: (\w+): ", err.decode()))
     files = os.path.join(folder, "files")
@@ -180,7 +181,7 @@ def beside_clamscan(cases, program, folder):
         return
     data = read("a.ndb")
     write(folder, "a.ndb", data)
-    status, out, err = run([program, "import", "a.ndb"], folder)
+    status, out, err = run([program_beside(program, "avtool"), "import", "a.ndb"], folder)
     signatures = signatures_of(out.decode())
     left = {int(line) for line in re.findall(r"a\.ndb: line (\d+): ", err.decode())}
     taken = b"".join(line + b"\n" for number, line in enumerate(data.split(b"\n"), 1) if number not in left and line and line[:1] != b"#")

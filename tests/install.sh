@@ -1,9 +1,9 @@
 #!/bin/sh
-# What `make install` puts where, of a program that is built: the program runs from there, each manual page renders without a
+# What `make install` puts where, of programs that are built: each program runs from there, each manual page renders without a
 # warning where man is there, and bash takes the completions. The last line counts the files.
-# usage: tests/install.sh PROGRAM
+# usage: tests/install.sh PROGRAM, avscan in the folder of its crate, beside whose crate those of the other programs are
 set -eu
-program=$(realpath "$1")
+built=$(realpath "$(dirname "$1")/../..")
 cd "$(dirname "$0")/.."
 room=$(mktemp -d)
 trap 'rm -rf "$room"' EXIT
@@ -23,7 +23,12 @@ check() {
     fi
 }
 says_version() {
-    "$1" --version | grep -q '^avscan [0-9]' && "$1" scan examples/test.avsig examples/letter.txt > /dev/null
+    "$1" --version | grep -q "^$(basename "$1") [0-9]" || return 1
+    case $1 in
+    */avscan) "$1" scan examples/test.avsig examples/letter.txt > /dev/null ;;
+    */avtool) "$1" chart examples/late_reply.avs > /dev/null ;;
+    *) "$1" run --help > /dev/null ;;
+    esac
 }
 # in 80 columns, with no warning, no wider line, no markdown and no name of a document that is not installed
 renders() {
@@ -32,17 +37,19 @@ renders() {
     col -bx < "$room/page" | grep -nE '.{81}|`|\*\*|\]\(|\.md\b|docs/|examples/' >&2 || true
 }
 
-make -s install-built PROGRAM="$program" DESTDIR="$room" PREFIX=/usr > "$room/log"
-check bin/avscan 755 says_version
-check share/man/man1/avscan.1 644 renders
+make -s install-built BUILT="$built" DESTDIR="$room" PREFIX=/usr > "$room/log"
+for name in avscan avguard avtool; do
+    check "bin/$name" 755 says_version
+    check "share/man/man1/$name.1" 644 renders
+    check "share/bash-completion/completions/$name" 644 bash -n
+    check "share/zsh/site-functions/_$name" 644 true
+    check "share/fish/vendor_completions.d/$name.fish" 644 true
+done
 check share/man/man5/avsig.5 644 renders
 check share/man/man5/avscript.5 644 renders
-check share/bash-completion/completions/avscan 644 bash -n
-check share/zsh/site-functions/_avscan 644 true
-check share/fish/vendor_completions.d/avscan.fish 644 true
 found=$(find "$room/usr" -type f | wc -l)
-if [ "$found" != 7 ]; then
-    echo "install: $found files, not 7"
+if [ "$found" != 17 ]; then
+    echo "install: $found files, not 17"
     failed=$((failed + 1))
 fi
 echo "$passed passed, $failed failed"

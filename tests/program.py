@@ -3,11 +3,12 @@
 
 Standard output on a full device, closed, and a pipe that nobody reads, with one line and with thousands: the status is 4, and never 0
 with lines lost; of the pipe no line is said. Each request for memory refused in turn: one line, status 3,
-and a front of the output. Help texts, and one line for words that are not understood. Progress and the reasons of faults on a terminal, and nowhere else. What is no regular file is named. A word that is not UTF-8 is named. The order of faults of `scan`: words, set, files.
+and a front of the output. Help texts of avscan, avguard and avtool, and one line for words that are not understood, or for a command that another program has now. Progress and the reasons of faults on a terminal, and nowhere else. What is no regular file is named. A word that is not UTF-8 is named. The order of faults of `scan`: words, set, files.
 The last line says how many passed and how many failed."""
 import os, pty, re, signal, subprocess, sys, tempfile, threading, time
 
 from cases import Cases
+from rooms import program_beside
 
 SECONDS = 60
 HERE = os.path.dirname(os.path.abspath(__file__))
@@ -23,15 +24,20 @@ def run(words, given=b"", **options):
     return subprocess.run(words, input=given, stderr=subprocess.PIPE, timeout=SECONDS, **options)
 
 
+def named(program):
+    """The name with which a program's lines on standard error begin."""
+    return os.fsencode(os.path.basename(program))
+
+
 def devices(cases, program):
     short = b"volume 1 closed\n"
     jobs = [("one line", [program, "run", "-"], short), ("3,000 lines", [program, "run", "-"], LONG), ("3,000 objects", [program, "run", "--json", "-"], LONG),
             ("a file scanned", [program, "scan", SET, LETTER], b""), ("3,000 files as JSON", [program, "scan", "--json", SET] + [LETTER] * 3000, b""), ("3,000 files scanned", [program, "scan", SET] + [LETTER] * 3000, b""),
-            ("a help text", [program, "--help"], b""), ("a picture", [program, "chart", SCRIPT], b""), ("a random script", [program, "generate", "--seed", "1", "--commands", "9"], b""),
-            ("an import", [program, "import", IMPORTED[2]], b"")]
+            ("a help text", [program, "--help"], b""), ("a help text of avguard", [program_beside(program, "avguard"), "--help"], b""), ("a picture", [program_beside(program, "avtool"), "chart", SCRIPT], b""),
+            ("a random script", [program_beside(program, "avtool"), "generate", "--seed", "1", "--commands", "9"], b""), ("an import", [program_beside(program, "avtool"), "import", IMPORTED[2]], b"")]
     for name, words, given in jobs:
         before = run(words, given, stdout=subprocess.DEVNULL).stderr
-        told = (4, before + b"avscan: device\n")
+        told = (4, before + b"%s: device\n" % named(words[0]))
         with open("/dev/full", "wb") as full:
             done = run(words, given, stdout=full)
         cases.same(f"{name} on a full device", (done.returncode, done.stderr), told)
@@ -49,23 +55,25 @@ def devices(cases, program):
 def memory(cases, program):
     with tempfile.TemporaryDirectory() as work:
         library = built(work, "fail_nth")
-        for words in (["run", SCRIPT], ["run", "--json", SCRIPT], ["scan", SET, LETTER], ["scan", "--json", "-k", SET, LETTER], ["--help"], ["chart", SCRIPT],
-                      ["generate", "--seed", "2", "--commands", "60"], ["import", *IMPORTED]):
-            whole = run([program] + words, stdout=subprocess.PIPE)
+        tool = program_beside(program, "avtool")
+        for words in ([program, "run", SCRIPT], [program, "run", "--json", SCRIPT], [program, "scan", SET, LETTER], [program, "scan", "--json", "-k", SET, LETTER], [program, "--help"],
+                      [program_beside(program, "avguard"), "--help"], [tool, "chart", SCRIPT], [tool, "generate", "--seed", "2", "--commands", "60"], [tool, "import", *IMPORTED]):
+            name = " ".join([os.path.basename(words[0]), *words[1:]])
+            whole = run(words, stdout=subprocess.PIPE)
             refused, in_a_row, number = 0, 0, 0
             while in_a_row < 20:
                 number += 1
                 environment = dict(os.environ, LD_PRELOAD=library, FAIL_NTH=str(number))
-                done = run([program] + words, stdout=subprocess.PIPE, env=environment)
-                before, line, _ = done.stderr.partition(b"avscan: no memory\n")
+                done = run(words, stdout=subprocess.PIPE, env=environment)
+                before, line, _ = done.stderr.partition(b"%s: no memory\n" % named(words[0]))
                 told = done.returncode == 3 and line and whole.stderr.startswith(before) and whole.stdout.startswith(done.stdout)
                 spared = (done.returncode, done.stdout, done.stderr) == (0, whole.stdout, whole.stderr)
                 in_a_row = in_a_row + 1 if spared else 0
                 refused += told
                 if not told and not spared:
-                    cases.check(f"avscan {' '.join(words)}", False, f"request {number} refused: status {done.returncode}, {done.stderr!r}")
+                    cases.check(name, False, f"request {number} refused: status {done.returncode}, {done.stderr!r}")
                     break
-            cases.check(f"avscan {' '.join(words)}", refused > 0, "no request was refused")
+            cases.check(name, refused > 0, "no request was refused")
 
 
 def memory_of_host(cases, program, *flags):
@@ -105,7 +113,7 @@ class Guarded:
     def __init__(self, program, stderr=subprocess.PIPE, environment=None):
         self.room = tempfile.TemporaryDirectory()
         self.opens, self.at = os.path.join(self.room.name, "o"), os.path.join(self.room.name, "s")
-        self.guard = subprocess.Popen([program, "guard", self.opens, self.at], stdin=subprocess.DEVNULL, stdout=subprocess.PIPE, stderr=stderr, env=environment)
+        self.guard = subprocess.Popen([program_beside(program, "avguard"), "run", self.opens, self.at], stdin=subprocess.DEVNULL, stdout=subprocess.PIPE, stderr=stderr, env=environment)
         self.service = subprocess.Popen([program, "service", self.at, SET], stdin=subprocess.DEVNULL, stdout=subprocess.PIPE, stderr=subprocess.PIPE)
 
     def __enter__(self):
@@ -126,14 +134,14 @@ class Guarded:
     def end(self):
         """What a guard said that ended for want of memory, and whether it says so, or that a socket can't be made."""
         told = self.guard.communicate(timeout=SECONDS)[1]
-        wants = {3: (b"avscan: no memory\n",), 4: (b"cannot make a socket\n", b"avscan: device\n")}.get(self.guard.returncode, ())
+        wants = {3: (b"avguard: no memory\n",), 4: (b"cannot make a socket\n", b"avguard: device\n")}.get(self.guard.returncode, ())
         return told, told.endswith(wants) if wants else False
 
     def await_answer(self, program, names):
         """What `ask` prints once the service is there, or as long as the guard stands."""
         limit = time.time() + SECONDS
         while True:
-            done = run([program, "ask", "--wait", "1", self.opens, *names], stdout=subprocess.PIPE)
+            done = run([program_beside(program, "avguard"), "ask", "--wait", "1", self.opens, *names], stdout=subprocess.PIPE)
             if b" cause 3" not in done.stdout and b" cause 6" not in done.stdout or time.time() > limit or self.guard.poll() is not None:
                 return done
             time.sleep(0.02)
@@ -147,12 +155,12 @@ def devices_of_ask(cases, program):
     with Guarded(program) as guarded:
         cases.same("an ask", guarded.await_answer(program, ASKED).stdout, ANSWERED)
         for name, words in (("an ask", [LETTER]), ("300 asks", [LETTER] * 300), ("300 asks as JSON", ["--json"] + [LETTER] * 300)):
-            words = [program, "ask", guarded.opens, *words]
+            words = [program_beside(program, "avguard"), "ask", guarded.opens, *words]
             with open("/dev/full", "wb") as full:
                 done = run(words, stdout=full)
-            cases.same(f"{name} on a full device", (done.returncode, done.stderr), (4, b"avscan: device\n"))
+            cases.same(f"{name} on a full device", (done.returncode, done.stderr), (4, b"avguard: device\n"))
             done = run(["sh", "-c", '"$@" >&-', "sh"] + words)
-            cases.same(f"{name} on a closed output", (done.returncode, done.stderr), (4, b"avscan: device\n"))
+            cases.same(f"{name} on a closed output", (done.returncode, done.stderr), (4, b"avguard: device\n"))
             reading, writing = os.pipe()
             os.close(reading)
             done = run(words, stdout=writing)
@@ -179,21 +187,21 @@ def memory_of_ask(cases, program):
         library = built(work, "fail_nth")
         cases.same("an ask", guarded.await_answer(program, ASKED).stdout, ANSWERED)
         for words in ([guarded.opens, *ASKED], ["--json", guarded.opens, *ASKED]):
-            words = [program, "ask", *words]
+            words = [program_beside(program, "avguard"), "ask", *words]
             whole = run(words, stdout=subprocess.PIPE).stdout
             refused, in_a_row, number = 0, 0, 0
             while in_a_row < 20:
                 number += 1
                 done = run(words, stdout=subprocess.PIPE, env=dict(os.environ, LD_PRELOAD=library, FAIL_NTH=str(number)))
                 spared = (done.returncode, done.stdout, done.stderr) == (0, whole, b"")
-                lost = [(4, b"avscan: %s: %s\n" % (os.fsencode(guarded.opens), why)) for why in (b"the guard was lost", b"the guard gave no answer: it was lost, or has no room for another client")]
-                told = (done.returncode, done.stderr) in [(3, b"avscan: no memory\n"), (4, b"avscan: device\n"), *lost] and whole.startswith(done.stdout)
+                lost = [(4, b"avguard: %s: %s\n" % (os.fsencode(guarded.opens), why)) for why in (b"the guard was lost", b"the guard gave no answer: it was lost, or has no room for another client")]
+                told = (done.returncode, done.stderr) in [(3, b"avguard: no memory\n"), (4, b"avguard: device\n"), *lost] and whole.startswith(done.stdout)
                 in_a_row = in_a_row + 1 if spared else 0
                 refused += told
                 if not told and not spared:
-                    cases.check("avscan ask", False, f"request {number} refused: status {done.returncode}, {done.stdout!r} {done.stderr!r}")
+                    cases.check("avguard ask", False, f"request {number} refused: status {done.returncode}, {done.stdout!r} {done.stderr!r}")
                     break
-            cases.check("avscan ask", refused > 0, "no request was refused")
+            cases.check("avguard ask", refused > 0, "no request was refused")
         cases.same("the guard behind clients without memory", guarded.await_answer(program, ASKED).stdout, ANSWERED)
 
 
@@ -208,8 +216,8 @@ def memory_of_guard(cases, program):
                 if in_a_row == 0:
                     told, holds = guarded.end()
                     refused += holds
-                    cases.check("avscan guard", holds, f"request {number} refused: {guarded.guard.returncode} {told!r}")
-        cases.check("avscan guard", refused > 100, f"{refused} of {number} requests were refused")
+                    cases.check("avguard run", holds, f"request {number} refused: {guarded.guard.returncode} {told!r}")
+        cases.check("avguard run", refused > 100, f"{refused} of {number} requests were refused")
 
 
 def words(cases, program):
@@ -232,9 +240,9 @@ def words(cases, program):
         at = [os.path.join(work, name) for name in "osc"]
         rows = [([at[0], at[0]], at[0]), ([at[0], at[1], "--clamd", at[0]], at[0]), ([at[0], at[1], "--clamd", at[1]], at[1])]
         for words, path in rows:
-            done = run([program, "guard", *words], stdout=subprocess.PIPE)
-            cases.check("two sockets of a guard with one path", (done.returncode, done.stderr) == (2, f"avscan: {path}: two sockets have one path\n".encode()) and not os.path.exists(path), f"{done}")
-        done = run([program, "guard", *at[:2], "--names", SET], stdout=subprocess.PIPE)
+            done = run([program_beside(program, "avguard"), "run", *words], stdout=subprocess.PIPE)
+            cases.check("two sockets of a guard with one path", (done.returncode, done.stderr) == (2, f"avguard: {path}: two sockets have one path\n".encode()) and not os.path.exists(path), f"{done}")
+        done = run([program_beside(program, "avguard"), "run", *at[:2], "--names", SET], stdout=subprocess.PIPE)
         cases.check("names without a socket for clamd", done.returncode == 2 and b"--clamd" in done.stderr and done.stderr.count(b"\n") == 1, f"{done}")
         done = run([program, "scan", "--json", "--print0", SET, line], stdout=subprocess.PIPE)
         cases.check("JSON ended by zero bytes", (done.returncode, done.stdout) == (2, b"") and done.stderr.count(b"\n") == 1, f"{done}")
@@ -264,15 +272,34 @@ def helps(cases, program):
              (["run", "--help"], [b"SCRIPT", b"volume 1 closed", b"open NAME [LEAST]", b"restart filter|service", b"man avscript"]),
              (["scan", "--help"], [b"SET", b"FILE", b"avsig 1", b"1,048,576 bytes", b"man avsig", b"--recursive", b"--files-from <LIST>", b"--max-size <BYTES>", b"--allow-empty", b"--print0", b"Without -k one file that can't be read"]),
              (["host", "--help"], [b"There is no -k here", b"`avscan scan -k`"]), (["filter", "--help"], [b"There is no -k here", b"`avscan scan -k`"]),
-             (["guard", "--help"], [b"--service-mode <MODE>", b"--least <V>", b"--most-version <V>", b"--state <FILE>"]), (["check", "--help"], [b"<SET>...", b"SET: version V, N signatures"])]
-    for words, wanted in texts:
-        done = run([program] + words, stdout=subprocess.PIPE)
-        for text in wanted:
-            cases.check(f"avscan {' '.join(words)}", done.returncode == 0 and text in done.stdout and done.stderr == b"", f"no {text!r}")
-    for words in (["scan"], ["scan", SET], ["run"], ["run", "a", "b"], ["judge"], ["--nothing"]):
-        done = run([program] + words, stdout=subprocess.PIPE)
-        one_line = done.stderr.startswith(b"avscan: ") and done.stderr.count(b"\n") == 1 and done.stderr.endswith(b"\n")
-        cases.check(f"avscan {' '.join(words)}", (done.returncode, done.stdout) == (2, b"") and one_line, f"{done}")
+             (["check", "--help"], [b"<SET>...", b"SET: version V, N signatures"])]
+    of_guard = [(["--help"], [b"avguard run opens.socket service.socket", b"avscan service service.socket", b"avguard ask opens.socket", b"Exit status: 0 all done, 1 input refused, 2 usage, 3 memory, 4 device"]),
+                (["run", "--help"], [b"--service-mode <MODE>", b"--least <V>", b"--most-version <V>", b"--state <FILE>", b"--clamd <CLAMD>"]), (["ask", "--help"], [b"OPENS", b"--keep-going", b"--wait <SECONDS>"])]
+    of_tool = [(["--help"], [b"avtool chart examples/late_reply.avs", b"avtool generate --seed 1", b"avtool import --set-version 7", b"Exit status: 0 all done, 1 input refused, 2 usage, 3 memory, 4 device."]),
+               (["chart", "--help"], [b"--from <LINE>", b"--to <LINE>"]), (["generate", "--help"], [b"--seed <N>", b"--commands <M>"]), (["import", "--help"], [b"--set-version <N>", b"--any-target"])]
+    bad = [["scan"], ["scan", SET], ["run"], ["run", "a", "b"], ["judge"], ["--nothing"]]
+    bad_for_guard, bad_for_tool = [[], ["run"], ["run", "o"], ["ask"], ["ask", "o"], ["guard", "o", "s"], ["--nothing"]], [[], ["chart"], ["generate"], ["import"], ["run", SCRIPT], ["--nothing"]]
+    for name, texts, bad in (("avscan", texts, bad), ("avguard", of_guard, bad_for_guard), ("avtool", of_tool, bad_for_tool)):
+        at = program if name == "avscan" else program_beside(program, name)
+        for words, wanted in texts:
+            done = run([at, *words], stdout=subprocess.PIPE)
+            for text in wanted:
+                cases.check(" ".join([name, *words]), done.returncode == 0 and text in done.stdout and done.stderr == b"", f"no {text!r}")
+        for words in bad:
+            done = run([at, *words], stdout=subprocess.PIPE)
+            one_line = done.stderr.startswith(name.encode() + b": ") and done.stderr.count(b"\n") == 1 and done.stderr.endswith(b" (%s --help tells more)\n" % name.encode())
+            cases.check(" ".join([name, *words]), (done.returncode, done.stdout) == (2, b"") and one_line, f"{done}")
+        done = run([at, "--version"], stdout=subprocess.PIPE)
+        cases.same(f"{name} --version", (done.returncode, done.stdout, done.stderr), (0, name.encode() + b" 0.1.0\n", b""))
+
+
+def moved(cases, program):
+    """A command that another program has now is answered with that program's words, whatever follows it."""
+    for command, now in (("guard", "avguard run"), ("ask", "avguard ask"), ("chart", "avtool chart"), ("generate", "avtool generate"), ("import", "avtool import")):
+        for more in ([], ["--help"], ["a", "b"], ["--nothing"]):
+            done = run([program, command, *more], stdout=subprocess.PIPE)
+            told = f"avscan: {command} is now {now} (avscan --help tells more)\n".encode()
+            cases.same(" ".join(["avscan", command, *more]), (done.returncode, done.stdout, done.stderr), (2, b"", told))
 
 
 def built(work, name):
@@ -316,16 +343,19 @@ def reasons(cases, program):
         unread = lambda path, reason: (4, b"", [f"{path}: cannot read", f"{path}: {reason}"])
         of_set = (1, b"", ["set line 4: kind 4", f"{bad}:4: not pairs of hexadecimal digits"])
         no_file = unread(gone, "No such file or directory (os error 2)")
-        rows = [(["scan", bad, LETTER], of_set), (["host", bad, LETTER], of_set), (["service", pipe, bad], of_set), (["guard", pipe + "o", pipe + "s", "--clamd", pipe + "c", "--names", bad], of_set),
+        rows = [(["scan", bad, LETTER], of_set), (["host", bad, LETTER], of_set), (["service", pipe, bad], of_set), (["avguard", "run", pipe + "o", pipe + "s", "--clamd", pipe + "c", "--names", bad], of_set),
                 (["scan", gone, LETTER], no_file), (["scan", SET, gone], no_file), (["scan", "-k", SET, gone], no_file), (["host", SET, gone], no_file), (["filter", pipe + "f", gone], no_file),
-                (["scan", "-k", "--files-from", gone, SET], no_file), (["run", gone], no_file), (["import", gone], no_file), (["chart", gone], no_file),
+                (["scan", "-k", "--files-from", gone, SET], no_file), (["run", gone], no_file), (["avtool", "import", gone], no_file), (["avtool", "chart", gone], no_file),
                 (["scan", SET, work], unread(work, "is a folder (-r scans it)")), (["host", SET, work], unread(work, "is a folder")), (["scan", work, LETTER], unread(work, "is a folder")),
                 (["scan", SET, pipe], unread(pipe, "is no regular file")), (["run", script], (1, b"", ["line 2: bad script"]))]
         for words, (status, out, lines) in rows:
-            shown = b"".join(f"avscan: {line}\r\n".encode() for line in lines)
-            cases.same(f"{words[0]} on a terminal, {lines[-1]}", on_terminal([program, *words, "--quiet"] if words[0] in ("scan", "host", "filter") else [program, *words], None), (status, out, shown))
-            done = run([program, *words], stdout=subprocess.PIPE)
-            cases.same(f"{words[0]} without a terminal, {lines[-1]}", (done.returncode, done.stdout, done.stderr), (status, out, f"avscan: {lines[0]}\n".encode()))
+            name = words[0] if words[0] in ("avguard", "avtool") else "avscan"
+            words = [program, *words] if name == "avscan" else [program_beside(program, name), *words[1:]]
+            shown = b"".join(f"{name}: {line}\r\n".encode() for line in lines)
+            quiet = ["--quiet"] if words[1] in ("scan", "host", "filter") else []
+            cases.same(f"{name} {words[1]} on a terminal, {lines[-1]}", on_terminal([*words, *quiet], None), (status, out, shown))
+            done = run(words, stdout=subprocess.PIPE)
+            cases.same(f"{name} {words[1]} without a terminal, {lines[-1]}", (done.returncode, done.stdout, done.stderr), (status, out, f"{name}: {lines[0]}\n".encode()))
         with open("/dev/full", "wb") as full:
             got = on_terminal([program, "scan", "-q", SET, LETTER], None, full)
         cases.same("a full device on a terminal", got, (4, None, b"avscan: device\r\navscan: standard output: No space left on device (os error 28)\r\n"))
@@ -435,7 +465,7 @@ def main():
     if len(sys.argv) != 2:
         sys.exit("usage: tests/program.py PROGRAM")
     cases = Cases()
-    for part in (devices, devices_of_ask, guard_that_can_say_nothing, memory, memory_of_host, lambda *words: memory_of_host(*words, "--spare"), memory_of_ask, memory_of_guard, words, order, helps, reasons, progress, alone, kinds):
+    for part in (devices, devices_of_ask, guard_that_can_say_nothing, memory, memory_of_host, lambda *words: memory_of_host(*words, "--spare"), memory_of_ask, memory_of_guard, words, order, helps, moved, reasons, progress, alone, kinds):
         try:
             part(cases, os.path.abspath(sys.argv[1]))
         except Exception as fault:

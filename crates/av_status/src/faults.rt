@@ -1,4 +1,5 @@
-//! How the program says that something failed: one line to standard error, as far as that can be written, and a status.
+//! How a program says that something failed: one line to standard error, as far as that can be written, and a status. The line
+//! carries no program's name: [`Prefixed`](crate::Prefixed) puts it in front.
 
 ghost use Rattle.std.specs.Prelude.{◌≡◌};
 ghost use Rattle.av_status.specs.declared.status.Status.TheVariants.{Device, Memory, Refused, Usage};
@@ -148,7 +149,6 @@ pub fn bad_name<E: Write>(err: &mut E, list: &str, number: u64) -> Status
 pub fn bad_entry<E: Write>(err: &mut E, path: &[u8]) -> Status
     ensures { result ≡ Refused }
 {
-    let _ = write_parts(err, &[text("avscan: ")]);
     say_name(err, path, Plain::Ascii);
     let _ = write_parts(err, &[text(": the name is not UTF-8\n")]);
     Status::Refused
@@ -248,7 +248,7 @@ pub fn text(text: &'static str) -> Part<'static> {
     Part::Text(text.as_bytes())
 }
 
-/// Writes a line that names the program. Where that fails there is nobody left to tell.
+/// Writes a line. Where that fails there is nobody left to tell.
 pub fn say<E: Write>(err: &mut E, parts: &[Part<'_>]) {
     say_of(err, "", parts);
 }
@@ -256,7 +256,6 @@ pub fn say<E: Write>(err: &mut E, parts: &[Part<'_>]) {
 /// The same with a name in front, in which each byte of a control character is written as `\x` and two digits: what a file is
 /// called is not to command a terminal.
 pub fn say_of<E: Write>(err: &mut E, name: &str, parts: &[Part<'_>]) {
-    let _ = write_parts(err, &[text("avscan: ")]);
     say_name(err, name.as_bytes(), Plain::Text);
     let _ = write_parts(err, parts);
     let _ = write_parts(err, &[text("\n")]);

@@ -1,3 +1,4 @@
+use crate::prefixed::Prefixed;
 use av_base::Part;
 use av_base::parts::write_parts;
 use std::io;
@@ -14,7 +15,7 @@ const LOOK: u64 = 5;
 #[derive(Drop)]
 pub struct Progress<'a, C, E> {
     clock: &'a C,
-    err: E,
+    err: Prefixed<E>,
     is_wanted: bool,
     since: Option<Duration>,
     is_shown: bool,
@@ -22,7 +23,7 @@ pub struct Progress<'a, C, E> {
 
 impl<'a, C: Clock, E: Write> Progress<'a, C, E> {
     /// Writes to `err`, and shows progress there where `is_wanted`.
-    pub fn new(clock: &'a C, err: E, is_wanted: bool) -> Progress<'a, C, E> {
+    pub fn new(clock: &'a C, err: Prefixed<E>, is_wanted: bool) -> Progress<'a, C, E> {
         Progress {
             clock,
             err,
@@ -48,7 +49,7 @@ impl<'a, C: Clock, E: Write> Progress<'a, C, E> {
             return;
         }
         let _ = write_parts(
-            &mut self.err,
+            &mut self.err.writer,
             &[
                 Part::Text(b"\r".as_slice()),
                 Part::Text(verb.as_bytes()),
@@ -69,7 +70,7 @@ impl<'a, C: Clock, E: Write> Progress<'a, C, E> {
             return;
         }
         let _ = write_parts(
-            &mut self.err,
+            &mut self.err.writer,
             &[
                 Part::Text(b"\r".as_slice()),
                 Part::Text(verb.as_bytes()),
@@ -85,7 +86,7 @@ impl<'a, C: Clock, E: Write> Progress<'a, C, E> {
     /// Wipes out the line of progress, where one is shown.
     pub fn wipe(&mut self) {
         if self.is_shown {
-            let _ = write_parts(&mut self.err, &[Part::Text(b"\r\x1b[K".as_slice())]);
+            let _ = write_parts(&mut self.err.writer, &[Part::Text(b"\r\x1b[K".as_slice())]);
             self.is_shown = false;
         }
     }

@@ -1,22 +1,24 @@
-//! The command line of the program: what its words ask for, its help, and the word that is no text.
+//! What the command lines of several programs share: words and commands as rows, what clap makes of them, which files were named and
+//! what is printed of them, the paths of sockets, and how a program says that its words were not understood.
 //!
 //! ```text
-//! match read_words(alloc, words.as_slice(), &mut out, &mut err) {
-//!     Ok(Request::Scan(scan)) => ..,
-//!     Err(status) => return status,                      // help was written, or a line says what was not understood
-//! }
+//! let command = with(Command::new(alloc, "avguard"), ask_command(alloc))?;
+//! let matches = matches_of(alloc, "avguard", Ok(command), words, &mut out, &mut err)?;   // help was written, or a line says why not
 //! ```
 #![tactic(auto)]
 
-mod commands;
+pub mod command;
+pub mod matched;
 pub mod request;
+pub mod rows;
+pub mod sockets;
 #[cfg(test)]
 mod tests;
-mod word;
-pub mod words;
+pub mod usage;
+pub mod word;
 
-pub use request::{
-    Ask, Chart, Check, Filter, Finding, Generate, Guard, Host, Import, List, Named, Request, Scan,
-    Script, Service, Taking,
-};
-pub use words::{first_bad_word, read_words};
+pub use command::{command_of, with};
+pub use request::{Finding, List, Named};
+pub use sockets::bad_socket_of;
+pub use usage::{first_bad_word, matches_of, say_usage};
+pub use word::{Absent, Kind, Word};

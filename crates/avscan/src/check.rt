@@ -3,16 +3,16 @@ ghost use Rattle.std.specs.Io.KnownBytes.{Appends};
 ghost use Rattle.av_status.specs.Status.{IsFault};
 ghost use Rattle.avscan.specs.Check.{IsChecked, checked_line, line_of};
 
-use crate::reading::{Source, Why, read_file, say_given, why_unread};
 use av_base::parts::write_parts;
 use av_base::{Part, Refusal, WriteFault};
 use av_files::{Input, MAX_FILE, admit_set, quoted_name};
+use av_program::{Source, Why, read_file, say_given, why_unread};
 use av_sigset::SignatureSet;
 use av_status::Status;
 use av_status::faults::{
     EmptySets, bad_set_line, device_failed, out_of_memory, too_large, unreadable,
 };
-use av_words::Check;
+use avscan_words::Check;
 use std::alloc::Global;
 use std::io::Write;
 

@@ -3,16 +3,14 @@ ghost use Rattle.av_host.specs.Groups.{AreHostedInGroups};
 ghost use Rattle.av_sockets.specs.Filter.{AreFiltered};
 ghost use Rattle.av_status.specs.Status.{EndsWell, IsFault};
 
-use crate::list::names_of;
-use crate::reading::{Source, read_file, say_why, size_of};
-use crate::serving::meeting;
-use crate::sets::set_named;
 use av_files::{Contents, Failing, look_at};
 use av_host::{Crew, Hosting, Signatures, host_groups};
-use av_sockets::filter_files;
+use av_program::{Source, names_of, read_file, say_why, set_named, size_of};
+use av_sockets::{Meeting, filter_files};
 use av_status::faults::out_of_memory;
 use av_status::{Progress, Status, Tally};
-use av_words::{Filter, Host, Named};
+use av_words::Named;
+use avscan_words::{Filter, Host};
 use std::alloc::Global;
 use std::collections::BTreeSet;
 use std::io::Write;
@@ -151,7 +149,7 @@ fn filter_all<R: Hosting, W: Write, E: Write>(
         Ok(()) => filter_files(
             system,
             alloc,
-            meeting(asked.socket, asked.wait),
+            Meeting::within(asked.socket, asked.wait),
             asked.mode,
             &Disk { rt },
             names,

@@ -2,17 +2,16 @@ ghost use Rattle.std.specs.Prelude.{◌≡◌, ◌<◌, Some, IfErr, IfOk, IfSom
 ghost use Rattle.av_files.specs.Scan.{HasVerdict, IsAdmitted};
 ghost use Rattle.av_status.specs.Status.{IsFault};
 
-use crate::list::{failing, names_of};
-use crate::reading::{Source, is_folder, open_file, open_met, say_why};
-use crate::sets::set_named;
 use av_base::Verdict;
 use av_files::{
     Failing, MAX_FILE, Met, Scanned, Scanner, Walk, is_infected, line_failed, print_one,
     print_scanned,
 };
+use av_program::{Source, failing, is_folder, names_of, open_file, open_met, say_why, set_named};
 use av_status::faults::{bad_entry, device_failed, out_of_memory, unreadable};
 use av_status::{Progress, Status, Tally, Wishes, conclude};
-use av_words::{Finding, Named, Scan};
+use av_words::{Finding, Named};
+use avscan_words::Scan;
 use std::alloc::Global;
 use std::fs::File;
 use std::io::{IsTerminal, Read, Write};
@@ -140,7 +139,7 @@ fn scan_all<W: Write, E: Write>(
     )
 }
 
-// Scans files one after the other and writes their lines as they come. What can't be scanned is told and passed over.
+// Scans files one after the other and writes their lines as they come. What can't be scanned is reported and passed over.
 fn scan_on<W: Write, E: Write>(
     means: Means<'_, '_>,
     names: &[&str],

@@ -55,9 +55,9 @@ fn a_script_ends_with_its_status_and_one_line(rt: HostRuntime) -> Result<(), Fai
             b"volume 1 closed\nx\n",
             Status::Refused,
             b"",
-            b"avscan: line 2: bad script\n",
+            b"line 2: bad script\n",
         ),
-        (b"", Status::Refused, b"", b"avscan: line 1: bad script\n"),
+        (b"", Status::Refused, b"", b"line 1: bad script\n"),
     ];
     for (script, status, lines, line) in cases {
         let mut reader = FakeReader::new(script).in_pieces_of(1);
@@ -96,7 +96,7 @@ fn a_script_over_a_failing_device_is_told(rt: HostRuntime) -> Result<(), Fail> {
             Status::Device
         );
         assert!(rt; out.taken().is_empty());
-        assert_eq!(rt; err.taken(), b"avscan: device\n".as_slice());
+        assert_eq!(rt; err.taken(), b"device\n".as_slice());
         let mut whole = SCRIPT;
         let mut full = FakeWriter::new(rt.alloc())
             .in_pieces_of(1)
@@ -106,7 +106,7 @@ fn a_script_over_a_failing_device_is_told(rt: HostRuntime) -> Result<(), Fail> {
             run_text(Form::Lines, rt.alloc(), &mut whole, &mut full, &mut err),
             Status::Device
         );
-        assert_eq!(rt; err.taken(), b"avscan: device\n".as_slice());
+        assert_eq!(rt; err.taken(), b"device\n".as_slice());
     }
     Ok(())
 }
@@ -124,15 +124,9 @@ fn a_host_tells_of_each_file_or_of_the_first_that_can_be_no_stream(
             b"a granted generation 2 version 1\nb denied cause 2\n",
             b"",
         ),
-        ("b", None, Status::Device, b"", b"avscan: b: cannot read\n"),
-        ("a", infected, Status::Refused, b"", b"avscan: a: Exists\n"),
-        (
-            "b b",
-            infected,
-            Status::Refused,
-            b"",
-            b"avscan: b b: BadName\n",
-        ),
+        ("b", None, Status::Device, b"", b"b: cannot read\n"),
+        ("a", infected, Status::Refused, b"", b"a: Exists\n"),
+        ("b b", infected, Status::Refused, b"", b"b b: BadName\n"),
     ];
     for (name, content, status, lines, line) in rows {
         let mut out = FakeWriter::new(rt.alloc()).in_pieces_of(1);
@@ -169,14 +163,14 @@ fn a_signature_file_is_checked(rt: HostRuntime) -> Result<(), Fail> {
             b"avsig 1\nversion 1\nx 5\n",
             Err(Status::Refused),
             b"",
-            b"avscan: set:3: not pairs of hexadecimal digits\n",
+            b"set:3: not pairs of hexadecimal digits\n",
         ),
         (
             "set",
             b"avsig 1\nversion 9\n",
             Err(Status::Refused),
             b"",
-            b"avscan: set: version 9 has no signatures\n",
+            b"set: version 9 has no signatures\n",
         ),
     ];
     for (name, content, checked, line, fault) in rows {
@@ -212,6 +206,6 @@ fn lines_of_a_host_that_can_not_be_written_are_told(rt: HostRuntime) -> Result<(
         &mut err,
     );
     assert!(&rt; ended == Status::Device);
-    assert!(&rt; err.taken() == b"avscan: device\n".as_slice());
+    assert!(&rt; err.taken() == b"device\n".as_slice());
     Ok(())
 }

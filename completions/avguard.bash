@@ -1,0 +1,37 @@
+# Completion of avguard for bash.
+_avguard() {
+    local word=${COMP_WORDS[COMP_CWORD]} before=${COMP_WORDS[COMP_CWORD - 1]} command=${COMP_WORDS[1]-} options
+    if [ "$COMP_CWORD" = 1 ]; then
+        COMPREPLY=($(compgen -W "run ask help --help --version" -- "$word"))
+        return
+    fi
+    case $before in
+    --wait)
+        COMPREPLY=($(compgen -W "5 10 30 60 300" -- "$word"))
+        return
+        ;;
+    --keep)
+        COMPREPLY=($(compgen -W "0 67108864 1073741824" -- "$word"))
+        return
+        ;;
+    --questions)
+        COMPREPLY=($(compgen -W "1 64 256" -- "$word"))
+        return
+        ;;
+    --mode | --service-mode)
+        COMPREPLY=($(compgen -W "600 660 666" -- "$word"))
+        return
+        ;;
+    esac
+    case $command in
+    run) options="--open --wait --keep --questions --clamd --names --mode --service-mode --least --most-version --state --help" ;;
+    ask) options="--recursive --keep-going --infected --json --print0 --files-from --null --found-status --summary --wait --quiet --help" ;;
+    help) options="run ask" ;;
+    *) options="--help" ;;
+    esac
+    case $command:$word in
+    help:* | *:-*) COMPREPLY=($(compgen -W "$options" -- "$word")) ;;
+    *) mapfile -t COMPREPLY < <(compgen -f -- "$word") ;;
+    esac
+}
+complete -o filenames -F _avguard avguard

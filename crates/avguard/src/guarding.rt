@@ -1,0 +1,90 @@
+ghost use Rattle.std.specs.Prelude.{◌≡◌, ◌*◌, IfErr, if◌then◌else◌};
+ghost use Rattle.std.specs.Duration.{as_nanos};
+ghost use Rattle.av_base.specs.declared.mode.Mode.TheVariants.{FailClosed, FailOpen};
+ghost use Rattle.av_status.specs.Status.{IsFault};
+
+use av_base::Mode;
+use av_daemon::{Doors, Guarding, guard_at};
+use av_program::set_named;
+use av_status::faults::EmptySets;
+use av_status::{Prefixed, Status};
+use avguard_words::Guard;
+use std::alloc::Global;
+use std::fs::Files;
+use std::io::Write;
+use std::net::Net;
+use std::random::RandomSource;
+use std::time::{Clock, Duration};
+
+/// A system on which a guard runs, and on which one is asked.
+pub trait Guards: Files + Net + Clock + RandomSource {}
+
+impl<R: Files + Net + Clock + RandomSource> Guards for R {}
+
+/// Answers opens that other programs ask about, until the process is ended. Where it has the names of signatures from a file, that
+/// has to be a signature set when it begins.
+pub fn guard_named<R: Guards, E: Write>(
+    rt: &HostRuntime,
+    system: &R,
+    alloc: Global,
+    asked: Guard<'_>,
+    err: &mut Prefixed<E>,
+) -> Status
+    ensures { IsFault result }
+{
+    match check_names(rt, alloc, asked.names, err) {
+        Ok(()) => guard_at(system, alloc, guarding(asked), err),
+        Err(status) => status,
+    }
+}
+
+// Reads the set whose names are told, where there is one.
+fn check_names<E: Write>(
+    rt: &HostRuntime,
+    alloc: Global,
+    names: Option<&str>,
+    err: &mut E,
+) -> Result<(), Status>
+    ensures { IfErr result (λ status. IsFault status) }
+{
+    let Some(name) = names else {
+        return Ok(());
+    };
+    let _set = set_named(rt, alloc, name, EmptySets::Allowed, err)?;
+    Ok(())
+}
+
+// How is guarded.
+fn guarding(asked: Guard<'_>) -> Guarding<'_>
+    ensures doors { result.doors ≡ record { opens = asked.entry.opens; service = asked.entry.service; clamd = asked.entry.clamd; names = asked.entry.names } }
+    ensures mode { result.mode ≡ (if asked.entry.is_open then FailOpen else FailClosed) }
+    ensures keep { result.keep ≡ asked.entry.keep }
+    ensures questions { result.questions ≡ asked.entry.questions }
+    ensures wait { as_nanos result.wait ≡ asked.entry.wait * 1_000_000_000 }
+    ensures rights { (result.rights ≡ asked.entry.mode) × (result.service_rights ≡ asked.entry.service_mode) }
+    ensures versions { (result.least ≡ asked.entry.least) × (result.most_version ≡ asked.entry.most_version) }
+    ensures state { result.state ≡ asked.entry.state }
+{
+    let doors = Doors {
+        opens: asked.opens,
+        service: asked.service,
+        clamd: asked.clamd,
+        names: asked.names,
+    };
+    Guarding {
+        doors,
+        mode: if asked.is_open {
+            Mode::FailOpen
+        } else {
+            Mode::FailClosed
+        },
+        keep: asked.keep,
+        questions: asked.questions,
+        wait: Duration::from_secs(asked.wait),
+        rights: asked.mode,
+        service_rights: asked.service_mode,
+        least: asked.least,
+        most_version: asked.most_version,
+        state: asked.state,
+    }
+}

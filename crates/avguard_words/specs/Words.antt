@@ -1,0 +1,29 @@
+-- What the words of avguard's command line may ask for.
+use Rattle.std.specs.Prelude.{ℕ, ⊤, ◌≡◌, false, IfSome, List}
+use Rattle.std.specs.Str.{bytes_eq}
+use Rattle.av_words.specs.Words.{IsSocketPath}
+use Rattle.avguard_words.specs.declared.request.Guard.{Guard as Guarding}
+use Rattle.avguard_words.specs.declared.request.Request.{Request}
+use Rattle.avguard_words.specs.declared.request.Request.TheVariants.{Guard, Ask}
+
+-- the sockets of a guard can be ones
+abbrev pub HasSockets : Guarding → Type 0
+HasSockets g = IsSocketPath g.opens.now × (IsSocketPath g.service.now × IfSome g.clamd (λ clamd. IsSocketPath clamd.now))
+
+-- two sockets have different paths
+abbrev pub Differ : List ℕ → List ℕ → Type 0
+Differ one other = bytes_eq one other ≡ false
+
+-- no two sockets of a guard have one path
+abbrev pub AreApart : Guarding → Type 0
+AreApart g = Differ g.opens.now g.service.now × IfSome g.clamd (λ clamd. Differ clamd.now g.opens.now × Differ clamd.now g.service.now)
+
+-- no two sockets that are asked for have one path
+abbrev pub AsksForApart : Request → Type 0
+AsksForApart (Guard guard) = AreApart guard
+AsksForApart (Ask ask) = ⊤
+
+-- the sockets that are asked for can be ones
+abbrev pub AsksForSockets : Request → Type 0
+AsksForSockets (Guard guard) = HasSockets guard
+AsksForSockets (Ask ask) = IsSocketPath ask.opens.now

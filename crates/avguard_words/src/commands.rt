@@ -1,0 +1,234 @@
+//! The commands of avguard, their words and their help.
+
+use crate::words::PROGRAM;
+use av_words::rows::{
+    DENIED, FILES_FROM, JSON, KEEP_GOING, NOT_GRANTED, NULL, PRINT0, QUIET, RECURSIVE, SUMMARY,
+};
+use av_words::{Absent, Kind, Word, command_of, with};
+use clap::Command;
+use std::alloc::{AllocError, Global};
+
+/// The command line: a command that guards, and one that asks a guard.
+pub fn avguard_command<'a>(alloc: Global) -> Result<Command<'a>, AllocError> {
+    let command = with(program(alloc), run_command(alloc))?;
+    with(command, ask_command(alloc))
+}
+
+// The program without its commands.
+fn program<'a>(alloc: Global) -> Command<'a> {
+    Command::new(alloc, PROGRAM)
+        .version("0.1.0")
+        .about(
+            "A guard of opens: it answers other programs whether a content may be opened, by what a scanning service says.",
+        )
+        .after_help(
+            "Example, in three terminals:\
+             \n  avguard run opens.socket service.socket\
+             \n  avscan service service.socket examples/test.avsig\
+             \n  avguard ask opens.socket examples/letter.txt examples/eicar.com.txt\
+             \n\nExit status: 0 all done, 1 input refused, 2 usage, 3 memory, 4 device; with --found-status 5 something is \
+             infected,\
+             \n6 something is infected and some files were not judged.",
+        )
+        .subcommand_required(true)
+}
+
+fn run_command<'a>(alloc: Global) -> Result<Command<'a>, AllocError> {
+    command_of(
+        alloc,
+        "run",
+        "Answers opens that other programs ask about, until it is ended",
+        "Any number of programs ask at OPENS whether a content may be opened; one `avscan service` at a time scans for them, at \
+         SERVICE.\
+         \nA grant is of exactly the bytes that were asked about, under the newest signatures. What was scanned once is answered \
+         at once.\
+         \nWhere no service is there opens are denied (cause 3 or 6), or let through with --open. It runs until it is ended by a \
+         signal.\
+         \n\nAt CLAMD programs may ask that speak to clamd, as `clamdscan` does where it streams. `OK` is said of a grant alone.\
+         \n\nExample, in three terminals:\
+         \n  avguard run opens.socket service.socket\
+         \n  avscan service service.socket examples/test.avsig\
+         \n  avguard ask opens.socket examples/letter.txt examples/eicar.com.txt",
+        &[
+            OPENS_MADE,
+            SERVICE,
+            OPEN,
+            WAIT_FOR_ALL,
+            KEEP,
+            QUESTIONS,
+            CLAMD,
+            NAMES,
+            MODE_OF_OPENS,
+            MODE_OF_SERVICE,
+            LEAST,
+            MOST_VERSION,
+            STATE,
+        ],
+    )
+}
+
+fn ask_command<'a>(alloc: Global) -> Result<Command<'a>, AllocError> {
+    command_of(
+        alloc,
+        "ask",
+        "Asks a guard whether files may be opened",
+        "It prints what each open is told, in the order of the files, as `host` does. The status is 0 only where each file was \
+         judged: an answer\
+         \nother than `granted` and `denied cause 2` ends it with 4, or with 6 where --found-status is given and something is \
+         infected.\
+         \n\nExample, beside `avguard run opens.socket service.socket`:\
+         \n  avguard ask opens.socket examples/letter.txt examples/eicar.com.txt",
+        &[
+            OPENS_OF_GUARD,
+            ASKED_FILES,
+            RECURSIVE,
+            KEEP_GOING,
+            NOT_GRANTED,
+            JSON,
+            PRINT0,
+            FILES_FROM,
+            NULL,
+            DENIED,
+            SUMMARY,
+            WAIT_FOR_GUARD,
+            QUIET,
+        ],
+    )
+}
+
+const OPENS_MADE: Word = Word {
+    name: "opens",
+    kind: Kind::Required { shown: "OPENS" },
+    help: "Where to make the socket for opens: a path of 1 to 107 bytes",
+};
+
+const OPENS_OF_GUARD: Word = Word {
+    name: "opens",
+    kind: Kind::Required { shown: "OPENS" },
+    help: "The guard's socket for opens: a path of 1 to 107 bytes",
+};
+
+const SERVICE: Word = Word {
+    name: "service",
+    kind: Kind::Required { shown: "SERVICE" },
+    help: "Where to make the socket for the scanning service",
+};
+
+const ASKED_FILES: Word = Word {
+    name: "file",
+    kind: Kind::Files,
+    help: "The files to ask about, of at most 1,048,576 bytes each",
+};
+
+const WAIT_FOR_ALL: Word = Word {
+    name: "wait",
+    kind: Kind::Number {
+        shown: "SECONDS",
+        least: 1,
+        greatest: 86_400,
+        absent: Absent::Means("30"),
+    },
+    help: "How long a question may take, and a client or the service may take nothing that it is sent",
+};
+
+const WAIT_FOR_GUARD: Word = Word {
+    name: "wait",
+    kind: Kind::Number {
+        shown: "SECONDS",
+        least: 1,
+        greatest: 86_400,
+        absent: Absent::Means("60"),
+    },
+    help: "How long to wait for the guard to be there, and for each of its answers",
+};
+
+const MODE_OF_OPENS: Word = Word {
+    name: "mode",
+    kind: Kind::Choice {
+        shown: "MODE",
+        values: &["600", "660", "666"],
+        default: "600",
+    },
+    help: "Who may ask at OPENS and CLAMD: the owner, also the group, or anybody",
+};
+
+const MODE_OF_SERVICE: Word = Word {
+    name: "service-mode",
+    kind: Kind::Choice {
+        shown: "MODE",
+        values: &["600", "660", "666"],
+        default: "600",
+    },
+    help: "Who may join at SERVICE, and is believed: the owner, also the group, or anybody",
+};
+
+const LEAST: Word = Word {
+    name: "least",
+    kind: Kind::Number {
+        shown: "V",
+        least: 0,
+        greatest: 18_446_744_073_709_551_615,
+        absent: Absent::Means("0"),
+    },
+    help: "No signature set of a version below V is believed, and none grants",
+};
+
+const MOST_VERSION: Word = Word {
+    name: "most-version",
+    kind: Kind::Number {
+        shown: "V",
+        least: 0,
+        greatest: 18_446_744_073_709_551_615,
+        absent: Absent::Means("18446744073709551615"),
+    },
+    help: "A service that begins with a version above V is turned away",
+};
+
+const STATE: Word = Word {
+    name: "state",
+    kind: Kind::Value { shown: "FILE" },
+    help: "Keeps the greatest version that was believed in FILE, below which none is believed after a restart",
+};
+
+const OPEN: Word = Word {
+    name: "open",
+    kind: Kind::Flag,
+    help: "Lets opens through that can't be judged, in place of denying them",
+};
+
+const KEEP: Word = Word {
+    name: "keep",
+    kind: Kind::Number {
+        shown: "BYTES",
+        least: 0,
+        greatest: 1_099_511_627_776,
+        absent: Absent::Means("67108864"),
+    },
+    help: "How many bytes of contents are kept for later asks, up to 2^40",
+};
+
+const QUESTIONS: Word = Word {
+    name: "questions",
+    kind: Kind::Number {
+        shown: "N",
+        least: 1,
+        greatest: 256,
+        absent: Absent::Means("256"),
+    },
+    help: "How many contents are scanned at a time, 1 to 256; further asks stand in line",
+};
+
+const CLAMD: Word = Word {
+    name: "clamd",
+    kind: Kind::Value { shown: "CLAMD" },
+    help: "Where to make a socket for clients of clamd",
+};
+
+const NAMES: Word = Word {
+    name: "names",
+    kind: Kind::ValueWith {
+        shown: "SET",
+        other: "clamd",
+    },
+    help: "The service's signature file, whose names clients of clamd are told",
+};

@@ -1,0 +1,52 @@
+//! What the words of avguard's command line may ask for.
+
+use av_words::{Finding, Named};
+
+/// What the words of the command line ask for.
+#[derive(Drop)]
+pub enum Request<'a> {
+    /// Answer opens that are asked about at a socket, by what the service at another one says, until the program is ended.
+    Guard(Guard<'a>),
+    /// Ask a guard about files.
+    Ask(Ask<'a>),
+}
+
+/// Where a guard is joined, and how it answers.
+#[derive(Clone, Copy)]
+pub struct Guard<'a> {
+    /// The socket for opens.
+    pub opens: &'a str,
+    /// The socket for the service that scans.
+    pub service: &'a str,
+    /// The socket for clients of clamd.
+    pub clamd: Option<&'a str>,
+    /// The signature file whose names these are told.
+    pub names: Option<&'a str>,
+    /// What can't be judged is let through.
+    pub is_open: bool,
+    /// The most seconds of a question.
+    pub wait: u64,
+    /// The most bytes of contents that are kept.
+    pub keep: u64,
+    /// The most contents that are scanned at a time.
+    pub questions: u64,
+    /// The rights of the sockets for opens and for clients of clamd.
+    pub mode: u32,
+    /// The rights of the socket for the service.
+    pub service_mode: u32,
+    /// No set of a lesser version is believed or grants.
+    pub least: u64,
+    /// A service whose set has a greater version is turned away.
+    pub most_version: u64,
+    /// The file that keeps the greatest version that was believed.
+    pub state: Option<&'a str>,
+}
+
+/// Which files the guard at a socket is asked about. It may take `wait` seconds to be there, and each answer so long.
+#[derive(Drop)]
+pub struct Ask<'a> {
+    pub opens: &'a str,
+    pub named: Named<'a>,
+    pub finding: Finding,
+    pub wait: u64,
+}

@@ -1,0 +1,161 @@
+ghost use Rattle.std.specs.Prelude.{◌≡◌, ◌≤◌, ◌↔◌, length, slice_get, IfErr, IfNone, IfOk, IfSome, IsErrOf, IsSome, MatchResult};
+ghost use Rattle.av_status.specs.declared.status.Status.TheVariants.{Usage};
+ghost use Rattle.av_words.specs.Words.{IsOfWords};
+ghost use Rattle.avscan_words.specs.Words.{AsksForSockets, IsMoved, IsStandardInput};
+
+use crate::commands::avscan_command;
+use crate::request::{Check, Filter, Host, Request, Scan, Script, Service};
+use av_status::faults::{bad_socket, out_of_memory};
+use av_status::status::Status;
+use av_status::tally::Form;
+use av_words::matched::{
+    count_of, empty_sets_of, files_of, finding_of, form_of, mode_of, named_of, number_of, text_of,
+};
+use av_words::{bad_socket_of, matches_of, say_usage};
+use clap::ArgMatches;
+use std::alloc::{AllocError, Global};
+use std::convert::AsStr;
+use std::io::Write;
+
+/// The program's name.
+pub const PROGRAM: &str = "avscan";
+
+/// Reads the words of the command line, the program's name first. No other word asks for a script on standard input. A
+/// help text goes to `out` and a usage fault to `err`; the status is then that of the program.
+pub fn read_words<'a, S: AsStr, W: Write, E: Write>(
+    alloc: Global,
+    words: &'a [S],
+    out: &mut W,
+    err: &mut E,
+) -> Result<Request<'a>, Status>
+    ensures none { length words.now ≤ 1 → MatchResult result IsStandardInput (λ status. ⊥) }
+    ensures moved { IfSome (slice_get words.now 1) (λ word. IsMoved (S.text word) → IsErrOf result Usage) }
+    ensures sockets { IfOk result AsksForSockets }
+    ensures status { IfErr result IsOfWords }
+{
+    if words.len() <= 1 {
+        return Ok(from_standard_input());
+    }
+    if let Some(fault) = moved_of(words) {
+        say_usage(err, PROGRAM, fault);
+        return Err(Status::Usage);
+    }
+    let matches = matches_of(alloc, PROGRAM, avscan_command(alloc), words, out, err)?;
+    match request_of(alloc, &matches) {
+        Ok(request) => with_sockets(request, err),
+        Err(_) => Err(out_of_memory(err)),
+    }
+}
+
+// What became of the command that is asked for, where another program has it now.
+fn moved_of<S: AsStr>(words: &[S]) -> Option<&'static str>
+    ensures { IfSome (slice_get words.now 1) (λ word. IsMoved (S.text word) → IsSome result) }
+{
+    moved(words.get(1)?.as_str())
+}
+
+// What became of a command that another program has now.
+fn moved(command: &str) -> Option<&'static str>
+    ensures { IsSome result ↔ IsMoved command.now }
+{
+    match command {
+        "guard" => Some("guard is now avguard run"),
+        "ask" => Some("ask is now avguard ask"),
+        "chart" => Some("chart is now avtool chart"),
+        "generate" => Some("generate is now avtool generate"),
+        "import" => Some("import is now avtool import"),
+        _ => None,
+    }
+}
+
+// What is asked for by words that were understood.
+fn request_of<'a>(alloc: Global, matches: &ArgMatches<'a>) -> Result<Request<'a>, AllocError> {
+    match matches.subcommand() {
+        Some(("scan", scan)) => scan_of(alloc, scan),
+        Some(("host", host)) => host_of(alloc, host),
+        Some(("filter", filter)) => filter_of(alloc, filter),
+        Some(("service", service)) => Ok(service_of(service)),
+        Some(("check", check)) => check_of(alloc, check),
+        Some((_, run)) => Ok(Request::Run(Script {
+            path: text_of(run, "script"),
+            form: form_of(run, Form::Lines),
+        })),
+        None => Ok(from_standard_input()),
+    }
+}
+
+// What is asked for where no word says it.
+fn from_standard_input<'a>() -> Request<'a>
+    ensures { IsStandardInput result }
+{
+    Request::Run(Script {
+        path: "-",
+        form: Form::Lines,
+    })
+}
+
+fn scan_of<'a>(alloc: Global, matches: &ArgMatches<'a>) -> Result<Request<'a>, AllocError> {
+    Ok(Request::Scan(Scan {
+        set: text_of(matches, "set"),
+        empty_sets: empty_sets_of(matches),
+        named: named_of(alloc, matches)?,
+        finding: finding_of(matches, number_of(matches, "max-size")),
+    }))
+}
+
+fn host_of<'a>(alloc: Global, matches: &ArgMatches<'a>) -> Result<Request<'a>, AllocError> {
+    Ok(Request::Host(Host {
+        set: text_of(matches, "set"),
+        empty_sets: empty_sets_of(matches),
+        named: named_of(alloc, matches)?,
+        openers: count_of(matches, "openers"),
+        workers: count_of(matches, "workers"),
+        has_spare: matches.get_flag("spare"),
+    }))
+}
+
+fn filter_of<'a>(alloc: Global, matches: &ArgMatches<'a>) -> Result<Request<'a>, AllocError> {
+    Ok(Request::Filter(Filter {
+        socket: text_of(matches, "socket"),
+        named: named_of(alloc, matches)?,
+        wait: number_of(matches, "wait"),
+        mode: mode_of(matches, "mode"),
+    }))
+}
+
+fn service_of<'a>(matches: &ArgMatches<'a>) -> Request<'a> {
+    Request::Service(Service {
+        socket: text_of(matches, "socket"),
+        set: text_of(matches, "set"),
+        empty_sets: empty_sets_of(matches),
+        wait: number_of(matches, "wait"),
+        watch: matches.get_one::<u64>("watch"),
+    })
+}
+
+fn check_of<'a>(alloc: Global, matches: &ArgMatches<'a>) -> Result<Request<'a>, AllocError> {
+    Ok(Request::Check(Check {
+        sets: files_of(alloc, matches)?,
+    }))
+}
+
+// The request, where the path of its socket can be one.
+fn with_sockets<'a, E: Write>(request: Request<'a>, err: &mut E) -> Result<Request<'a>, Status>
+    ensures sockets { IfOk result AsksForSockets }
+    ensures fault { IfErr result (λ status. status ≡ Usage) }
+{
+    match first_bad_socket(&request) {
+        Some(socket) => Err(bad_socket(err, socket)),
+        None => Ok(request),
+    }
+}
+
+fn first_bad_socket<'a>(request: &Request<'a>) -> Option<&'a str>
+    ensures { IfNone result (AsksForSockets request.now) }
+{
+    match request {
+        Request::Filter(filter) => bad_socket_of(filter.socket),
+        Request::Service(service) => bad_socket_of(service.socket),
+        _ => None,
+    }
+}

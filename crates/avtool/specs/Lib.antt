@@ -1,0 +1,3 @@
+pub mod Chart
+pub mod Generate
+pub mod Import

@@ -1,0 +1,163 @@
+//! The commands of avtool, their words and their help.
+
+use crate::words::PROGRAM;
+use av_words::rows::SCRIPT;
+use av_words::{Absent, Kind, Word, command_of, with};
+use clap::Command;
+use std::alloc::{AllocError, Global};
+
+/// The command line: a command each that draws a script, makes one, and takes signatures of other products.
+pub fn avtool_command<'a>(alloc: Global) -> Result<Command<'a>, AllocError> {
+    let command = with(program(alloc), chart_command(alloc))?;
+    let command = with(command, generate_command(alloc))?;
+    with(command, import_command(alloc))
+}
+
+// The program without its commands.
+fn program<'a>(alloc: Global) -> Command<'a> {
+    Command::new(alloc, PROGRAM)
+        .version("0.1.0")
+        .about(
+            "Draws scripts of avscan, makes random ones, and takes signatures of other products.",
+        )
+        .after_help(
+            "Examples:\
+             \n  avtool chart examples/late_reply.avs > late_reply.svg             draw a script\
+             \n  avtool generate --seed 1 --commands 100 | avscan run -            run a random one\
+             \n  avtool import --set-version 7 examples/other.ndb > set.avsig      take signatures of ClamAV or YARA\
+             \n\nExit status: 0 all done, 1 input refused, 2 usage, 3 memory, 4 device.",
+        )
+        .subcommand_required(true)
+}
+
+fn chart_command<'a>(alloc: Global) -> Result<Command<'a>, AllocError> {
+    command_of(
+        alloc,
+        "chart",
+        "Runs a script and draws what happened, as a picture in SVG",
+        "Volume, opener, filter, port and service each have a lane. An arrow is a message, from where it was sent to where it was \
+         delivered;\
+         \none that was never delivered ends in a cross. Bars are opens, questions, jobs and works for as long as they live. \
+         The whole script\
+         \nis run, whatever part of it is drawn.\
+         \n\nExample:\
+         \n  avtool chart examples/late_reply.avs > late_reply.svg\
+         \n  avtool chart --from 10 --to 20 examples/late_reply.avs > late_reply.svg",
+        &[SCRIPT, FROM, TO],
+    )
+}
+
+fn generate_command<'a>(alloc: Global) -> Result<Command<'a>, AllocError> {
+    command_of(
+        alloc,
+        "generate",
+        "Prints a random script, led by the world that it builds",
+        "The same seed gives the same script.\
+         \n\nExample:\
+         \n  avtool generate --seed 1 --commands 100 | avscan run -",
+        &[SEED, COMMANDS_DRAWN, PROFILE],
+    )
+}
+
+fn import_command<'a>(alloc: Global) -> Result<Command<'a>, AllocError> {
+    command_of(
+        alloc,
+        "import",
+        "Writes a signature file of signatures that ClamAV or YARA reads",
+        "What is taken means the same: a file that the other tool finds by it is infected here, and no other. \
+         What can't be said exactly\
+         \nis left out, and a line on standard error says why.\
+         \n\nExample:\
+         \n  avtool import --set-version 7 examples/other.ndb > set.avsig",
+        &[IMPORTED_FILES, SET_VERSION, ANY_TARGET, FORMAT_1, ALL],
+    )
+}
+
+const IMPORTED_FILES: Word = Word {
+    name: "file",
+    kind: Kind::RequiredFiles { shown: "FILE" },
+    help: "Files of signatures: .ndb, .ndu, .db, .yar or .yara",
+};
+
+const FROM: Word = Word {
+    name: "from",
+    kind: Kind::Number {
+        shown: "LINE",
+        least: 1,
+        greatest: 18_446_744_073_709_551_615,
+        absent: Absent::Means("1"),
+    },
+    help: "The first line of the script whose command is drawn",
+};
+
+const TO: Word = Word {
+    name: "to",
+    kind: Kind::Number {
+        shown: "LINE",
+        least: 1,
+        greatest: 18_446_744_073_709_551_615,
+        absent: Absent::Means("18446744073709551615"),
+    },
+    help: "The last line of the script whose command is drawn",
+};
+
+const SEED: Word = Word {
+    name: "seed",
+    kind: Kind::Number {
+        shown: "N",
+        least: 0,
+        greatest: 18_446_744_073_709_551_615,
+        absent: Absent::IsRefused,
+    },
+    help: "From which number the draws begin, up to 2^64 - 1",
+};
+
+const COMMANDS_DRAWN: Word = Word {
+    name: "commands",
+    kind: Kind::Number {
+        shown: "M",
+        least: 1,
+        greatest: 100_000,
+        absent: Absent::IsRefused,
+    },
+    help: "How many commands the script has, 1 to 100,000",
+};
+
+const PROFILE: Word = Word {
+    name: "profile",
+    kind: Kind::Choice {
+        shown: "PROFILE",
+        values: &["deep", "uniform"],
+        default: "deep",
+    },
+    help: "Which commands are drawn: those that lead on, or each as often",
+};
+
+const SET_VERSION: Word = Word {
+    name: "set-version",
+    kind: Kind::Number {
+        shown: "N",
+        least: 1,
+        greatest: 18_446_744_073_709_551_615,
+        absent: Absent::Means("1"),
+    },
+    help: "The version of the signature file that is written, 1 to 2^64 - 1",
+};
+
+const ANY_TARGET: Word = Word {
+    name: "any-target",
+    kind: Kind::Flag,
+    help: "Takes a signature for files of one kind as one for all files",
+};
+
+const FORMAT_1: Word = Word {
+    name: "format-1",
+    kind: Kind::Flag,
+    help: "Leaves out what is bound to a place, and writes format 1",
+};
+
+const ALL: Word = Word {
+    name: "all",
+    kind: Kind::Flag,
+    help: "Writes nothing, with status 1, where anything was left out",
+};

@@ -1,0 +1,48 @@
+//! What the words of avtool's command line may ask for.
+
+/// What the words of the command line ask for.
+#[derive(Drop)]
+pub enum Request<'a> {
+    /// Draw the run of a script.
+    Chart(Chart<'a>),
+    /// Print a random script.
+    Generate(Generate),
+    /// Write a signature file with the signatures of files of other products.
+    Import(Import<'a>),
+}
+
+/// The script in this file, or on standard input for `-`, of which the lines `from` to `to` are drawn, counted from 1.
+#[derive(Clone, Copy)]
+pub struct Chart<'a> {
+    pub script: &'a str,
+    pub from: u64,
+    pub to: u64,
+}
+
+/// A random script of 1 to 100,000 commands.
+#[derive(Clone, Copy)]
+pub struct Generate {
+    pub seed: u64,
+    pub commands: u64,
+    /// Each command is drawn as often as any other.
+    pub is_uniform: bool,
+}
+
+/// Which files signatures are taken from, and the version of the signature file that is written.
+#[derive(Drop)]
+pub struct Import<'a> {
+    pub files: Vec<&'a str>,
+    pub version: u64,
+    pub taking: Taking,
+}
+
+/// Which signatures of other products are taken.
+#[derive(Clone, Copy, Debug, PartialEq, Eq)]
+pub struct Taking {
+    /// Those for files of one kind stand for all files.
+    pub takes_any_target: bool,
+    /// Those that are bound to a place are left out.
+    pub has_format_1: bool,
+    /// Nothing is written where anything was left out.
+    pub wants_all: bool,
+}

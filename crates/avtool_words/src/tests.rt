@@ -1,0 +1,154 @@
+use crate::request::{Request, Taking};
+use crate::words::{PROGRAM, read_words};
+use av_fakes::{FakeWriter, Fault};
+use av_status::Status;
+use std::alloc::Global;
+use std::test::Fail;
+
+// The words of a line behind the program's name.
+fn words_of<'a>(alloc: Global, line: &'a str) -> Option<Vec<&'a str>> {
+    let mut words = Vec::new(alloc);
+    words.push(PROGRAM).ok()?;
+    for word in line.split(' ') {
+        words.push(word).ok()?;
+    }
+    Some(words)
+}
+
+// What the words ask for.
+fn request_of<'a>(alloc: Global, words: &'a [&'a str]) -> Option<Request<'a>> {
+    let mut out = FakeWriter::new(alloc);
+    let mut err = FakeWriter::new(alloc);
+    read_words(alloc, words, &mut out, &mut err).ok()
+}
+
+#[test]
+fn a_usage_fault_is_one_line_and_a_help_that_cannot_be_written_is_one(
+    rt: HostRuntime,
+) -> Result<(), Fail> {
+    let alloc = rt.alloc();
+    let rows: [&[&str]; 4] = [
+        &[PROGRAM],
+        &[PROGRAM, "run", "s"],
+        &[PROGRAM, "chart"],
+        &[PROGRAM, "generate", "--seed", "1"],
+    ];
+    for words in rows {
+        let mut out = FakeWriter::new(alloc);
+        let mut err = FakeWriter::new(alloc);
+        let usage = read_words(alloc, words, &mut out, &mut err);
+        assert!(&rt; matches!(usage, Err(Status::Usage)));
+        assert!(&rt; out.taken().is_empty());
+        assert!(&rt;
+            err.taken()
+                .ends_with(b" (avtool --help tells more)\n".as_slice())
+        );
+    }
+    let mut full = FakeWriter::new(alloc)
+        .in_pieces_of(1)
+        .with(Fault::Fails { write: 9 });
+    let mut err = FakeWriter::new(alloc);
+    let help = read_words(alloc, [PROGRAM, "--help"].as_slice(), &mut full, &mut err);
+    assert!(rt; matches!(help, Err(Status::Device)));
+    assert_eq!(rt; err.taken(), b"device\n".as_slice());
+    Ok(())
+}
+
+// Which lines are drawn of a script, as a line asks for.
+fn lines_of(alloc: Global, line: &str) -> Option<(u64, u64)> {
+    match request_of(alloc, words_of(alloc, line)?.as_slice()) {
+        Some(Request::Chart(chart)) if chart.script == "s" => Some((chart.from, chart.to)),
+        _ => None,
+    }
+}
+
+#[test]
+fn all_lines_are_drawn_or_those_that_are_asked_for(rt: HostRuntime) -> Result<(), Fail> {
+    for (line, lines) in [
+        ("chart s", Some((1, 18_446_744_073_709_551_615))),
+        ("chart --from 3 --to 7 s", Some((3, 7))),
+        ("chart --from 0 s", None),
+    ] {
+        assert!(&rt; lines_of(rt.alloc(), line) == lines, "{line}");
+    }
+    Ok(())
+}
+
+// The seed, the count of commands and whether all are drawn alike, as a line asks for.
+fn draws_of(alloc: Global, line: &str) -> Option<(u64, u64, bool)> {
+    match request_of(alloc, words_of(alloc, line)?.as_slice()) {
+        Some(Request::Generate(it)) => Some((it.seed, it.commands, it.is_uniform)),
+        _ => None,
+    }
+}
+
+#[test]
+fn a_random_script_has_a_seed_and_a_length(rt: HostRuntime) -> Result<(), Fail> {
+    for (line, draws) in [
+        ("generate --seed 0 --commands 1", Some((0, 1, false))),
+        (
+            "generate --seed 18446744073709551615 --commands 100000",
+            Some((18_446_744_073_709_551_615, 100_000, false)),
+        ),
+        ("generate --seed 18446744073709551616 --commands 1", None),
+        ("generate --seed 1 --commands 0", None),
+        ("generate --seed 1 --commands 100001", None),
+        ("generate --commands 2", None),
+        (
+            "generate --seed 1 --commands 2 --profile uniform",
+            Some((1, 2, true)),
+        ),
+        (
+            "generate --seed 1 --commands 2 --profile deep",
+            Some((1, 2, false)),
+        ),
+        ("generate --seed 1 --commands 2 --profile flat", None),
+    ] {
+        assert!(&rt; draws_of(rt.alloc(), line) == draws, "{line}");
+    }
+    Ok(())
+}
+
+// The version of what is written, how many files are read and which signatures are taken, as a line asks for.
+fn taking_of(alloc: Global, line: &str) -> Option<(u64, usize, Taking)> {
+    match request_of(alloc, words_of(alloc, line)?.as_slice()) {
+        Some(Request::Import(it)) => Some((it.version, it.files.len(), it.taking)),
+        _ => None,
+    }
+}
+
+#[test]
+fn signatures_are_taken_as_is_asked_for(rt: HostRuntime) -> Result<(), Fail> {
+    let plain = Taking {
+        takes_any_target: false,
+        has_format_1: false,
+        wants_all: false,
+    };
+    let any_target = Taking {
+        takes_any_target: true,
+        ..plain
+    };
+    let format_1 = Taking {
+        has_format_1: true,
+        ..plain
+    };
+    let all = Taking {
+        wants_all: true,
+        ..plain
+    };
+    for (line, taking) in [
+        ("import a", Some((1, 1, plain))),
+        ("import --any-target a b", Some((1, 2, any_target))),
+        ("import --format-1 a b", Some((1, 2, format_1))),
+        ("import --all a b", Some((1, 2, all))),
+        (
+            "import --set-version 18446744073709551615 a",
+            Some((18_446_744_073_709_551_615, 1, plain)),
+        ),
+        ("import --set-version 0 a", None),
+        ("import", None),
+    ] {
+        assert!(&rt; taking_of(rt.alloc(), line) == taking, "{line}");
+    }
+    Ok(())
+}
