@@ -7,13 +7,14 @@ mod telling;
 use crate::belief::Belief;
 use crate::client::Client;
 use crate::door::Door;
-use crate::guarding::Guarding;
+use crate::guarding::Begun;
 use crate::keeping::Keeping;
-use crate::log::Log;
+use crate::log::{Log, send_lines};
 use crate::names::Names;
 use crate::service::Service;
 use av_base::{Mode, Version};
 use av_guard::Guard;
+use av_status::Prefixed;
 use av_turns::Turns;
 use mio::event::Event;
 use mio::{Events, Poll};
@@ -106,7 +107,7 @@ pub struct Daemon<'a, R> {
     belief: Belief,
     keeping: Keeping<'a>,
     names: Names<'a>,
-    log: Log,
+    log: Prefixed<Log>,
     buffer: Vec<u8>,
 }
 
@@ -115,12 +116,12 @@ impl<'a, R: Files + Net + Clock> Daemon<'a, R> {
     pub fn new(
         rt: &'a R,
         alloc: Global,
-        asked: Guarding<'a>,
+        begun: Begun<'a>,
         doors: Entrance,
         kept: Version,
-        most_clients: u64,
     ) -> Result<Daemon<'a, R>, Stop> {
         let buffer = vec![in alloc; 0u8; PIECE]?;
+        let asked = begun.asked;
         let belief = asked.belief(kept);
         let mut log = Log::new(alloc);
         log.register(doors.poll.registry(), LOG);
@@ -133,13 +134,13 @@ impl<'a, R: Files + Net + Clock> Daemon<'a, R> {
             service: None,
             successor: None,
             clients: BTreeMap::new(alloc),
-            turns: Turns::new(alloc, most_clients, millis(asked.wait)),
+            turns: Turns::new(alloc, begun.most_clients, millis(asked.wait)),
             sending: VecDeque::new(alloc),
             goes_on: false,
             belief,
             keeping: Keeping::new(asked.state, kept),
             names: Names::new(asked.doors.names),
-            log,
+            log: Prefixed::new(begun.program, log),
             buffer,
         })
     }
@@ -182,7 +183,7 @@ impl<'a, R: Files + Net + Clock> Daemon<'a, R> {
         self.send(guard, now)?;
         self.keeping
             .keep(self.rt, self.alloc, guard.floor(), &mut self.log);
-        self.log.send(self.doors.poll.registry(), LOG, err);
+        send_lines(&mut self.log, self.doors.poll.registry(), LOG, err);
         Ok(())
     }
 
@@ -244,7 +245,7 @@ impl<'a, R: Files + Net + Clock> Daemon<'a, R> {
             }
             SERVING => return self.note_service(event),
             SUCCEEDING => self.note_successor(event),
-            LOG => self.log.told(),
+            LOG => self.log.writer.told(),
             _ => return self.note_client(number, event),
         }
         Ok(())

@@ -11,6 +11,7 @@ use av_base::{Mode, Version};
 use av_guard::{Guard, Settings};
 use av_sockets::fault::socket_failed;
 use av_sockets::{Node, listen, remove_own};
+use av_status::Prefixed;
 use av_status::faults::{device_failed, out_of_memory, say, say_of, text};
 use av_status::status::Status;
 use mio::Poll;
@@ -83,7 +84,7 @@ pub fn guard_at<R: Files + Net + Clock + RandomSource, E: Write>(
     rt: &R,
     alloc: Global,
     asked: Guarding<'_>,
-    err: &mut E,
+    err: &mut Prefixed<E>,
 ) -> Status
     ensures { IsFailed result }
 {
@@ -97,17 +98,20 @@ pub fn guard_at<R: Files + Net + Clock + RandomSource, E: Write>(
     let begun = Begun {
         asked,
         most_clients,
+        program: err.program(),
     };
     let status = guard_with(rt, alloc, begun, opens.listener, err);
     remove_own(rt, asked.doors.opens, opens.node);
     status
 }
 
-// What a guard begins with.
+/// What a guard begins with.
 #[derive(Clone, Copy)]
-struct Begun<'a> {
-    asked: Guarding<'a>,
-    most_clients: u64,
+pub struct Begun<'a> {
+    pub asked: Guarding<'a>,
+    pub most_clients: u64,
+    /// The name that each line on standard error begins with.
+    pub program: &'static str,
 }
 
 fn few_descriptors<E: Write>(err: &mut E) -> Status
@@ -167,7 +171,7 @@ fn guard_with<R: Files + Net + Clock + RandomSource, E: Write>(
     alloc: Global,
     begun: Begun<'_>,
     opens: UnixListener,
-    err: &mut E,
+    err: &mut Prefixed<E>,
 ) -> Status
     ensures { IsFailed result }
 {
@@ -192,7 +196,7 @@ fn guard_all<R: Files + Net + Clock + RandomSource, E: Write>(
     alloc: Global,
     begun: Begun<'_>,
     listeners: Listeners,
-    err: &mut E,
+    err: &mut Prefixed<E>,
 ) -> Status
     ensures { IsFailed result }
 {
@@ -219,7 +223,7 @@ fn guard_over<R: Files + Net + Clock + RandomSource, E: Write>(
     alloc: Global,
     begun: Begun<'_>,
     listeners: Listeners,
-    err: &mut E,
+    err: &mut Prefixed<E>,
 ) -> Status
     ensures { IsFailed result }
 {
@@ -251,7 +255,7 @@ fn guard_through<'a, R: Files + Net + Clock, E: Write>(
     begun: Begun<'a>,
     doors: Entrance,
     guard: &mut Guard,
-    err: &mut E,
+    err: &mut Prefixed<E>,
 ) -> Status
     ensures { IsFailed result }
 {
@@ -260,8 +264,8 @@ fn guard_through<'a, R: Files + Net + Clock, E: Write>(
         Ok(kept) => kept,
         Err(BadKeeping) => return bad_state(err, asked.state.unwrap_or("")),
     };
-    let stop = match Daemon::new(rt, alloc, asked, doors, kept, begun.most_clients) {
-        Ok(mut daemon) => daemon.run(guard, err),
+    let stop = match Daemon::new(rt, alloc, begun, doors, kept) {
+        Ok(mut daemon) => daemon.run(guard, &mut err.writer),
         Err(stop) => stop,
     };
     match stop {

@@ -1,9 +1,10 @@
+use av_status::Prefixed;
 use mio::unix::SourceFd;
 use mio::{Interest, Registry, Token};
 use std::alloc::Global;
-use std::io;
 use std::io::Write;
 use std::os::fd::RawFd;
+use std::{io, mem};
 
 // The descriptor of standard error.
 const STANDARD_ERROR: RawFd = 2;
@@ -57,11 +58,13 @@ impl Log {
         self.may_write = true;
     }
 
-    /// Writes a piece of what waits, where that is taken without a wait.
-    pub fn send<E: Write>(&mut self, registry: &Registry, number: u64, err: &mut E) {
-        if self.waiting.is_empty() || !self.may_write {
-            return;
-        }
+    // Something waits, and is taken without a wait.
+    fn may_send(&self) -> bool {
+        !self.waiting.is_empty() && self.may_write
+    }
+
+    // Writes a piece of what waits.
+    fn send<E: Write>(&mut self, registry: &Registry, number: u64, err: &mut E) {
         let count = self.waiting.len().min(PIECE);
         let piece = self.waiting.get(..count).unwrap_or(b"".as_slice());
         let taken = match err.write(piece) {
@@ -75,7 +78,6 @@ impl Log {
             let token = Token(number as usize);
             let _ = registry.reregister(&mut source, token, Interest::WRITABLE);
         }
-        self.tell_dropped();
     }
 
     // So many bytes have gone out.
@@ -85,14 +87,13 @@ impl Log {
         self.waiting.truncate(rest);
     }
 
-    // Says how many lines were dropped, once nothing waits.
-    fn tell_dropped(&mut self) {
-        if self.dropped == 0 || !self.waiting.is_empty() {
-            return;
+    // How many lines were dropped and have not been told of, once nothing waits. They are told of now.
+    fn take_dropped(&mut self) -> u64 {
+        if self.waiting.is_empty() {
+            mem::take(&mut self.dropped)
+        } else {
+            0
         }
-        let dropped = self.dropped;
-        self.dropped = 0;
-        let _ = write!(self, "avscan: {dropped} lines were dropped\n");
     }
 
     // The line is whole.
@@ -107,6 +108,23 @@ impl Log {
             self.dropped = self.dropped.saturating_add(1);
         }
         self.line.clear();
+    }
+}
+
+/// Writes a piece of what waits, where that is taken without a wait. Once nothing waits it says how many lines were dropped.
+pub fn send_lines<E: Write>(
+    log: &mut Prefixed<Log>,
+    registry: &Registry,
+    number: u64,
+    err: &mut E,
+) {
+    if !log.writer.may_send() {
+        return;
+    }
+    log.writer.send(registry, number, err);
+    let dropped = log.writer.take_dropped();
+    if dropped > 0 {
+        let _ = write!(log, "{dropped} lines were dropped\n");
     }
 }
 

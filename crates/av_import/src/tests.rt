@@ -123,10 +123,10 @@ fn a_line_that_is_left_out_is_told_with_its_reason(rt: HostRuntime) -> Result<()
         assert!(rt; import.take(path, content, &mut err).is_ok());
         assert_eq!(rt; import.taken(), 0);
         assert_eq!(rt; import.left(), 1);
-        assert!(rt; err.taken().starts_with(b"avscan: "));
+        assert!(rt; err.taken().starts_with(path.as_bytes()));
         assert!(rt; err.taken().ends_with(b"\n"));
         let told = err.taken();
-        let front = 8 + path.len() + 10;
+        let front = path.len() + 10;
         assert_eq!(rt; told.get(front..told.len().saturating_sub(1)), Some(why));
     }
     Ok(())
@@ -143,7 +143,7 @@ fn a_rule_gives_its_strings(rt: HostRuntime) -> Result<(), Fail> {
         (
             b"rule r { strings: $a = {41 /* } */ 42} condition: $a at 0x10 }",
             b"",
-            b"avscan: a.yar: line 1: r: no condition\n",
+            b"a.yar: line 1: r: no condition\n",
         ),
         (
             b"rule r { strings: $a = \"cd\" wide ascii condition: ((any of them)) }",
@@ -158,12 +158,12 @@ fn a_rule_gives_its_strings(rt: HostRuntime) -> Result<(), Fail> {
         (
             b"\nrule r { strings: $a = \"a\" condition: $a and $a }",
             b"",
-            b"avscan: a.yar: line 2: r: a condition that is no `or` of strings\n",
+            b"a.yar: line 2: r: a condition that is no `or` of strings\n",
         ),
         (
             b"rule r { strings: $a = {41",
             b"",
-            b"avscan: a.yar: line 1: a hex string without end\n",
+            b"a.yar: line 1: a hex string without end\n",
         ),
     ];
     for (content, wanted, told) in rows {
@@ -181,7 +181,7 @@ fn of_format_1_no_places_are_taken(rt: HostRuntime) -> Result<(), Fail> {
         "a.ndb",
         b"A:1:*:41\nB:0:0:42\n",
         b"A 41\n",
-        b"avscan: a.ndb: line 2: B: a range of places, which format 1 has not\n",
+        b"a.ndb: line 2: B: a range of places, which format 1 has not\n",
     );
     assert!(rt; matches!(same, Ok(true)));
     Ok(())
@@ -244,9 +244,9 @@ fn refused_or_not_a_line_is_taken_once(rt: HostRuntime) -> Result<(), Fail> {
 // Lines that are left out, and how they are told.
 const LEFT_OUT: &[u8] = b"A=4\nB=41\nC=4\nD=\n";
 
-const TOLD: &[u8] = b"avscan: a.db: line 1: A: half a byte\n\
-    avscan: a.db: line 3: C: half a byte\n\
-    avscan: a.db: line 4: D: no bytes\n";
+const TOLD: &[u8] = b"a.db: line 1: A: half a byte\n\
+    a.db: line 3: C: half a byte\n\
+    a.db: line 4: D: no bytes\n";
 
 #[test]
 fn what_is_left_out_is_told_in_few_writes(rt: HostRuntime) -> Result<(), Fail> {
