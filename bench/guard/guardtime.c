@@ -4,7 +4,7 @@
  *   guardtime WAY PATH rate-known|rate-new SIZE COUNT SEED CLIENTS     of all, COUNT in all by so many clients at once
  *   guardtime WAY PATH idle COUNT     holds so many clients that say nothing; a line once they are there, until standard input ends
  *
- * WAY says whom it asks: guard is avscan guard over a connection, session is clamd by INSTREAM in one IDSESSION, once is clamd by
+ * WAY says whom it asks: guard is avguard run over a connection, session is clamd by INSTREAM in one IDSESSION, once is clamd by
  * INSTREAM over a connection each. A content is SIZE random bytes: the same each time (known), or another one each time (new). To make it is
  * not timed, but in a rate. Any other answer than that it is clean ends the program. */
 #define _GNU_SOURCE

@@ -1,5 +1,5 @@
 #!/usr/bin/env python3
-"""Times asks of `avscan guard` with an `avscan service` behind it, beside clamd in the same run.
+"""Times asks of `avguard run` with an `avscan service` behind it, beside clamd in the same run.
 
 What one client waits for: a content of 1 KiB that was judged before, and ones of 1 KiB, 64 KiB and 1 MiB of random bytes that nobody has
 seen; asks of 1 KiB a second with 1, 4 and 16 clients; the memory of the guard beside 1,000 clients that say nothing. guardtime.c asks.
@@ -8,10 +8,12 @@ over a connection each. Rounds take turns, and of each figure the least round co
 import os, random, re, shutil, subprocess, sys, tempfile, time
 
 HERE = os.path.dirname(os.path.abspath(__file__))
+sys.path.insert(0, os.path.join(os.path.dirname(os.path.dirname(HERE)), "tests"))
+from rooms import program_beside
 ROUNDS = 3
 ASKS = (("known", 1 << 10, 2000), ("new", 1 << 10, 2000), ("new", 1 << 16, 400), ("new", 1 << 20, 100))
 MANY, CLIENTS, IDLE = 8000, (1, 4, 16), 1000
-NAMES = {"guard": "avscan guard", "session": "clamd, one session", "once": "clamd, a connection each"}
+NAMES = {"guard": "avguard run", "session": "clamd, one session", "once": "clamd, a connection each"}
 
 
 class Daemons:
@@ -25,7 +27,7 @@ class Daemons:
         patterns = [chance.randbytes(16).hex() for _ in range(1000)]
         rules = self.write("rules.avsig", "avsig 1\nversion 1\n" + "".join(f"s{i} {pattern}\n" for i, pattern in enumerate(patterns)))
         opens, service, clamd = (os.path.join(folder, name) for name in ("opens", "service", "clamd"))
-        self.guard = self.start([program, "guard", opens, service], stderr=subprocess.PIPE)
+        self.guard = self.start([program_beside(program, "avguard"), "run", opens, service], stderr=subprocess.PIPE)
         self.start([program, "service", service, rules, "--watch", "60"], stdout=subprocess.DEVNULL)
         while b"connected" not in (line := self.guard.stderr.readline()):
             if not line:

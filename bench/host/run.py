@@ -40,6 +40,13 @@ def write_files(folder, size, count, chance):
     return names
 
 
+def write_rules(folder, patterns):
+    rules = os.path.join(folder, "rules.avsig")
+    with open(rules, "w") as file:
+        file.write("avsig 1\nversion 1\n" + "".join(f"s{i} {pattern.hex()}\n" for i, pattern in enumerate(patterns)))
+    return rules
+
+
 def host(spawn, program, rules, names, crew):
     """Seconds, and bytes of peak memory."""
     words = [spawn, os.devnull, program, "host", rules, *names, "--openers", str(crew), "--workers", str(crew), "--quiet"]
@@ -153,9 +160,7 @@ def main():
     with tempfile.TemporaryDirectory() as folder:
         spawn = build_spawn(folder)
         patterns = [chance.randbytes(16) for _ in range(1000)]
-        rules = os.path.join(folder, "rules.avsig")
-        with open(rules, "w") as file:
-            file.write("avsig 1\nversion 1\n" + "".join(f"s{i} {pattern.hex()}\n" for i, pattern in enumerate(patterns)))
+        rules = write_rules(folder, patterns)
         print(f"load {os.getloadavg()[0]:.2f} on {os.cpu_count()} processors; the least of {ROUNDS} rounds")
         clamd = None
         if shutil.which("clamd"):
@@ -242,4 +247,5 @@ def measure_held(folder, patterns, chance):
         clamonacc.end()
 
 
-main()
+if __name__ == "__main__":
+    main()
