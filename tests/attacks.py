@@ -1,5 +1,5 @@
 #!/usr/bin/env python3
-"""`avscan guard` beside clients that are greedy, slow, silent or gone, with honest ones beside them: `attacks.py PROGRAM [SECONDS]`.
+"""`avguard run` beside clients that are greedy, slow, silent or gone, with honest ones beside them: `attacks.py PROGRAM [SECONDS]`.
 
 Each attack runs for so many seconds (60) against a guard of its own, all at the same time. Meanwhile two honest clients ask, one about a content
 that is known and one about new ones, and get each answer; and the guard's memory stays below the bound of docs/OPERATING.md. Then honest clients ask

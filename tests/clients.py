@@ -1,5 +1,5 @@
 #!/usr/bin/env python3
-"""The clients of examples/ beside `avscan ask`, over one guard and service: what they print, and how they end.
+"""The clients of examples/ beside `avguard ask`, over one guard and service: what they print, and how they end.
 
 The client in C and that in Python are asked about files that are clean, infected, empty, as long as may be, too long, not there; with no
 guard, one that lets through, one that goes away or says what is no answer, and stopped while they wait. The helper for fanotify holds
@@ -9,6 +9,7 @@ The last line says how many passed and how many failed."""
 import os, shutil, signal, socket, struct, subprocess, sys, tempfile, threading, time
 
 from cases import Cases
+from rooms import program_beside
 
 ROOT = os.path.dirname(os.path.dirname(os.path.abspath(__file__)))
 SECONDS = 60
@@ -24,7 +25,7 @@ class Room:
     """A folder with files to ask about, the clients, and a guard and a service that are started in it."""
 
     def __init__(self, program, folder):
-        self.program, self.folder, self.begun = program, folder, []
+        self.program, self.avguard, self.folder, self.begun = program, program_beside(program, "avguard"), folder, []
         self.opens, self.service, self.clamd = (os.path.join(folder, name) for name in ("o", "s", "c"))
         for name, content in {**FILES, "set.avsig": SET}.items():
             self.write(name, content)
@@ -40,8 +41,8 @@ class Room:
         return path
 
     def clients(self, wait=SECONDS):
-        """The name of each and the words that start it; `avscan ask` is the one that the others are compared with."""
-        return (("avscan", [self.program, "ask", "-k", "--wait", str(wait)]), ("ask", [self.ask]), ("ask.py", [sys.executable, os.path.join(ROOT, "examples", "client", "ask.py")]))
+        """The name of each and the words that start it; `avguard ask` is the one that the others are compared with."""
+        return (("avguard", [self.avguard, "ask", "-k", "--wait", str(wait)]), ("ask", [self.ask]), ("ask.py", [sys.executable, os.path.join(ROOT, "examples", "client", "ask.py")]))
 
     def start(self, *words, **more):
         process = subprocess.Popen(words, cwd=self.folder, stdin=subprocess.DEVNULL, **more)
@@ -50,7 +51,7 @@ class Room:
 
     def guard(self, *words, service=True):
         """A guard, with a service that has said which version it has."""
-        guard = self.start(self.program, "guard", *words, self.opens, self.service, stderr=subprocess.PIPE)
+        guard = self.start(self.avguard, "run", *words, self.opens, self.service, stderr=subprocess.PIPE)
         if service:
             self.start(self.program, "service", self.service, "set.avsig", stdout=subprocess.DEVNULL, stderr=subprocess.DEVNULL)
             while b"connected" not in (line := guard.stderr.readline()):
@@ -123,7 +124,7 @@ def answers(cases, room):
 def statuses(cases, room):
     """What `ask` ends with: 0 where each file was judged, so that `ask OPENS FILE && open FILE` opens no file that nobody judged."""
     guard = room.guard("--wait", "1", service=False)
-    ask = [room.program, "ask", room.opens]
+    ask = [room.avguard, "ask", room.opens]
     rows = [(["clean"], 4, b"clean denied cause 3\n"), (["--found-status", "clean"], 4, b"clean denied cause 3\n"), (["-i", "--found-status", "clean"], 4, b"clean denied cause 3\n"),
             (["-k", "clean", "gone"], 4, b"clean denied cause 3\n")]
     for words, status, lines in rows:
@@ -208,13 +209,13 @@ def strangers(cases, room):
         stand.close()
         os.unlink(room.opens)
     stand = Stand(room.opens, b"")
-    unheard = b"avscan: %s: the guard gave no answer: it was lost, or has no room for another client\n" % room.opens.encode()
-    cases.same("a guard that says nothing, avscan", run(room, [room.program, "ask"], room.opens, "clean"), (4, b"", unheard))
+    unheard = b"avguard: %s: the guard gave no answer: it was lost, or has no room for another client\n" % room.opens.encode()
+    cases.same("a guard that says nothing, avguard", run(room, [room.avguard, "ask"], room.opens, "clean"), (4, b"", unheard))
     stand.close()
     os.unlink(room.opens)
     stand = Stand(room.opens, GRANT)
-    gone = b"avscan: %s: the guard was lost\n" % room.opens.encode()
-    cases.same("a guard that goes away, avscan", run(room, [room.program, "ask"], room.opens, "clean", "clean"), (4, b"clean" + GRANTED, gone))
+    gone = b"avguard: %s: the guard was lost\n" % room.opens.encode()
+    cases.same("a guard that goes away, avguard", run(room, [room.avguard, "ask"], room.opens, "clean", "clean"), (4, b"clean" + GRANTED, gone))
     for name, client in room.clients()[1:]:
         cases.same(f"a guard that goes away, {name}", run(room, client, room.opens, "clean", "clean"), (4, b"clean" + GRANTED, name.encode() + b": " + lost[0]))
     stand.close()

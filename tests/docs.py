@@ -5,8 +5,10 @@ for each fault line of docs/FORMATS.md, and the examples print what the document
 manual page and in the completions, and the pages render without a warning. The last line says how many passed and failed."""
 import glob, os, re, shutil, subprocess, sys, tempfile
 
+from rooms import program_beside
+
 ROOT = os.path.dirname(os.path.dirname(os.path.abspath(__file__)))
-PAGES = ["README.md", "bench/README.md"] + [f"docs/{name}.md" for name in ("ARCHITECTURE", "CONDUCT", "DECISIONS", "FORMATS", "GATE", "READING", "OPERATING", "PROMISES", "SCANNER", "THREADS")]
+PAGES = ["README.md", "bench/README.md"] + [f"docs/{name}.md" for name in ("ARCHITECTURE", "CONDUCT", "DECISIONS", "FORMATS", "GATE", "MUTANTS", "READING", "OPERATING", "PROMISES", "SCANNER", "THREADS")]
 # words of the language, of std and of formats that stand in backticks too
 OUTSIDE = set("make test run install scan rt clang slab lru bytes hex clap thiserror itoa std memchr Drop Display Error From Ok Err Some None "
               "true false requires ensures main malloc grep nice yara clamscan clamonacc clamd cargo valgrind".split())
@@ -63,7 +65,7 @@ def names(checks, page, text, words):
 def crates_below():
     """Each crate of this repository with those that it stands on, as crates.txt has them."""
     lines = [line.split("#")[0].strip() for line in text_of("crates.txt").splitlines()]
-    return {name.strip(): [dep for dep in deps.split() if dep.startswith("av_")] for name, deps in (line.split(":") for line in lines if line)}
+    return {name.strip(): [dep for dep in deps.split() if dep.startswith("av")] for name, deps in (line.split(":") for line in lines if line)}
 
 
 def words_of(crate):
@@ -119,7 +121,7 @@ def crate_pages(checks):
         for word in re.findall(r"`([A-Za-z_][\w:]+)`", without_blocks(text)):
             checks.check(all(part in known for part in word.split("::") if part), f"{page}: neither the crate nor one below it has {word}")
         stands_on = (text.partition("## What it depends on")[2] or text.partition("## What it stands on")[2]).partition("\n## ")[0]
-        named = set(re.findall(r"`(av_\w+)`", stands_on))
+        named = set(re.findall(r"`(av\w+)`", stands_on))
         checks.check(named == set(deps), f"{page}: it stands on {sorted(deps)}, and its page names {sorted(named)}")
         labels = {}
         for dep in all_below(crate):
@@ -129,24 +131,27 @@ def crate_pages(checks):
 
 
 def lemmas(checks):
-    """docs/ARCHITECTURE.md names the lemma files that proofs of other crates cite, and no others."""
+    """tests/lemmas_above.txt names the lemma files that proofs of other crates cite, and no others."""
     cited = set()
     for path in glob.glob(os.path.join(ROOT, "crates", "*", "**", "*.*t*"), recursive=True):
         own = path.split("/crates/")[-1].split("/")[0]
         if path.endswith((".rt", ".antt")) and "/out/" not in path:
-            cited.update(name for crate, name in re.findall(r"\b(av\w*)(?:\.|::)proofs(?:\.|::)([A-Z]\w+)", text_of(path)) if crate != own)
-    listed = re.search(r"Proofs above name these\s+lemmas(.*?)`crates.txt`", text_of("docs/ARCHITECTURE.md"), flags=re.S)[1]
-    named = set(re.findall(r"`(\w+)`", listed))
-    checks.check(named == cited, f"docs/ARCHITECTURE.md: proofs above cite {sorted(cited - named)} too, and not {sorted(named - cited)}")
+            cited.update((crate, name) for crate, name in re.findall(r"\b(av\w*)(?:\.|::)proofs(?:\.|::)([A-Z]\w+)", text_of(path)) if crate != own)
+    lines = [line.split(":") for line in text_of("tests/lemmas_above.txt").splitlines() if not line.startswith("#")]
+    named = {(crate, name) for crate, names in lines for name in names.split()}
+    checks.check(named == cited, f"tests/lemmas_above.txt: proofs above cite {sorted(cited - named)} too, and not {sorted(named - cited)}")
 
 
 def fault_lines(checks):
-    given = "".join(text_of(path) for path in glob.glob(os.path.join(ROOT, "tests", "*", "*.case")) + glob.glob(os.path.join(ROOT, "tests", "import", "*.err"))) + "".join(text_of(path) for path in ("tests/program.py", "tests/files.py", "tests/tables.py", "tests/sockets.py", "tests/watch.py", "tests/chart.py", "tests/guard.py", "tests/clients.py", "tests/attacks.py", "tests/waits.py", "crates/av_status/src/tests.rt", "crates/avscan/src/tests.rt"))
-    for line in re.findall(r"\| `(avscan: [^`]*)` \|", text_of("docs/FORMATS.md")):
+    # (a test of a library has its lines without the program's name, which its standard error puts in front)
+    tested = "".join(text_of(path) for path in ("crates/av_status/src/tests.rt", "crates/av_words/src/tests.rt", "crates/avscan_words/src/tests.rt", "crates/avguard_words/src/tests.rt", "crates/avscan/src/tests.rt"))
+    given = "".join(text_of(path) for path in glob.glob(os.path.join(ROOT, "tests", "*", "*.case")) + glob.glob(os.path.join(ROOT, "tests", "import", "*.err"))) + "".join(text_of(path) for path in ("tests/program.py", "tests/files.py", "tests/tables.py", "tests/sockets.py", "tests/watch.py", "tests/chart.py", "tests/guard.py", "tests/clients.py", "tests/attacks.py", "tests/waits.py", "tests/import.py", "tests/generate.py"))
+    for line in re.findall(r"\| `(av(?:scan|guard|tool): [^`]*)` \|", text_of("docs/FORMATS.md")):
         pattern = re.escape(line).replace(r"\.\.", ".*")
         for word, form in (("N", r"(\d+|%d)"), ("K", r"(\d+|%d)"), ("FILE", r".*"), ("SOCKET", r".*"), ("LIST", r".*"), ("SET", r".*"), ("OPENS", r".*"), ("WORDS", r".*"), ("V", r"(\d+|%d)"), ("W", r"(\d+|%d)")):
             pattern = re.sub(rf"\b{word}\b", lambda _: form, pattern)
-        checks.check(re.search(pattern, given), f"docs/FORMATS.md: no case has the line {line}")
+        in_tests = re.search(pattern.partition(r":\ ")[2], tested)
+        checks.check(in_tests or re.search(pattern, given), f"docs/FORMATS.md: no case has the line {line}")
 
 
 def example(checks, program):
@@ -163,66 +168,86 @@ def example(checks, program):
 
 
 def printed(checks, page, text, program):
-    """A block that begins with `$ avscan ..` has all lines that the command prints."""
-    for words, block in re.findall(r"```text\n\$ avscan ([^\n]*)\n(.*?)```", text, flags=re.S):
-        done = subprocess.run([program] + words.split(), stdout=subprocess.PIPE, text=True, cwd=ROOT, timeout=60)
-        checks.check(done.stdout == block, f"{page}: avscan {words} prints other lines")
+    """A block that begins with `$ avscan ..`, or with another of the programs, has all lines that the command prints."""
+    for name, words, block in re.findall(r"```text\n\$ (avscan|avguard|avtool) ([^\n]*)\n(.*?)```", text, flags=re.S):
+        done = subprocess.run([program_beside(program, name)] + words.split(), stdout=subprocess.PIPE, text=True, cwd=ROOT, timeout=60)
+        checks.check(done.stdout == block, f"{page}: {name} {words} prints other lines")
 
 
 def pictures(checks, program):
-    """Each picture of docs/ is what the program draws of the example of its name, and what the program made of examples/ is made so."""
+    """Each picture of docs/ is what avtool draws of the example of its name, and what avtool made of examples/ is made so."""
+    program = program_beside(program, "avtool")
     for path in sorted(glob.glob(os.path.join(ROOT, "docs", "*.svg"))):
         name = os.path.basename(path)[: -len(".svg")]
         done = subprocess.run([program, "chart", f"examples/{name}.avs"], cwd=ROOT, stdout=subprocess.PIPE)
         with open(path, "rb") as file:
-            checks.check(done.stdout == file.read(), f"docs/{name}.svg is not what `avscan chart examples/{name}.avs` draws")
+            checks.check(done.stdout == file.read(), f"docs/{name}.svg is not what `avtool chart examples/{name}.avs` draws")
     made = {"random.avs": ["generate", "--seed", "17", "--commands", "200"], "random.svg": ["chart", "--from", "60", "--to", "100", "examples/random.avs"]}
     for name, words in made.items():
         done = subprocess.run([program, *words], cwd=ROOT, stdout=subprocess.PIPE)
         with open(os.path.join(ROOT, "examples", name), "rb") as file:
-            checks.check(done.stdout == file.read(), f"examples/{name} is not what `avscan {' '.join(words)}` writes")
+            checks.check(done.stdout == file.read(), f"examples/{name} is not what `avtool {' '.join(words)}` writes")
 
 
 def help_of(program, *words):
     return subprocess.run([program, *words, "--help"], stdout=subprocess.PIPE, text=True, timeout=60).stdout
 
 
+COMMANDS = {"avscan": ["run", "scan", "host", "filter", "service", "check"], "avguard": ["run", "ask"], "avtool": ["chart", "generate", "import"]}
+
+
 def manual(checks, program):
-    """The manual pages and the completions have each command and each option; the pages render."""
-    commands = re.findall(r"^  (\w+) ", help_of(program).split("Commands:")[1].split("Options:")[0], flags=re.M)
-    options = set(re.findall(r"(?<![\w-])--?[a-zA-Z][a-z0-9-]*", "".join(help_of(program, *words) for words in [[]] + [[command] for command in commands if command != "help"])))
-    page = subprocess.run(["sh", os.path.join(ROOT, "man/page.sh"), "avscan.1", program], stdout=subprocess.PIPE, text=True).stdout
+    """The manual page and the completions of each program have each of its commands and options; the pages render."""
+    for name, wanted in COMMANDS.items():
+        at = program_beside(program, name)
+        commands = re.findall(r"^  (\w+) ", help_of(at).split("Commands:")[1].split("Options:")[0], flags=re.M)
+        checks.check(commands == [*wanted, "help"], f"commands of {name}: {commands}")
+        options = set(re.findall(r"(?<![\w-])--?[a-zA-Z][a-z0-9-]*", "".join(help_of(at, *words) for words in [[]] + [[command] for command in wanted])))
+        worded(checks, name, at, [*commands, *sorted(options)])
+        rendered(checks, name + ".1", at, wanted)
+        completed(checks, name)
+        checks.check(subprocess.run(["bash", "-n", os.path.join(ROOT, f"completions/{name}.bash")]).returncode == 0, f"completions/{name}.bash is no script")
+    for page in ("avsig.5", "avscript.5"):
+        rendered(checks, page, program)
+
+
+def worded(checks, name, program, words):
+    """The page and each completion of a program have these words."""
+    page = subprocess.run(["sh", os.path.join(ROOT, "man/page.sh"), name + ".1", program], stdout=subprocess.PIPE, text=True).stdout
     page = re.sub(r"\\f[BR]", "", page.replace("\\-", "-"))
-    completions = {path: text_of(path) for path in ("completions/avscan.bash", "completions/_avscan", "completions/avscan.fish")}
-    checks.check(set(commands) == {"run", "scan", "host", "filter", "service", "guard", "ask", "chart", "generate", "import", "check", "help"}, f"commands: {commands}")
-    for word in [*commands, *sorted(options)]:
-        checks.check(re.search(rf"(?<![\w-]){word}\b", page), f"avscan(1) has no {word}")
+    completions = {path: text_of(path) for path in (f"completions/{name}.bash", f"completions/_{name}", f"completions/{name}.fish")}
+    for word in words:
+        checks.check(re.search(rf"(?<![\w-]){word}\b", page), f"{name}(1) has no {word}")
         for path, text in completions.items():
             form = rf"-(l|s) {word.lstrip('-')}\b" if path.endswith("fish") and word.startswith("-") else rf"(?<![\w-]){word}\b"
             if path.endswith("bash") and re.fullmatch("-[a-zA-Z]", word):
                 continue  # bash completes long options alone
             checks.check(re.search(form, text), f"{path} has no {word}")
-    for name in ("avscan.1", "avsig.5", "avscript.5"):
-        made = subprocess.run(["sh", os.path.join(ROOT, "man/page.sh"), name, program], stdout=subprocess.PIPE, stderr=subprocess.PIPE)
-        checks.check(made.returncode == 0 and made.stderr == b"" and made.stdout.startswith(b".TH "), f"{name} is not made: {made.stderr!r}")
-        if shutil.which("man"):
-            shown = subprocess.run(["man", "--warnings", "-E", "UTF-8", "-Tutf8", "-l", "-"], input=made.stdout, stdout=subprocess.PIPE, stderr=subprocess.PIPE, env={**os.environ, "MANPAGER": "cat", "MANWIDTH": "80"})
-            checks.check(shown.returncode == 0 and shown.stderr == b"" and len(shown.stdout) > 1000, f"{name} does not render: {shown.stderr[:300]!r}")
-            if name == "avscan.1":
-                plain = re.sub(r".\x08", "", shown.stdout.decode())
-                synopsis = [line.split() for line in plain.split("SYNOPSIS")[1].split("DESCRIPTION")[0].split("\n") if line.strip()]
-                checks.check([line[:2] for line in synopsis] == [["avscan", word] for word in commands if word != "help"] and all(len(line) > 2 for line in synopsis), f"the synopsis reads {synopsis}")
-    completed(checks)
-    checks.check(subprocess.run(["bash", "-n", os.path.join(ROOT, "completions/avscan.bash")]).returncode == 0, "completions/avscan.bash is no script")
 
 
-def completed(checks):
+def rendered(checks, page, program, commands=()):
+    """A page is made and renders; that of a program has a synopsis of each command."""
+    made = subprocess.run(["sh", os.path.join(ROOT, "man/page.sh"), page, program], stdout=subprocess.PIPE, stderr=subprocess.PIPE)
+    checks.check(made.returncode == 0 and made.stderr == b"" and made.stdout.startswith(b".TH "), f"{page} is not made: {made.stderr!r}")
+    if not shutil.which("man"):
+        return
+    shown = subprocess.run(["man", "--warnings", "-E", "UTF-8", "-Tutf8", "-l", "-"], input=made.stdout, stdout=subprocess.PIPE, stderr=subprocess.PIPE, env={**os.environ, "MANPAGER": "cat", "MANWIDTH": "80"})
+    checks.check(shown.returncode == 0 and shown.stderr == b"" and len(shown.stdout) > 1000, f"{page} does not render: {shown.stderr[:300]!r}")
+    if commands:
+        plain = re.sub(r".\x08", "", shown.stdout.decode())
+        synopsis = [line.split() for line in plain.split("SYNOPSIS")[1].split("DESCRIPTION")[0].split("\n") if line.strip()]
+        starts = [line for line in synopsis if line[0] == page[:-2]]
+        checks.check([line[:2] for line in starts] == [[page[:-2], word] for word in commands] and all(len(line) > 2 for line in starts), f"the synopsis of {page} reads {synopsis}")
+
+
+def completed(checks, name):
     """A name with a blank is completed as one."""
+    command = {"avscan": "scan", "avguard": "ask", "avtool": "chart"}[name]
     with tempfile.TemporaryDirectory() as folder:
         open(os.path.join(folder, "two words"), "w").close()
-        script = f'. {ROOT}/completions/avscan.bash; cd {folder}; COMP_WORDS=(avscan scan t); COMP_CWORD=2; _avscan; printf "%s|" "${{COMPREPLY[@]}}"'
+        script = f'. {ROOT}/completions/{name}.bash; cd {folder}; COMP_WORDS=({name} {command} t); COMP_CWORD=2; _{name}; printf "%s|" "${{COMPREPLY[@]}}"'
         done = subprocess.run(["bash", "-c", script], stdout=subprocess.PIPE, stderr=subprocess.PIPE, text=True)
-        checks.check(done.stdout == "two words|", f"completions/avscan.bash completes {done.stdout!r} {done.stderr!r}")
+        checks.check(done.stdout == "two words|", f"completions/{name}.bash completes {done.stdout!r} {done.stderr!r}")
 
 
 def main():
@@ -239,7 +264,8 @@ def main():
     for crate in crates_below():
         for name, labels in contracts(crate).items():
             every.setdefault(name, set()).update(labels)
-    clauses(checks, "docs/PROMISES.md", text_of("docs/PROMISES.md"), every)
+    for page in ("docs/PROMISES.md", "docs/MUTANTS.md"):
+        clauses(checks, page, text_of(page), every)
     crate_pages(checks)
     lemmas(checks)
     fault_lines(checks)

@@ -8,6 +8,7 @@ how many failed."""
 import contextlib, os, select, shutil, socket, subprocess, sys, tempfile, threading, time
 
 from cases import Cases
+from rooms import program_beside
 
 SECONDS = 60
 HERE = os.path.dirname(os.path.abspath(__file__))
@@ -132,9 +133,9 @@ def forged(cases, program):
             got = run([program, "scan", *words, signatures, tree])
             cases.check(f"scan {words} of names that forge", sorted(got[1].splitlines()) == sorted(quoted(name) + b" infected 0 eicar.test end 64" for name in found) and got[0] == 0, f"{got}")
         with guarded(program, work, signatures) as opens:
-            got = run([program, "ask", "-r", opens, tree])
+            got = run([program_beside(program, "avguard"), "ask", "-r", opens, tree])
             cases.check("ask -r of names that forge", sorted(got[1].splitlines()) == sorted(quoted(name) + b" denied cause 2" for name in found) and got[0] == 0, f"{got}")
-            got = run([program, "ask", "-r", "--print0", opens, tree])
+            got = run([program_beside(program, "avguard"), "ask", "-r", "--print0", opens, tree])
             cases.check("ask -r --print0 of names that forge", sorted(got[1].split(b"\0")) == sorted([b"", *(name + b" denied cause 2" for name in found)]), f"{got}")
         alone = write(os.path.join(work, '"q'), EICAR)
         for words, line in ((["scan"], b'" infected 0 eicar.test end 64'), (["host"], b'" denied cause 2')):
@@ -175,17 +176,16 @@ def swapped(cases, program):
         os.mkdir(tree)
         secret, path, other = write(os.path.join(work, "secret"), EICAR), os.path.join(tree, "file"), os.path.join(work, "in_place")
         environment = dict(os.environ, LD_PRELOAD=built(work, "swap_open"), SWAP_NAME="/file", SWAP_WITH=other)
-        wanted = (4, b"", b"avscan: " + os.fsencode(path) + b": cannot read\n")
         opens = {"a link": lambda: os.symlink(secret, other), "a link to itself": lambda: os.symlink(path, other), "another file": lambda: write(other, EICAR), "a second name of another file": lambda: os.link(secret, other)}
         with guarded(program, work, signatures) as socket_of_opens:
             for what, make in opens.items():
-                for words in (["scan", "-r", signatures, tree], ["ask", "-r", socket_of_opens, tree]):
+                for words in ([program, "scan", "-r", signatures, tree], [program_beside(program, "avguard"), "ask", "-r", socket_of_opens, tree]):
                     if os.path.lexists(path):
                         os.remove(path)
                     write(path, b"abc")
                     make()
-                    got = run([program, *words], env=environment)
-                    cases.check(f"{words[0]} -r, {what} in the place of a file", got == wanted, f"{got}")
+                    got, name = run(words, env=environment), os.path.basename(words[0])
+                    cases.check(f"{name} {words[1]} -r, {what} in the place of a file", got == (4, b"", f"{name}: {path}: cannot read\n".encode()), f"{got}")
         os.remove(path)
         write(path, b"abc")
         os.symlink(secret, other)
@@ -197,7 +197,7 @@ def swapped(cases, program):
 def guarded(program, work, signatures):
     """The socket for opens of a guard whose service has come."""
     opens, service = os.path.join(work, "o"), os.path.join(work, "s")
-    guard = subprocess.Popen([program, "guard", opens, service], stdin=subprocess.DEVNULL, stdout=subprocess.DEVNULL, stderr=subprocess.PIPE)
+    guard = subprocess.Popen([program_beside(program, "avguard"), "run", opens, service], stdin=subprocess.DEVNULL, stdout=subprocess.DEVNULL, stderr=subprocess.PIPE)
     scans = subprocess.Popen([program, "service", service, signatures], stdin=subprocess.DEVNULL, stdout=subprocess.DEVNULL, stderr=subprocess.DEVNULL)
     try:
         while b"connected" not in (line := guard.stderr.readline()):
@@ -254,8 +254,8 @@ def sets(cases, program):
             done = subprocess.run([program, "check", good], stdout=full, stderr=subprocess.PIPE, timeout=SECONDS)
         cases.check("check on a full device", (done.returncode, done.stderr) == (4, b"avscan: device\n"), f"{done}")
         opens, service = os.path.join(work, "o"), os.path.join(work, "s")
-        for names, wanted in ((gone, (4, b"", f"avscan: {gone}: cannot read\n".encode())), (bad, (1, b"", b"avscan: set line 3: kind 4\n"))):
-            got = run([program, "guard", opens, service, "--clamd", os.path.join(work, "c"), "--names", names])
+        for names, wanted in ((gone, (4, b"", f"avguard: {gone}: cannot read\n".encode())), (bad, (1, b"", b"avguard: set line 3: kind 4\n"))):
+            got = run([program_beside(program, "avguard"), "run", opens, service, "--clamd", os.path.join(work, "c"), "--names", names])
             cases.check("a guard whose names are no set", got == wanted and not os.path.exists(opens), f"{got}")
 
 

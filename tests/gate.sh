@@ -101,6 +101,8 @@ echo "gate: what is installed, and where"
 step install sh tests/install.sh "$program"
 echo "gate: what the documents name"
 step documents python3 tests/docs.py "$program"
+echo "gate: the pages in plain English"
+step plain python3 tests/plain.py
 echo "gate: the figures of README.md, as bench/ has them"
 step figures python3 bench/figures.py --check
 echo "gate: the tests, those of refused memory with each request refused in turn"
@@ -109,6 +111,8 @@ echo "gate: refused memory, in tests that are built as for use"
 step refused-memory sh tests/refused-memory.sh "$room"/whole/crates/*/out/*_tests
 echo "gate: values that must be spent, once"
 step must-be-spent python3 tests/must_be_spent.py
+echo "gate: a program that embeds the filter"
+step embed python3 tests/embed.py
 echo "gate: must-fail edits, over the libraries that were built"
 step edits python3 tests/edits.py --times "$times" --until $((begun + 7500)) --again $((begun + 3600)) --over "$room/whole/crates"
 echo "gate: $(nproc) processors, $(($(date +%s) - begun)) s; out/gate-times has what each part took"

@@ -1,11 +1,12 @@
 #!/usr/bin/env python3
-"""`avscan guard` as a process: what it says to clients, to clients of clamd and to the service, byte by byte (guard/ and clamd/), the same
-asks cut anywhere, `avscan ask`, random schedules beside a service that dies and learns, clients and services that say anything, nothing,
+"""`avguard run` as a process: what it says to clients, to clients of clamd and to the service, byte by byte (guard/ and clamd/), the same
+asks cut anywhere, `avguard ask`, random schedules beside a service that dies and learns, clients and services that say anything, nothing,
 too much or a byte at a time, sockets that are left over or in use. No descriptor and no memory is lost.
 The last line says how many passed and how many failed."""
 import glob, os, random, re, select, signal, socket, struct, subprocess, sys, tempfile, time
 
 from cases import Cases
+from rooms import program_beside
 
 HERE = os.path.dirname(os.path.abspath(__file__))
 SECONDS = 60
@@ -101,12 +102,12 @@ class Guard:
     def __init__(self, program, *words, clamd=True, descriptors=None, stderr=None):
         self.room = tempfile.TemporaryDirectory()
         self.folder = self.room.name
-        self.program = program
+        self.program = program_beside(program, "avguard")
         self.opens, self.service, self.clamd = (os.path.join(self.folder, name) for name in ("o", "s", "c"))
         more = ["--clamd", self.clamd] if clamd else []
         self.log = open(os.path.join(self.folder, "log"), "w+b")
         limited = ["prlimit", f"--nofile={descriptors}:{descriptors}"] if descriptors else []
-        self.process = subprocess.Popen([*limited, program, "guard", *words, *more, self.opens, self.service], stdin=subprocess.DEVNULL, stdout=subprocess.PIPE, stderr=stderr or self.log)
+        self.process = subprocess.Popen([*limited, self.program, "run", *words, *more, self.opens, self.service], stdin=subprocess.DEVNULL, stdout=subprocess.PIPE, stderr=stderr or self.log)
         self.said = 0
 
     def __enter__(self):
@@ -329,7 +330,7 @@ def cut(cases, program):
     for turn in range(40):
         with Guard(program, clamd=False) as guard:
             service, end = Service(guard, 3, b"XX"), connected(guard.opens)
-            cases.check("a service is told of", guard.await_line(b"avscan: service of version 3 connected\n"), guard.lines())
+            cases.check("a service is told of", guard.await_line(b"avguard: service of version 3 connected\n"), guard.lines())
             cuts = sorted(noise.randrange(len(said)) for _ in range(noise.randrange(1, 200))) if turn else list(range(0, 300))
             got, data = {}, b""
             for first, last in zip([0, *cuts], [*cuts, len(said)]):
@@ -438,9 +439,9 @@ def asks(cases, program):
         cases.same("--found-status, none found", guard.ask("--found-status", guard.opens, "a.bin")[0], 0)
         cases.same("--summary", guard.ask("--summary", guard.opens, "a.bin", "b.bin")[2].count(b"\n"), 1)
         cases.same("the greatest", guard.ask(guard.opens, "full"), (0, b"full granted generation 2 version 4\n", b""))
-        cases.same("too long", guard.ask(guard.opens, "a.bin", "long"), (1, b"", b"avscan: long: TooLarge\n"))
-        cases.same("too long, -k", guard.ask("-k", guard.opens, "long", "a.bin"), (1, b"a.bin granted generation 2 version 4\n", b"avscan: long: TooLarge\n"))
-        cases.same("not there", guard.ask(guard.opens, "none", "a.bin"), (4, b"", b"avscan: none: cannot read\n"))
+        cases.same("too long", guard.ask(guard.opens, "a.bin", "long"), (1, b"", b"avguard: long: TooLarge\n"))
+        cases.same("too long, -k", guard.ask("-k", guard.opens, "long", "a.bin"), (1, b"a.bin granted generation 2 version 4\n", b"avguard: long: TooLarge\n"))
+        cases.same("not there", guard.ask(guard.opens, "none", "a.bin"), (4, b"", b"avguard: none: cannot read\n"))
         cases.same("-r", guard.ask("-r", guard.opens, "d"), (0, b"d/e/one granted generation 2 version 4\nd/two denied cause 2\n", b""))
         guard.write("list", b"a.bin\nb.bin\n")
         cases.same("--files-from", guard.ask("--files-from", "list", guard.opens)[1].count(b"\n"), 2)
@@ -456,25 +457,25 @@ def asks(cases, program):
     with tempfile.TemporaryDirectory() as folder:
         path = os.path.join(folder, "o")
         begun = time.time()
-        done = subprocess.run([program, "ask", "--wait", "1", path, __file__], capture_output=True)
-        cases.same("no guard", (done.returncode, done.stdout, done.stderr), (4, b"", b"avscan: %s: no guard listens\n" % path.encode()))
+        done = subprocess.run([program_beside(program, "avguard"), "ask", "--wait", "1", path, __file__], capture_output=True)
+        cases.same("no guard", (done.returncode, done.stdout, done.stderr), (4, b"", b"avguard: %s: no guard listens\n" % path.encode()))
         cases.check("no guard: it waits so long", 0.9 < time.time() - begun < 10, "")
         listener = socket.socket(socket.AF_UNIX)
         listener.bind(path)
         listener.listen()
         for said in (b"", bytes(4), frame(2, bytes(3)), frame(3, number(7), b"\2"), frame(3, number(0), b"\x63")):
-            asking = subprocess.Popen([program, "ask", "--wait", "5", path, __file__], stdout=subprocess.PIPE, stderr=subprocess.PIPE)
+            asking = subprocess.Popen([program_beside(program, "avguard"), "ask", "--wait", "5", path, __file__], stdout=subprocess.PIPE, stderr=subprocess.PIPE)
             end, _ = listener.accept()
             end.recv(10)
             end.sendall(said)
             end.shutdown(socket.SHUT_WR)
             out, err = asking.communicate(timeout=SECONDS)
-            cases.same(f"a guard that says {said.hex() or 'nothing'}", (asking.returncode, out, err), (4, b"", b"avscan: %s: the guard gave no answer: it was lost, or has no room for another client\n" % path.encode()))
+            cases.same(f"a guard that says {said.hex() or 'nothing'}", (asking.returncode, out, err), (4, b"", b"avguard: %s: the guard gave no answer: it was lost, or has no room for another client\n" % path.encode()))
             end.close()
-        asking = subprocess.Popen([program, "ask", "--wait", "1", path, __file__], stdout=subprocess.PIPE, stderr=subprocess.PIPE)
+        asking = subprocess.Popen([program_beside(program, "avguard"), "ask", "--wait", "1", path, __file__], stdout=subprocess.PIPE, stderr=subprocess.PIPE)
         end, _ = listener.accept()
         out, err = asking.communicate(timeout=SECONDS)
-        cases.same("a guard that is silent", (asking.returncode, out, err), (4, b"", b"avscan: %s: the guard gave no answer: it was lost, or has no room for another client\n" % path.encode()))
+        cases.same("a guard that is silent", (asking.returncode, out, err), (4, b"", b"avguard: %s: the guard gave no answer: it was lost, or has no room for another client\n" % path.encode()))
 
 
 def still_answers(cases, name, guard):
@@ -619,7 +620,7 @@ def hostile_services(cases, program):
         one.close()
         guard.await_line(b"service lost\n")
         old = Service(guard, 4, b"XX")
-        cases.check("an older one is told of", guard.await_line(b"avscan: service of version 4 is older than 5\n"), guard.lines())
+        cases.check("an older one is told of", guard.await_line(b"avguard: service of version 4 is older than 5\n"), guard.lines())
         cases.same("and told why, and closed", rest(old.end), frame(255, b"\1" + number(5)))
         new = Service(guard, 5, b"XX")
         guard.await_line(b"version 5 connected\n", times=2)
@@ -653,27 +654,27 @@ def places(cases, program):
         at = lambda name: os.path.join(folder, name)
 
         def fails(words, status, err):
-            done = subprocess.run([program, "guard", *words], capture_output=True, timeout=SECONDS)
+            done = subprocess.run([program_beside(program, "avguard"), "run", *words], capture_output=True, timeout=SECONDS)
             cases.same(" ".join(words), (done.returncode, done.stdout, done.stderr), (status, b"", err))
 
-        fails([at("none/o"), at("s")], 4, b"avscan: %s: cannot make a socket\n" % at("none/o").encode())
-        fails([at("o"), at("none/s")], 4, b"avscan: %s: cannot make a socket\n" % at("none/s").encode())
+        fails([at("none/o"), at("s")], 4, b"avguard: %s: cannot make a socket\n" % at("none/o").encode())
+        fails([at("o"), at("none/s")], 4, b"avguard: %s: cannot make a socket\n" % at("none/s").encode())
         cases.check("the first socket is gone then", not os.path.exists(at("o")))
-        fails([at("o"), at("s"), "--clamd", at("none/c")], 4, b"avscan: %s: cannot make a socket\n" % at("none/c").encode())
+        fails([at("o"), at("s"), "--clamd", at("none/c")], 4, b"avguard: %s: cannot make a socket\n" % at("none/c").encode())
         cases.same("all are gone then", os.listdir(folder), [])
-        fails([at("o" * 120), at("s")], 2, b"avscan: %s: the path of a socket has 1 to 107 bytes\n" % at("o" * 120).encode())
+        fails([at("o" * 120), at("s")], 2, b"avguard: %s: the path of a socket has 1 to 107 bytes\n" % at("o" * 120).encode())
         open(at("file"), "w").close()
-        fails([at("file"), at("s")], 4, b"avscan: %s: the file that is there is no socket\n" % at("file").encode())
+        fails([at("file"), at("s")], 4, b"avguard: %s: the file that is there is no socket\n" % at("file").encode())
         with Guard(program, "--mode", "660") as guard:
             connected(guard.opens).close()
             connected(guard.service).close()
             connected(guard.clamd).close()
             modes = [os.stat(path).st_mode & 0o777 for path in (guard.opens, guard.service, guard.clamd)]
             cases.same("--mode", modes, [0o660, 0o600, 0o660])
-            fails([guard.opens, at("s")], 4, b"avscan: %s: another filter waits there\n" % guard.opens.encode())
+            fails([guard.opens, at("s")], 4, b"avguard: %s: another filter waits there\n" % guard.opens.encode())
             guard.process.kill()
             guard.process.wait()
-            again = subprocess.Popen([program, "guard", guard.opens, guard.service], stderr=subprocess.PIPE)
+            again = subprocess.Popen([program_beside(program, "avguard"), "run", guard.opens, guard.service], stderr=subprocess.PIPE)
             end = connected(guard.opens)
             end.sendall(ask(1, b"A"))
             cases.same("sockets that are left over are made anew", heard(end, 14), frame(3, number(1), b"\3"))

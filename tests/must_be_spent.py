@@ -31,6 +31,9 @@ LET_GO = "\npub fn let_go_%s(value: %s) {\n    let _left = value;\n}\n"
 # The same of a type of which one call more would answer twice.
 ONCE = {
     "av_pend": ("pended_open", "PendedOpen"),
+    "av_context": ("context_ref", "ContextRef"),
+    "av_service": ("done", "Done"),
+    "av_pool": ("ran", "Ran"),
 }
 USED_TWICE = "\npub fn use_twice(value: %s) -> (%s, %s) {\n    (value, value)\n}\n"
 

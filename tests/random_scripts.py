@@ -10,6 +10,7 @@ script's number, so a script that fails can be made again: `tests/random_scripts
 picture beside it. The last line says how many passed and how many failed."""
 import collections, os, random, subprocess, sys
 import plain_world, rows
+from rooms import program_beside
 
 SECONDS = 60
 # Where scripts that fail are written.
@@ -149,7 +150,7 @@ def keep(program, number, script):
     with open(path, "w", encoding="utf-8") as file:
         file.write(script)
     with open(f"{path[:-4]}.svg", "wb") as picture:
-        subprocess.run([program, "chart", path], stdout=picture, stderr=subprocess.DEVNULL, timeout=SECONDS)
+        subprocess.run([program_beside(program, "avtool"), "chart", path], stdout=picture, stderr=subprocess.DEVNULL, timeout=SECONDS)
     print(f"  the script is out/random/{number}.avs, its picture out/random/{number}.svg")
 
 

@@ -797,6 +797,43 @@ def filter_groups(cases, programs):
     piped_and_small(cases, programs, names, wanted)
 
 
+def reply_to(asked, version):
+    """The reply "clean" under a version to a scan's frame."""
+    return frame(7, asked[6:14], asked[14:22], b"\0", number(version))
+
+
+def frames_of(end, count):
+    """So many frames of a scan from a filter, each 46 bytes long."""
+    back = b""
+    while len(back) < 46 * count:
+        piece = end.recv(65536)
+        if not piece:
+            break
+        back += piece
+    return [back[at:at + 46] for at in range(0, len(back), 46)]
+
+
+def behind_the_last(cases, programs):
+    """A filter asks about 256 files at a time. Half of the notice of a newer set comes with the last reply to the first of them."""
+    names = [f"n{i}" for i in range(300)]
+    for name in names:
+        programs.write(name, b"A")
+    update = frame(8, number(2))
+    for cut in range(len(update) + 1):
+        filter = programs.filter(*names)
+        await_socket(programs.socket, filter)
+        end = connected(programs.socket)
+        end.settimeout(SECONDS)
+        end.sendall(HELLO)
+        first = frames_of(end, 256)
+        end.sendall(b"".join(reply_to(asked, 1) for asked in first) + update[:cut])
+        second = frames_of(end, 44)
+        end.sendall(update[cut:] + b"".join(reply_to(asked, 2) for asked in second))
+        wanted = b"".join(b"%s granted generation 2 version %d\n" % (name.encode(), 1 + (at >= 256)) for at, name in enumerate(names))
+        cases.same(f"half a notice, {cut} bytes, behind the last reply", ended(filter), (0, wanted, b""))
+        end.close()
+
+
 def lost_in_the_midst(cases, programs, names, wanted):
     """The service is killed once the lines of a group have come: each file of each group has its line."""
     lost = b"avscan: %s: the service was lost\n" % programs.socket.encode()
@@ -834,7 +871,7 @@ def main():
     if len(sys.argv) != 2:
         sys.exit("usage: tests/sockets.py PROGRAM")
     cases = Cases()
-    for part in (meetings, many_files, stopped_and_continued, waits, modes, recipe, hostile_services, hostile_filters, places, inputs, kills, hosts, spares, groups, filter_groups):
+    for part in (meetings, many_files, stopped_and_continued, waits, modes, recipe, hostile_services, hostile_filters, places, inputs, kills, hosts, spares, groups, filter_groups, behind_the_last):
         begun = time.time()
         try:
             with tempfile.TemporaryDirectory() as folder:

@@ -1,11 +1,12 @@
 #!/usr/bin/env python3
-"""`avscan guard`: who waits and for how long, who is let in and who is turned away, and what is believed of a service: `waits.py PROGRAM`.
+"""`avguard run`: who waits and for how long, who is let in and who is turned away, and what is believed of a service: `waits.py PROGRAM`.
 
 Each case waits for what is visible: an answer, a line, the end of a connection. The last line says how many passed and how many failed."""
 import fcntl, os, re, select, socket, struct, subprocess, sys, tempfile, time
 
 from cases import Cases
 from guard import SECONDS, Guard, Service, ask, connected, frame, frames, heard, hello, is_silent, message, number, rest, verdict
+from rooms import program_beside
 
 F_SETPIPE_SZ = 1031
 
@@ -112,7 +113,7 @@ def a_hung_service_gives_way(cases, program):
         client.sendall(b"".join(ask(tag, b"hung %d" % tag) for tag in range(8)))
         for tag in range(8):
             cases.same(f"question {tag} times out", told(client), (tag, "denied", 5))
-        cases.check("it is reported", guard.await_line(b"avscan: the service answered none of 8 questions in a row\n"), guard.lines())
+        cases.check("it is reported", guard.await_line(b"avguard: the service answered none of 8 questions in a row\n"), guard.lines())
         cases.check("the one that stood by is the service", guard.await_line(b"service of version 1 connected\n", 2), guard.lines())
         cases.same("the hung one is closed", rest(hung)[-1:] is not None, True)
         client.sendall(ask(9, b"after"))
@@ -121,7 +122,7 @@ def a_hung_service_gives_way(cases, program):
     with Guard(program, "--wait", "1", clamd=False) as guard:
         first, second = greeted(guard), Service(guard, 1, b"XX")
         first.close()
-        cases.check("a lost service is reported", guard.await_line(b"avscan: service lost\n"), guard.lines())
+        cases.check("a lost service is reported", guard.await_line(b"avguard: service lost\n"), guard.lines())
         cases.check("it gives way at once", guard.await_line(b"service of version 1 connected\n", 2), guard.lines())
         second.close()
 
@@ -176,12 +177,12 @@ def the_floor_is_kept(cases, program):
             cases.same("a newer one is kept", open(state, "rb").read(), b"version 8\n")
         with Guard(program, "--state", os.path.join(folder, "none", "state"), clamd=False) as guard:
             greeted(guard, 3)
-            line = b"avscan: %s: cannot write that version 3 was believed\n" % os.path.join(folder, "none", "state").encode()
+            line = b"avguard: %s: cannot write that version 3 was believed\n" % os.path.join(folder, "none", "state").encode()
             cases.check("a file that can't be written is reported", guard.await_line(line), guard.lines())
         for content in (b"", b"version\n", b"version 7", b"version 07\n", b"version 7\n\n", b"x" * 100):
             open(state, "wb").write(content)
-            done = subprocess.run([program, "guard", "--state", state, os.path.join(folder, "o"), os.path.join(folder, "s")], capture_output=True, timeout=SECONDS)
-            cases.same(f"a file that says {content[:20]!r}", (done.returncode, done.stderr), (4, b"avscan: %s: is no file that a guard keeps a version in\n" % state.encode()))
+            done = subprocess.run([program_beside(program, "avguard"), "run", "--state", state, os.path.join(folder, "o"), os.path.join(folder, "s")], capture_output=True, timeout=SECONDS)
+            cases.same(f"a file that says {content[:20]!r}", (done.returncode, done.stderr), (4, b"avguard: %s: is no file that a guard keeps a version in\n" % state.encode()))
 
 
 def a_prepared_reply_is_none(cases, program):
@@ -223,16 +224,16 @@ def places_are_kept(cases, program):
         cases.check("so is a client", serves(service, client), guard.lines())
         cases.same("it is answered", told(client), (1, "granted", (2, 1)))
         cases.check("the longest idle one is closed for it", rest(idle[0], 5) == b"", "it is not")
-        cases.check("that is reported", guard.await_line(b"avscan: the longest idle client was closed: all places are taken\n"), guard.lines())
+        cases.check("that is reported", guard.await_line(b"avguard: the longest idle client was closed: all places are taken\n"), guard.lines())
         service.close()
         guard.await_line(b"service lost\n")
         again = Service(guard, 1, b"XX")
         cases.check("a service is let in again", guard.await_line(b"connected\n", 2), guard.lines())
         again.close()
     with tempfile.TemporaryDirectory() as folder:
-        words = ["prlimit", "--nofile=16:16", program, "guard", os.path.join(folder, "o"), os.path.join(folder, "s")]
+        words = ["prlimit", "--nofile=16:16", program_beside(program, "avguard"), "run", os.path.join(folder, "o"), os.path.join(folder, "s")]
         done = subprocess.run(words, capture_output=True, timeout=SECONDS)
-        cases.same("too few descriptors", (done.returncode, done.stderr, os.listdir(folder)), (4, b"avscan: a guard needs 17 descriptors (ulimit -n)\n", []))
+        cases.same("too few descriptors", (done.returncode, done.stderr, os.listdir(folder)), (4, b"avguard: a guard needs 17 descriptors (ulimit -n)\n", []))
 
 
 def standard_error_keeps_nobody(cases, program):
@@ -256,7 +257,7 @@ def standard_error_keeps_nobody(cases, program):
                 said += os.read(reader, 65536)
             client.sendall(ask(2, b"a"))
             told(client)
-        cases.check("what was dropped is counted once it is read, as avscan: 12 lines were dropped", re.search(rb"avscan: (\d+) lines were dropped\n", said), said[-300:])
+        cases.check("what was dropped is counted once it is read, as avguard: 12 lines were dropped", re.search(rb"avguard: (\d+) lines were dropped\n", said), said[-300:])
     os.close(reader)
 
 
@@ -286,11 +287,11 @@ def sockets_are_made_safely(cases, program):
             except BlockingIOError:
                 break
         open(os.path.join(folder, "a"), "wb").write(b"A")
-        for words in (["guard", path, os.path.join(folder, "s")], ["filter", "--wait", "30", path, os.path.join(folder, "a")]):
-            begun = time.time()
-            done = subprocess.run([program, *words], capture_output=True, timeout=SECONDS)
-            cases.same(f"{words[0]} where somebody listens whose line is full", (done.returncode, done.stderr.splitlines()[-1:]), (4, [b"avscan: %s: another filter waits there" % path.encode()]))
-            cases.check(f"{words[0]} says so at once", time.time() - begun < 20, f"{time.time() - begun:.1f} s")
+        for at, *words in ([program_beside(program, "avguard"), "run", path, os.path.join(folder, "s")], [program, "filter", "--wait", "30", path, os.path.join(folder, "a")]):
+            begun, name = time.time(), os.path.basename(at)
+            done = subprocess.run([at, *words], capture_output=True, timeout=SECONDS)
+            cases.same(f"{name} {words[0]} where somebody listens whose line is full", (done.returncode, done.stderr.splitlines()[-1:]), (4, [f"{name}: {path}: another filter waits there".encode()]))
+            cases.check(f"{name} {words[0]} says so at once", time.time() - begun < 20, f"{time.time() - begun:.1f} s")
         cases.same("nothing is left beside it", sorted(os.listdir(folder)), ["a", "o"])
 
 

@@ -6,6 +6,7 @@ The last line says how many passed and how many failed."""
 import concurrent.futures, os, select, shutil, socket, struct, subprocess, sys, tempfile, threading, time
 
 from cases import Cases
+from rooms import program_beside
 from guard import connected, frame, frames, hello, message, number
 
 SECONDS = 60
@@ -347,7 +348,7 @@ def memory_that_is_refused_is_told(cases, program, refused_at):
                     continue
                 service.put(Y)
                 limit = time.time() + SECONDS
-                while not service.lines() and time.time() < limit and service.process.poll() is None:
+                while not service.lines().endswith(b"\n") and time.time() < limit and service.process.poll() is None:
                     time.sleep(0.01)
                 lines, status = service.lines(), service.process.poll()
                 if lines == b"avscan: version 2, 1 signatures\n":
@@ -378,7 +379,7 @@ def a_guard_is_asked_all_the_while(cases, program):
         path = lambda name: os.path.join(folder, name)
         with open(path("set"), "wb") as file:
             file.write(X)
-        guard = subprocess.Popen([program, "guard", path("o"), path("s")], stderr=subprocess.PIPE)
+        guard = subprocess.Popen([program_beside(program, "avguard"), "run", path("o"), path("s")], stderr=subprocess.PIPE)
         connected(path("o")).close()
         service = subprocess.Popen([program, "service", path("s"), path("set"), "--watch", "1"], stdout=subprocess.PIPE, stderr=subprocess.PIPE)
         end, versions, had, denied = connected(path("o")), [], b"", 0
@@ -411,7 +412,7 @@ def a_guard_is_asked_all_the_while(cases, program):
         end.close()
         guard.kill()
         told = guard.communicate()[1]
-        cases.same("the guard keeps its service", told, b"avscan: service of version 1 connected\n")
+        cases.same("the guard keeps its service", told, b"avguard: service of version 1 connected\n")
         out, err = service.communicate(timeout=SECONDS)
         cases.same("the service ends with the guard", (service.returncode, out, err), (0, b"closed\n", b"avscan: version 2, 1 signatures\n"))
 

@@ -1,4 +1,4 @@
-/* ask OPENS FILE..: what the guard at OPENS says of each file, in the lines of `avscan ask -k`. */
+/* ask OPENS FILE..: what the guard at OPENS says of each file, in the lines of `avguard ask -k`. */
 #define _POSIX_C_SOURCE 200809L
 #include "avask.h"
 #include <fcntl.h>

@@ -1,5 +1,5 @@
 #!/usr/bin/env python3
-"""ask.py OPENS FILE..: what the guard at OPENS says of each file, in the lines of `avscan ask -k`.
+"""ask.py OPENS FILE..: what the guard at OPENS says of each file, in the lines of `avguard ask -k`.
 
 Up to AHEAD files are asked about before the first is answered, so that they are judged side by side. Answers come as they come about:
 the tag, which the client chooses, says which file one is of. docs/FORMATS.md, "Asking a guard", has the frames."""

@@ -1,4 +1,4 @@
-/* A client of `avscan guard` in one file: may this content be opened?
+/* A client of `avguard run` in one file: may this content be opened?
  *
  *     int guard = av_connect("/run/avscan-guard/opens.socket");
  *     struct av_answer answer;

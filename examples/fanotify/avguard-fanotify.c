@@ -1,4 +1,4 @@
-/* Hands each open of a folder, or of a mount, to `avscan guard`, and lets it through only where its content is granted. The help text
+/* Hands each open of a folder, or of a mount, to `avguard run`, and lets it through only where its content is granted. The help text
  * below says how it is used, README.md what it needs and what it does not see. Linux alone. */
 #define _GNU_SOURCE
 #include "../client/avask.h"
