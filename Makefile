@@ -10,7 +10,7 @@ SHARE = $(DESTDIR)$(PREFIX)/share
 
 # `run` shows the example before it proves, also with -j
 .NOTPARALLEL:
-.PHONY: build avscan run unproved try test proofs gate-times bench install install-built $(PROGRAMS:%=install-%) clean kit
+.PHONY: build avscan run unproved try test proofs gate-times bench install install-built deb $(PROGRAMS:%=install-%) clean kit
 
 build: kit
 	@echo "building: proving each crate and compiling $(PROGRAMS) (README.md says how long the first time takes)"
@@ -64,6 +64,10 @@ $(PROGRAMS:%=install-%): install-%:
 	@install -D -m 644 completions/$*.bash "$(SHARE)/bash-completion/completions/$*"
 	@install -D -m 644 completions/_$* "$(SHARE)/zsh/site-functions/_$*"
 	@install -D -m 644 completions/$*.fish "$(SHARE)/fish/vendor_completions.d/$*.fish"
+
+deb: build
+	@mkdir -p out
+	@sh package/deb.sh "$(BUILT)" out
 
 clean:
 	@rm -rf crates/*/out

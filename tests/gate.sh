@@ -60,6 +60,10 @@ echo "gate: the rows of tests, as the cases have them"
 step rows-of-tests python3 tests/row_tables.py --check
 echo "gate: each lemma is cited, and none of more than four lines stands twice"
 step lemmas python3 tests/lemmas.py
+echo "gate: the pages in plain English"
+step plain python3 tests/plain.py
+echo "gate: the figures of README.md, as bench/ has them"
+step figures python3 bench/figures.py --check
 echo "gate: proving every crate from nothing (rt ci)"
 mkdir "$room/whole"
 step rt-ci sh tests/whole.sh "$room/whole"
@@ -99,12 +103,10 @@ step attacks python3 tests/attacks.py "$program"
 step clients python3 tests/clients.py "$program"
 echo "gate: what is installed, and where"
 step install sh tests/install.sh "$program"
+echo "gate: the Debian package"
+step deb sh tests/deb.sh "$program"
 echo "gate: what the documents name"
 step documents python3 tests/docs.py "$program"
-echo "gate: the pages in plain English"
-step plain python3 tests/plain.py
-echo "gate: the figures of README.md, as bench/ has them"
-step figures python3 bench/figures.py --check
 echo "gate: the tests, those of refused memory with each request refused in turn"
 step tests python3 tests/run_tests.py --times "$times" --only run
 echo "gate: refused memory, in tests that are built as for use"
