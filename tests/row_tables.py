@@ -1,5 +1,5 @@
 #!/usr/bin/env python3
-"""Makes the rows of av_world's tests of refused memory from the cases of tests/scripts: `row_tables.py [--check]`.
+"""Makes the rows of av_script's tests of refused memory from the cases of tests/scripts: `row_tables.py [--check]`.
 
 A row is the script and the lines of the case of its name, less what the case that is its head begins with. Which cases are rows, and in
 which order, is said by the names that stand in the two files. With --check nothing is written: the last line says how many rows are as
@@ -12,7 +12,7 @@ from cases import Cases
 from run import parts_of
 
 TOP = os.path.dirname(os.path.dirname(os.path.abspath(__file__)))
-CASES, ROWS = f"{TOP}/tests/scripts", f"{TOP}/crates/av_world/src/tests"
+CASES, ROWS = f"{TOP}/tests/scripts", f"{TOP}/crates/av_script/src/tests"
 # The longest first.
 HEADS = (("Scanned", "an_open_waits_while_its_content_is_scanned"), ("Connected", "a_service_connects_and_is_welcome"))
 ROW = re.compile(r'    Row \{\n        name: "(\w+)",\n.*?\n    \},\n', re.S)

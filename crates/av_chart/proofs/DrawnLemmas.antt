@@ -1,5 +1,5 @@
 use Rattle.std.proofs.Common.{ℕ, ◌≡◌, List, Some}
-use Rattle.av_world.specs.World.{WorldState}
+use Rattle.av_history.specs.World.{WorldState}
 use Rattle.av_chart.specs.Bars.{behind}
 use Rattle.av_chart.specs.Chart.{HaveSlots, IsDrawn, IsPlaced, Shows}
 use Rattle.av_chart.specs.Picture.{picture_text}

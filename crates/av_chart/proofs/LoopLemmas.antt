@@ -1,7 +1,7 @@
 use Rattle.std.proofs.Common.{ℕ, zero, suc, ◌≡◌, ◌<◌, ◌+◌, ◌-◌, ◌^◌, ◌==◌, ◌++◌, min, true, false, List, [], ◌∷◌, length, map, take, get_or, refl, sym, ap, ◌∙◌, append_assoc, append-nil, add-one, arith, is_none, if◌then◌else◌}
 use Rattle.av_base.proofs.PartLemmas.{spelt_next}
 use Rattle.av_base.specs.Part.{spelt}
-use Rattle.av_world.specs.Text.Messages.{placed}
+use Rattle.av_output.specs.Text.Messages.{placed}
 use Rattle.av_chart.specs.Number.{capped}
 use Rattle.av_chart.specs.Picture.{again_of, lost_of, waiting}
 use Rattle.av_chart.specs.declared.happened.Sent.{Sent}

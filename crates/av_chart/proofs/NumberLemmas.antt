@@ -21,16 +21,16 @@ use Rattle.av_frame.specs.Message.{Letter}
 use Rattle.av_pend.specs.Pend.{open_of}
 use Rattle.av_service.specs.Response.{Response}
 use Rattle.av_store.specs.Store.{Store}
-use Rattle.av_world.proofs.StepLemmas.{Unrefused, step_gives}
-use Rattle.av_world.specs.Held.{pended}
-use Rattle.av_world.specs.World.{WorldState, filter_outcome, given_at}
-use Rattle.av_world.specs.World.{back_at, service_outcome, step_of}
-use Rattle.av_world.specs.declared.event.Event.{Event}
-use Rattle.av_world.specs.declared.given.Given.{Given}
-use Rattle.av_world.specs.declared.report.Line.{Line}
-use Rattle.av_world.specs.declared.report.Report.{Report}
+use Rattle.av_history.proofs.StepLemmas.{Unrefused, step_gives}
+use Rattle.av_history.specs.Held.{pended}
+use Rattle.av_history.specs.World.{WorldState, filter_outcome, given_at}
+use Rattle.av_history.specs.World.{back_at, service_outcome, step_of}
+use Rattle.av_history.specs.declared.event.Event.{Event}
+use Rattle.av_history.specs.declared.given.Given.{Given}
+use Rattle.av_history.specs.declared.report.Line.{Line}
+use Rattle.av_history.specs.declared.report.Report.{Report}
 use Rattle.av_chart.specs.Marks.{filter_id, given_in, submitted_id}
-use Rattle.av_world.specs.declared.event.Event.TheVariants as event
+use Rattle.av_history.specs.declared.event.Event.TheVariants as event
 
 -- ---- only an open takes a number, and tells it
 

@@ -12,19 +12,19 @@ use Rattle.av_filter.proofs.TimesLemmas.{times_map-append}
 use Rattle.av_filter.specs.Once.{once_up_to, times}
 use Rattle.av_pend.specs.Pend.{open_of}
 use Rattle.av_world.proofs.OnceLemmas.{Counted, counted_keeps, counted_start}
-use Rattle.av_world.proofs.StepLemmas.{step_keeps, Unrefused}
-use Rattle.av_world.specs.Held.{pended}
-use Rattle.av_world.specs.Objects.{said_world}
-use Rattle.av_world.specs.Script.{ScriptText}
-use Rattle.av_world.specs.Script.Grammar.{Line, Silent, Limit, Volume, Says, line_of}
-use Rattle.av_world.specs.Text.Answers.{is_answered}
-use Rattle.av_world.specs.World.{Outcome, WorldState, after, step_of, world_or}
+use Rattle.av_history.proofs.StepLemmas.{step_keeps, Unrefused}
+use Rattle.av_history.specs.Held.{pended}
+use Rattle.av_script.specs.CommandObjects.{said_world}
+use Rattle.av_script.specs.Script.{ScriptText}
+use Rattle.av_script.specs.Script.Grammar.{Line, Silent, Limit, Volume, Says, line_of}
+use Rattle.av_output.specs.Text.Answers.{is_answered}
+use Rattle.av_history.specs.World.{Outcome, WorldState, after, step_of, world_or}
 use Rattle.av_world.specs.Judge.{judged_of}
-use Rattle.av_world.specs.declared.event.Event.{Event}
-use Rattle.av_world.specs.declared.fault.JudgeFault.{JudgeFault}
-use Rattle.av_world.specs.declared.given.Given.{Given}
-use Rattle.av_world.specs.declared.report.Judged.{Judged}
-use Rattle.av_world.specs.declared.script.command.Command.TheVariants.{Step, Judge}
+use Rattle.av_history.specs.declared.event.Event.{Event}
+use Rattle.av_history.specs.declared.fault.JudgeFault.{JudgeFault}
+use Rattle.av_history.specs.declared.given.Given.{Given}
+use Rattle.av_history.specs.declared.report.Judged.{Judged}
+use Rattle.av_script.specs.declared.command.Command.TheVariants.{Step, Judge}
 use Rattle.std.specs.Prelude.{Result}
 use Rattle.av_chart.proofs.NumberLemmas.{Takes, answered_in, step_goes, taken_as, Goes}
 use Rattle.av_chart.proofs.StoryLemmas.{fold_append}

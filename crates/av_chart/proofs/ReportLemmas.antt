@@ -1,8 +1,8 @@
 use Rattle.std.proofs.Common.{ℕ, ◌≡◌, ◌-◌, ◌++◌, List, [], ◌∷◌, length, fold, ◌∙◌, ap}
 use Rattle.av_frame.specs.Message.{Letter}
-use Rattle.av_world.specs.World.{WorldState}
-use Rattle.av_world.specs.declared.given.Given.{Given}
-use Rattle.av_world.specs.declared.report.Report.{Report}
+use Rattle.av_history.specs.World.{WorldState}
+use Rattle.av_history.specs.declared.given.Given.{Given}
+use Rattle.av_history.specs.declared.report.Report.{Report}
 use Rattle.av_chart.specs.Life.{Life}
 use Rattle.av_chart.specs.Marks.{given_in, submitted_id}
 use Rattle.av_chart.specs.Row.{asked_lines, spanned}

@@ -2,9 +2,9 @@ use Rattle.std.proofs.Common.{ℕ, zero, suc, ◌≡◌, ◌≢◌, ◌<◌, ◌
 use Rattle.std.proofs.lemmas.List.{map-set}
 use Rattle.std.proofs.lemmas.Option.{slice_get-get_or}
 use Rattle.av_base.specs.Line.{lines_of, onto_first}
-use Rattle.av_world.specs.Objects.{said_world}
-use Rattle.av_world.specs.Script.Grammar.{line_of}
-use Rattle.av_world.specs.World.{WorldState}
+use Rattle.av_script.specs.CommandObjects.{said_world}
+use Rattle.av_script.specs.Script.Grammar.{line_of}
+use Rattle.av_history.specs.World.{WorldState}
 use Rattle.av_chart.proofs.LifeLemmas.{mapped}
 use Rattle.av_chart.specs.Told.{tells, told_at, told_from, world_after}
 use Rattle.av_chart.specs.Story.{Story, arrived, in_turn, post_of, posts_of, story_after, works_lines}

@@ -3,10 +3,10 @@ use Rattle.std.specs.Prelude.{ℕ, ◌≡◌, ◌<◌, ◌&&◌, Bool, nat_le, L
 use Rattle.std.specs.Io.KnownBytes.{Appends, Keeps}
 use Rattle.av_base.specs.Device.{AppendsPrefix}
 use Rattle.av_base.specs.Line.{lines_of}
-use Rattle.av_world.specs.Script.{ScriptText, script_of}
-use Rattle.av_world.specs.World.{WorldState, start}
-use Rattle.av_world.specs.declared.run_script.TheConstants.{MAX_SCRIPT}
-use Rattle.av_world.specs.declared.script.ScriptFault.{ScriptFault}
+use Rattle.av_script.specs.Script.{ScriptText, script_of}
+use Rattle.av_history.specs.World.{WorldState, start}
+use Rattle.av_script.specs.declared.run_script.TheConstants.{MAX_SCRIPT}
+use Rattle.av_script.specs.declared.script.ScriptFault.{ScriptFault}
 use Rattle.av_chart.specs.Bars.{behind}
 use Rattle.av_chart.specs.Life.{lives_of}
 use Rattle.av_chart.specs.Picture.{picture_text, steps_of}

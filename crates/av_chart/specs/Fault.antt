@@ -1,6 +1,6 @@
 -- Why no picture was written, by why the script was not read.
-use Rattle.av_world.specs.declared.run_script.RunFault.{RunFault}
-use Rattle.av_world.specs.declared.run_script.RunFault.TheVariants.{BadScript, NoMemory, Read, TooLong, Write}
+use Rattle.av_script.specs.declared.run_script.RunFault.{RunFault}
+use Rattle.av_script.specs.declared.run_script.RunFault.TheVariants.{BadScript, NoMemory, Read, TooLong, Write}
 use Rattle.av_chart.specs.declared.fault.ChartFault.{ChartFault}
 use Rattle.av_chart.specs.declared.fault.ChartFault.TheVariants as chart
 

@@ -3,10 +3,10 @@ use Rattle.std.specs.Prelude.{ℕ, ◌+◌, ◌/◌, max, List, [], ◌∷◌, �
 use Rattle.av_base.specs.Part.{spelt}
 use Rattle.av_pend.specs.declared.answer.Answer.{Answer}
 use Rattle.av_pend.specs.declared.answer.Answer.TheVariants.{Granted, Unscanned, Denied}
-use Rattle.av_world.specs.World.{WorldState}
-use Rattle.av_world.specs.declared.given.Given.{Given}
-use Rattle.av_world.specs.declared.report.Note.{Note}
-use Rattle.av_world.specs.declared.report.Note.TheVariants.{Filter, Service}
+use Rattle.av_history.specs.World.{WorldState}
+use Rattle.av_history.specs.declared.given.Given.{Given}
+use Rattle.av_history.specs.declared.report.Note.{Note}
+use Rattle.av_history.specs.declared.report.Note.TheVariants.{Filter, Service}
 use Rattle.av_chart.specs.Arrow.{arrow_text}
 use Rattle.av_chart.specs.Escape.{printed, short}
 use Rattle.av_chart.specs.Lanes.{pill_text, wide}

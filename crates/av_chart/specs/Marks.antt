@@ -6,16 +6,16 @@ use Rattle.av_filter.specs.declared.note.Note.TheVariants as filter
 use Rattle.av_pend.specs.Pend.{open_of}
 use Rattle.av_service.specs.declared.note.Note.{Note as ServiceNote}
 use Rattle.av_service.specs.declared.note.Note.TheVariants as service
-use Rattle.av_world.specs.World.{WorldState}
-use Rattle.av_world.specs.declared.event.Event.{Event}
-use Rattle.av_world.specs.declared.event.Event.TheVariants as event
-use Rattle.av_world.specs.declared.given.Given.{Given}
-use Rattle.av_world.specs.declared.report.Judged.{Judged}
-use Rattle.av_world.specs.declared.report.Line.{Line}
-use Rattle.av_world.specs.declared.report.Line.TheVariants as line
-use Rattle.av_world.specs.declared.report.Note.{Note}
-use Rattle.av_world.specs.declared.report.Note.TheVariants.{Filter, Service}
-use Rattle.av_world.specs.declared.report.Report.{Report}
+use Rattle.av_history.specs.World.{WorldState}
+use Rattle.av_history.specs.declared.event.Event.{Event}
+use Rattle.av_history.specs.declared.event.Event.TheVariants as event
+use Rattle.av_history.specs.declared.given.Given.{Given}
+use Rattle.av_history.specs.declared.report.Judged.{Judged}
+use Rattle.av_history.specs.declared.report.Line.{Line}
+use Rattle.av_history.specs.declared.report.Line.TheVariants as line
+use Rattle.av_history.specs.declared.report.Note.{Note}
+use Rattle.av_history.specs.declared.report.Note.TheVariants.{Filter, Service}
+use Rattle.av_history.specs.declared.report.Report.{Report}
 use Rattle.av_chart.specs.declared.happened.Asks.{Asks}
 use Rattle.av_chart.specs.declared.happened.Asks.TheVariants as asks
 use Rattle.av_chart.specs.declared.happened.FilterMark.{FilterMark}

@@ -3,8 +3,8 @@ use Rattle.std.specs.Prelude.{ℕ, ◌+◌, ◌-◌, ◌==◌, ◌&&◌, ◌||�
 use Rattle.std.specs.List.{list_any}
 use Rattle.av_base.specs.Part.{spelt}
 use Rattle.av_frame.specs.Message.{Letter}
-use Rattle.av_world.specs.Text.Messages.{placed}
-use Rattle.av_world.specs.World.{WorldState}
+use Rattle.av_output.specs.Text.Messages.{placed}
+use Rattle.av_history.specs.World.{WorldState}
 use Rattle.av_chart.specs.Arrow.{arrival_text, arrival_words, arrives_at, cut_text, leaves_at, leaving_text, lost_text, manner_of, near_text}
 use Rattle.av_chart.specs.Number.{capped}
 use Rattle.av_chart.specs.Place.{shows}

@@ -3,9 +3,9 @@ use Rattle.std.specs.Prelude.{ℕ, ◌≡◌, ◌≤◌, List, [], ◌∷◌, ma
 use Rattle.av_base.specs.Line.{lines_of}
 use Rattle.av_base.specs.declared.port.Port.TheVariants.{One}
 use Rattle.av_filter.specs.Once.{once_up_to, times}
-use Rattle.av_world.specs.Held.{answered, pended, submitted}
-use Rattle.av_world.specs.Script.{ScriptText}
-use Rattle.av_world.specs.World.{WorldState}
+use Rattle.av_history.specs.Held.{answered, pended, submitted}
+use Rattle.av_script.specs.Script.{ScriptText}
+use Rattle.av_history.specs.World.{WorldState}
 use Rattle.av_chart.specs.Chart.{begun, run_of}
 use Rattle.av_chart.specs.Examples.{three_opens}
 use Rattle.av_chart.specs.Life.{Life, lives_as}

@@ -1,8 +1,8 @@
 -- The whole picture.
 use Rattle.std.specs.Prelude.{ℕ, ◌+◌, ◌-◌, ◌%◌, ◌==◌, List, [], ◌∷◌, Option, None, Some, is_none, slice_get, length, codes, decimal, if◌then◌else◌}
 use Rattle.av_base.specs.Part.{spelt}
-use Rattle.av_world.specs.Text.Messages.{placed}
-use Rattle.av_world.specs.Text.Refusals.{judge_word_of, word_of}
+use Rattle.av_output.specs.Text.Messages.{placed}
+use Rattle.av_history.specs.Refusals.{judge_word_of, word_of}
 use Rattle.av_chart.specs.Bars.{all_bars_text, behind}
 use Rattle.av_chart.specs.Escape.{printed, short}
 use Rattle.av_chart.specs.Lanes.{band_at, lanes_text, names_text}

@@ -3,9 +3,9 @@ use Rattle.std.specs.Prelude.{ℕ, ◌*◌, ◌/◌, ◌==◌, Bool, true, false
 use Rattle.std.specs.declared.vec.Vec.{Vec}
 use Rattle.std.specs.declared.alloc.Global.{Global}
 use Rattle.av_base.specs.Part.{spelt}
-use Rattle.av_world.specs.World.{WorldState}
-use Rattle.av_world.specs.declared.report.Note.{Note}
-use Rattle.av_world.specs.declared.report.Note.TheVariants.{Filter, Service}
+use Rattle.av_history.specs.World.{WorldState}
+use Rattle.av_history.specs.declared.report.Note.{Note}
+use Rattle.av_history.specs.declared.report.Note.TheVariants.{Filter, Service}
 use Rattle.av_chart.specs.Arrow.{arrow_text}
 use Rattle.av_chart.specs.Lanes.{pill_text, wide}
 use Rattle.av_chart.specs.Left.{height_at}

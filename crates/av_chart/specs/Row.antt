@@ -3,8 +3,8 @@ use Rattle.std.specs.Prelude.{ℕ, ◌+◌, ◌-◌, ◌*◌, ◌||◌, max, Boo
 use Rattle.std.specs.List.{between}
 use Rattle.av_filter.specs.declared.note.Note.TheVariants as filter
 use Rattle.av_service.specs.declared.note.Note.TheVariants as service
-use Rattle.av_world.specs.declared.report.Note.{Note}
-use Rattle.av_world.specs.declared.report.Note.TheVariants.{Filter, Service}
+use Rattle.av_history.specs.declared.report.Note.{Note}
+use Rattle.av_history.specs.declared.report.Note.TheVariants.{Filter, Service}
 use Rattle.av_chart.specs.Number.{capped}
 use Rattle.av_chart.specs.Spot.{within}
 use Rattle.av_chart.specs.declared.happened.Arrival.{Arrival}

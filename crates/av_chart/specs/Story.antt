@@ -14,12 +14,12 @@ use Rattle.av_frame.specs.declared.outcome.Outcome.TheVariants as outcome
 use Rattle.av_pend.specs.Pend.{open_of}
 use Rattle.av_pend.specs.declared.answer.Answer.{Answer}
 use Rattle.av_pend.specs.declared.answer.Answer.TheVariants as answer
-use Rattle.av_world.specs.Text.Answers.{is_answered}
-use Rattle.av_world.specs.World.{WorldState, member}
-use Rattle.av_world.specs.declared.given.Given.{Given}
-use Rattle.av_world.specs.declared.report.Line.{Line}
-use Rattle.av_world.specs.declared.report.Line.TheVariants as line
-use Rattle.av_world.specs.declared.report.Report.{Report}
+use Rattle.av_output.specs.Text.Answers.{is_answered}
+use Rattle.av_history.specs.World.{WorldState, member}
+use Rattle.av_history.specs.declared.given.Given.{Given}
+use Rattle.av_history.specs.declared.report.Line.{Line}
+use Rattle.av_history.specs.declared.report.Line.TheVariants as line
+use Rattle.av_history.specs.declared.report.Report.{Report}
 use Rattle.av_chart.specs.Life.{Life, begins, ends, ends_all, ends_at, lives_of}
 use Rattle.av_chart.specs.Marks.{asks_of, deed_of, filter_mark, given_in, is_spent, judged_mark, lent_of, ran_of, said_of, service_mark, submitted_id, volume_mark}
 use Rattle.av_chart.specs.Number.{capped}

@@ -1,16 +1,16 @@
 -- What the lines of a script did, in their order.
 use Rattle.std.specs.Prelude.{ℕ, ◌+◌, List, [], ◌∷◌, ◌++◌, length, Option, None, Some, Result}
-use Rattle.av_world.specs.declared.event.Event.{Event}
-use Rattle.av_world.specs.declared.fault.JudgeFault.{JudgeFault}
-use Rattle.av_world.specs.declared.fault.StepFault.{StepFault}
-use Rattle.av_world.specs.declared.report.Judged.{Judged}
-use Rattle.av_world.specs.declared.report.Report.{Report}
-use Rattle.av_world.specs.declared.script.command.Command.{Command}
-use Rattle.av_world.specs.declared.script.command.Command.TheVariants.{Step, Judge}
+use Rattle.av_history.specs.declared.event.Event.{Event}
+use Rattle.av_history.specs.declared.fault.JudgeFault.{JudgeFault}
+use Rattle.av_history.specs.declared.fault.StepFault.{StepFault}
+use Rattle.av_history.specs.declared.report.Judged.{Judged}
+use Rattle.av_history.specs.declared.report.Report.{Report}
+use Rattle.av_script.specs.declared.command.Command.{Command}
+use Rattle.av_script.specs.declared.command.Command.TheVariants.{Step, Judge}
 use Rattle.av_world.specs.Judge.{judged_of}
-use Rattle.av_world.specs.Objects.{said_world}
-use Rattle.av_world.specs.Script.Grammar.{Line, Silent, Limit, Volume, Says, line_of}
-use Rattle.av_world.specs.World.{WorldState, step_of}
+use Rattle.av_script.specs.CommandObjects.{said_world}
+use Rattle.av_script.specs.Script.Grammar.{Line, Silent, Limit, Volume, Says, line_of}
+use Rattle.av_history.specs.World.{WorldState, step_of}
 use Rattle.av_chart.specs.declared.happened.Span.{Span}
 use Rattle.av_chart.specs.declared.happening.Row.{Row}
 

@@ -20,12 +20,12 @@ use Rattle.av_frame.specs.declared.outcome.Outcome.TheVariants.{Judged, Failed}
 use Rattle.av_json.specs.Cause.{why_of}
 use Rattle.av_pend.specs.declared.answer.Answer.{Answer}
 use Rattle.av_pend.specs.declared.answer.Answer.TheVariants.{Granted, Unscanned, Denied}
-use Rattle.av_world.specs.Text.{report_text}
-use Rattle.av_world.specs.World.{WorldState}
-use Rattle.av_world.specs.declared.report.Line.TheVariants.{Silent}
-use Rattle.av_world.specs.declared.report.Note.{Note}
-use Rattle.av_world.specs.declared.report.Note.TheVariants.{Filter}
-use Rattle.av_world.specs.declared.report.Places.{Places}
+use Rattle.av_output.specs.Text.{report_text}
+use Rattle.av_history.specs.World.{WorldState}
+use Rattle.av_history.specs.declared.report.Line.TheVariants.{Silent}
+use Rattle.av_history.specs.declared.report.Note.{Note}
+use Rattle.av_history.specs.declared.report.Note.TheVariants.{Filter}
+use Rattle.av_history.specs.declared.report.Places.{Places}
 use Rattle.av_chart.specs.Escape.{short}
 use Rattle.av_chart.specs.Number.{capped}
 use Rattle.av_chart.specs.declared.happened.Way.{Way}

@@ -13,8 +13,9 @@ use crate::life::Moment;
 use crate::picture::{Picture, put_picture};
 use crate::place::{Places, height_of};
 use av_base::device::write_text;
-use av_world::run_script::read_script;
-use av_world::{Script, World};
+use av_script::Script;
+use av_script::run_script::read_script;
+use av_world::World;
 use std::alloc::{AllocError, Global};
 use std::io::{Read, Write};
 

@@ -1,4 +1,4 @@
-use av_world::RunFault;
+use av_script::RunFault;
 use std::alloc::AllocError;
 use thiserror::Error;
 

@@ -8,8 +8,8 @@ ghost use Rattle.av_chart.specs.Story.{nothing, story_of, with_step};
 use crate::life::{Lives, Moment};
 use av_base::{Port, Verdict};
 use av_filter::Note as FilterNote;
+use av_history::{JudgeFault, Note, StepFault};
 use av_service::Note as ServiceNote;
-use av_world::{JudgeFault, Note, StepFault};
 use std::alloc::{AllocError, Global};
 
 /// How many steps an arrow spans at most; a farther one is drawn in two parts.

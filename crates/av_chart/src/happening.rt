@@ -2,11 +2,11 @@
 
 ghost use Rattle.std.specs.Prelude.{◌≡◌, ◌+◌, ◌-◌, ◌<◌, ◌^◌, ◌++◌, true, Some, fold, length, map, OnOk};
 ghost use Rattle.av_base.specs.Line.{lines_of};
-ghost use Rattle.av_world.specs.Objects.{said_world};
-ghost use Rattle.av_world.specs.Script.Grammar.{line_of};
-ghost use Rattle.av_world.specs.Script.Statement.{is_told, meaning};
-ghost use Rattle.av_world.specs.Text.{command_world};
-ghost use Rattle.av_world.specs.World.{after, step_of};
+ghost use Rattle.av_script.specs.CommandObjects.{said_world};
+ghost use Rattle.av_script.specs.Script.Grammar.{line_of};
+ghost use Rattle.av_script.specs.Script.Statement.{is_told, meaning};
+ghost use Rattle.av_script.specs.CommandText.{command_world};
+ghost use Rattle.av_history.specs.World.{after, step_of};
 ghost use Rattle.av_chart.specs.Marks.{asks_of};
 ghost use Rattle.av_chart.specs.Row.{spanned};
 ghost use Rattle.av_chart.specs.Story.{accepted, counted, did_after, named, quiet, step_of as told_step, story_after, story_of, with_step, works_lines};
@@ -23,12 +23,12 @@ use crate::happening::posts::{arrival_in, take_down, take_up};
 use crate::label::told_work;
 use av_base::Refusal;
 use av_base::line::{first_line, first_piece};
+use av_history::{Event, Given, JudgeFault, Judged, Line, Report, StepFault};
 use av_pend::Answer;
-use av_world::given::Given;
-use av_world::script::command::Command;
-use av_world::script::reading::read_statement;
-use av_world::script::statement::Statement;
-use av_world::{Event, JudgeFault, Judged, Line, Report, StepFault, World};
+use av_script::command::Command;
+use av_script::reading::read_statement;
+use av_script::statement::Statement;
+use av_world::World;
 use std::alloc::{AllocError, Global};
 
 pub mod lives;

@@ -9,10 +9,10 @@ use crate::happened::Way;
 use av_base::{MessageId, Part, Port, Verdict};
 use av_filter::Note as FilterNote;
 use av_frame::{Body, Message, NoChunkCause, Outcome};
+use av_history::{Line, Note, Places, Report};
 use av_json::why;
 use av_pend::Answer;
-use av_world::report::Places;
-use av_world::{Line, Note, Report, World};
+use av_world::World;
 use std::alloc::{AllocError, Global};
 
 /// Parts one behind the other, as a text of its own.

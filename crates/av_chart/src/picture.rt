@@ -2,7 +2,7 @@
 
 ghost use Rattle.std.specs.Prelude.{◌≡◌, ◌≤◌, ◌-◌, ◌==◌, ◌++◌, is_none, length, IfOk, OnOk, if◌then◌else◌};
 ghost use Rattle.av_chart.specs.Number.{capped};
-ghost use Rattle.av_world.specs.Text.Messages.{placed};
+ghost use Rattle.av_output.specs.Text.Messages.{placed};
 ghost use Rattle.av_chart.specs.Bars.{behind};
 ghost use Rattle.av_chart.specs.Mark.{until_text};
 ghost use Rattle.av_chart.specs.Picture.{again_of, answered_told, caption_text, command_look, command_text, count_text, delivered_told, ground_text, happened_text, lost_of, messages_told, number_text, opening_text, opens_told, over_text, picture_text, refusal_text, refused_text, run_told, shown_told, size_text, step_at, step_number, step_text, steps_of, steps_text, stripe_at, stripe_text, stripes_text, style_text, title_part, told_part, told_text, typed_text, under_text, waiting};

@@ -16,8 +16,8 @@ use Rattle.av_service.specs.Desk.{Desk}
 use Rattle.av_service.specs.Sound.{LendsUnderItsVersion}
 use Rattle.av_sigset.specs.Set.{NumberedSet}
 use Rattle.av_sigset.specs.declared.signature.Pattern.{Pattern}
-use Rattle.av_engines.specs.declared.end.End.{End}
-use Rattle.av_engines.specs.declared.end.End.TheVariants.{Done, ReadFault, WriteFault, Frame, Closed, Memory, AuditFull}
+use Rattle.av_frame.specs.declared.end.End.{End}
+use Rattle.av_frame.specs.declared.end.End.TheVariants.{Done, ReadFault, WriteFault, Frame, Closed, Memory, AuditFull}
 use Rattle.av_engines.specs.declared.exchange.Exchange.{Exchange}
 use Rattle.av_engines.specs.Exchange.{Passes, StopsAs}
 use Rattle.av_engines.specs.Fresh.{Happening, Comes, Renews, Refuses, Gives, AllMayHappen, all_gone_by, all_published, fresh_run, fresh_text, gone_by, messages_of, published_by, sets_of}

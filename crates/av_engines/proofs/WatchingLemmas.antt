@@ -20,8 +20,8 @@ use Rattle.av_frame.specs.Message.{Letter}
 use Rattle.av_frame.specs.Spelling.{frame}
 use Rattle.av_pend.specs.declared.answer.Answer.{Answer}
 use Rattle.av_store.specs.Store.{Store}
-use Rattle.av_engines.specs.declared.end.End.{End}
-use Rattle.av_engines.specs.declared.end.End.TheVariants.{Done, ReadFault, WriteFault, Frame, Closed, Memory, AuditFull}
+use Rattle.av_frame.specs.declared.end.End.{End}
+use Rattle.av_frame.specs.declared.end.End.TheVariants.{Done, ReadFault, WriteFault, Frame, Closed, Memory, AuditFull}
 use Rattle.av_engines.specs.declared.exchange.Exchange.{Exchange}
 use Rattle.av_engines.specs.Exchange.{Passes, StopsAs}
 use Rattle.av_engines.specs.FilterEnd.{GoesOn, Hears, IsAmid, IsAt, IsLeft, IsStill, IsWithin, Leaves, Puts, RunsOver, WatchesOver, WatchesTo, input_of}

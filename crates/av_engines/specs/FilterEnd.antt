@@ -2,8 +2,8 @@
 use Rattle.std.specs.Prelude.{ℕ, ◌≡◌, ◌≤◌, Bool, true, false, List, [], ◌∷◌, ◌++◌, ◌⊎◌, length, Option, IfSome}
 use Rattle.std.specs.Io.KnownBytes.{prepend_known}
 use Rattle.std.specs.List.{flat_map}
-use Rattle.av_engines.specs.declared.end.End.{End}
-use Rattle.av_engines.specs.declared.end.End.TheVariants.{Done, WriteFault, Memory, AuditFull}
+use Rattle.av_frame.specs.declared.end.End.{End}
+use Rattle.av_frame.specs.declared.end.End.TheVariants.{Done, WriteFault, Memory, AuditFull}
 use Rattle.av_engines.specs.Incoming.{Received, Takes, budget, unread}
 use Rattle.av_engines.specs.Spelled.{AreSpelled, CameIn, IsSent, SpellsFirst}
 use Rattle.av_engines.specs.Watching.{Led, Standing, all_happened, due, events_of, filter_run, filter_text, happened, is_done, run_from, text_from, unled}

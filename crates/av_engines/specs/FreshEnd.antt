@@ -2,7 +2,7 @@
 use Rattle.std.specs.Prelude.{ℕ, ◌≡◌, List, [], ◌∷◌, ◌++◌, ◌⊎◌, Option, Result, Ok, OnOk}
 use Rattle.std.specs.List.{flat_map}
 use Rattle.std.specs.declared.alloc.AllocError.{AllocError}
-use Rattle.av_engines.specs.declared.end.End.{End}
+use Rattle.av_frame.specs.declared.end.End.{End}
 use Rattle.av_engines.specs.Fresh.{Gives, Happening, AllMayHappen, all_gone_by, all_published, fresh_run, fresh_text, messages_of, sets_of}
 use Rattle.av_engines.specs.ServiceEnd.{IsLed, IsLeft, IsWithin}
 use Rattle.av_engines.specs.Serving.{unserved}

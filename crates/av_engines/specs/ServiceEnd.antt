@@ -1,8 +1,8 @@
 -- How the engine of a scanning service ends.
 use Rattle.std.specs.Prelude.{ℕ, ◌≡◌, List, [], ◌∷◌, ◌++◌, ◌⊎◌, Option, IfSome}
 use Rattle.std.specs.List.{flat_map}
-use Rattle.av_engines.specs.declared.end.End.{End}
-use Rattle.av_engines.specs.declared.end.End.TheVariants.{Done, Memory}
+use Rattle.av_frame.specs.declared.end.End.{End}
+use Rattle.av_frame.specs.declared.end.End.TheVariants.{Done, Memory}
 use Rattle.av_engines.specs.Serving.{Served, heard, patterns_at, service_run, service_text, unserved}
 use Rattle.av_engines.specs.Spelled.{AreSpelled, CameIn, IsSent, SpellsFirst}
 use Rattle.av_frame.specs.Message.{Letter}

@@ -2,11 +2,10 @@ ghost use Rattle.std.specs.Prelude.{◌≡◌, ◌∷◌, ◌<◌, [], IfErr, If
 ghost use Rattle.av_engines.specs.Exchange.{Passes, StopsAs};
 ghost use Rattle.av_engines.specs.Incoming.{listed, nothing_yet, to_come};
 
-use crate::end::End;
 use crate::incoming::Incoming;
 use crate::outgoing::Outgoing;
 use av_base::WriteFault;
-use av_frame::Message;
+use av_frame::{End, Message};
 use std::alloc::{AllocError, Global};
 use std::io::{Read, Write};
 

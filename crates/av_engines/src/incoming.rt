@@ -1,10 +1,9 @@
 ghost use Rattle.std.specs.Prelude.{◌≡◌, ◌∷◌, ◌<◌, ◌≤◌, [], false, IfErr, IfOk, OnErr, OnOk};
 ghost use Rattle.av_engines.specs.Incoming.{EndsAs, GivesFront, HasArrived, HasNoFront, HasNoneFor, IsDue, Reads, ReadsNothing, Takes, listed, nothing_yet, to_come, unread};
-ghost use Rattle.av_engines.specs.declared.end.End.TheVariants.{Memory};
+ghost use Rattle.av_frame.specs.declared.end.End.TheVariants.{Memory};
 
-use crate::end::End;
 use av_base::Refusal;
-use av_frame::{Feed, FeedFault, Message};
+use av_frame::{End, Feed, FeedFault, Message};
 use std::alloc::{AllocError, Global};
 use std::io::{ErrorKind, Read};
 use std::marker::Model;

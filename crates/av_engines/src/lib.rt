@@ -8,7 +8,6 @@
 //! ```
 #![tactic(auto)]
 
-pub mod end;
 pub mod exchange;
 pub mod fresh;
 pub mod incoming;
@@ -21,7 +20,7 @@ mod tally;
 mod tests;
 pub mod watching;
 
-pub use end::End;
+pub use av_frame::End;
 pub use exchange::Exchange;
 pub use fresh::Fresh;
 pub use incoming::Incoming;

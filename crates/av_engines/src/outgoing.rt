@@ -5,11 +5,10 @@ ghost use Rattle.av_base.specs.Device.{Writes};
 ghost use Rattle.av_engines.specs.Outgoing.{FailsAs};
 ghost use Rattle.av_frame.specs.Spelling.{frame};
 
-use crate::end::End;
 use av_base::WriteFault;
 use av_base::device::write_text;
-use av_frame::Message;
 use av_frame::encode::encode_into;
+use av_frame::{End, Message};
 use std::alloc::{AllocError, Global};
 use std::io::Write;
 use std::marker::Model;

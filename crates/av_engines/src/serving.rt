@@ -8,14 +8,13 @@ ghost use Rattle.av_frame.specs.Spelling.{frame};
 ghost use Rattle.av_service.specs.Conduct.{Connects, Disconnects, connect_refusal, service_step};
 ghost use Rattle.av_sigset.specs.Catalogue.{latest, set_at};
 
-use crate::end::End;
 use crate::exchange::Exchange;
 use crate::fresh::Fresh;
 use crate::outgoing::Outgoing;
 use crate::renewing::refresh;
 use av_base::Refusal;
-use av_frame::Message;
 use av_frame::laws::bytes_spell_one_list;
+use av_frame::{End, Message};
 use av_match::Automaton;
 use av_service::laws::works_are_lent_under_the_present_version;
 use av_service::{Service, ServiceOut, Work};

@@ -17,10 +17,10 @@ use self::frames::{DOWN, HELLO, UP};
 use self::sides::{served, watched, watched_again, watched_further};
 use self::text::bytes_of;
 use self::told::{LOST, Told, denied, granted, granted_of};
-use crate::end::End;
 use crate::watching::Watched;
 use av_base::{Cause, StreamId};
 use av_fakes::{FakeReader, FakeWriter, Fault};
+use av_frame::End;
 use std::alloc::Global;
 use std::test::Fail;
 

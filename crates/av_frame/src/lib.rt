@@ -12,6 +12,7 @@
 pub mod cause;
 pub mod decode;
 pub mod encode;
+pub mod end;
 pub mod fault;
 pub mod feed;
 mod fields;
@@ -24,6 +25,7 @@ pub mod sizes;
 mod tests;
 
 pub use cause::{FailCause, NoChunkCause};
+pub use end::End;
 pub use fault::{FeedFault, FrameFault};
 pub use feed::Feed;
 pub use frames::ReadFrames;

@@ -2,7 +2,7 @@ use Rattle.std.proofs.Common.{ℕ, zero, suc, ◌≡◌, ◌+◌, ◌*◌, ◌%�
 use Rattle.std.specs.Prelude.{codes}
 use Rattle.hex.proofs.HexLemmas.{decode_of-even}
 use Rattle.hex.specs.Hex.{decode_pairs, ◌>>=◌}
-use Rattle.av_world.specs.Script.Grammar.{is_content, is_hex, is_pattern, spells_bytes}
+use Rattle.av_script.specs.Script.Grammar.{is_content, is_hex, is_pattern, spells_bytes}
 use Rattle.av_generate.proofs.PieceLemmas.{Lacks, one_piece}
 use Rattle.av_generate.specs.Draws.{below}
 use Rattle.av_generate.specs.Words.{byte_drawn, bytes_drawn, or_hyphen}

@@ -9,12 +9,12 @@ use Rattle.av_base.specs.declared.limits.LimitField.TheVariants.{Streams, Length
 use Rattle.av_base.specs.declared.mode.Mode.{Mode}
 use Rattle.av_base.specs.declared.mode.Mode.TheVariants.{FailClosed, FailOpen}
 use Rattle.av_sigset.proofs.SpellingLemmas.{decimal_read}
-use Rattle.av_world.specs.Script.Grammar.{Limit, Volume, Says, content_in, cut_line, is_content, is_pattern, least_of, limit_line, limit_of, line_of, number_line, pattern_in, publish_line, when, write_line}
-use Rattle.av_world.specs.Script.Words.{one_word, three_words, two_words, with_first}
-use Rattle.av_world.specs.World.{WorldState}
-use Rattle.av_world.specs.declared.event.Event.TheVariants as event
-use Rattle.av_world.specs.declared.script.command.Command.{Command}
-use Rattle.av_world.specs.declared.script.command.Command.TheVariants as command
+use Rattle.av_script.specs.Script.Grammar.{Limit, Volume, Says, content_in, cut_line, is_content, is_pattern, least_of, limit_line, limit_of, line_of, number_line, pattern_in, publish_line, when, write_line}
+use Rattle.av_script.specs.Script.Words.{one_word, three_words, two_words, with_first}
+use Rattle.av_history.specs.World.{WorldState}
+use Rattle.av_history.specs.declared.event.Event.TheVariants as event
+use Rattle.av_script.specs.declared.command.Command.{Command}
+use Rattle.av_script.specs.declared.command.Command.TheVariants as command
 use Rattle.av_generate.proofs.HexLemmas.{bytes_are_content, bytes_are_pattern, bytes_lack, content_lacks}
 use Rattle.av_generate.proofs.NumberLemmas.{decimal_lacks}
 use Rattle.av_generate.proofs.PieceLemmas.{Lacks, first_piece, one_piece}

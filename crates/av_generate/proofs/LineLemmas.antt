@@ -1,5 +1,5 @@
 use Rattle.std.proofs.Common.{ℕ, zero, suc, ◌≡◌, ◌<◌, ◌-◌, ◌++◌, refl, arith}
-use Rattle.av_world.specs.World.{WorldState}
+use Rattle.av_history.specs.World.{WorldState}
 use Rattle.av_generate.specs.Generated.{line_drawn, lines_drawn}
 use Rattle.av_generate.specs.declared.generator.Generator.{Generator}
 

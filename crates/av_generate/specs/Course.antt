@@ -3,17 +3,17 @@ use Rattle.std.specs.Prelude.{ℕ, ◌-◌, ◌==◌, nat_lt, List, [], ◌∷�
 use Rattle.av_frame.specs.Message.{Letter}
 use Rattle.av_frame.specs.declared.message.Body.TheVariants.{Scan}
 use Rattle.av_frame.specs.declared.message.Body.{Body}
-use Rattle.av_world.specs.Script.Grammar.{Line}
-use Rattle.av_world.specs.Script.Statement.{command_of}
-use Rattle.av_world.specs.World.{WorldState, Outcome, step_of}
-use Rattle.av_world.specs.declared.event.Event.{Event}
-use Rattle.av_world.specs.declared.event.Event.TheVariants.{Run}
-use Rattle.av_world.specs.declared.report.Line.TheVariants.{Booted}
-use Rattle.av_world.specs.declared.report.Line as told
-use Rattle.av_world.specs.declared.report.Places.{Places}
-use Rattle.av_world.specs.declared.report.Report.{Report}
-use Rattle.av_world.specs.declared.script.command.Command.{Command}
-use Rattle.av_world.specs.declared.script.command.Command.TheVariants.{Step, Judge}
+use Rattle.av_script.specs.Script.Grammar.{Line}
+use Rattle.av_script.specs.Script.Statement.{command_of}
+use Rattle.av_history.specs.World.{WorldState, Outcome, step_of}
+use Rattle.av_history.specs.declared.event.Event.{Event}
+use Rattle.av_history.specs.declared.event.Event.TheVariants.{Run}
+use Rattle.av_history.specs.declared.report.Line.TheVariants.{Booted}
+use Rattle.av_history.specs.declared.report.Line as told
+use Rattle.av_history.specs.declared.report.Places.{Places}
+use Rattle.av_history.specs.declared.report.Report.{Report}
+use Rattle.av_script.specs.declared.command.Command.{Command}
+use Rattle.av_script.specs.declared.command.Command.TheVariants.{Step, Judge}
 use Rattle.av_generate.specs.Draws.{below}
 use Rattle.av_generate.specs.Lent.{lent_after}
 use Rattle.av_generate.specs.Sight.{sight_of}

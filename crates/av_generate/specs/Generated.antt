@@ -1,7 +1,7 @@
 -- The script of a seed.
 use Rattle.std.specs.Prelude.{ℕ, zero, suc, List, [], ◌++◌, None, codes}
-use Rattle.av_world.specs.Script.Grammar.{line_of}
-use Rattle.av_world.specs.World.{WorldState, start}
+use Rattle.av_script.specs.Script.Grammar.{line_of}
+use Rattle.av_history.specs.World.{WorldState, start}
 use Rattle.av_generate.specs.Course.{followed, next_words}
 use Rattle.av_generate.specs.Head.{Head, head_drawn}
 use Rattle.av_generate.specs.Temper.{even}

@@ -2,9 +2,9 @@
 use Rattle.std.specs.Prelude.{ℕ, ◌≡◌, ◌<◌, ◌^◌, List, Some}
 use Rattle.av_base.specs.declared.limits.LimitField.{LimitField}
 use Rattle.av_base.specs.declared.mode.Mode.{Mode}
-use Rattle.av_world.specs.Script.Grammar.{Limit, Volume, Says, line_of}
-use Rattle.av_world.specs.World.{WorldState}
-use Rattle.av_world.specs.declared.script.command.Command.{Command}
+use Rattle.av_script.specs.Script.Grammar.{Limit, Volume, Says, line_of}
+use Rattle.av_history.specs.World.{WorldState}
+use Rattle.av_script.specs.declared.command.Command.{Command}
 use Rattle.av_generate.specs.Course.{next_words}
 use Rattle.av_generate.specs.Head.{limit_words, volume_words}
 use Rattle.av_generate.specs.declared.generator.Generator.{Generator}

@@ -3,7 +3,7 @@ use Rattle.std.specs.Prelude.{ℕ, ◌+◌, List, length, is_some, codes, if◌t
 use Rattle.av_base.specs.declared.port.Port.TheVariants.{One}
 use Rattle.av_sigset.specs.Catalogue.{newest}
 use Rattle.av_store.specs.Rows.{number_named}
-use Rattle.av_world.specs.World.{WorldState, desk_of}
+use Rattle.av_history.specs.World.{WorldState, desk_of}
 use Rattle.av_generate.specs.declared.sight.Sight.{Sight}
 
 -- 1 where a name has a stream

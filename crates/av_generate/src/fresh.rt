@@ -3,7 +3,7 @@ ghost use Rattle.std.specs.String.{string_bytes};
 ghost use Rattle.av_generate.specs.Course.{fresh_of, fresh_words};
 
 use crate::words::numbered;
-use av_world::Places;
+use av_history::Places;
 use std::alloc::{AllocError, Global};
 
 /// The last of what a step sent or lent, by its place.

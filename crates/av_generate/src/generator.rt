@@ -2,8 +2,8 @@ ghost use Rattle.std.specs.Prelude.{◌≡◌, IfOk, OnOk};
 ghost use Rattle.std.specs.String.{string_bytes};
 ghost use Rattle.av_generate.specs.Course.{asked_after, asked_before, asked_by, carried_drawn, followed, in_spell, new_spell, next_words, noticed, run_place, stepped, verb_words};
 ghost use Rattle.av_generate.specs.Generated.{fresh_generator};
-ghost use Rattle.av_world.specs.Script.Grammar.{line_of};
-ghost use Rattle.av_world.specs.World.{step_of};
+ghost use Rattle.av_script.specs.Script.Grammar.{line_of};
+ghost use Rattle.av_history.specs.World.{step_of};
 ghost use Rattle.std.specs.Prelude.{drop};
 
 use crate::draws::Draws;
@@ -15,9 +15,10 @@ use crate::temper::{Temper, eagerness_drawn};
 use crate::words::words_drawn;
 use av_base::Refusal;
 use av_frame::{Body, Message};
-use av_world::script::command::Command;
-use av_world::script::reading::read_statement;
-use av_world::{Event, Line, Report, World};
+use av_history::{Event, Line, Report};
+use av_script::command::Command;
+use av_script::reading::read_statement;
+use av_world::World;
 use std::alloc::{AllocError, Global};
 
 /// What a script carries from one of its commands to the next.

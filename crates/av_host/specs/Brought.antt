@@ -5,8 +5,8 @@ use Rattle.std.specs.Io.KnownBytes.{Appends}
 use Rattle.std.specs.List.{enumerate_from, filter_map}
 use Rattle.std.specs.Option.{option_map}
 use Rattle.av_base.specs.Device.{AppendsPrefix}
-use Rattle.av_engines.specs.declared.end.End.{End}
-use Rattle.av_engines.specs.declared.end.End.TheVariants.{Done}
+use Rattle.av_frame.specs.declared.end.End.{End}
+use Rattle.av_frame.specs.declared.end.End.TheVariants.{Done}
 use Rattle.av_files.specs.Opened.{ended_tally, opened_lines, tally_from}
 use Rattle.av_files.specs.Scan.{SpellsSet}
 use Rattle.av_files.specs.Volume.{AreRead, FileRead, volume_of_files}

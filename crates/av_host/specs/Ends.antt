@@ -1,7 +1,7 @@
 -- How a host ends, from the ends of the loops of its services.
 use Rattle.std.specs.Prelude.{◌≡◌, Bool, true, false, ◌&&◌, if◌then◌else◌}
-use Rattle.av_engines.specs.declared.end.End.{End}
-use Rattle.av_engines.specs.declared.end.End.TheVariants.{AuditFull, Closed, Done, Frame, Memory, ReadFault, WriteFault}
+use Rattle.av_frame.specs.declared.end.End.{End}
+use Rattle.av_frame.specs.declared.end.End.TheVariants.{AuditFull, Closed, Done, Frame, Memory, ReadFault, WriteFault}
 use Rattle.av_host.specs.declared.ends.PortEnds.{PortEnds}
 use Rattle.av_status.specs.Status.{graver}
 

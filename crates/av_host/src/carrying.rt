@@ -1,7 +1,7 @@
 //! What the threads of a host do beside its openers: the four loops that carry messages between the gate and a desk.
 
 ghost use Rattle.std.specs.Prelude.{◌≡◌, ◌≢◌};
-ghost use Rattle.av_engines.specs.declared.end.End.TheVariants.{Done};
+ghost use Rattle.av_frame.specs.declared.end.End.TheVariants.{Done};
 ghost use Rattle.av_gate.specs.Seats.{IsSeatOf};
 ghost use Rattle.av_host.specs.declared.carrying.Way.TheVariants.{Into};
 

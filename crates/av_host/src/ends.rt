@@ -1,7 +1,7 @@
 //! The end of a host, of those of the loops of its services.
 
 ghost use Rattle.std.specs.Prelude.{◌≡◌, if◌then◌else◌};
-ghost use Rattle.av_engines.specs.declared.end.End.TheVariants.{ReadFault};
+ghost use Rattle.av_frame.specs.declared.end.End.TheVariants.{ReadFault};
 ghost use Rattle.av_host.specs.Ends.{end_beside, end_of_both, ends_well, gravest_of, is_lost};
 ghost use Rattle.av_status.specs.Status.{graver};
 

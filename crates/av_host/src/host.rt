@@ -2,7 +2,7 @@ ghost use Rattle.std.specs.Prelude.{◌≡◌, IfErr, IfOk, IfSome, IsTrue, OnEr
 ghost use Rattle.std.specs.Io.KnownBytes.{Appends};
 ghost use Rattle.std.specs.Option.{option_copied};
 ghost use Rattle.av_base.specs.Device.{AppendsPrefix};
-ghost use Rattle.av_engines.specs.declared.end.End.TheVariants.{Done};
+ghost use Rattle.av_frame.specs.declared.end.End.TheVariants.{Done};
 ghost use Rattle.av_files.specs.Opened.{opened_lines, tally_from};
 ghost use Rattle.av_gate.specs.Seats.{IsSeatOf};
 ghost use Rattle.av_gate.specs.Claims.{IsLegal};

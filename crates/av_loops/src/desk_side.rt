@@ -1,5 +1,5 @@
 ghost use Rattle.std.specs.Prelude.{◌≡◌, ◌≢◌, IfErr};
-ghost use Rattle.av_engines.specs.declared.end.End.TheVariants.{Done};
+ghost use Rattle.av_frame.specs.declared.end.End.TheVariants.{Done};
 
 use crate::ending::end_of;
 use crate::sender::{Sender, Unsent};

@@ -1,5 +1,5 @@
 ghost use Rattle.std.specs.Prelude.{◌≢◌};
-ghost use Rattle.av_engines.specs.declared.end.End.TheVariants.{Done};
+ghost use Rattle.av_frame.specs.declared.end.End.TheVariants.{Done};
 
 use av_base::Refusal;
 use av_engines::End;

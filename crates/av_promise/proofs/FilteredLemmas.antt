@@ -36,10 +36,10 @@ use Rattle.av_status.specs.declared.tally.Wishes.{Wishes}
 use Rattle.av_store.proofs.SeenLemmas.{follows}
 use Rattle.av_store.specs.History.{StreamHistory, content, now}
 use Rattle.av_store.specs.Seen.{Keeps}
-use Rattle.av_world.proofs.FitLemmas.{right_grows}
-use Rattle.av_world.specs.Audits.{AreLegal, AuditsGrantOnlyClean, SideEntry, past_end}
-use Rattle.av_world.specs.Past.{IsVerdictOf}
-use Rattle.av_world.specs.Scene.{opening_past}
+use Rattle.av_history.proofs.FitLemmas.{right_grows}
+use Rattle.av_history.specs.Audits.{AreLegal, AuditsGrantOnlyClean, SideEntry, past_end}
+use Rattle.av_history.specs.Past.{IsVerdictOf}
+use Rattle.av_history.specs.Scene.{opening_past}
 
 -- ---- what happened, from the mount on
 

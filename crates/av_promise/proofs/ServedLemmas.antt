@@ -17,13 +17,13 @@ use Rattle.av_service.specs.Audit.{By, Call as ServiceCall, IsCatalogue, IsServi
 use Rattle.av_sigset.specs.Publication.{Publication, published_as}
 use Rattle.av_store.specs.Seen.{Keeps}
 use Rattle.av_store.specs.Store.{Store}
-use Rattle.av_world.proofs.FitLemmas.{Grown, same_past}
-use Rattle.av_world.proofs.SceneLemmas.{filter_grows}
-use Rattle.av_world.proofs.UnionLemmas.{joined_keeps}
-use Rattle.av_world.specs.Audits.{AreLegal, AreOneSets, AuditsGrantOnlyClean, FinishesItsWorks, OfFilter, OfService, SideEntry, answers_in, filter_side, past_end, service_side, sets_end}
-use Rattle.av_world.specs.Headline.{IsJustified}
-use Rattle.av_world.specs.Past.{Past}
-use Rattle.av_world.specs.Scene.{Answered as AnsweredThen, Started, desk_at_first, opening_past, past_call, past_filter, told_at}
+use Rattle.av_history.proofs.FitLemmas.{Grown, same_past}
+use Rattle.av_history.proofs.SceneLemmas.{filter_grows}
+use Rattle.av_history.proofs.UnionLemmas.{joined_keeps}
+use Rattle.av_history.specs.Audits.{AreLegal, AreOneSets, AuditsGrantOnlyClean, FinishesItsWorks, OfFilter, OfService, SideEntry, answers_in, filter_side, past_end, service_side, sets_end}
+use Rattle.av_history.specs.Headline.{IsJustified}
+use Rattle.av_history.specs.Past.{Past}
+use Rattle.av_history.specs.Scene.{Answered as AnsweredThen, Started, desk_at_first, opening_past, past_call, past_filter, told_at}
 
 -- a past that grew twice
 grown_on : (p q r : Past) → Grown p q → Grown q r → Grown p r

@@ -22,7 +22,7 @@ use Rattle.av_status.specs.declared.tally.Wishes.{Wishes}
 use Rattle.av_store.specs.Rows.{number_named, stream_at}
 use Rattle.av_store.specs.Store.{Store}
 use Rattle.av_store.specs.declared.stream.Stream.{Stream}
-use Rattle.av_world.specs.Audits.{SideEntry}
+use Rattle.av_history.specs.Audits.{SideEntry}
 
 -- an event of a filter, with what its conduct gives out at that place
 abbrev pub entry_of : Table → Store → FilterEvent → FilterEntry

@@ -21,9 +21,9 @@ use Rattle.av_service.specs.Audit.{IsCatalogue, IsServiceAudit}
 use Rattle.av_service.specs.Desk.{just_started}
 use Rattle.av_sigset.specs.Publication.{Publication, latest_as, published_as}
 use Rattle.av_sigset.specs.declared.signature.Pattern.{Pattern}
-use Rattle.av_world.specs.Audits.{FinishesItsWorks, IsDelivered, SideEntry, filter_side, past_end, service_side}
-use Rattle.av_world.specs.Scene.{opening_past}
-use Rattle.av_world.specs.World.{at_port}
+use Rattle.av_history.specs.Audits.{FinishesItsWorks, IsDelivered, SideEntry, filter_side, past_end, service_side}
+use Rattle.av_history.specs.Scene.{opening_past}
+use Rattle.av_history.specs.World.{at_port}
 
 -- The list has the events of a filter, of this history, and those of a service at the first port, each side's in its order; at the
 -- second port there is none. The service began with a catalogue, and its audit is legal; each work that came back is one that it

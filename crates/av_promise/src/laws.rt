@@ -1,7 +1,7 @@
 ghost use Rattle.av_promise.specs.Promise.{GrantsAreClean};
 
 use av_guard::laws::guards_have_history;
-use av_world::laws::audits;
+use av_history::laws::audits;
 
 /// The promise of a grant. Of every list of calls of a guard that was just made, each as its contract says, there is a history of
 /// its filter. Put together with the audit of a service at the first port, the one that a guard has, in any order in which each

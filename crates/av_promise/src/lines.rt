@@ -1,7 +1,7 @@
 //! What a filter prints.
 ghost use Rattle.av_promise.specs.Filtered.{FilteredGrantsAreClean};
 
-use av_world::laws::audits;
+use av_history::laws::audits;
 
 /// The promise of a line that a filter prints. Of every run of `filter_files`, by what its contract says of its lines: put together
 /// with the audit of a service at the first port, in any order in which each message that came had been sent by the other side before,

@@ -18,7 +18,7 @@ use Rattle.av_service.specs.Work.{WorkState}
 use Rattle.av_shared.specs.Apart.{are_apart, hears_nothing, one_by_one, takes_nothing}
 use Rattle.av_shared.specs.History.{AreOneHistory, events_of, opened_as}
 use Rattle.av_sigset.specs.Publication.{Publication}
-use Rattle.av_world.specs.Audits.{CameDown, CameUp, FinishesItsWorks, IsDelivered, IsOfWorks, OfFilter, OfService, SideEntry, filter_side, service_side}
+use Rattle.av_history.specs.Audits.{CameDown, CameUp, FinishesItsWorks, IsDelivered, IsOfWorks, OfFilter, OfService, SideEntry, filter_side, service_side}
 
 -- an event that brings the filter no message, whatever was sent up
 abbrev HearsNothing : FilterEvent → Type 0

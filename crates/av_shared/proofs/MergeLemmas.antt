@@ -13,7 +13,7 @@ use Rattle.av_service.specs.Audit.{By, Call, ServiceEntry}
 use Rattle.av_service.specs.Conduct as service
 use Rattle.av_shared.proofs.AmongLemmas.{among_split}
 use Rattle.av_shared.specs.Merged.{AreMerged, Brings, Takes, sent_of_filter, sent_of_service}
-use Rattle.av_world.specs.Audits.{CameDown, CameUp, IsDelivered, OfFilter, OfService, SideEntry, filter_side, service_side}
+use Rattle.av_history.specs.Audits.{CameDown, CameUp, IsDelivered, OfFilter, OfService, SideEntry, filter_side, service_side}
 
 -- what the filter had sent after these entries, and the services
 abbrev down_after : List Letter → List SideEntry → List Letter

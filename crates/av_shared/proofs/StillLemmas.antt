@@ -39,11 +39,11 @@ use Rattle.av_store.specs.Store.{Store}
 use Rattle.av_store.specs.declared.stream.Stream.{Stream}
 use Rattle.av_shared.proofs.ApartLemmas.{each_by}
 use Rattle.av_shared.proofs.AmongLemmas.{among_split}
-use Rattle.av_world.proofs.UnionLemmas.{union_only}
-use Rattle.av_world.specs.Audits.{AuditsGrantOnlyClean, OfFilter, OfService, SideEntry, answers_in, filter_side, service_side, sets_end}
-use Rattle.av_world.specs.Headline.{IsJustified}
-use Rattle.av_world.specs.Past.{IsVerdictOf, Past}
-use Rattle.av_world.specs.Scene.{Answered, known_since, opening_past, past_call, past_filter, told_at, union}
+use Rattle.av_history.proofs.UnionLemmas.{union_only}
+use Rattle.av_history.specs.Audits.{AuditsGrantOnlyClean, OfFilter, OfService, SideEntry, answers_in, filter_side, service_side, sets_end}
+use Rattle.av_history.specs.Headline.{IsJustified}
+use Rattle.av_history.specs.Past.{IsVerdictOf, Past}
+use Rattle.av_history.specs.Scene.{Answered, known_since, opening_past, past_call, past_filter, told_at, union}
 use Rattle.av_shared.specs.Still.{AreStill, HasOnly, HaveOnly, SpareHasOnly, TellsTrue, ChangesNothing, changes_nothing, publishes_nothing, IsCleanUnder, IsStill, IsTrueOf, IsTrueUnder, PublishesNothing}
 
 -- ---- the past stays

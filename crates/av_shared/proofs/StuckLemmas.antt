@@ -13,7 +13,7 @@ use Rattle.av_service.specs.Conduct as service
 use Rattle.av_shared.proofs.AmongLemmas.{among_split}
 use Rattle.av_shared.specs.Merged.{AreAllTaken, AreMerged, AreStuck, Brings, FilterGoesOn, ServiceGoesOn, Takes, WasSentDown, WasSentUp, sent_of_filter, sent_of_service}
 use Rattle.av_shared.specs.declared.merge.Taken.{Taken}
-use Rattle.av_world.specs.Audits.{CameDown, CameUp, IsDelivered, OfFilter, OfService, SideEntry, filter_side, service_side}
+use Rattle.av_history.specs.Audits.{CameDown, CameUp, IsDelivered, OfFilter, OfService, SideEntry, filter_side, service_side}
 
 -- all of these messages were sent by then
 abbrev AreSent : (Letter → Type 0) → List Letter → Type 0

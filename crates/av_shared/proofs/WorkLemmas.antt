@@ -15,7 +15,7 @@ use Rattle.av_service.specs.Audit.{By, IsServiceAudit, Publishes, respond}
 use Rattle.av_service.specs.Conduct.{Receives, ServiceEvent}
 use Rattle.av_service.specs.Conduct as service
 use Rattle.av_service.specs.Desk.{Desk}
-use Rattle.av_world.specs.Audits.{FinishesItsWorks, IsOfWorks, sets_end}
+use Rattle.av_history.specs.Audits.{FinishesItsWorks, IsOfWorks, sets_end}
 
 pub finishes_more : (xs : List ServiceEntry) (x : ServiceEntry) (sets : List Publication) (works : List WorkState) → FinishesItsWorks sets works xs
     → IsOfWorks (sets_end sets xs) (lent_by works xs) x.call → FinishesItsWorks sets works (xs ++ x ∷ [])

@@ -9,7 +9,7 @@ use Rattle.av_gate.specs.declared.audit.Audit.{Audit as GateAudit}
 use Rattle.av_service.specs.Audit.{By, Call}
 use Rattle.av_service.specs.Conduct.{Finishes, Receives}
 use Rattle.av_shared.specs.History.{events_of}
-use Rattle.av_world.specs.Audits.{OfFilter, OfService, SideEntry}
+use Rattle.av_history.specs.Audits.{OfFilter, OfService, SideEntry}
 
 -- the event brings the filter no message
 abbrev pub hears_nothing : FilterEvent → Bool

@@ -7,7 +7,7 @@ use Rattle.av_gate.specs.declared.audit.Audit.{Audit as GateAudit}
 use Rattle.av_shared.specs.History.{AreOneHistory, sets_at, told_at}
 use Rattle.av_store.specs.Files.{File}
 use Rattle.av_store.specs.Seen.{Keeps}
-use Rattle.av_world.specs.Audits.{AuditsGrantOnlyClean, AuditsHoldOneVerdict, SideEntry}
+use Rattle.av_history.specs.Audits.{AuditsGrantOnlyClean, AuditsHoldOneVerdict, SideEntry}
 
 -- the headline of a history, of the files that the gate's volume kept at first
 pub record HoldsOver (gate : GateAudit) (desk : DeskAudit) (spare : Option DeskAudit) (history : List SideEntry) : Type 0 where

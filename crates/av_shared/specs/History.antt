@@ -8,8 +8,8 @@ use Rattle.av_desk.specs.declared.audit.Audit.{Audit as DeskAudit}
 use Rattle.av_gate.specs.declared.audit.Audit.{Audit as GateAudit}
 use Rattle.av_service.specs.Audit.{IsCatalogue, IsServiceAudit, ServiceEntry}
 use Rattle.av_sigset.specs.Publication.{Publication, publication_of}
-use Rattle.av_world.specs.Audits.{AreOneSets, FinishesItsWorks, IsDelivered, SideEntry, filter_side, service_side, sets_end}
-use Rattle.av_world.specs.Scene.{Started}
+use Rattle.av_history.specs.Audits.{AreOneSets, FinishesItsWorks, IsDelivered, SideEntry, filter_side, service_side, sets_end}
+use Rattle.av_history.specs.Scene.{Started}
 
 -- ---- a spare that may be none
 

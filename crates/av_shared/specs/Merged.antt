@@ -10,7 +10,7 @@ use Rattle.av_filter.specs.Conduct.{FilterEvent}
 use Rattle.av_filter.specs.Conduct as filter
 use Rattle.av_service.specs.Audit.{By, Call, ServiceEntry}
 use Rattle.av_service.specs.Conduct as service
-use Rattle.av_world.specs.Audits.{IsDelivered, SideEntry, filter_side, service_side}
+use Rattle.av_history.specs.Audits.{IsDelivered, SideEntry, filter_side, service_side}
 use Rattle.av_shared.specs.declared.merge.Taken.{Taken}
 
 -- what these entries of a filter sent

@@ -19,7 +19,7 @@ use Rattle.av_sigset.specs.declared.signature.Pattern.{Pattern}
 use Rattle.av_store.specs.Rows.{stream_at}
 use Rattle.av_store.specs.Store.{Store}
 use Rattle.av_store.specs.declared.stream.Stream.{Stream}
-use Rattle.av_world.specs.Audits.{OfFilter, OfService, SideEntry}
+use Rattle.av_history.specs.Audits.{OfFilter, OfService, SideEntry}
 
 -- an event that changes no stream
 abbrev pub ChangesNothing : FilterEvent → Type 0

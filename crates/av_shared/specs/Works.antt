@@ -8,7 +8,7 @@ use Rattle.av_frame.specs.declared.message.Body.TheVariants.{Chunk}
 use Rattle.av_service.specs.Audit.{By, Call}
 use Rattle.av_service.specs.Conduct.{Receives}
 use Rattle.av_sigset.specs.Publication.{Publication}
-use Rattle.av_world.specs.Audits.{FinishesItsWorks}
+use Rattle.av_history.specs.Audits.{FinishesItsWorks}
 
 -- a call brings these bytes of a content
 pub record BringsBytes (c : Call) (bytes : List ℕ) : Type 0 where

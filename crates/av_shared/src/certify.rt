@@ -3,7 +3,7 @@ ghost use Rattle.std.specs.Option.{option_copied};
 ghost use Rattle.av_gate.specs.Claims.{IsLegal};
 ghost use Rattle.av_shared.specs.Certified.{IsCertified};
 ghost use Rattle.av_shared.specs.History.{AreOwnWorks, HaveHistory, HaveOneSets, IsDeskAudit, IsSpare, IsMerge, entries_at};
-ghost use Rattle.av_world.specs.Audits.{SideEntry};
+ghost use Rattle.av_history.specs.Audits.{SideEntry};
 
 use crate::laws::headline_of_audits;
 use crate::merge::{Sides, are_merged};

@@ -6,9 +6,9 @@ ghost use Rattle.av_shared.specs.History.{AreOneHistory, HaveOneSets, IsDeskAudi
 ghost use Rattle.av_store.specs.Files.{File};
 ghost use Rattle.av_store.specs.Seen.{Keeps};
 ghost use Rattle.av_store.specs.Sound.{IsOfFiles};
-ghost use Rattle.av_world.specs.Audits.{AuditsGrantOnlyClean, AuditsHoldOneVerdict, SideEntry};
+ghost use Rattle.av_history.specs.Audits.{AuditsGrantOnlyClean, AuditsHoldOneVerdict, SideEntry};
 
-use av_world::laws::audits;
+use av_history::laws::audits;
 
 /// The headline of running threads. A gate, the desk of one of its ports and the desk of the other, if there is one, were closed, and
 /// gave these audits. Put together in any order in which each message that came had been sent by the other side before, and

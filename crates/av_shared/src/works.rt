@@ -9,7 +9,7 @@ ghost use Rattle.av_service.specs.Conduct.{Finishes};
 ghost use Rattle.av_shared.specs.History.{AreOwnWorks, IsDeskAudit};
 ghost use Rattle.av_shared.specs.Works.{BringsBytes, HasOwnWorks, IsOpenedWith, SpareHasOwnWorks, SpareIsOpenedWith};
 ghost use Rattle.av_sigset.specs.Publication.{publication_of, published_as};
-ghost use Rattle.av_world.specs.Audits.{IsOfWorks};
+ghost use Rattle.av_history.specs.Audits.{IsOfWorks};
 
 use av_base::Lease;
 use av_desk::{Audit as DeskAudit, Entry as DeskEntry, Event as DeskEvent};

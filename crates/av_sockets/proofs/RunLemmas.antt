@@ -10,8 +10,8 @@ use Rattle.av_base.specs.declared.port.Port.TheVariants.{One}
 use Rattle.av_engines.specs.FilterEnd.{IsAt, WatchesOver}
 use Rattle.av_engines.specs.Incoming.{Received}
 use Rattle.av_engines.specs.Watching.{Led, Standing, all_happened, due, happened, heard, heard_all, is_done, joined, opens_of, run_from, unled}
-use Rattle.av_engines.specs.declared.end.End.{End}
-use Rattle.av_engines.specs.declared.end.End.TheVariants.{Done, ReadFault, WriteFault, Frame, Closed, Memory, AuditFull}
+use Rattle.av_frame.specs.declared.end.End.{End}
+use Rattle.av_frame.specs.declared.end.End.TheVariants.{Done, ReadFault, WriteFault, Frame, Closed, Memory, AuditFull}
 use Rattle.av_filter.proofs.BoundLemmas.{leads_to}
 use Rattle.av_filter.specs.Audit.{Kept}
 use Rattle.av_filter.specs.Call.{Meets, Reacts}

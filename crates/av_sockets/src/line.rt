@@ -1,5 +1,5 @@
 ghost use Rattle.std.specs.Prelude.{◌≡◌, ◌≢◌, [], OnOk};
-ghost use Rattle.av_engines.specs.declared.end.End.TheVariants.{Done, Memory};
+ghost use Rattle.av_frame.specs.declared.end.End.TheVariants.{Done, Memory};
 ghost use Rattle.av_sockets.specs.Run.{LeadsOn};
 
 use crate::duplex::Duplex;

@@ -1,6 +1,6 @@
 use Rattle.std.specs.Prelude.{ℕ, ⊤, List, [], ◌∷◌, if◌then◌else◌, nat_lt}
-use Rattle.av_engines.specs.declared.end.End.{End}
-use Rattle.av_engines.specs.declared.end.End.TheVariants as end
+use Rattle.av_frame.specs.declared.end.End.{End}
+use Rattle.av_frame.specs.declared.end.End.TheVariants as end
 use Rattle.av_status.specs.declared.status.Status.{Status}
 use Rattle.av_status.specs.declared.status.Status.TheVariants.{Done, Refused, Usage, Memory, Device, Found, FoundInPart}
 

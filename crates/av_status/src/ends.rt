@@ -5,7 +5,7 @@ ghost use Rattle.av_status.specs.Status.{graver, status_of_end};
 
 use crate::faults::{audit_full, bad_frame, device_failed, out_of_memory};
 use crate::status::Status;
-use av_engines::End;
+use av_frame::End;
 use std::io::Write;
 
 /// The status of a loop's end.

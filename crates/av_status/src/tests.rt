@@ -5,8 +5,8 @@ use crate::faults::{
 use crate::prefixed::Prefixed;
 use crate::status::Status;
 use crate::tally::{Form, Shown, Tally, Wishes};
-use av_engines::End;
 use av_fakes::{FakeWriter, Fault};
+use av_frame::End;
 use av_sigset::{SetFault, SetFaultKind};
 use std::io::Write;
 use std::test::Fail;

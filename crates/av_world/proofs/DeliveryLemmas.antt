@@ -5,7 +5,7 @@ use Rattle.std.proofs.lemmas.List.{append-nil}
 use Rattle.av_frame.specs.Laws.{BeginsWithOneFrame}
 use Rattle.av_frame.specs.Message.{IsLetter, Letter}
 use Rattle.av_frame.specs.Spelling.{frame}
-use Rattle.av_world.specs.World.{member}
+use Rattle.av_history.specs.World.{member}
 
 pub came_out : (one : BeginsWithOneFrame) (m n : Letter) (bytes rest : List ℕ) → IsLetter m → IsLetter n → bytes ≡ [] ++ frame m → bytes ≡ frame n ++ rest → n ≡ m
 came_out one m n bytes rest sent came is comes = sym (one m n [] rest sent came (append-nil (frame m) ∙ sym is ∙ comes)).0

@@ -16,10 +16,10 @@ use Rattle.av_service.specs.Scanning.{chunk_found, dropped, receives as service_
 use Rattle.av_sigset.specs.Made.{fault_in, serial_signatures}
 use Rattle.av_sigset.specs.Publication.{published_as}
 use Rattle.av_store.specs.Seen.{change_of, seen_from}
-use Rattle.av_world.specs.Audits.{FinishesItsWorks, service_side}
-use Rattle.av_world.specs.Held.{asked as asked_in, held, held_contexts}
-use Rattle.av_world.specs.Scene.{desk_at_first}
-use Rattle.av_world.specs.World.{step_of}
+use Rattle.av_history.specs.Audits.{FinishesItsWorks, service_side}
+use Rattle.av_history.specs.Held.{asked as asked_in, held, held_contexts}
+use Rattle.av_history.specs.Scene.{desk_at_first}
+use Rattle.av_history.specs.World.{step_of}
 use Rattle.av_world.specs.Examples.{run, says, WholePath, GrantedTwice, WrittenMeanwhile, TimedOutClosed, TimedOutOpen, Restarted, Stale, Orphaned, Overtaken, HeldAfter, MoreScripts, PathBegins, CanBeLegal, ComeTrue, no_sets, some_audits, some_work, told}
 
 -- names every definition that a script computes with

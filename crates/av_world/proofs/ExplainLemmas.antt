@@ -47,13 +47,13 @@ use Rattle.av_store.specs.Rows.{stream_at}
 use Rattle.av_store.specs.Store.{Store, greatest}
 use Rattle.av_store.specs.declared.stream.Stream.{Stream}
 use Rattle.av_filter.proofs.QuestionLemmas.{order-filter}
-use Rattle.av_world.proofs.ContentLemmas.{present_content}
+use Rattle.av_history.proofs.ContentLemmas.{present_content}
 use Rattle.av_filter.proofs.EachLemmas.{each_weaker, each-append, each-filter, each-filter_passed, each-map, find_each, find_passes}
-use Rattle.av_world.proofs.FilterLemmas.{Comes, Runs, order_just, current_right, look_right, past_filter, runs}
-use Rattle.av_world.proofs.FitLemmas.{Fits as FilterFits, core, OutcomeFits, about}
-use Rattle.av_world.specs.Held.{Asked, asked}
-use Rattle.av_world.specs.Past.{Past, IsVerdictOf}
-use Rattle.av_world.specs.Safety.{Waits, Explains, IsByMode, IsExplained, IsRightFor, Moves, Submission, next_open}
+use Rattle.av_history.proofs.FilterLemmas.{Comes, Runs, order_just, current_right, look_right, past_filter, runs}
+use Rattle.av_history.proofs.FitLemmas.{Fits as FilterFits, core, OutcomeFits, about}
+use Rattle.av_history.specs.Held.{Asked, asked}
+use Rattle.av_history.specs.Past.{Past, IsVerdictOf}
+use Rattle.av_history.specs.Safety.{Waits, Explains, IsByMode, IsExplained, IsRightFor, Moves, Submission, next_open}
 use Rattle.av_filter.specs.Fit.{AreInOrder, Fits, IsAsked, IsGiven, RunOnOpen}
 
 -- what the open of each number asked for

@@ -28,17 +28,17 @@ use Rattle.av_service.specs.Desk.{Desk, job_at}
 use Rattle.av_service.specs.Scanning.{most_leases}
 use Rattle.av_sigset.specs.Catalogue.{latest}
 use Rattle.av_world.proofs.ExplainLemmas.{question_stream}
-use Rattle.av_world.proofs.FilterLemmas.{Runs}
+use Rattle.av_history.proofs.FilterLemmas.{Runs}
 use Rattle.av_world.proofs.PlaceLemmas.{by_port}
 use Rattle.av_world.proofs.PathLemmas as path
 use Rattle.av_world.proofs.ProgressLemmas.{Steady, back_onto, onward-append, past_kept, steady_onward}
 use Rattle.av_world.proofs.SettleLemmas.{Settled, question_settled, verdict_is, found_verdict}
-use Rattle.av_world.specs.declared.event.Event.{Event}
-use Rattle.av_world.specs.declared.given.Given.{Given}
-use Rattle.av_world.specs.Past.{IsVerdictOf, past}
+use Rattle.av_history.specs.declared.event.Event.{Event}
+use Rattle.av_history.specs.declared.given.Given.{Given}
+use Rattle.av_history.specs.Past.{IsVerdictOf, past}
 use Rattle.av_world.specs.Path.{IsReady}
 use Rattle.av_world.specs.Progress.{GetsVerdict, IsCarrying, all_chunks, chunks, is_reply, last_up, onward, round, scan_comes, settling, settling_all, to_reply}
-use Rattle.av_world.specs.World.{WorldState, after, desk_of, given_at, member}
+use Rattle.av_history.specs.World.{WorldState, after, desk_of, given_at, member}
 
 -- ---- lists
 

@@ -15,8 +15,8 @@ use Rattle.av_frame.specs.declared.message.Body.TheVariants as body
 use Rattle.av_frame.specs.declared.message.Body.{Body}
 use Rattle.av_frame.specs.declared.outcome.Outcome.TheVariants as outcome
 use Rattle.av_store.specs.Rows.{Streams}
-use Rattle.av_world.specs.Held.{Asked, asked, asked_by, entry, held, held_body, held_by, held_contexts, held_in, held_reply}
-use Rattle.av_world.specs.World.{WorldState}
+use Rattle.av_history.specs.Held.{Asked, asked, asked_by, entry, held, held_body, held_by, held_contexts, held_in, held_reply}
+use Rattle.av_history.specs.World.{WorldState}
 
 -- ---- contexts
 

@@ -14,9 +14,9 @@ use Rattle.av_store.specs.Store.{Store}
 use Rattle.av_store.specs.declared.stream.Stream.{Stream}
 use Rattle.av_world.proofs.PublishLemmas.{found_published}
 use Rattle.av_world.specs.Judge.{judged_of, latest_set, name_judged, set_judged, stream_judged}
-use Rattle.av_world.specs.Past.{IsRight, IsTold, past}
-use Rattle.av_world.specs.World.{WorldState}
-use Rattle.av_world.specs.declared.report.Judged.{Judged}
+use Rattle.av_history.specs.Past.{IsRight, IsTold, past}
+use Rattle.av_history.specs.World.{WorldState}
+use Rattle.av_history.specs.declared.report.Judged.{Judged}
 
 -- so has the latest one
 latest_published : (sets : List NumberedSet) (s : NumberedSet) → latest_set sets ≡ Some s → published_as (map publication_of sets) s.version ≡ Some (patterns_of s.signatures)

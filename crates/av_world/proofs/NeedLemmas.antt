@@ -33,17 +33,17 @@ use Rattle.av_service.specs.declared.fault.ConnectFault.{ConnectFault}
 use Rattle.av_service.specs.Work.{WorkState}
 use Rattle.av_sigset.specs.Catalogue.{latest}
 use Rattle.av_store.specs.Store.{Store}
-use Rattle.av_world.proofs.FitLemmas.{UpBody, UpFits}
+use Rattle.av_history.proofs.FitLemmas.{UpBody, UpFits}
 use Rattle.av_world.proofs.ProgressLemmas.{Steady, steady, steady_onward}
 use Rattle.av_world.proofs.PublishLemmas.{latest_same}
-use Rattle.av_world.proofs.SceneLemmas.{published_before}
-use Rattle.av_world.specs.declared.event.Event.{Event}
-use Rattle.av_world.specs.declared.event.Event.TheVariants.{Down, Up, Run, Connect, DisconnectService}
-use Rattle.av_world.specs.declared.given.Given.{Given}
-use Rattle.av_world.specs.Past.{past}
+use Rattle.av_history.proofs.SceneLemmas.{published_before}
+use Rattle.av_history.specs.declared.event.Event.{Event}
+use Rattle.av_history.specs.declared.event.Event.TheVariants.{Down, Up, Run, Connect, DisconnectService}
+use Rattle.av_history.specs.declared.given.Given.{Given}
+use Rattle.av_history.specs.Past.{past}
 use Rattle.av_world.specs.Progress.{GaveNoVerdict, IsCarrying, IsNoVerdict, onward}
 use Rattle.av_sigset.specs.Publication.{latest_as, publication_of}
-use Rattle.av_world.specs.World.{WorldState, after, back_at, connected, done, down_frame, given_at, member, reacted, responded, start, step_of, up_frame, work_at, work_event, world_of, world_or, desk_of}
+use Rattle.av_history.specs.World.{WorldState, after, back_at, connected, done, down_frame, given_at, member, reacted, responded, start, step_of, up_frame, work_at, work_event, world_of, world_or, desk_of}
 use Rattle.av_filter.specs.Conduct as filter_events
 use Rattle.av_service.specs.Conduct as service_events
 

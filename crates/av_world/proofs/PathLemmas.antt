@@ -40,17 +40,17 @@ use Rattle.av_sigset.specs.Publication.{Publication, publication_of, published_a
 use Rattle.av_sigset.specs.declared.signature.Pattern.{Pattern}
 use Rattle.av_store.specs.History.{content}
 use Rattle.av_store.specs.Store.{Store}
-use Rattle.av_world.proofs.DeskLemmas.{hit_whole, no_hit, nothing_clean, set_solid}
+use Rattle.av_history.proofs.DeskLemmas.{hit_whole, no_hit, nothing_clean, set_solid}
 use Rattle.av_filter.proofs.EachLemmas.{each_weaker, each-append}
-use Rattle.av_world.proofs.FilterLemmas.{Runs, runs, look_right}
-use Rattle.av_world.proofs.FitLemmas.{core}
+use Rattle.av_history.proofs.FilterLemmas.{Runs, runs, look_right}
+use Rattle.av_history.proofs.FitLemmas.{core}
 use Rattle.av_world.proofs.SoundLemmas.{Sound, sound}
 use Rattle.av_world.proofs.PlaceLemmas.{at_ports, by_port}
-use Rattle.av_world.specs.Past.{IsVerdictOf, past}
+use Rattle.av_history.specs.Past.{IsVerdictOf, past}
 use Rattle.av_world.specs.Path.{carry_up, carry_down, carry_work, rounds, IsReady, EndsWithVerdict, scan_for}
-use Rattle.av_world.specs.Safety.{IsFront, JudgesItsContent as JobFits, LoanFits, works_of}
-use Rattle.av_world.specs.World.{WorldState, desk_of, or_none, scan_after, start, world_of}
-use Rattle.av_world.specs.declared.event.Event.{Event}
+use Rattle.av_history.specs.Safety.{IsFront, JudgesItsContent as JobFits, LoanFits, works_of}
+use Rattle.av_history.specs.World.{WorldState, desk_of, or_none, scan_after, start, world_of}
+use Rattle.av_history.specs.declared.event.Event.{Event}
 
 -- the job that is put in the place of another is found under its id
 pub found_put : (k : Job) (id : MessageId) (j : Job) (js : List Job) → k.id ≡ id → j.id ≡ id → job_at id js ≡ Some j → job_at id (with_job k js) ≡ Some k

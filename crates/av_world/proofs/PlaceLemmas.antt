@@ -4,14 +4,14 @@ use Rattle.av_base.specs.declared.limits.LimitValues.{LimitValues}
 use Rattle.av_base.specs.declared.mode.Mode.{Mode}
 use Rattle.av_sigset.specs.Publication.{publication_of}
 use Rattle.av_service.proofs.PortLemmas.{stays_on_its_port}
-use Rattle.av_world.proofs.StepLemmas.{Preserves, after_service, history_keeps}
+use Rattle.av_history.proofs.StepLemmas.{Preserves, after_service, history_keeps}
 use Rattle.av_base.specs.declared.port.Port.TheVariants.{One, Two}
 use Rattle.av_base.specs.declared.port.Port.{Port}
 use Rattle.av_service.specs.Conduct.{ServiceEvent, Publishes, service_step}
 use Rattle.av_service.specs.Desk.{Desk}
-use Rattle.av_world.specs.declared.event.Event.{Event}
-use Rattle.av_world.specs.declared.event.Event.TheVariants.{Run}
-use Rattle.av_world.specs.World.{WorldState, back_at, desk_of, done, start, world_of}
+use Rattle.av_history.specs.declared.event.Event.{Event}
+use Rattle.av_history.specs.declared.event.Event.TheVariants.{Run}
+use Rattle.av_history.specs.World.{WorldState, back_at, desk_of, done, start, world_of}
 
 -- each service is on its port
 stays_there : (d : Desk) (e : ServiceEvent) (port : Port) → d.port ≡ port → (service_step d e).desk.port ≡ port

@@ -16,14 +16,14 @@ use Rattle.av_frame.specs.declared.message.Body.{Body}
 use Rattle.av_service.specs.Conduct.{connect_refusal, service_step}
 use Rattle.av_service.specs.Work.{WorkState}
 use Rattle.av_world.proofs.SoundLemmas.{Sound, sound_filter, sound_service, sound_publish, sound_work, sound_start}
-use Rattle.av_world.proofs.StepLemmas.{Preserves, history_keeps, step_keeps}
-use Rattle.av_world.specs.declared.event.Event.{Event}
-use Rattle.av_world.specs.declared.event.Event.TheVariants.{Down, Up, Run, Connect, DisconnectService}
-use Rattle.av_world.specs.Held.{Asked, asked, asked_at}
-use Rattle.av_world.specs.Past.{past}
+use Rattle.av_history.proofs.StepLemmas.{Preserves, history_keeps, step_keeps}
+use Rattle.av_history.specs.declared.event.Event.{Event}
+use Rattle.av_history.specs.declared.event.Event.TheVariants.{Down, Up, Run, Connect, DisconnectService}
+use Rattle.av_history.specs.Held.{Asked, asked, asked_at}
+use Rattle.av_history.specs.Past.{past}
 use Rattle.av_world.specs.Progress.{IsCarrying, before_scan, onward}
 use Rattle.av_sigset.specs.Publication.{publication_of}
-use Rattle.av_world.specs.World.{WorldState, after, back_at, connected, done, down_frame, member, reacted, responded, start, step_of, up_frame, work_at, work_event, world_of, world_or, desk_of}
+use Rattle.av_history.specs.World.{WorldState, after, back_at, connected, done, down_frame, member, reacted, responded, start, step_of, up_frame, work_at, work_event, world_of, world_or, desk_of}
 use Rattle.av_filter.specs.Conduct as filter_events
 use Rattle.av_service.specs.Conduct as service_events
 

@@ -11,7 +11,7 @@ use Rattle.av_base.specs.declared.port.Port.TheVariants.{One, Two}
 use Rattle.av_filter.proofs.FitLemmas.{keeps_fit}
 use Rattle.av_filter.specs.Fit.{Fits}
 use Rattle.av_filter_table.specs.Ports.{least_port, none_open, without_port}
-use Rattle.av_world.proofs.SceneLemmas.{heard_desks}
+use Rattle.av_history.proofs.SceneLemmas.{heard_desks}
 use Rattle.av_filter.proofs.EachLemmas.{each_weaker}
 use Rattle.av_filter.proofs.RowLemmas.{row_of}
 use Rattle.av_filter.specs.Rows
@@ -39,16 +39,16 @@ use Rattle.av_world.proofs.FinishLemmas.{AllSettled, HaveLeases, Idle, all_chunk
 use Rattle.av_world.proofs.LeaveLemmas.{filter_leaves, service_leaves}
 use Rattle.av_world.proofs.ProgressLemmas.{Steady, back_onto, connect_step, disconnect_step, onward-append, past_kept, steady, steady_onward}
 use Rattle.av_world.proofs.PublishLemmas.{is_new, made_of}
-use Rattle.av_world.proofs.StepLemmas.{Preserves, history_keeps}
-use Rattle.av_world.specs.Cores.{IsFilterEvent, IsServiceEvent}
-use Rattle.av_world.specs.declared.event.Event.{Event}
-use Rattle.av_world.specs.declared.event.Event.TheVariants.{Run, Connect, DisconnectService}
-use Rattle.av_world.specs.declared.given.Given.{Given}
-use Rattle.av_world.specs.Past.{IsVerdictOf, past}
+use Rattle.av_history.proofs.StepLemmas.{Preserves, history_keeps}
+use Rattle.av_history.specs.Cores.{IsFilterEvent, IsServiceEvent}
+use Rattle.av_history.specs.declared.event.Event.{Event}
+use Rattle.av_history.specs.declared.event.Event.TheVariants.{Run, Connect, DisconnectService}
+use Rattle.av_history.specs.declared.given.Given.{Given}
+use Rattle.av_history.specs.Past.{IsVerdictOf, past}
 use Rattle.av_world.specs.Progress.{CanFinish, Finishes, GetsVerdict, IsCarrying, IsWaiting, all_chunks, finishing, finishing_of, onward, reconnecting, settling_all}
 use Rattle.av_sigset.specs.Publication.{Publication, publication_of}
 use Rattle.av_service.specs.Audit.{IsNew}
-use Rattle.av_world.specs.World.{WorldState, after, all_told, at_port, back_at, desk_of, done, given_at, member, responded, start, with_set, world_of}
+use Rattle.av_history.specs.World.{WorldState, after, all_told, at_port, back_at, desk_of, done, given_at, member, responded, start, with_set, world_of}
 
 -- ---- before anything was published
 

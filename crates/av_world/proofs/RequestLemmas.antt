@@ -32,15 +32,15 @@ use Rattle.av_store.specs.declared.fault.StoreFault.{StoreFault}
 use Rattle.av_world.specs.Request.{Asks, frame_fault, outcome_of, served, work_fault}
 use Rattle.av_world.specs.Serving.{TakesServed, service_refusal}
 use Rattle.av_world.specs.Stage.{Happens, Takes, at_history}
-use Rattle.av_world.specs.Whole.{IsWhole}
-use Rattle.av_world.specs.World.{WorldState, added, connected, desk_of, down_frame, filter_event, member, no_line, published, service_outcome, step_fault, step_of, up_frame, work_event}
-use Rattle.av_world.specs.declared.event.Event.{Event}
-use Rattle.av_world.specs.declared.event.Event.TheVariants.{Connect}
-use Rattle.av_world.specs.declared.fault.StepFault.{StepFault}
-use Rattle.av_world.specs.declared.fault.StepFault.TheVariants as fault
-use Rattle.av_world.specs.declared.report.Line.{Line}
-use Rattle.av_world.specs.declared.report.Line.TheVariants.{Silent}
-use Rattle.av_world.specs.declared.report.Report.{Report}
+use Rattle.av_history.specs.Whole.{IsWhole}
+use Rattle.av_history.specs.World.{WorldState, added, connected, desk_of, down_frame, filter_event, member, no_line, published, service_outcome, step_fault, step_of, up_frame, work_event}
+use Rattle.av_history.specs.declared.event.Event.{Event}
+use Rattle.av_history.specs.declared.event.Event.TheVariants.{Connect}
+use Rattle.av_history.specs.declared.fault.StepFault.{StepFault}
+use Rattle.av_history.specs.declared.fault.StepFault.TheVariants as fault
+use Rattle.av_history.specs.declared.report.Line.{Line}
+use Rattle.av_history.specs.declared.report.Line.TheVariants.{Silent}
+use Rattle.av_history.specs.declared.report.Report.{Report}
 use Rattle.av_world.specs.declared.world.request.Request.{Request}
 
 connects_as : (w : WorldState) (port : Port) (o : Option ConnectFault) → connected w (Connect port) port o ≡ unless (option_map fault.Connect o) (service_outcome w (Connect port) port Silent (service_step (desk_of w port) Connects))

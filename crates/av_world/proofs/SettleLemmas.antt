@@ -41,19 +41,19 @@ use Rattle.av_service.specs.Lending.{closes, finished}
 use Rattle.av_service.specs.Response.{Response, read_message, sends}
 use Rattle.av_service.specs.Scanning.{most_leases, scan_cached}
 use Rattle.av_sigset.specs.declared.signature.Pattern.{Pattern}
-use Rattle.av_world.proofs.DeskLemmas.{hit_whole, no_hit, nothing_clean}
-use Rattle.av_world.proofs.FilterLemmas.{look_right}
+use Rattle.av_history.proofs.DeskLemmas.{hit_whole, no_hit, nothing_clean}
+use Rattle.av_history.proofs.FilterLemmas.{look_right}
 use Rattle.av_world.proofs.PathLemmas.{Waits, UpTo, find_last, found_put, put_each, up_more}
 use Rattle.av_world.proofs.PathLemmas as path
 use Rattle.av_world.proofs.ProgressLemmas.{the_asked, back_onto, down_step, get_last, member_last, onward-append, run_step, scan_there, up_step}
 use Rattle.av_world.proofs.SoundLemmas.{Sound}
-use Rattle.av_world.specs.declared.event.Event.{Event}
-use Rattle.av_world.specs.declared.event.Event.TheVariants.{Down, Up, Run}
-use Rattle.av_world.specs.Past.{IsVerdictOf, past}
+use Rattle.av_history.specs.declared.event.Event.{Event}
+use Rattle.av_history.specs.declared.event.Event.TheVariants.{Down, Up, Run}
+use Rattle.av_history.specs.Past.{IsVerdictOf, past}
 use Rattle.av_world.specs.Path.{IsReady, scan_for}
 use Rattle.av_world.specs.Progress.{IsCarrying, before_scan, is_reply, last_up, onward, round, scan_comes, to_reply}
 use Rattle.av_sigset.specs.Publication.{Publication, publication_of}
-use Rattle.av_world.specs.World.{WorldState, after, back_at, desk_of, done, given_at, if_there, member, reacted, responded, with_desk}
+use Rattle.av_history.specs.World.{WorldState, after, back_at, desk_of, done, given_at, if_there, member, reacted, responded, with_desk}
 
 -- where the only job of an id is put away, none is left
 gone : (k j : Job) → k.id ≡ j.id → without_job k.id (with_job k (j ∷ [])) ≡ []

@@ -14,20 +14,20 @@ use Rattle.av_base.specs.declared.port.Port.{Port}
 use Rattle.av_service.specs.Audit.{IsNew}
 use Rattle.av_service.specs.Conduct.{ServiceEvent, Publishes, Restarts, service_step}
 use Rattle.av_service.specs.Desk.{Desk, just_started}
-use Rattle.av_world.specs.Whole.{IsAskedThere, ScanOnce}
-use Rattle.av_world.specs.Cores.{IsFilterEvent, IsServiceEvent, Names}
-use Rattle.av_world.specs.Headline.{GrantsOnlyClean, HoldsOneVerdict, IsJustified, NeverDiffers}
-use Rattle.av_world.specs.Held.{asked, held, history_at}
-use Rattle.av_world.specs.Safety.{works_of}
-use Rattle.av_world.specs.Scene.{past_filter}
-use Rattle.av_world.specs.World.{WorldState, after_set, back_at, desk_of, done, given_at, heard, if_there, lent_at, member, start, with_set, work_at, world_of}
-use Rattle.av_world.proofs.DeskLemmas.{DeskFits, IsSolid, Told, desk_grows, connects_told, message_told, disconnects_told, restarts_told, publishes_told, finished_told, latest_published}
+use Rattle.av_history.specs.Whole.{IsAskedThere, ScanOnce}
+use Rattle.av_history.specs.Cores.{IsFilterEvent, IsServiceEvent, Names}
+use Rattle.av_history.specs.Headline.{GrantsOnlyClean, HoldsOneVerdict, IsJustified, NeverDiffers}
+use Rattle.av_history.specs.Held.{asked, held, history_at}
+use Rattle.av_history.specs.Safety.{works_of}
+use Rattle.av_history.specs.Scene.{past_filter}
+use Rattle.av_history.specs.World.{WorldState, after_set, back_at, desk_of, done, given_at, heard, if_there, lent_at, member, start, with_set, work_at, world_of}
+use Rattle.av_history.proofs.DeskLemmas.{DeskFits, IsSolid, Told, desk_grows, connects_told, message_told, disconnects_told, restarts_told, publishes_told, finished_told, latest_published}
 use Rattle.av_filter.proofs.EachLemmas.{each_weaker, each-append, each-map}
-use Rattle.av_world.proofs.FilterLemmas.{Comes}
+use Rattle.av_history.proofs.FilterLemmas.{Comes}
 use Rattle.av_filter.proofs.FitLemmas.{keeps_fit}
-use Rattle.av_world.proofs.FitLemmas.{Grown, DownFits, UpFits, same_past}
-use Rattle.av_world.proofs.SceneLemmas.{Falling, Lawful, among_work, answers_just, body_there, held_right, lawful_fewer, lawful_filter, lawful_heard, published_before, rewrap, sets_same, works_less}
-use Rattle.av_world.proofs.StepLemmas.{IsPublished, Preserves, after_filter, after_service, history_keeps}
+use Rattle.av_history.proofs.FitLemmas.{Grown, DownFits, UpFits, same_past}
+use Rattle.av_history.proofs.SceneLemmas.{Falling, Lawful, among_work, answers_just, body_there, held_right, lawful_fewer, lawful_filter, lawful_heard, published_before, rewrap, sets_same, works_less}
+use Rattle.av_history.proofs.StepLemmas.{IsPublished, Preserves, after_filter, after_service, history_keeps}
 use Rattle.av_base.specs.declared.limits.LimitValues.{LimitValues}
 use Rattle.av_base.specs.declared.mode.Mode.{Mode}
 use Rattle.av_base.specs.declared.verdict.Verdict.{Verdict}
@@ -46,10 +46,10 @@ use Rattle.std.specs.Option.{unwrap_or}
 use Rattle.av_world.proofs.PublishLemmas.{is_new, latest_same, made_of}
 use Rattle.av_filter.specs.Reaction.{Reaction}
 use Rattle.av_service.specs.Response.{Response}
-use Rattle.av_world.specs.declared.event.Event.{Event}
-use Rattle.av_world.specs.declared.event.Event.TheVariants.{Publish, Run}
-use Rattle.av_world.specs.Past.{IsRightEntry, IsVerdictOf, Past, changes, number_then, past}
-use Rattle.av_world.specs.declared.given.Given.{Given}
+use Rattle.av_history.specs.declared.event.Event.{Event}
+use Rattle.av_history.specs.declared.event.Event.TheVariants.{Publish, Run}
+use Rattle.av_history.specs.Past.{IsRightEntry, IsVerdictOf, Past, changes, number_then, past}
+use Rattle.av_history.specs.declared.given.Given.{Given}
 
 -- the number that a name has now, it had then
 named_then : (w : WorldState) (name : List ℕ) (s : ℕ) → Keeps w.volume (map now (past w.history).streams) → Names w name s → number_then (past w.history) name ≡ s

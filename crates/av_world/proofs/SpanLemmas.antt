@@ -12,7 +12,7 @@ use Rattle.av_filter.specs.Fit.{Fits}
 use Rattle.av_filter_table.specs.Table.{on_port}
 use Rattle.av_service.specs.Response.{Response}
 use Rattle.av_world.proofs.FinishLemmas.{HaveLeases}
-use Rattle.av_world.proofs.SceneLemmas.{heard_desks}
+use Rattle.av_history.proofs.SceneLemmas.{heard_desks}
 use Rattle.av_base.proofs.LimitLemmas.{chunk_in, jobs_in, length_in}
 use Rattle.av_base.specs.Limits.{AreInRange}
 use Rattle.av_filter.proofs.BoundLemmas.{keeps_bounds}
@@ -25,11 +25,11 @@ use Rattle.av_store.specs.Bounds.{AreInBounds, IsInBounds}
 use Rattle.av_store.specs.Rows.{Streams, is_number, stream_at}
 use Rattle.av_world.proofs.LeaveLemmas.{fewer, filter_leaves, service_leaves}
 use Rattle.av_world.proofs.ReachLemmas.{can_always_finish}
-use Rattle.av_world.proofs.StepLemmas.{Preserves, history_keeps, step_keeps}
-use Rattle.av_world.specs.declared.event.Event.{Event}
+use Rattle.av_history.proofs.StepLemmas.{Preserves, history_keeps, step_keeps}
+use Rattle.av_history.specs.declared.event.Event.{Event}
 use Rattle.av_world.specs.Progress.{Finishes, IsWaiting, all_chunks, chunks}
 use Rattle.av_sigset.specs.Publication.{publication_of}
-use Rattle.av_world.specs.World.{WorldState, after, at_port, back_at, desk_of, done, heard, start, world_of}
+use Rattle.av_history.specs.World.{WorldState, after, at_port, back_at, desk_of, done, heard, start, world_of}
 
 -- ---- what a history can have used
 

@@ -34,18 +34,18 @@ use Rattle.av_store.specs.History.{now}
 use Rattle.av_store.specs.Seen.{Keeps}
 use Rattle.av_store.specs.Store.{Store}
 use Rattle.av_world.proofs.PublishLemmas.{is_new, made_of}
-use Rattle.av_world.proofs.SceneLemmas.{sets_same}
+use Rattle.av_history.proofs.SceneLemmas.{sets_same}
 use Rattle.av_world.proofs.SoundLemmas.{past_of, past_of_service}
-use Rattle.av_world.proofs.StepLemmas.{IsPublished, Preserves, after_filter, after_service, step_keeps}
-use Rattle.av_world.specs.Cores.{IsFilterEvent, IsServiceEvent}
-use Rattle.av_world.specs.Past.{IsTold, Past, past}
-use Rattle.av_world.specs.Safety.{works_out}
-use Rattle.av_world.specs.Scene.{past_filter}
-use Rattle.av_world.specs.Whole.{IsPublishedAs, IsWhole, StaysWhole}
-use Rattle.av_world.specs.World.{WorldState, after_set, all_told, back_at, desk_of, done, heard, lent_at, start, step_of, with_set, world_or}
-use Rattle.av_world.specs.declared.event.Event.{Event}
-use Rattle.av_world.specs.declared.event.Event.TheVariants.{Publish, Run}
-use Rattle.av_world.specs.declared.report.Report.{Report}
+use Rattle.av_history.proofs.StepLemmas.{IsPublished, Preserves, after_filter, after_service, step_keeps}
+use Rattle.av_history.specs.Cores.{IsFilterEvent, IsServiceEvent}
+use Rattle.av_history.specs.Past.{IsTold, Past, past}
+use Rattle.av_history.specs.Safety.{works_out}
+use Rattle.av_history.specs.Scene.{past_filter}
+use Rattle.av_history.specs.Whole.{IsPublishedAs, IsWhole, StaysWhole}
+use Rattle.av_history.specs.World.{WorldState, after_set, all_told, back_at, desk_of, done, heard, lent_at, start, step_of, with_set, world_or}
+use Rattle.av_history.specs.declared.event.Event.{Event}
+use Rattle.av_history.specs.declared.event.Event.TheVariants.{Publish, Run}
+use Rattle.av_history.specs.declared.report.Report.{Report}
 
 -- the volume after an event keeps what the past after it tells
 kept_after : (p : Past) (t : Table) (v : Store) (f : FilterEvent) → Keeps v (map now p.streams) → filter_refusal t v f ≡ None → Keeps (volume_after v f) (map now (past_filter p f).streams)

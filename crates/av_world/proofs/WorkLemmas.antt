@@ -20,11 +20,11 @@ use Rattle.av_world.proofs.PublishLemmas.{found_published}
 use Rattle.av_world.specs.Prepared.{Compiles}
 use Rattle.av_world.specs.Serving.{Works}
 use Rattle.av_world.specs.Stage.{at_history}
-use Rattle.av_world.specs.World.{WorldState, at_port, back_at, desk_of, done, lent_at, or_none, places_of, responded, service_outcome, work_at, work_event}
-use Rattle.av_world.specs.declared.event.Event.{Event}
-use Rattle.av_world.specs.declared.report.Line.TheVariants.{Silent}
-use Rattle.av_world.specs.declared.report.Note.TheVariants as note
-use Rattle.av_world.specs.declared.report.Report.{Report}
+use Rattle.av_history.specs.World.{WorldState, at_port, back_at, desk_of, done, lent_at, or_none, places_of, responded, service_outcome, work_at, work_event}
+use Rattle.av_history.specs.declared.event.Event.{Event}
+use Rattle.av_history.specs.declared.report.Line.TheVariants.{Silent}
+use Rattle.av_history.specs.declared.report.Note.TheVariants as note
+use Rattle.av_history.specs.declared.report.Report.{Report}
 
 -- the automaton that was built of the set of a version is of that version
 pub compiled_for : (sets : List NumberedSet) (version : ℕ) (s : NumberedSet) (a : Compiled) → set_at sets version ≡ Some s → a ≡ record { version = s.version; patterns = patterns_of s.signatures } → Compiles (set_at sets version) a

@@ -8,7 +8,7 @@ use Rattle.av_world.proofs.ExampleLemmas.{all_open}
 use Rattle.av_world.specs.Progress.{CanFinish, all_chunks, before_scan, finishing, onward, settling_all, to_reply}
 use Rattle.av_world.specs.ProgressExamples.{AreWorked, TwoScans, TwoAnswers, AfterRestart, RestartAnswers, AfterDisconnection, AfterWrite, WriteAnswers, NothingToDo, Unpublished, NoLease, NoByte, NoJob}
 use Rattle.av_world.specs.ProgressExamples as ex
-use Rattle.av_world.specs.World.{desk_of}
+use Rattle.av_history.specs.World.{desk_of}
 
 unfoldable pub computed : Bool
 unfolding all_open before_scan finishing onward settling_all to_reply

@@ -8,12 +8,12 @@ use Rattle.av_base.specs.declared.mode.Mode.{Mode}
 use Rattle.av_world.proofs.OnceLemmas.{answers_once}
 use Rattle.av_world.proofs.SoundLemmas.{grants_only_clean, holds_one_verdict, never_differs, sound}
 use Rattle.av_world.proofs.WholeLemmas.{stays_whole}
-use Rattle.av_world.specs.Headline.{AnswersOnce, GrantsOnlyClean, HoldsOneVerdict, NeverDiffers}
+use Rattle.av_history.specs.Headline.{AnswersOnce, GrantsOnlyClean, HoldsOneVerdict, NeverDiffers}
 use Rattle.av_world.specs.Reached.{IsKept, IsReached, KeepsPromise}
 use Rattle.av_world.specs.Stage.{at_history}
-use Rattle.av_world.specs.World.{WorldState, Gives, Outcome, nothing, accepted, refused_by_name, without_memory, Passes, after, start, step_of, world_of, world_or}
-use Rattle.av_world.specs.declared.event.Event.{Event}
-use Rattle.av_world.specs.declared.report.Report.{Report}
+use Rattle.av_history.specs.World.{WorldState, Gives, Outcome, nothing, accepted, refused_by_name, without_memory, Passes, after, start, step_of, world_of, world_or}
+use Rattle.av_history.specs.declared.event.Event.{Event}
+use Rattle.av_history.specs.declared.report.Report.{Report}
 
 -- the world is where its history leads, which these events can give
 pub record IsGiven (s w : WorldState) (es : List Event) : Type 0 where

@@ -35,18 +35,18 @@ use Rattle.av_service.specs.Conduct as service
 use Rattle.av_service.specs.Work.{WorkState}
 use Rattle.av_store.specs.Files.{File}
 use Rattle.av_store.specs.Store.{Store}
-use Rattle.av_world.specs.Audits.{AreLegal, OfFilter, OfService, SideEntry}
-use Rattle.av_world.specs.Held.{held}
+use Rattle.av_history.specs.Audits.{AreLegal, OfFilter, OfService, SideEntry}
+use Rattle.av_history.specs.Held.{held}
 use Rattle.av_world.specs.Path.{IsReady}
-use Rattle.av_world.specs.Scene.{Started}
-use Rattle.av_world.specs.World.{WorldState, step_of, after, start}
-use Rattle.av_world.specs.World as world
-use Rattle.av_world.specs.declared.event.Event.{Event}
-use Rattle.av_world.specs.declared.event.Event.TheVariants.{Publish, Create, Write, Remove, Open, Cleanup, Down, Up, Run, Timeout, Connect, DisconnectFilter, DisconnectService, RestartFilter, RestartService}
-use Rattle.av_world.specs.declared.fault.StepFault.{StepFault}
-use Rattle.av_world.specs.declared.fault.StepFault.TheVariants.{NoSuchName, NoSuchWork, NoSuchFrame}
-use Rattle.av_world.specs.declared.report.Note.{Note}
-use Rattle.av_world.specs.declared.report.Note.TheVariants.{Filter, Service}
+use Rattle.av_history.specs.Scene.{Started}
+use Rattle.av_history.specs.World.{WorldState, step_of, after, start}
+use Rattle.av_history.specs.World as world
+use Rattle.av_history.specs.declared.event.Event.{Event}
+use Rattle.av_history.specs.declared.event.Event.TheVariants.{Publish, Create, Write, Remove, Open, Cleanup, Down, Up, Run, Timeout, Connect, DisconnectFilter, DisconnectService, RestartFilter, RestartService}
+use Rattle.av_history.specs.declared.fault.StepFault.{StepFault}
+use Rattle.av_history.specs.declared.fault.StepFault.TheVariants.{NoSuchName, NoSuchWork, NoSuchFrame}
+use Rattle.av_history.specs.declared.report.Note.{Note}
+use Rattle.av_history.specs.declared.report.Note.TheVariants.{Filter, Service}
 
 -- a note of either side
 pub data Word : Type 0 where

@@ -4,11 +4,11 @@ use Rattle.av_sigset.specs.Catalogue.{newest, set_at}
 use Rattle.av_sigset.specs.Set.{NumberedSet, patterns_of}
 use Rattle.av_store.specs.Rows.{stream_at, number_named}
 use Rattle.av_store.specs.declared.stream.Stream.{Stream}
-use Rattle.av_world.specs.declared.fault.JudgeFault.{JudgeFault}
-use Rattle.av_world.specs.declared.fault.JudgeFault.TheVariants.{NoSuchName, NoSignatures}
-use Rattle.av_world.specs.declared.report.Judged.{Judged}
+use Rattle.av_history.specs.declared.fault.JudgeFault.{JudgeFault}
+use Rattle.av_history.specs.declared.fault.JudgeFault.TheVariants.{NoSuchName, NoSignatures}
+use Rattle.av_history.specs.declared.report.Judged.{Judged}
 use Rattle.av_match.specs.Match.{verdict}
-use Rattle.av_world.specs.World.{WorldState}
+use Rattle.av_history.specs.World.{WorldState}
 
 -- the set of the newest version
 abbrev pub latest_set : List NumberedSet → Option NumberedSet

@@ -21,8 +21,8 @@ use Rattle.av_sigset.specs.Publication.{Publication, publication_of, published_a
 use Rattle.av_sigset.specs.declared.signature.Pattern.{Pattern}
 use Rattle.av_store.specs.History.{content}
 use Rattle.av_store.specs.Store.{Store}
-use Rattle.av_world.specs.Past.{past}
-use Rattle.av_world.specs.World.{WorldState, desk_of, done}
+use Rattle.av_history.specs.Past.{past}
+use Rattle.av_history.specs.World.{WorldState, desk_of, done}
 
 -- the work that was lent is run and finished
 abbrev pub carry_work : List Publication → Desk → List WorkState → Response

@@ -19,12 +19,12 @@ use Rattle.av_pend.specs.declared.answer.Answer.{Answer}
 use Rattle.av_pend.specs.declared.answer.Answer.TheVariants.{Granted, Unscanned, Denied}
 use Rattle.av_service.specs.Scanning.{most_leases}
 use Rattle.av_sigset.specs.Catalogue.{latest}
-use Rattle.av_world.specs.Held.{asked_by}
-use Rattle.av_world.specs.Past.{IsVerdictOf, past}
-use Rattle.av_world.specs.World.{WorldState, after, desk_of, given_at, member}
-use Rattle.av_world.specs.declared.event.Event.{Event}
-use Rattle.av_world.specs.declared.event.Event.TheVariants.{Down, Up, Run, Connect, DisconnectService}
-use Rattle.av_world.specs.declared.given.Given.{Given}
+use Rattle.av_history.specs.Held.{asked_by}
+use Rattle.av_history.specs.Past.{IsVerdictOf, past}
+use Rattle.av_history.specs.World.{WorldState, after, desk_of, given_at, member}
+use Rattle.av_history.specs.declared.event.Event.{Event}
+use Rattle.av_history.specs.declared.event.Event.TheVariants.{Down, Up, Run, Connect, DisconnectService}
+use Rattle.av_history.specs.declared.given.Given.{Given}
 
 -- the world after these events, the first of them first
 unfoldable pub onward : List Event → WorldState → WorldState

@@ -9,11 +9,11 @@ use Rattle.av_pend.specs.declared.answer.Answer.{Answer}
 use Rattle.av_pend.specs.declared.answer.Answer.TheVariants.{Granted, Denied}
 use Rattle.av_service.specs.Scanning.{most_leases}
 use Rattle.av_world.specs.Examples.{a, b, prepared, run, scanned}
-use Rattle.av_world.specs.Held.{pended}
+use Rattle.av_history.specs.Held.{pended}
 use Rattle.av_world.specs.Progress.{CanFinish, at_last, finishing}
-use Rattle.av_world.specs.World.{WorldState, desk_of, start, with_desk}
-use Rattle.av_world.specs.declared.event.Event.{Event}
-use Rattle.av_world.specs.declared.event.Event.TheVariants.{Create, Write, Open, Down, Up, Run, Connect, DisconnectFilter, DisconnectService, RestartService}
+use Rattle.av_history.specs.World.{WorldState, desk_of, start, with_desk}
+use Rattle.av_history.specs.declared.event.Event.{Event}
+use Rattle.av_history.specs.declared.event.Event.TheVariants.{Create, Write, Open, Down, Up, Run, Connect, DisconnectFilter, DisconnectService, RestartService}
 
 -- the world after these events
 abbrev pub led : LimitValues → List Event → WorldState

@@ -2,9 +2,9 @@
 use Rattle.std.specs.Prelude.{ℕ, ◌≡◌}
 use Rattle.av_base.specs.declared.limits.LimitValues.{LimitValues}
 use Rattle.av_base.specs.declared.mode.Mode.{Mode}
-use Rattle.av_world.specs.Headline.{AnswersOnce, GrantsOnlyClean, HoldsOneVerdict, NeverDiffers}
-use Rattle.av_world.specs.Whole.{IsWhole}
-use Rattle.av_world.specs.World.{WorldState, start, world_of}
+use Rattle.av_history.specs.Headline.{AnswersOnce, GrantsOnlyClean, HoldsOneVerdict, NeverDiffers}
+use Rattle.av_history.specs.Whole.{IsWhole}
+use Rattle.av_history.specs.World.{WorldState, start, world_of}
 
 -- its own history led to it, from some start
 pub record IsReached (w : WorldState) : Type 0 where

@@ -9,15 +9,15 @@ use Rattle.av_sigset.specs.Made.{set_made}
 use Rattle.av_store.specs.Rows.{Streams, number_named}
 use Rattle.av_world.specs.Serving.{service_refusal}
 use Rattle.av_world.specs.Stage.{at_history, line_after}
-use Rattle.av_world.specs.World.{Outcome, WorldState, down_frame, filter_event, member, published, service_outcome, step_of, up_frame, work_at, work_event, desk_of}
+use Rattle.av_history.specs.World.{Outcome, WorldState, down_frame, filter_event, member, published, service_outcome, step_of, up_frame, work_at, work_event, desk_of}
 use Rattle.av_base.specs.Refused.{unless}
-use Rattle.av_world.specs.declared.event.Event.{Event}
-use Rattle.av_world.specs.declared.fault.StepFault.{StepFault}
-use Rattle.av_world.specs.declared.report.Line.TheVariants.{Silent}
+use Rattle.av_history.specs.declared.event.Event.{Event}
+use Rattle.av_history.specs.declared.fault.StepFault.{StepFault}
+use Rattle.av_history.specs.declared.report.Line.TheVariants.{Silent}
 use Rattle.av_world.specs.declared.world.request.Request.{Request}
 use Rattle.av_world.specs.Serving as serving
 use Rattle.av_filter.specs.Asking as asking
-use Rattle.av_world.specs.declared.fault.StepFault.TheVariants as fault
+use Rattle.av_history.specs.declared.fault.StepFault.TheVariants as fault
 use Rattle.av_world.specs.declared.world.request.Request.TheVariants as request
 
 -- an event of the service of a port, where it is not refused

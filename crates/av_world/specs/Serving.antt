@@ -11,12 +11,12 @@ use Rattle.av_service.specs.declared.out.ServiceOut.{ServiceOut}
 use Rattle.av_sigset.specs.Catalogue.{latest}
 use Rattle.av_sigset.specs.Set.{NumberedSet}
 use Rattle.av_world.specs.Stage.{at_history}
-use Rattle.av_world.specs.World.{WorldState, desk_of, lent_at, service_event}
-use Rattle.av_world.specs.declared.event.Event.{Event}
-use Rattle.av_world.specs.declared.report.Line.TheVariants.{Silent}
-use Rattle.av_world.specs.declared.report.Note.{Note}
-use Rattle.av_world.specs.declared.report.Note.TheVariants as note
-use Rattle.av_world.specs.declared.report.Report.{Report}
+use Rattle.av_history.specs.World.{WorldState, desk_of, lent_at, service_event}
+use Rattle.av_history.specs.declared.event.Event.{Event}
+use Rattle.av_history.specs.declared.report.Line.TheVariants.{Silent}
+use Rattle.av_history.specs.declared.report.Note.{Note}
+use Rattle.av_history.specs.declared.report.Note.TheVariants as note
+use Rattle.av_history.specs.declared.report.Report.{Report}
 use Rattle.av_world.specs.declared.world.serving.ServiceCall.{ServiceCall}
 use Rattle.av_world.specs.declared.world.serving.ServiceCall.TheVariants as call
 

@@ -4,11 +4,11 @@ use Rattle.av_filter.specs.declared.call.FilterCall.{FilterCall}
 use Rattle.av_filter.specs.declared.call.FilterCall.TheVariants as call
 use Rattle.av_filter.specs.declared.out.Out.{Out}
 use Rattle.av_store.specs.Store.{Store}
-use Rattle.av_world.specs.World.{Outcome, WorldState, changed_line, step_of}
-use Rattle.av_world.specs.declared.event.Event.{Event}
-use Rattle.av_world.specs.declared.report.Line.{Line}
-use Rattle.av_world.specs.declared.report.Line.TheVariants.{Silent, Created, Removed, Booted}
-use Rattle.av_world.specs.declared.report.Report.{Report}
+use Rattle.av_history.specs.World.{Outcome, WorldState, changed_line, step_of}
+use Rattle.av_history.specs.declared.event.Event.{Event}
+use Rattle.av_history.specs.declared.report.Line.{Line}
+use Rattle.av_history.specs.declared.report.Line.TheVariants.{Silent, Created, Removed, Booted}
+use Rattle.av_history.specs.declared.report.Report.{Report}
 
 -- the world at a history
 abbrev pub at_history : List Event → WorldState → WorldState

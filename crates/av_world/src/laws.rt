@@ -1,32 +1,20 @@
-//! What holds of every world, wherever its history leads, and of every two audits.
+//! What holds of every world, wherever its history leads.
 ghost use Rattle.std.specs.Prelude.{◌≡◌, ◌<◌, ◌≤◌, ◌^◌, ◌++◌, ℕ, List, length, reverse};
 ghost use Rattle.std.specs.List.{AllByRecursion};
 ghost use Rattle.av_base.specs.Limits.{AreInRange};
 ghost use Rattle.av_base.specs.declared.limits.LimitValues.{LimitValues};
 ghost use Rattle.av_base.specs.declared.mode.Mode.{Mode};
-ghost use Rattle.av_base.specs.declared.port.Port.{Port};
-ghost use Rattle.av_filter.specs.Audit.{FilterEntry, IsFilterAudit};
-ghost use Rattle.av_filter.specs.Once.{AuditAnswersOnce};
-ghost use Rattle.av_filter_table.specs.Table.{mounted};
 ghost use Rattle.av_filter_table.specs.declared.question.Question.{Question};
-ghost use Rattle.av_sigset.specs.Publication.{Publication};
 ghost use Rattle.av_sigset.specs.Catalogue.{latest};
-ghost use Rattle.av_store.specs.Files.{File};
-ghost use Rattle.av_store.specs.Store.{Store};
-ghost use Rattle.av_world.specs.Audits.{AreLegal, AuditsGrantOnlyClean, AuditsHoldOneVerdict, AuditsJudgeRightly, SideEntry};
-ghost use Rattle.av_world.specs.Back.{JudgementTellsText, ObjectsTellText};
 ghost use Rattle.av_world.specs.Examples.{ComeTrue};
-ghost use Rattle.av_world.specs.Headline.{AnswersOnce, GrantsOnlyClean, HoldsOneVerdict, NeverDiffers};
+ghost use Rattle.av_history.specs.Headline.{AnswersOnce, GrantsOnlyClean, HoldsOneVerdict, NeverDiffers};
 ghost use Rattle.av_world.specs.Path.{EndsWithVerdict, IsReady};
 ghost use Rattle.av_world.specs.Progress.{CanFinish, Finishes, GaveNoVerdict, IsCarrying, IsWaiting, onward};
-ghost use Rattle.av_world.specs.PortExamples.{AreExamples};
-ghost use Rattle.av_world.specs.PortScripts.{AreWorked as ArePrinted};
 ghost use Rattle.av_world.specs.ProgressExamples.{AreWorked};
-ghost use Rattle.av_world.specs.Safety.{AnswersExplained, JobsJudgeRightly};
-ghost use Rattle.av_world.specs.Scene.{Started};
-ghost use Rattle.av_world.specs.Whole.{IsAskedThere, ScanOnce, StaysWhole};
-ghost use Rattle.av_world.specs.World.{WorldState, after, start, world_of};
-ghost use Rattle.av_world.specs.declared.event.Event.{Event};
+ghost use Rattle.av_history.specs.Safety.{AnswersExplained, JobsJudgeRightly};
+ghost use Rattle.av_history.specs.Whole.{IsAskedThere, ScanOnce, StaysWhole};
+ghost use Rattle.av_history.specs.World.{WorldState, after, start, world_of};
+ghost use Rattle.av_history.specs.declared.event.Event.{Event};
 
 /// Over every list of opens, writes, deliveries, losses, repeats, delays, timeouts, publications, disconnections and
 /// restarts: no two verdicts stand for one stream, generation and version; an open is granted only where the stream's
@@ -71,34 +59,9 @@ pub fn whole_path()
         → EndsWithVerdict (world_of (start number mode limits) history) q n }
 {}
 
-/// The headline of the audits of a filter and of the service of each port, each legal by itself, put together in any order in
-/// which each message that came had been sent by the other side before: from whatever volume and catalogues in which a version
-/// names one set, each part of the headline holds, and each job keeps the scan of what it has judged of the content that it was
-/// asked about. The third part is the filter's alone; open numbers are counted from the opening volume's last.
-pub fn audits()
-    ensures one_verdict { (mode : Mode) (limits : LimitValues) (told : Port → Started) (files : List File) (v : Store)
-        (sets : Port → List Publication) (es : List SideEntry) → AreLegal mode limits told files v sets es
-        → AuditsHoldOneVerdict files (mounted mode limits v.boot) v told sets es }
-    ensures judged_bytes { (mode : Mode) (limits : LimitValues) (told : Port → Started) (files : List File) (v : Store)
-        (sets : Port → List Publication) (es : List SideEntry) → AreLegal mode limits told files v sets es
-        → AuditsJudgeRightly files told sets es }
-    ensures only_clean { (mode : Mode) (limits : LimitValues) (told : Port → Started) (files : List File) (v : Store)
-        (sets : Port → List Publication) (es : List SideEntry) → AreLegal mode limits told files v sets es
-        → AuditsGrantOnlyClean mode files sets es }
-    ensures answers_once { (v : Store) (mode : Mode) (limits : LimitValues) (xs : List FilterEntry)
-        → IsFilterAudit (mounted mode limits v.boot) v xs → AuditAnswersOnce (mounted mode limits v.boot) v xs }
-{}
-
 /// What worked scripts say, command by command; and that the premises of `whole_path` and `audits` can be met.
 pub fn worked_scripts()
     ensures { ComeTrue }
-{}
-
-/// What worked scripts print where a spare is connected, from their text to each line; what is held and asked behind them, what
-/// finishes them, and that the audits of three sides can be legal.
-pub fn worked_ports()
-    ensures printed { ArePrinted }
-    ensures held { AreExamples }
 {}
 
 /// At the start and after each step a world's volume and sets are those that its history tells, its filter fits the volume, its
@@ -131,10 +94,4 @@ pub fn progress()
     ensures leads { (w : WorldState) (events history : List Event)
         → onward events (world_of w history) ≡ world_of w (reverse events ++ history) }
     ensures worked { AreWorked }
-{}
-
-/// Text and JSON never disagree: the objects of a report lead back to its lines, and that of a judgement to its line.
-pub fn objects_tell_text()
-    ensures report { ObjectsTellText }
-    ensures judgement { JudgementTellsText }
 {}

@@ -4,13 +4,13 @@ ghost use Rattle.av_base.specs.Device.{Writes};
 ghost use Rattle.av_json.specs.Member.{Puts};
 ghost use Rattle.av_sigset.specs.Catalogue.{newest};
 ghost use Rattle.av_store.specs.Rows.{number_named};
-ghost use Rattle.av_world.specs.Headline.{AnswersOnce, GrantsOnlyClean, HoldsOneVerdict, NeverDiffers};
+ghost use Rattle.av_history.specs.Headline.{AnswersOnce, GrantsOnlyClean, HoldsOneVerdict, NeverDiffers};
 ghost use Rattle.av_world.specs.Judge.{judged_of, latest_set};
-ghost use Rattle.av_world.specs.Objects.{report_tokens};
-ghost use Rattle.av_world.specs.Past.{IsRight, IsTold, past};
+ghost use Rattle.av_output.specs.Objects.{report_tokens};
+ghost use Rattle.av_history.specs.Past.{IsRight, IsTold, past};
 ghost use Rattle.av_world.specs.Reached.{KeepsPromise};
-ghost use Rattle.av_world.specs.Text.{report_text};
-ghost use Rattle.av_world.specs.World.{Gives, Passes, Steps, desk_of, start, world_of};
+ghost use Rattle.av_output.specs.Text.{report_text};
+ghost use Rattle.av_history.specs.World.{Gives, Passes, Steps, desk_of, start, world_of};
 
 mod delivery;
 mod filtering;
@@ -23,15 +23,15 @@ mod serving;
 mod stage;
 mod working;
 
-use crate::event::Event;
-use crate::fault::{JudgeFault, StepFault};
-use crate::given::Given;
-use crate::output::objects::put_report;
-use crate::output::print_report;
-use crate::report::{Judged, Report};
 use av_base::{Limits, Mode, Port, Refused, StreamId, Version, WriteFault};
 use av_frame::Message;
+use av_history::event::Event;
+use av_history::fault::{JudgeFault, StepFault};
+use av_history::given::Given;
+use av_history::report::{Judged, Report};
 use av_match::plain::plain_verdict;
+use av_output::objects::put_report;
+use av_output::report::print_report;
 use av_sigset::{Catalogue, SignatureSet};
 use json::Writer;
 use stage::Stage;
@@ -51,7 +51,7 @@ impl Model for World {
     ghost use Rattle.std.specs.Prelude.{reverse};
     ghost use Rattle.av_world.specs.Stage.{at_history};
     ghost use Rattle.av_world.specs.Reached.{IsKept};
-    ghost use Rattle.av_world.specs.World.{WorldState};
+    ghost use Rattle.av_history.specs.World.{WorldState};
 
     ghost Value = { WorldState };
 

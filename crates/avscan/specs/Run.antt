@@ -4,9 +4,9 @@ use Rattle.av_status.specs.declared.status.Status.{Status}
 use Rattle.av_status.specs.declared.status.Status.TheVariants.{Refused, Memory, Device}
 use Rattle.av_status.specs.declared.tally.Form.{Form}
 use Rattle.av_status.specs.declared.tally.Form.TheVariants.{Lines, Json, ZeroEnded}
-use Rattle.av_world.specs.Output.{Prints, PrintsFront, PrintsJson, PrintsJsonFront}
-use Rattle.av_world.specs.declared.run_script.RunFault.{RunFault}
-use Rattle.av_world.specs.declared.run_script.RunFault.TheVariants as fault
+use Rattle.av_script.specs.Output.{Prints, PrintsFront, PrintsJson, PrintsJsonFront}
+use Rattle.av_script.specs.declared.run_script.RunFault.{RunFault}
+use Rattle.av_script.specs.declared.run_script.RunFault.TheVariants as fault
 
 -- all that a script prints in a form was written
 abbrev pub PrintsIn : Form → Option (List ℕ) → Option (List ℕ) → List ℕ → Type 0

@@ -4,12 +4,12 @@ ghost use Rattle.avscan.specs.Run.{PrintsIn, PrintsInFront, status_of};
 
 use av_files::TURNS;
 use av_program::{Source, say_why};
+use av_script::RunFault;
+use av_script::run_json::run_json;
+use av_script::run_script::run_script;
 use av_status::Form;
 use av_status::faults::{bad_script, device_failed, out_of_memory, script_too_long, unreadable};
 use av_status::status::Status;
-use av_world::RunFault;
-use av_world::run_json::run_json;
-use av_world::run_script::run_script;
 use avscan_words::Script;
 use std::alloc::Global;
 use std::fs;

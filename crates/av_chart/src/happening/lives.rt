@@ -4,7 +4,7 @@ ghost use Rattle.std.specs.Prelude.{◌≡◌, ◌+◌, ◌-◌, None, Some, len
 ghost use Rattle.std.specs.Option.{option_copied};
 ghost use Rattle.av_base.specs.declared.port.Port.TheVariants.{One};
 ghost use Rattle.av_frame.specs.declared.message.Body.{Body};
-ghost use Rattle.av_world.specs.Text.Answers.{is_answered};
+ghost use Rattle.av_output.specs.Text.Answers.{is_answered};
 ghost use Rattle.av_chart.specs.Life.{lives_of};
 ghost use Rattle.av_chart.specs.Marks.{submitted_id};
 ghost use Rattle.av_chart.specs.Row.{asked_lines, is_noted, spanned};
@@ -17,9 +17,9 @@ use crate::happening::span_of;
 use crate::life::{Bar, End, How, Lives, Moment};
 use av_base::{MessageId, Port, Verdict};
 use av_frame::{Body, Message, Outcome};
+use av_history::{Given, Note, Report};
 use av_pend::Answer;
-use av_world::given::Given;
-use av_world::{Note, Report, World};
+use av_world::World;
 use std::alloc::AllocError;
 
 /// Opens that were answered end, each on the line of its answer, and one that was submitted and waits begins.

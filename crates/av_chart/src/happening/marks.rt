@@ -7,10 +7,9 @@ ghost use Rattle.av_chart.specs.Marks.{asked_id, asks_of, deed_of, filter_deed, 
 use crate::happened::{Asks, FilterMark, Said, ServiceMark, VolumeMark, Way};
 use av_base::Port;
 use av_filter::Note as FilterNote;
+use av_history::{Event, Given, Judged, Line, Note, Report};
 use av_pend::Answer;
 use av_service::Note as ServiceNote;
-use av_world::given::Given;
-use av_world::{Event, Judged, Line, Note, Report};
 
 /// What a picture has to know of an event besides what its report tells.
 #[derive(Clone, Copy)]

@@ -2,7 +2,7 @@
 
 ghost use Rattle.std.specs.Prelude.{◌≡◌, ◌+◌, ◌-◌, ◌++◌, ◌∷◌, [], None, OnOk};
 ghost use Rattle.std.specs.Option.{option_copied};
-ghost use Rattle.av_world.specs.World.{member};
+ghost use Rattle.av_history.specs.World.{member};
 ghost use Rattle.av_chart.specs.Row.{count};
 ghost use Rattle.av_chart.specs.Story.{arrival_in, arrival_of, arrived, delivered_down, delivered_up, is_again, moment, posted, posts_of, story_of};
 

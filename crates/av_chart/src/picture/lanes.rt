@@ -1,7 +1,7 @@
 //! The lanes, their names, and the shapes that several parts of a picture have.
 
 ghost use Rattle.std.specs.Prelude.{◌≡◌, ◌++◌, OnOk};
-ghost use Rattle.av_world.specs.Text.Messages.{placed};
+ghost use Rattle.av_output.specs.Text.Messages.{placed};
 ghost use Rattle.av_chart.specs.Arrow.{arrow_text, cross_text};
 ghost use Rattle.av_chart.specs.Lanes.{band_at, band_of_names, lane_text, lanes_text, name_text, names_text, pill_text, wide};
 ghost use Rattle.av_chart.specs.Mark.{mark_text};

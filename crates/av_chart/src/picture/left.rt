@@ -15,9 +15,8 @@ use crate::life::Moment;
 use crate::mark::{Mark, Side, put_mark};
 use crate::spot::Spot;
 use av_base::Part;
+use av_history::{Given, Note};
 use av_pend::Answer;
-use av_world::Note;
-use av_world::given::Given;
 use std::alloc::{AllocError, Global};
 
 /// Puts what a step did on the left.

@@ -3,7 +3,7 @@
 ghost use Rattle.std.specs.Prelude.{◌≡◌, ◌++◌, map, slice_get, vec_len, IfOk, OnOk};
 ghost use Rattle.std.specs.List.{list_any};
 ghost use Rattle.av_base.specs.Part.{spelt};
-ghost use Rattle.av_world.specs.Text.Messages.{placed};
+ghost use Rattle.av_output.specs.Text.Messages.{placed};
 ghost use Rattle.av_chart.specs.Arrow.{arrival_text, arrival_words, arrives_at, back, class_of, crossed_text, cut_text, goal_of, head_of, leaves_at, leaving_text, look_of, look_of_departure, lost_text, manner_of, near_text, side_of, start_of, towards};
 ghost use Rattle.av_chart.specs.Messages.{arrival_at, arrival_shown, arrivals_text, bodies_on, departure_shown, departure_text, is_shown, leaving_line, manner_at, message_at, message_shown, message_text, messages_text, near_arrival, sent_by_step, sent_on, sent_text, step_late, step_messages, step_spent};
 ghost use Rattle.av_chart.specs.Place.{shows};

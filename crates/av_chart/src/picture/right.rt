@@ -14,7 +14,7 @@ use crate::life::{Bar, Moment};
 use crate::mark::{Mark, Side, put_mark};
 use crate::spot::Spot;
 use av_base::Part;
-use av_world::Note;
+use av_history::Note;
 use std::alloc::{AllocError, Global};
 
 /// Where the service's notes and works are told.

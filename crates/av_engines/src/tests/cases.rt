@@ -1,10 +1,10 @@
 // Runs of one engine, as data.
-use crate::end::End;
 use crate::tests::sides::{limits_with, served_within, watched_within};
 use crate::tests::text::bytes_of;
 use crate::tests::told::Told;
 use av_base::{LimitField, Limits, StreamId};
 use av_fakes::{FakeReader, FakeWriter};
+use av_frame::End;
 use std::alloc::Global;
 use std::test::Fail;
 

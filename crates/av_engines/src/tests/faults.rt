@@ -1,8 +1,8 @@
 // Frames that spell no message: either engine ends with Frame, has sent what went before, and reads nothing behind them.
-use crate::end::End;
 use crate::tests::cases::{Case, FULL, Side, holds};
 use crate::tests::frames::{CHUNK, CLEAN, HELLO, READ, SCAN};
 use crate::tests::told::{LOST, Told};
+use av_frame::End;
 use std::alloc::Global;
 use std::test::Fail;
 

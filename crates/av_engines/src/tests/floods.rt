@@ -1,11 +1,10 @@
 // Scans that are more than a service keeps, and a chunk that is too long.
-use crate::end::End;
 use crate::tests::frames::DOWN;
 use crate::tests::sides::{limits_with, served, served_within};
 use av_base::{ByteList, Generation, LimitField, MessageId, Port, StreamId};
 use av_fakes::{FakeReader, FakeWriter};
 use av_frame::encode::encode_into;
-use av_frame::{FailCause, Message, Outcome};
+use av_frame::{End, FailCause, Message, Outcome};
 use std::alloc::Global;
 use std::test::Fail;
 

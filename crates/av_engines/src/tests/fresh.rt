@@ -1,5 +1,4 @@
 // A service to which newer sets come while it runs.
-use crate::end::End;
 use crate::fresh::Fresh;
 use crate::serving::serve_fresh;
 use crate::tests::frames::{CHUNK, CLEAN, HELLO, READ, SCAN};
@@ -7,6 +6,7 @@ use crate::tests::sides::{Unmade, catalogue_of_one};
 use crate::tests::text::bytes_of;
 use av_base::{Limits, Port, Refusal, Version};
 use av_fakes::{FakeWriter, may_refuse, refuse_no_more};
+use av_frame::End;
 use av_service::Service;
 use av_sigset::{Catalogue, CatalogueFault, SignatureSet};
 use std::alloc::Global;

@@ -1,7 +1,6 @@
 // A read that was interrupted, as where the process was stopped and continued, is made again.
-use crate::end::End;
 use crate::incoming::Incoming;
-use av_frame::Body;
+use av_frame::{Body, End};
 use std::io;
 use std::io::{ErrorKind, Read};
 use std::test::Fail;

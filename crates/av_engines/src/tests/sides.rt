@@ -1,6 +1,5 @@
 // Both engines over a volume of two streams, `ABC` and `AXX`, and a set of version 1 with the pattern `XX`.
 
-use crate::end::End;
 use crate::exchange::Exchange;
 use crate::serving::serve_service;
 use crate::tests::frames::{DOWN, UP};
@@ -8,6 +7,7 @@ use crate::watching::{Watched, serve_filter, serve_further};
 use av_base::{LimitField, LimitValues, Limits, Mode, Port, StreamId, Version};
 use av_fakes::{FakeReader, FakeWriter, may_refuse, refuse_no_more};
 use av_filter::Filter;
+use av_frame::End;
 use av_service::Service;
 use av_sigset::{Catalogue, SignatureSet};
 use av_store::Volume;

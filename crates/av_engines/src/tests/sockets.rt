@@ -1,9 +1,9 @@
 // Both engines at the two ends of a pair of sockets, each in a thread of its own.
-use crate::end::End;
 use crate::tests::sides::{served, watched_opens};
 use crate::tests::told::{denied, granted};
 use crate::watching::Watched;
 use av_base::{Cause, StreamId};
+use av_frame::End;
 use av_pend::Answer;
 use std::alloc::Global;
 use std::net::Shutdown;

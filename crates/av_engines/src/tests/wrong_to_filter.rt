@@ -1,9 +1,9 @@
 // What comes to a filter with one open of stream 1, which has `ABC`, at a moment or with fields at which it means nothing.
-use crate::end::End;
 use crate::tests::cases::{Case, FULL, Side, first_wrong};
 use crate::tests::frames::{ABORT, CHUNK, CLEAN, HELLO, READ, SCAN, SCAN_2};
 use crate::tests::told::{LOST, Told};
 use av_base::{Cause, LimitField};
+use av_frame::End;
 use std::test::Fail;
 
 // Hello of volume 1 and version 2.

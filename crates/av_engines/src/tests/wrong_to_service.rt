@@ -1,8 +1,8 @@
 // What comes to a service under version 1, whose one signature is `XX`, at a moment or with fields at which it means nothing.
-use crate::end::End;
 use crate::tests::cases::{Case, FULL, Side, first_wrong};
 use crate::tests::frames::{ABORT, CHUNK, CLEAN, HELLO, READ, SCAN, SCAN_2};
 use av_base::LimitField;
+use av_frame::End;
 use std::test::Fail;
 
 // Scan 1.2 of stream 2, generation 2, 3 bytes.

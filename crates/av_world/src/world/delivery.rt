@@ -1,5 +1,5 @@
 ghost use Rattle.std.specs.Prelude.{◌≡◌, IfSome, Some};
-ghost use Rattle.av_world.specs.World.{member};
+ghost use Rattle.av_history.specs.World.{member};
 
 use av_frame::encode::encode_into;
 use av_frame::laws::no_frame_begins_another;

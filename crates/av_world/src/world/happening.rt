@@ -5,18 +5,18 @@ ghost use Rattle.av_sigset.specs.Catalogue.{latest};
 ghost use Rattle.av_world.specs.Request.{outcome_of, served};
 ghost use Rattle.av_world.specs.Serving.{event_called};
 ghost use Rattle.av_world.specs.Stage.{Happens, Takes, at_history};
-ghost use Rattle.av_world.specs.Whole.{IsWhole};
-ghost use Rattle.av_world.specs.World.{desk_of, down_frame, member, up_frame};
-ghost use Rattle.av_world.specs.declared.event.Event.{Event};
+ghost use Rattle.av_history.specs.Whole.{IsWhole};
+ghost use Rattle.av_history.specs.World.{desk_of, down_frame, member, up_frame};
+ghost use Rattle.av_history.specs.declared.event.Event.{Event};
 
 use super::delivery::delivered;
 use super::request::Request;
 use super::serving::ServiceCall;
 use super::stage::Stage;
-use crate::event::Event;
-use crate::report::Report;
 use av_base::Port;
 use av_filter::FilterCall;
+use av_history::event::Event;
+use av_history::report::Report;
 use std::alloc::Global;
 
 impl Stage {

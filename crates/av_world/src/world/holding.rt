@@ -2,7 +2,7 @@ ghost use Rattle.std.specs.Prelude.{◌≡◌, flat_map, IfOk};
 ghost use Rattle.std.specs.Option.{option_map, option_to_list};
 ghost use Rattle.av_filter.specs.Verdict.{verdict_of};
 ghost use Rattle.av_filter_table.specs.Table.{context_of};
-ghost use Rattle.av_world.specs.Held.{asked, asked_by, entry, held, held_contexts, held_reply};
+ghost use Rattle.av_history.specs.Held.{asked, asked_by, entry, held, held_contexts, held_reply};
 
 use super::World;
 use av_base::{Generation, MessageId, StreamId};

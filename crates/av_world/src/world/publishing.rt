@@ -6,14 +6,14 @@ ghost use Rattle.av_service.specs.Room.{publishing};
 ghost use Rattle.av_sigset.specs.Catalogue.{latest};
 ghost use Rattle.av_sigset.specs.Made.{set_made};
 ghost use Rattle.av_world.specs.Stage.{Takes, at_history};
-ghost use Rattle.av_world.specs.World.{desk_of, published};
-ghost use Rattle.av_world.specs.declared.event.Event.{Event};
+ghost use Rattle.av_history.specs.World.{desk_of, published};
+ghost use Rattle.av_history.specs.declared.event.Event.{Event};
 
 use super::stage::Stage;
-use crate::pattern::Patterns;
-use crate::report::{Line, Note, Report};
 use av_base::Version;
 use av_frame::Message;
+use av_history::pattern::Patterns;
+use av_history::report::{Line, Note, Report};
 use av_service::note::Note as ServiceNote;
 use av_service::{Service, ServiceOut};
 use av_sigset::SignatureSet;

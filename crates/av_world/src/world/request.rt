@@ -1,14 +1,14 @@
 ghost use Rattle.std.specs.Prelude.{List};
 ghost use Rattle.av_world.specs.Request.{Asks, Names};
-ghost use Rattle.av_world.specs.declared.event.Event.{Event};
+ghost use Rattle.av_history.specs.declared.event.Event.{Event};
 
 use super::serving::ServiceCall;
 use super::stage::Stage;
-use crate::event::Event;
-use crate::fault::StepFault;
-use crate::pattern::Patterns;
 use av_base::{Port, StreamId, Version};
 use av_filter::FilterCall;
+use av_history::event::Event;
+use av_history::fault::StepFault;
+use av_history::pattern::Patterns;
 
 /// What an event asks for, its name looked up.
 #[derive(Clone, Copy)]
@@ -48,7 +48,7 @@ impl Stage {
     }
 
     /// What an event asks for: NoSuchName. It costs the logarithm of the count of streams.
-    #[tactic(auto, using(crate::proofs::RequestLemmas::connects), unfolding(crate::specs::World::step_of))]
+    #[tactic(auto, using(crate::proofs::RequestLemmas::connects), unfolding(av_history::specs::World::step_of))]
     pub fn request<'a>(&self, event: &'a Event) -> Result<Request<'a>, StepFault>
         ensures { (h : List Event) → Asks h self.now event.now result }
     {

@@ -2,14 +2,14 @@ ghost use Rattle.std.specs.Prelude.{◌≡◌, ◌≤◌, ◌+◌, ◌++◌, Lis
 ghost use Rattle.std.specs.Option.{option_to_list};
 ghost use Rattle.std.specs.Vec.{vec_capacity};
 ghost use Rattle.av_world.specs.Serving.{IsSmallResponse, Served, Serves, TakesServed, event_called};
-ghost use Rattle.av_world.specs.World.{lent_at};
-ghost use Rattle.av_world.specs.declared.event.Event.{Event};
-ghost use Rattle.av_world.specs.declared.report.Note.TheVariants as note;
+ghost use Rattle.av_history.specs.World.{lent_at};
+ghost use Rattle.av_history.specs.declared.event.Event.{Event};
+ghost use Rattle.av_history.specs.declared.report.Note.TheVariants as note;
 
 use super::stage::Stage;
-use crate::report::{Line, Note, Report};
 use av_base::Port;
 use av_frame::Message;
+use av_history::report::{Line, Note, Report};
 use av_service::{Service, ServiceOut, Work};
 use av_sigset::Catalogue;
 use std::alloc::Global;

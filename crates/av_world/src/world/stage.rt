@@ -1,11 +1,11 @@
 ghost use Rattle.std.specs.Prelude.{◌≡◌, IfOk};
-ghost use Rattle.av_world.specs.World.{desk_of, places_of, start};
+ghost use Rattle.av_history.specs.World.{desk_of, places_of, start};
 
-use crate::given::Given;
-use crate::report::Places;
 use av_base::{Limits, Mode, Port};
 use av_filter::Filter;
 use av_frame::Message;
+use av_history::given::Given;
+use av_history::report::Places;
 use av_match::Automaton;
 use av_service::{Service, Work};
 use av_sigset::Catalogue;
@@ -33,7 +33,7 @@ pub struct Stage {
 impl Model for Stage {
     ghost use Rattle.std.specs.Prelude.{[]};
     ghost use Rattle.av_world.specs.Prepared.{IsPrepared};
-    ghost use Rattle.av_world.specs.World.{WorldState};
+    ghost use Rattle.av_history.specs.World.{WorldState};
 
     ghost Value = { WorldState };
 

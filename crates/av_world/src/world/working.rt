@@ -8,13 +8,13 @@ ghost use Rattle.av_world.specs.Prepared.{IsPrepared, IsPreparedFor};
 ghost use Rattle.av_sigset.specs.Catalogue.{set_at};
 ghost use Rattle.av_world.specs.Stage.{Takes, at_history};
 ghost use Rattle.av_world.specs.Working.{IsOf, Lends};
-ghost use Rattle.av_world.specs.World.{at_port, work_at, work_event};
-ghost use Rattle.av_world.specs.declared.event.Event.{Event};
+ghost use Rattle.av_history.specs.World.{at_port, work_at, work_event};
+ghost use Rattle.av_history.specs.declared.event.Event.{Event};
 
 use super::serving::record;
 use super::stage::Stage;
-use crate::report::{Line, Report};
 use av_base::{Port, Version};
+use av_history::report::{Line, Report};
 use av_match::Automaton;
 use av_service::{Done, Service, ServiceOut, Work};
 use av_sigset::Catalogue;

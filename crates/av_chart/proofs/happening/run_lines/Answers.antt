@@ -4,7 +4,7 @@ use Rattle.av_chart.proofs.StoryLemmas.{line_taken, size_first, size_of, size_wi
 use Rattle.av_chart.specs.Story.{story_after, story_of}
 use Rattle.av_chart.specs.Told.{Did, Told, tells, told_at}
 use Rattle.av_chart.specs.declared.happened.Span.{Span}
-use Rattle.av_world.specs.Script.Grammar.{line_of}
+use Rattle.av_script.specs.Script.Grammar.{line_of}
 use Rattle.av_chart.proofs.happening.run_lines.Goals as goal
 
 pub lines-init : goal.lines-init

@@ -1,6 +1,6 @@
 use Rattle.std.proofs.Common.{rules, ◌≡◌, ◌∙◌, List, Result, Ok, Err, OnOk, length, refl, ap}
 use Rattle.av_frame.specs.Message.{Letter}
-use Rattle.av_world.specs.declared.given.Given.{Given}
+use Rattle.av_history.specs.declared.given.Given.{Given}
 use Rattle.av_chart.proofs.ReportLemmas.{report_taken}
 use Rattle.av_chart.specs.Row.{spanned}
 use Rattle.av_chart.specs.Story.{story_of}

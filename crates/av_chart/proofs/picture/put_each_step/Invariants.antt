@@ -1,5 +1,5 @@
 use Rattle.std.proofs.Common.{◌≡◌, ◌++◌, take}
-use Rattle.av_world.specs.Text.Messages.{placed}
+use Rattle.av_output.specs.Text.Messages.{placed}
 use Rattle.av_chart.specs.Picture.{step_at}
 use Rattle.av_chart.proofs.picture.put_each_step.Given as goal
 

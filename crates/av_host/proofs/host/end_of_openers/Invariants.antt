@@ -1,5 +1,5 @@
 use Rattle.std.proofs.Common.{◌≡◌, drop, map}
-use Rattle.av_engines.specs.declared.end.End.TheVariants.{Done}
+use Rattle.av_frame.specs.declared.end.End.TheVariants.{Done}
 use Rattle.av_status.specs.Status.{gravest_from}
 use Rattle.av_host.proofs.host.end_of_openers.Given as goal
 

@@ -2,7 +2,7 @@ use Rattle.std.proofs.Common.{ℕ, ◌≡◌, List, Option, Result, Ok, Err, OnO
 use Rattle.std.specs.Borrow.{Bor}
 use Rattle.std.specs.Prelude.{IfOk}
 use Rattle.std.specs.Io.KnownBytes.{Appends}
-use Rattle.av_engines.specs.declared.end.End.{End}
+use Rattle.av_frame.specs.declared.end.End.{End}
 use Rattle.av_files.specs.Opened.{opened_lines, tally_from}
 use Rattle.av_files.specs.declared.opened.Opened.{Opened}
 use Rattle.av_host.specs.Brought.{AreBrought, AreTold}

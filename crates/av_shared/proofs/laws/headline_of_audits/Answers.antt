@@ -15,8 +15,8 @@ use Rattle.av_shared.proofs.laws.headline_of_audits.Goals as goal
 use Rattle.av_sigset.specs.Publication.{Publication, latest_as, published_as}
 use Rattle.av_store.specs.Files.{File}
 use Rattle.av_store.specs.Seen.{Keeps}
-use Rattle.av_world.specs.Audits.{AreLegal, AreOneSets, FinishesItsWorks, SideEntry, sets_end}
-use Rattle.av_world.specs.Scene.{desk_at_first}
+use Rattle.av_history.specs.Audits.{AreLegal, AreOneSets, FinishesItsWorks, SideEntry, sets_end}
+use Rattle.av_history.specs.Scene.{desk_at_first}
 
 -- the audit of a desk begins at its port
 from_first : (port : Port) (a : DeskAudit) → a.port ≡ port → IsDeskAudit a → IsServiceAudit (opened_by a) (desk_at_first port (told_by a) (opened_by a)) a.events.items

@@ -3,7 +3,7 @@ use Rattle.std.proofs.lemmas.Option.{slice_get_read}
 use Rattle.av_desk.specs.Audit.{opened_by}
 use Rattle.av_service.specs.Audit.{Call, ServiceEntry, lent_by, sets_after}
 use Rattle.av_sigset.specs.Publication.{Publication}
-use Rattle.av_world.specs.Audits.{FinishesItsWorks, IsOfWorks, sets_end}
+use Rattle.av_history.specs.Audits.{FinishesItsWorks, IsOfWorks, sets_end}
 use Rattle.av_shared.proofs.AmongLemmas.{take_got}
 use Rattle.av_shared.proofs.WorkLemmas.{finishes_more, sets_more}
 use Rattle.av_shared.proofs.works.finishes_own.Goals as goal

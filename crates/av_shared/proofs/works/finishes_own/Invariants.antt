@@ -1,6 +1,6 @@
 use Rattle.std.proofs.Common.{◌≡◌, [], take}
 use Rattle.av_desk.specs.Audit.{opened_by}
-use Rattle.av_world.specs.Audits.{FinishesItsWorks, sets_end}
+use Rattle.av_history.specs.Audits.{FinishesItsWorks, sets_end}
 use Rattle.av_shared.proofs.works.finishes_own.Given as goal
 
 abbrev pub invariant-events : goal.invariant-events

@@ -7,7 +7,7 @@ use Rattle.av_service.specs.Audit.{Call, ServiceEntry}
 use Rattle.av_service.specs.Conduct.{Finishes, ServiceEvent}
 use Rattle.av_service.specs.Work.{WorkState}
 use Rattle.av_sigset.specs.Publication.{published_as}
-use Rattle.av_world.specs.World.{or_none}
+use Rattle.av_history.specs.World.{or_none}
 use Rattle.av_shared.proofs.WorkLemmas.{IsLentFor, bytes_of, lent_for, lent_has}
 use Rattle.av_shared.proofs.works.is_run.Goals as goal
 

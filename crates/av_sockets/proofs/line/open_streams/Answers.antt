@@ -1,5 +1,5 @@
 use Rattle.std.proofs.Common.{◌≡◌, rules, sym, ◌∙◌}
-use Rattle.av_engines.specs.declared.end.End.TheVariants.{Done}
+use Rattle.av_frame.specs.declared.end.End.TheVariants.{Done}
 use Rattle.av_sockets.proofs.RunLemmas.{kept_then, not_memory, sure_items}
 use Rattle.av_sockets.proofs.line.open_streams.Goals as goal
 

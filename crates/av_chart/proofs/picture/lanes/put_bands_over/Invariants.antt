@@ -1,5 +1,5 @@
 use Rattle.std.proofs.Common.{◌≡◌, ◌++◌, take}
-use Rattle.av_world.specs.Text.Messages.{placed}
+use Rattle.av_output.specs.Text.Messages.{placed}
 use Rattle.av_chart.specs.Picture.{band_over}
 use Rattle.av_chart.proofs.picture.lanes.put_bands_over.Given as goal
 

@@ -1,5 +1,5 @@
 use Rattle.std.proofs.Common.{◌≡◌, ◌++◌, take}
-use Rattle.av_world.specs.Text.Messages.{placed}
+use Rattle.av_output.specs.Text.Messages.{placed}
 use Rattle.av_chart.specs.Messages.{message_at}
 use Rattle.av_chart.proofs.picture.messages.put_each.Given as goal
 

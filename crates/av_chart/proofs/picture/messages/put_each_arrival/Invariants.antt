@@ -1,5 +1,5 @@
 use Rattle.std.proofs.Common.{◌≡◌, ◌++◌, take}
-use Rattle.av_world.specs.Text.Messages.{placed}
+use Rattle.av_output.specs.Text.Messages.{placed}
 use Rattle.av_chart.specs.Messages.{arrival_shown}
 use Rattle.av_chart.proofs.picture.messages.put_each_arrival.Given as goal
 

@@ -1,6 +1,6 @@
 use Rattle.std.proofs.Common.{◌≡◌, Ok, rules, subst}
 use Rattle.av_world.specs.Judge.{judged_of}
-use Rattle.av_world.specs.Past.{IsTold}
+use Rattle.av_history.specs.Past.{IsTold}
 use Rattle.av_world.proofs.JudgeLemmas.{right_judged}
 use Rattle.av_world.proofs.world.World.judge.Goals as goal
 

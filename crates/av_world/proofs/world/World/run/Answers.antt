@@ -2,8 +2,8 @@ use Rattle.std.proofs.Common.{[], refl, sym, subst}
 use Rattle.av_world.proofs.OnceLemmas.{answers_once}
 use Rattle.av_world.proofs.SoundLemmas.{grants_only_clean, holds_one_verdict, never_differs}
 use Rattle.av_world.proofs.WorldLemmas.{IsGiven, begins, goes_on, reverse_more}
-use Rattle.av_world.specs.Headline.{AnswersOnce, GrantsOnlyClean, HoldsOneVerdict, NeverDiffers}
-use Rattle.av_world.specs.World.{start}
+use Rattle.av_history.specs.Headline.{AnswersOnce, GrantsOnlyClean, HoldsOneVerdict, NeverDiffers}
+use Rattle.av_history.specs.World.{start}
 use Rattle.av_world.proofs.world.World.run.Goals as goal
 
 pub loop-event-init : goal.loop-event-init

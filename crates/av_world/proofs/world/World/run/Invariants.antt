@@ -1,5 +1,5 @@
 use Rattle.std.proofs.Common.{reverse, take}
-use Rattle.av_world.specs.World.{start}
+use Rattle.av_history.specs.World.{start}
 use Rattle.av_world.proofs.WorldLemmas.{IsGiven}
 use Rattle.av_world.proofs.world.World.run.Given as goal
 

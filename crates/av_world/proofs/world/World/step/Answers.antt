@@ -2,7 +2,7 @@ use Rattle.std.proofs.Common.{◌≡◌, ◌∷◌, ◌++◌, [], Ok, reverse, r
 use Rattle.av_world.proofs.WorldLemmas.{kept_next, promised, pushed}
 use Rattle.av_world.specs.Reached.{IsKept, IsReached}
 use Rattle.av_world.specs.Stage.{at_history}
-use Rattle.av_world.specs.World.{step_of}
+use Rattle.av_history.specs.World.{step_of}
 use Rattle.av_world.proofs.world.World.step.Goals as goal
 
 kept_after : (c : goal.After-push_reserved) → IsKept (at_history (reverse c.push_reserved.new.self.items) c.happen-happened.new.self)

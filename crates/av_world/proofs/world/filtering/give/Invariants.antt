@@ -1,6 +1,6 @@
 use Rattle.std.proofs.Common.{◌≡◌, ◌≤◌, ◌+◌, ◌-◌, ◌++◌, map, length, take, vec_len}
 use Rattle.std.specs.Vec.{vec_capacity}
-use Rattle.av_world.specs.World.{given_at}
+use Rattle.av_history.specs.World.{given_at}
 use Rattle.av_world.proofs.world.filtering.give.Given as goal
 
 -- those so far are behind, and there is room for the rest

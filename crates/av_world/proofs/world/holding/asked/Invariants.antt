@@ -1,5 +1,5 @@
 use Rattle.std.proofs.Common.{◌≡◌, drop}
-use Rattle.av_world.specs.Held.{asked}
+use Rattle.av_history.specs.Held.{asked}
 use Rattle.av_world.proofs.world.holding.asked.Given as goal
 
 -- no message so far is a scan of the id

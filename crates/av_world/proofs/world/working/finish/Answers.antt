@@ -4,7 +4,7 @@ use Rattle.av_match.specs.Scanning.{if_found}
 use Rattle.av_service.specs.Conduct.{Finishes}
 use Rattle.av_world.proofs.ServingLemmas.{small_finish}
 use Rattle.av_world.specs.Serving.{IsSmallResponse}
-use Rattle.av_world.specs.World.{at_port}
+use Rattle.av_history.specs.World.{at_port}
 use Rattle.av_world.proofs.world.working.finish.Goals as goal
 
 pub returns-in-One-clause-few : goal.returns-in-One-clause-few

@@ -1,6 +1,6 @@
 use Rattle.std.proofs.Common.{sym, subst}
-use Rattle.av_engines.specs.declared.end.End.{End}
-use Rattle.av_engines.specs.declared.end.End.TheVariants.{AuditFull, Closed, Done, Frame, Memory, ReadFault, WriteFault}
+use Rattle.av_frame.specs.declared.end.End.{End}
+use Rattle.av_frame.specs.declared.end.End.TheVariants.{AuditFull, Closed, Done, Frame, Memory, ReadFault, WriteFault}
 use Rattle.av_status.specs.Status.{IsFault, graver, status_of_end}
 use Rattle.av_host.proofs.crew.fn.meet.scope.Goals as goal
 

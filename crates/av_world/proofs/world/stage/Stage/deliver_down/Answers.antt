@@ -2,7 +2,7 @@ use Rattle.std.proofs.Common.{◌≡◌, rules, Some, subst}
 use Rattle.av_world.proofs.RequestLemmas.{delivers_down}
 use Rattle.av_service.specs.Conduct.{Receives}
 use Rattle.av_world.specs.Serving.{TakesServed}
-use Rattle.av_world.specs.World.{WorldState, member}
+use Rattle.av_history.specs.World.{WorldState, member}
 use Rattle.av_world.proofs.world.stage.Stage.deliver_down.Goals as goal
 
 pub returns : goal.returns

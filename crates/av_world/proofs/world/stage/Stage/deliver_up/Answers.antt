@@ -1,6 +1,6 @@
 use Rattle.std.proofs.Common.{◌≡◌, reverse, rules, Some, subst}
 use Rattle.av_world.proofs.RequestLemmas.{delivers_up}
-use Rattle.av_world.specs.World.{WorldState, member}
+use Rattle.av_history.specs.World.{WorldState, member}
 use Rattle.av_world.proofs.world.stage.Stage.deliver_up.Goals as goal
 
 pub returns : goal.returns

@@ -5,7 +5,7 @@ use Rattle.av_filter.specs.Conduct as filter
 use Rattle.av_store.specs.Files as change
 use Rattle.av_world.proofs.RequestLemmas.{refused_change, refused_create, refused_cut, refused_remove, refused_write}
 use Rattle.av_filter.specs.Asking.{event_called}
-use Rattle.av_world.specs.World.{WorldState, step_fault}
+use Rattle.av_history.specs.World.{WorldState, step_fault}
 use Rattle.av_world.proofs.world.stage.Stage.filter_refusal.Goals as goal
 
 pub returns-in-Create : goal.returns-in-Create

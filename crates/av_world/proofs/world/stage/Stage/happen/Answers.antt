@@ -2,7 +2,7 @@ use Rattle.std.proofs.Common.{reverse, subst}
 use Rattle.av_sigset.specs.Catalogue.{IsFalling}
 use Rattle.av_world.proofs.RequestLemmas.{happens, not_above}
 use Rattle.av_world.specs.Stage.{at_history}
-use Rattle.av_world.specs.World.{WorldState}
+use Rattle.av_history.specs.World.{WorldState}
 use Rattle.av_world.proofs.world.stage.Stage.happen.Goals as goal
 
 pub answer-requires-clause-versions : goal.answer-requires-clause-versions

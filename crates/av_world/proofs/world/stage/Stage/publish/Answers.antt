@@ -8,9 +8,9 @@ use Rattle.av_sigset.specs.declared.signature.Pattern.{Pattern}
 use Rattle.av_world.proofs.PublishLemmas.{is_newer, same_patterns, told_of, told_publishes}
 use Rattle.av_world.proofs.WorkLemmas.{first_of}
 use Rattle.av_world.specs.Stage.{at_history}
-use Rattle.av_world.specs.World.{WorldState, places_of, published}
-use Rattle.av_world.specs.declared.report.Line.TheVariants.{Published}
-use Rattle.av_world.specs.declared.report.Note.TheVariants as note
+use Rattle.av_history.specs.World.{WorldState, places_of, published}
+use Rattle.av_history.specs.declared.report.Line.TheVariants.{Published}
+use Rattle.av_history.specs.declared.report.Note.TheVariants as note
 use Rattle.av_world.proofs.world.stage.Stage.publish.Goals as goal
 
 pub tell-requires-clause-newer : goal.tell-requires-clause-newer

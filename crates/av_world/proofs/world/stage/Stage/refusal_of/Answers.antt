@@ -3,7 +3,7 @@ use Rattle.av_world.proofs.RequestLemmas.{refused_up}
 use Rattle.av_world.specs.Request.{frame_fault, outcome_of}
 use Rattle.av_base.specs.Refused.{IsFaultOf}
 use Rattle.av_world.specs.Stage.{at_history}
-use Rattle.av_world.specs.World.{WorldState, member, up_frame}
+use Rattle.av_history.specs.World.{WorldState, member, up_frame}
 use Rattle.av_world.proofs.world.stage.Stage.refusal_of.Goals as goal
 
 pub returns-in-Publish : goal.returns-in-Publish

@@ -7,8 +7,8 @@ use Rattle.av_service.specs.Call.{Responds}
 use Rattle.av_service.specs.Conduct.{Finishes, service_step}
 use Rattle.av_world.proofs.WorkLemmas.{first_of, put_back_same, told, worked, worked_on}
 use Rattle.av_world.specs.Working.{IsOf}
-use Rattle.av_world.specs.World.{WorldState, at_port, lent_at, places_of, work_at, work_event}
-use Rattle.av_world.specs.declared.report.Line.TheVariants.{Silent}
+use Rattle.av_history.specs.World.{WorldState, at_port, lent_at, places_of, work_at, work_event}
+use Rattle.av_history.specs.declared.report.Line.TheVariants.{Silent}
 use Rattle.av_world.specs.Prepared.{Compiles, IsPreparedFor}
 use Rattle.av_world.specs.Stage.{at_history}
 use Rattle.av_world.proofs.world.stage.Stage.run_work.Goals as goal

@@ -1,0 +1,9 @@
+pub mod AskedLemmas
+pub mod AuditLemmas
+pub mod ContentLemmas
+pub mod DeskLemmas
+pub mod FilterLemmas
+pub mod FitLemmas
+pub mod SceneLemmas
+pub mod StepLemmas
+pub mod UnionLemmas

@@ -1,0 +1,10 @@
+pub mod Audits
+pub mod Cores
+pub mod Headline
+pub mod Held
+pub mod Past
+pub mod Refusals
+pub mod Safety
+pub mod Scene
+pub mod Whole
+pub mod World

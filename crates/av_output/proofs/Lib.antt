@@ -1,0 +1,4 @@
+pub mod BackLemmas
+pub mod ObjectLemmas
+pub mod PlacedLemmas
+pub mod ToldLemmas

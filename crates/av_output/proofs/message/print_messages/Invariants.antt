@@ -1,0 +1,9 @@
+use Rattle.std.proofs.Common.{◌+◌, take}
+use Rattle.std.specs.Io.KnownBytes.{Appends}
+use Rattle.av_output.specs.Text.Messages.{message_text, placed}
+use Rattle.av_output.proofs.message.print_messages.Given as goal
+
+-- the lines of the messages so far were written
+abbrev pub invariant-loop-index : goal.invariant-loop-index
+invariant-loop-index g l =
+    Appends (g.W.Write.contents l.initial.writer) (g.W.Write.contents l.writer) (placed (message_text l.way) (l.from + 1) (take l.index l.message-items))

@@ -1,0 +1,10 @@
+use Rattle.std.proofs.Common.{◌≡◌, ◌+◌, ◌++◌, take}
+use Rattle.av_output.specs.Objects.Messages.{message_tokens}
+use Rattle.av_output.specs.Text.Messages.{placed}
+use Rattle.av_output.proofs.objects.message.put_messages.Given as goal
+
+-- the objects of the messages so far were put
+abbrev pub invariant-loop-index : goal.invariant-loop-index
+invariant-loop-index l =
+    (l.line.before ≡ l.initial.line.before)
+    × (l.line.tokens ≡ l.initial.line.tokens ++ placed (message_tokens l.way) (l.from + 1) (take l.index l.message-items))

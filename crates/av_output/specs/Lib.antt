@@ -1,0 +1,4 @@
+pub mod Back
+pub mod Objects
+pub mod Text
+pub mod Told

@@ -1,0 +1,6 @@
+pub mod CommandObjects
+pub mod CommandText
+pub mod Output
+pub mod PortExamples
+pub mod PortScripts
+pub mod Script

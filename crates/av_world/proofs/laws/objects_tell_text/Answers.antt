@@ -1,8 +1,0 @@
-use Rattle.av_world.proofs.BackLemmas
-use Rattle.av_world.proofs.laws.objects_tell_text.Goals as goal
-
-pub returns-clause-report : goal.returns-clause-report
-returns-clause-report c = BackLemmas.objects_tell_text
-
-pub returns-clause-judgement : goal.returns-clause-judgement
-returns-clause-judgement c = BackLemmas.judgement_tells_text

@@ -1,5 +1,0 @@
-use Rattle.std.proofs.Common.{sym}
-use Rattle.av_world.proofs.output.answer.print_denied.Goals as goal
-
-pub returns : goal.returns
-returns g c = rw (sym c.get.ensures) (rw (sym c.number.ensures) (rw (sym c.from.ensures) c.write_parts.ensures))

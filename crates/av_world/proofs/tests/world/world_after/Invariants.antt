@@ -1,5 +1,0 @@
-use Rattle.std.specs.VecDeque.{deque_len}
-use Rattle.av_world.proofs.tests.world.world_after.Given as goal
-
-abbrev pub decreases-commands : goal.decreases-commands
-decreases-commands g l = deque_len l.commands
