@@ -1,7 +1,7 @@
 //! How a program begins, and how it tells of a standard output that failed.
 
 ghost use Rattle.std.specs.Prelude.{IfErr};
-ghost use Rattle.av_words.specs.Words.{IsOfWords};
+ghost use Rattle.av_status.specs.Status.{IsFault};
 
 use crate::output::Errors;
 use crate::reading::{reasons, say_error};
@@ -30,7 +30,7 @@ pub fn command_line<E: Write>(
     alloc: Global,
     err: &mut E,
 ) -> Result<Vec<String>, Status>
-    ensures { IfErr result IsOfWords }
+    ensures { IfErr result IsFault }
 {
     if let Ok(args) = env::args(rt) {
         return match args.collect(alloc) {

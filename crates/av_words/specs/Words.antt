@@ -1,5 +1,6 @@
 -- What the words of a command line may be.
-use Rattle.std.specs.Prelude.{ℕ, ⊤, ◌≤◌, List, length}
+use Rattle.std.specs.Prelude.{ℕ, ⊤, ◌<◌, ◌≤◌, List, Option, length}
+use Rattle.std.specs.Io.KnownBytes.{Appends}
 use Rattle.av_status.specs.declared.status.Status.{Status}
 use Rattle.av_status.specs.declared.status.Status.TheVariants.{Done, Refused, Usage, Memory, Device, Found, FoundInPart}
 
@@ -7,12 +8,19 @@ use Rattle.av_status.specs.declared.status.Status.TheVariants.{Done, Refused, Us
 abbrev pub IsSocketPath : List ℕ → Type 0
 IsSocketPath path = (1 ≤ length path) × (length path ≤ 107)
 
--- how a program ends whose words ask for nothing: help was written, or the words were not understood, or that could not be told
-abbrev pub IsOfWords : Status → Type 0
-IsOfWords Done = ⊤
-IsOfWords Refused = ⊥
-IsOfWords Usage = ⊤
-IsOfWords Memory = ⊤
-IsOfWords Device = ⊤
-IsOfWords Found = ⊥
-IsOfWords FoundInPart = ⊥
+-- a text was written
+pub record IsWritten (old new : Option (List ℕ)) : Type 0 where
+  pub text : List ℕ
+  pub some : 0 < length text
+  pub appended : Appends old new text
+
+-- How a program ends whose words ask for nothing, by what its standard output had and has. It ends well only if help was written;
+-- else the words were not understood, or that could not be reported.
+abbrev pub IsOfWords : Option (List ℕ) → Option (List ℕ) → Status → Type 0
+IsOfWords old new Done = IsWritten old new
+IsOfWords old new Refused = ⊥
+IsOfWords old new Usage = ⊤
+IsOfWords old new Memory = ⊤
+IsOfWords old new Device = ⊤
+IsOfWords old new Found = ⊥
+IsOfWords old new FoundInPart = ⊥

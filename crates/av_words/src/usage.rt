@@ -23,7 +23,7 @@ pub fn matches_of<'a, S: AsStr, W: Write, E: Write>(
     out: &mut W,
     err: &mut E,
 ) -> Result<ArgMatches<'a>, Status>
-    ensures { IfErr result IsOfWords }
+    ensures { IfErr result (IsOfWords (W.contents out.old) (W.contents out.new)) }
 {
     match matched(command, words) {
         Ok(matches) => Ok(matches),
@@ -68,7 +68,7 @@ fn told<W: Write, E: Write>(
     out: &mut W,
     err: &mut E,
 ) -> Status
-    ensures { IsOfWords result }
+    ensures { IsOfWords (W.contents out.old) (W.contents out.new) result }
 {
     if error.kind() == ErrorKind::OutOfMemory {
         return out_of_memory(err);
@@ -76,7 +76,7 @@ fn told<W: Write, E: Write>(
     let Ok(text) = format!(in alloc; "{error}") else {
         return out_of_memory(err);
     };
-    if error.use_stderr() {
+    if text.is_empty() || error.use_stderr() {
         say_usage(err, program, text.as_str());
         return Status::Usage;
     }

@@ -30,7 +30,7 @@ pub fn read_words<'a, S: AsStr, W: Write, E: Write>(
 ) -> Result<Request<'a>, Status>
     ensures sockets { IfOk result AsksForSockets }
     ensures apart { IfOk result AsksForApart }
-    ensures status { IfErr result IsOfWords }
+    ensures status { IfErr result (IsOfWords (W.contents out.old) (W.contents out.new)) }
 {
     let matches = matches_of(alloc, PROGRAM, avguard_command(alloc), words, out, err)?;
     match request_of(alloc, &matches) {

@@ -31,7 +31,7 @@ pub fn read_words<'a, S: AsStr, W: Write, E: Write>(
     ensures none { length words.now ≤ 1 → MatchResult result IsStandardInput (λ status. ⊥) }
     ensures moved { IfSome (slice_get words.now 1) (λ word. IsMoved (S.text word) → IsErrOf result Usage) }
     ensures sockets { IfOk result AsksForSockets }
-    ensures status { IfErr result IsOfWords }
+    ensures status { IfErr result (IsOfWords (W.contents out.old) (W.contents out.new)) }
 {
     if words.len() <= 1 {
         return Ok(from_standard_input());

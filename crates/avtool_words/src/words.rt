@@ -23,7 +23,7 @@ pub fn read_words<'a, S: AsStr, W: Write, E: Write>(
     out: &mut W,
     err: &mut E,
 ) -> Result<Request<'a>, Status>
-    ensures { IfErr result IsOfWords }
+    ensures { IfErr result (IsOfWords (W.contents out.old) (W.contents out.new)) }
 {
     let matches = matches_of(alloc, PROGRAM, avtool_command(alloc), words, out, err)?;
     match request_of(alloc, &matches) {
