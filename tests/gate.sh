@@ -64,6 +64,8 @@ echo "gate: the pages in plain English"
 step plain python3 tests/plain.py
 echo "gate: the figures of README.md, as bench/ has them"
 step figures python3 bench/figures.py --check
+echo "gate: the tables of definitions of docs/CHECK.md"
+step definitions python3 tests/definitions.py --check
 echo "gate: proving every crate from nothing (rt ci)"
 mkdir "$room/whole"
 step rt-ci sh tests/whole.sh "$room/whole"
