@@ -1,5 +1,6 @@
 #!/usr/bin/env python3
-"""The clients of examples/ beside `avguard ask`, over one guard and service: what they print, and how they end.
+"""The clients of examples/ beside `avguard ask`, over one guard and service: what they print, and how they end; and programs that have
+them built in.
 
 The client in C and that in Python are asked about files that are clean, infected, empty, as long as may be, too long, not there; with no
 guard, one that lets through, one that goes away or says what is no answer, and stopped while they wait. The helper for fanotify holds
@@ -18,6 +19,27 @@ SET = b"avsig 1\nversion 1\nTest.X 5858\n"
 GRANTED, INFECTED = b" granted generation 2 version 1\n", b" denied cause 2\n"
 # A grant of the ask with tag 0.
 GRANT = bytes.fromhex("00000019" "02") + struct.pack(">QQQ", 0, 2, 1)
+CLIENT = os.path.join(ROOT, "examples", "client")
+# Programs that ask about each of their words, with no longer wait than a second: one in C that is C++ as well, and one in Python.
+IN_C = b"""#include "avask.h"
+#include <stdio.h>
+int main(int count, char **words) {
+    struct av_answer answer;
+    int guard = av_connect(words[1]);
+    if (guard < 0 || av_wait(guard, 1) < 0) return 4;
+    for (int i = 2; i < count; i++) printf("%d\\n", av_ask(guard, words[i], strlen(words[i]), &answer));
+    return 0;
+}
+"""
+IN_PYTHON = """import sys
+from ask import Guard, Lost
+with Guard(sys.argv[1], seconds=1) as guard:
+    for word in sys.argv[2:]:
+        try:
+            print({"granted": 2, "denied": 3}[guard.judged(word.encode()).split()[0]])
+        except Lost:
+            print(-1)
+"""
 FILES = {"clean": b"ABC", "infected": b"A letter with XX in it", "empty": b"", "most": b"A" * MOST, "last": b"A" * (MOST - 2) + b"XX", "long": b"XX" + b"A" * MOST}
 
 
@@ -31,7 +53,7 @@ class Room:
             self.write(name, content)
         os.mkdir(os.path.join(folder, "folder"))
         self.ask, self.holder = os.path.join(folder, "ask"), os.path.join(folder, "avguard-fanotify")
-        build(os.path.join(ROOT, "examples", "client", "ask.c"), self.ask)
+        build(os.path.join(CLIENT, "ask.c"), self.ask)
         build(os.path.join(ROOT, "examples", "fanotify", "avguard-fanotify.c"), self.holder)
 
     def write(self, name, content):
@@ -42,7 +64,7 @@ class Room:
 
     def clients(self, wait=SECONDS):
         """The name of each and the words that start it; `avguard ask` is the one that the others are compared with."""
-        return (("avguard", [self.avguard, "ask", "-k", "--wait", str(wait)]), ("ask", [self.ask]), ("ask.py", [sys.executable, os.path.join(ROOT, "examples", "client", "ask.py")]))
+        return (("avguard", [self.avguard, "ask", "-k", "--wait", str(wait)]), ("ask", [self.ask]), ("ask.py", [sys.executable, os.path.join(CLIENT, "ask.py")]))
 
     def start(self, *words, **more):
         process = subprocess.Popen(words, cwd=self.folder, stdin=subprocess.DEVNULL, **more)
@@ -97,6 +119,28 @@ def same(cases, room, what, words, wanted, wait=SECONDS):
     for name, client in room.clients(wait):
         front = name.encode() + b": "
         cases.same(f"{what}, {name}", run(room, client, *words), (status, out, b"".join(front + line for line in err)))
+
+
+def embedded(cases, room):
+    """Programs that have the clients built in: what they are told, and that a guard which is stopped doesn't keep them."""
+    programs = {"Python": [sys.executable, "-c", IN_PYTHON]}
+    for name, compiler, source, standard in (("C", "cc", "in.c", "c11"), ("C++", "c++", "in.cc", "c++11")):
+        if shutil.which(compiler) is None:
+            print(f"{compiler} is not installed: {name} was not tried")
+            continue
+        made = os.path.join(room.folder, source + ".out")
+        words = [compiler, f"-std={standard}", "-D_GNU_SOURCE", "-Wall", "-Wextra", "-pedantic", "-Werror", "-I", CLIENT]
+        cases.same(f"{name} takes avask.h", run(room, [*words, "-o", made, room.write(source, IN_C)]), (0, b"", b""))
+        programs[name] = [made]
+    guard = room.guard()
+    for name, words in programs.items():
+        more = {"env": {**os.environ, "PYTHONPATH": CLIENT, "PYTHONDONTWRITEBYTECODE": "1"}}
+        asked = room.start(*words, room.opens, "ABC", "XX", "", stdout=subprocess.PIPE, stderr=subprocess.PIPE, **more)
+        cases.same(f"a program in {name}", ended(asked), (0, b"2\n3\n2\n", b""))
+        guard.send_signal(signal.SIGSTOP)
+        asked = room.start(*words, room.opens, "ABC", stdout=subprocess.PIPE, stderr=subprocess.PIPE, **more)
+        cases.same(f"a guard that is stopped, a program in {name}", ended(asked), (0, b"-1\n", b""))
+        guard.send_signal(signal.SIGCONT)
 
 
 def answers(cases, room):
@@ -445,7 +489,7 @@ def main():
     if len(sys.argv) != 2:
         sys.exit("usage: tests/clients.py PROGRAM")
     cases = Cases()
-    for part in (answers, statuses, let_through, denied, nobody, strangers, stopped, words_of_holder, held, clamdscan, pyclamd, clamonacc, rspamd):
+    for part in (answers, embedded, statuses, let_through, denied, nobody, strangers, stopped, words_of_holder, held, clamdscan, pyclamd, clamonacc, rspamd):
         begun = time.time()
         with tempfile.TemporaryDirectory() as folder:
             room = Room(os.path.abspath(sys.argv[1]), folder)

@@ -2,7 +2,14 @@
 """ask.py OPENS FILE..: what the guard at OPENS says of each file, in the lines of `avguard ask -k`.
 
 Up to AHEAD files are asked about before the first is answered, so that they are judged side by side. Answers come as they come about:
-the tag, which the client chooses, says which file one is of. docs/FORMATS.md, "Asking a guard", has the frames."""
+the tag, which the client chooses, says which file one is of. docs/FORMATS.md, "Asking a guard", has the frames.
+
+As a module it asks for a program:
+
+    from ask import Guard
+    with Guard("/run/avscan-guard/opens.socket", seconds=30) as guard:
+        is_granted = guard.judged(content).startswith("granted")
+"""
 import socket, struct, sys
 
 MOST = 1 << 20   # the most bytes of a content
@@ -14,11 +21,30 @@ class Lost(Exception):
 
 
 class Guard:
-    """A connection to a guard."""
+    """A connection to a guard. With seconds, an answer that takes longer, or a send, is Lost."""
 
-    def __init__(self, path):
+    def __init__(self, path, seconds=None):
         self.socket = socket.socket(socket.AF_UNIX)
-        self.socket.connect(path)
+        self.socket.settimeout(seconds)
+        try:
+            self.socket.connect(path)
+        except OSError:
+            self.socket.close()
+            raise
+
+    def __enter__(self):
+        return self
+
+    def __exit__(self, *_):
+        self.socket.close()
+
+    def judged(self, content):
+        """Asks about a content and waits for what is said of it, as the words of a line: only `granted ..` says that it is clean.
+        ValueError where it is longer than a content may be. Not for a connection that has other asks under way."""
+        if len(content) > MOST:
+            raise ValueError("TooLarge")
+        self.ask(0, content)
+        return self.answer()[1]
 
     def ask(self, tag, content, label=b""):
         """Sends an ask. The label, at most 255 bytes, is for logs alone."""

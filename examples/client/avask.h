@@ -4,14 +4,15 @@
  *     struct av_answer answer;
  *     if (guard >= 0 && av_ask(guard, content, length, &answer) == AV_GRANTED) ...
  *
- * Nothing is allocated, and nothing is needed but the C library of a Unix. A connection carries one ask at a time, so threads take one
- * each. docs/FORMATS.md, "Asking a guard", has the frames that go over it. */
+ * It is C11 and C++11. Nothing is allocated, and nothing is needed but the C library of a Unix. A connection carries one ask at a time,
+ * so threads take one each. A guard that is stopped keeps av_ask waiting: av_wait bounds that. docs/FORMATS.md, "Asking a guard", has the frames that go over it. */
 #ifndef AVASK_H
 #define AVASK_H
 #include <errno.h>
 #include <stdint.h>
 #include <string.h>
 #include <sys/socket.h>
+#include <sys/time.h>
 #include <sys/un.h>
 #include <unistd.h>
 
@@ -29,8 +30,10 @@ struct av_answer {
 
 /* A connection to the guard that listens at a path, or -1 with errno: ENAMETOOLONG where a socket can't have such a path. */
 static inline int av_connect(const char *path) {
-    struct sockaddr_un at = {.sun_family = AF_UNIX};
+    struct sockaddr_un at;
     size_t length = strlen(path);
+    memset(&at, 0, sizeof at);
+    at.sun_family = AF_UNIX;
     if (length == 0 || length >= sizeof at.sun_path) {
         errno = ENAMETOOLONG;
         return -1;
@@ -47,8 +50,17 @@ static inline int av_connect(const char *path) {
     return -1;
 }
 
+/* From now on a send or an answer that takes longer than so many seconds makes the connection AV_LOST. 0, or -1 with errno. */
+static inline int av_wait(int guard, unsigned seconds) {
+    struct timeval most;
+    memset(&most, 0, sizeof most);
+    most.tv_sec = (time_t)seconds;
+    if (setsockopt(guard, SOL_SOCKET, SO_SNDTIMEO, &most, sizeof most) < 0) return -1;
+    return setsockopt(guard, SOL_SOCKET, SO_RCVTIMEO, &most, sizeof most);
+}
+
 static inline int av_send(int guard, const void *bytes, size_t count) {
-    for (const char *at = bytes; count > 0;) {
+    for (const char *at = (const char *)bytes; count > 0;) {
         ssize_t some = send(guard, at, count, MSG_NOSIGNAL);
         if (some < 0 && errno == EINTR) continue;
         if (some <= 0) return -1;
@@ -59,7 +71,7 @@ static inline int av_send(int guard, const void *bytes, size_t count) {
 }
 
 static inline int av_receive(int guard, void *bytes, size_t count) {
-    for (char *at = bytes; count > 0;) {
+    for (char *at = (char *)bytes; count > 0;) {
         ssize_t some = recv(guard, at, count, 0);
         if (some < 0 && errno == EINTR) continue;
         if (some <= 0) return -1;
@@ -86,7 +98,7 @@ static inline int av_ask(int guard, const void *content, size_t length, struct a
     if (av_send(guard, head, sizeof head) < 0 || av_send(guard, content, length) < 0 || av_receive(guard, told, 4) < 0) return AV_LOST;
     uint64_t count = av_number(told, 4);
     if (count < 10 || count > sizeof told || av_receive(guard, told, count) < 0 || av_number(told + 1, 8) != 0) return AV_LOST;
-    *answer = (struct av_answer){0};
+    memset(answer, 0, sizeof *answer);
     switch (told[0]) {
     case AV_GRANTED:
         if (count != 25) return AV_LOST;
