@@ -14,12 +14,12 @@ SHARE = $(DESTDIR)$(PREFIX)/share
 
 build: kit
 	@echo "building: proving each crate and compiling $(PROGRAMS) (README.md says how long the first time takes)"
-	@python3 tests/prove.py $(PROGRAMS) || { echo "make: not all of $(PROGRAMS) were built: the lines above say why" >&2; exit 1; }
+	@python3 gate/prove.py $(PROGRAMS) || { echo "make: not all of $(PROGRAMS) were built: the lines above say why" >&2; exit 1; }
 	@echo "built: $(foreach name,$(PROGRAMS),$(BUILT)/$(name)/out/$(name))"
 
 avscan: kit
 	@echo "building: proving each crate and compiling avscan (README.md says how long the first time takes)"
-	@python3 tests/prove.py avscan || { echo "make: avscan was not built: the lines above say why" >&2; exit 1; }
+	@python3 gate/prove.py avscan || { echo "make: avscan was not built: the lines above say why" >&2; exit 1; }
 	@echo "built: $(PROGRAM)"
 
 run: unproved avscan
@@ -37,13 +37,13 @@ try: kit
 	@cd crates/avscan && rt try -- run "$(CURDIR)/$(EXAMPLE)"
 
 test: kit
-	@if [ -n "$(CRATE)" ]; then tests/crate.sh "$(CRATE)"; else tests/gate.sh; fi
+	@if [ -n "$(CRATE)" ]; then gate/crate.sh "$(CRATE)"; else gate/gate.sh; fi
 
 proofs: kit
-	@room=$$(mktemp -d) && trap 'rm -rf "$$room"' EXIT && sh tests/whole.sh "$$room"
+	@room=$$(mktemp -d) && trap 'rm -rf "$$room"' EXIT && sh gate/whole.sh "$$room"
 
 gate-times:
-	@python3 tests/times.py
+	@python3 gate/times.py
 
 bench: build
 	@bench/run.sh

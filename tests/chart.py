@@ -9,7 +9,7 @@ import os, re, subprocess, sys, tempfile
 import xml.etree.ElementTree as tree
 import plain_world, random_scripts
 from cases import Cases
-from rooms import program_beside
+from programs import program_beside
 
 SECONDS = 60
 SCRIPTS = 60

@@ -10,7 +10,7 @@ The last line says how many passed and how many failed."""
 import os, shutil, signal, socket, struct, subprocess, sys, tempfile, threading, time
 
 from cases import Cases
-from rooms import program_beside
+from programs import program_beside
 
 ROOT = os.path.dirname(os.path.dirname(os.path.abspath(__file__)))
 SECONDS = 60

@@ -5,7 +5,7 @@ for each fault line of docs/FORMATS.md, and the examples print what the document
 manual page and in the completions, and the pages render without a warning. The last line says how many passed and failed."""
 import glob, os, re, shutil, subprocess, sys, tempfile
 
-from rooms import program_beside
+from programs import program_beside
 
 ROOT = os.path.dirname(os.path.dirname(os.path.abspath(__file__)))
 PAGES = ["README.md", "bench/README.md"] + [f"docs/{name}.md" for name in ("ARCHITECTURE", "CONDUCT", "DECISIONS", "FORMATS", "GATE", "MUTANTS", "READING", "OPERATING", "PROMISES", "SCANNER", "THREADS")]
@@ -22,7 +22,7 @@ def text_of(path):
 def sources():
     """All words of code and definitions, and the names of edits."""
     words = {os.path.basename(path)[: -len(".edit")] for path in glob.glob(os.path.join(ROOT, "crates/*/must-fail/*.edit"))}
-    for pattern in ("crates/*/src/**/*.rt", "crates/*/specs/**/*.antt", "crates/*/proofs/*.antt", "crates/*/proofs/**/*.antt", "tests/*.py", "tests/*.sh", "tests/*.c", "bench/*/*", "examples/*/*", "Makefile", "crates.txt"):
+    for pattern in ("crates/*/src/**/*.rt", "crates/*/specs/**/*.antt", "crates/*/proofs/*.antt", "crates/*/proofs/**/*.antt", "gate/*.py", "gate/*.sh", "package/*", "tests/*.py", "tests/*.sh", "tests/*.c", "bench/*/*", "examples/*/*", "Makefile", "crates.txt"):
         for path in glob.glob(os.path.join(ROOT, pattern), recursive=True):
             if os.path.isfile(path) and "/out/" not in path:
                 words.update(re.findall(r"\w+", text_of(path)))
@@ -50,8 +50,8 @@ def paths(checks, page, text):
     for link in re.findall(r"\]\(([^)#:]+)\)", text):
         checks.check(os.path.exists(os.path.join(ROOT, folder, link)), f"{page}: no file for the link {link}")
     for word in re.findall(r"`([\w./-]+)`", without_blocks(text)):
-        if re.fullmatch(r"(crates|docs|tests|bench|examples|specs|src|proofs|must-fail)/[\w./-]*", word):
-            found = [word, os.path.join(folder, word)] + (glob.glob(os.path.join(ROOT, "crates", "*", word)) if not word.startswith(("crates/", "docs/", "tests/", "bench/")) else [])
+        if re.fullmatch(r"(crates|docs|gate|package|tests|bench|examples|specs|src|proofs|must-fail)/[\w./-]*", word):
+            found = [word, os.path.join(folder, word)] + (glob.glob(os.path.join(ROOT, "crates", "*", word)) if not word.startswith(("crates/", "docs/", "gate/", "package/", "tests/", "bench/")) else [])
             checks.check(any(os.path.exists(os.path.join(ROOT, path)) for path in found), f"{page}: no file {word}")
 
 
@@ -131,15 +131,15 @@ def crate_pages(checks):
 
 
 def lemmas(checks):
-    """tests/lemmas_above.txt names the lemma files that proofs of other crates cite, and no others."""
+    """gate/lemmas_above.txt names the lemma files that proofs of other crates cite, and no others."""
     cited = set()
     for path in glob.glob(os.path.join(ROOT, "crates", "*", "**", "*.*t*"), recursive=True):
         own = path.split("/crates/")[-1].split("/")[0]
         if path.endswith((".rt", ".antt")) and "/out/" not in path:
             cited.update((crate, name) for crate, name in re.findall(r"\b(av\w*)(?:\.|::)proofs(?:\.|::)([A-Z]\w+)", text_of(path)) if crate != own)
-    lines = [line.split(":") for line in text_of("tests/lemmas_above.txt").splitlines() if not line.startswith("#")]
+    lines = [line.split(":") for line in text_of("gate/lemmas_above.txt").splitlines() if not line.startswith("#")]
     named = {(crate, name) for crate, names in lines for name in names.split()}
-    checks.check(named == cited, f"tests/lemmas_above.txt: proofs above cite {sorted(cited - named)} too, and not {sorted(named - cited)}")
+    checks.check(named == cited, f"gate/lemmas_above.txt: proofs above cite {sorted(cited - named)} too, and not {sorted(named - cited)}")
 
 
 def fault_lines(checks):

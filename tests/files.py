@@ -8,7 +8,7 @@ how many failed."""
 import contextlib, os, select, shutil, socket, subprocess, sys, tempfile, threading, time
 
 from cases import Cases
-from rooms import program_beside
+from programs import program_beside
 
 SECONDS = 60
 HERE = os.path.dirname(os.path.abspath(__file__))

@@ -7,7 +7,7 @@ says how many passed and how many failed."""
 import collections, os, re, subprocess, sys
 import plain_world, rows
 from cases import Cases
-from rooms import program_beside
+from programs import program_beside
 
 SECONDS = 60
 HERE = os.path.dirname(os.path.abspath(__file__))

@@ -6,7 +6,7 @@ The last line says how many passed and how many failed."""
 import glob, os, random, re, select, signal, socket, struct, subprocess, sys, tempfile, time
 
 from cases import Cases
-from rooms import program_beside
+from programs import program_beside
 
 HERE = os.path.dirname(os.path.abspath(__file__))
 SECONDS = 60

@@ -7,7 +7,7 @@ their places must be found by both alike. The last line says how many passed and
 import os, random, re, shutil, subprocess, sys, tempfile
 
 from cases import Cases
-from rooms import program_beside
+from programs import program_beside
 
 SECONDS = 60
 MUTATED = 2000

@@ -10,7 +10,7 @@ script's number, so a script that fails can be made again: `tests/random_scripts
 picture beside it. The last line says how many passed and how many failed."""
 import collections, os, random, subprocess, sys
 import plain_world, rows
-from rooms import program_beside
+from programs import program_beside
 
 SECONDS = 60
 # Where scripts that fail are written.

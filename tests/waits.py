@@ -6,7 +6,7 @@ import fcntl, os, re, select, socket, struct, subprocess, sys, tempfile, time
 
 from cases import Cases
 from guard import SECONDS, Guard, Service, ask, connected, frame, frames, heard, hello, is_silent, message, number, rest, verdict
-from rooms import program_beside
+from programs import program_beside
 
 F_SETPIPE_SZ = 1031
 

@@ -6,7 +6,7 @@ The last line says how many passed and how many failed."""
 import concurrent.futures, os, select, shutil, socket, struct, subprocess, sys, tempfile, threading, time
 
 from cases import Cases
-from rooms import program_beside
+from programs import program_beside
 from guard import connected, frame, frames, hello, message, number
 
 SECONDS = 60

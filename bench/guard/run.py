@@ -9,7 +9,7 @@ import os, random, re, shutil, subprocess, sys, tempfile, time
 
 HERE = os.path.dirname(os.path.abspath(__file__))
 sys.path.insert(0, os.path.join(os.path.dirname(os.path.dirname(HERE)), "tests"))
-from rooms import program_beside
+from programs import program_beside
 ROUNDS = 3
 ASKS = (("known", 1 << 10, 2000), ("new", 1 << 10, 2000), ("new", 1 << 16, 400), ("new", 1 << 20, 100))
 MANY, CLIENTS, IDLE = 8000, (1, 4, 16), 1000

@@ -55,20 +55,20 @@ step() {
 }
 
 echo "gate: the layout of the tests"
-step layout sh tests/layout.sh
+step layout sh gate/layout.sh
 echo "gate: the rows of tests, as the cases have them"
 step rows-of-tests python3 tests/row_tables.py --check
 echo "gate: each lemma is cited, and none of more than four lines stands twice"
-step lemmas python3 tests/lemmas.py
+step lemmas python3 gate/lemmas.py
 echo "gate: the pages in plain English"
-step plain python3 tests/plain.py
+step plain python3 gate/plain.py
 echo "gate: the figures of README.md, as bench/ has them"
 step figures python3 bench/figures.py --check
 echo "gate: the tables of definitions of docs/CHECK.md"
-step definitions python3 tests/definitions.py --check
+step definitions python3 gate/definitions.py --check
 echo "gate: proving every crate from nothing (rt ci)"
 mkdir "$room/whole"
-step rt-ci sh tests/whole.sh "$room/whole"
+step rt-ci sh gate/whole.sh "$room/whole"
 program=$room/whole/crates/avscan/out/avscan
 [ -x "$program" ] || { echo "gate: rt ci built no program"; echo "$passed passed, $((failed + 1)) failed"; exit 1; }
 echo "gate: the cases of tests/ on the built program"
@@ -110,15 +110,15 @@ step deb sh tests/deb.sh "$program"
 echo "gate: what the documents name"
 step documents python3 tests/docs.py "$program"
 echo "gate: the tests, those of refused memory with each request refused in turn"
-step tests python3 tests/run_tests.py --times "$times" --only run
+step tests python3 gate/run_tests.py --times "$times" --only run
 echo "gate: refused memory, in tests that are built as for use"
-step refused-memory sh tests/refused-memory.sh "$room"/whole/crates/*/out/*_tests
+step refused-memory sh gate/refused-memory.sh "$room"/whole/crates/*/out/*_tests
 echo "gate: values that must be spent, once"
-step must-be-spent python3 tests/must_be_spent.py
+step must-be-spent python3 gate/must_be_spent.py
 echo "gate: a program that embeds the filter"
-step embed python3 tests/embed.py
+step embed python3 gate/embed.py
 echo "gate: must-fail edits, over the libraries that were built"
-step edits python3 tests/edits.py --times "$times" --until $((begun + 7500)) --again $((begun + 3600)) --over "$room/whole/crates"
+step edits python3 gate/edits.py --times "$times" --until $((begun + 7500)) --again $((begun + 3600)) --over "$room/whole/crates"
 echo "gate: $(nproc) processors, $(($(date +%s) - begun)) s; out/gate-times has what each part took"
 echo "gate: seconds, and of a processor:$(awk '$1 == "part" { printf " %s %d %d;", $2, $4, $5 }' "$times")"
 [ -z "$not_whole" ] || { cat "$room/failed"; echo "gate: something failed in:$not_whole"; }

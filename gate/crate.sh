@@ -8,8 +8,8 @@ wanted=$1
 grep -q "^$wanted:" crates.txt || { echo "make: crates.txt has no crate $wanted" >&2; exit 2; }
 begun=$(date +%s)
 failed=0
-python3 tests/prove.py --above "$wanted" || failed=$((failed + 1))
-python3 tests/run_tests.py --above "$wanted" || failed=$((failed + 1))
-if [ -d "crates/$wanted/must-fail" ]; then python3 tests/edits.py --changed "$wanted" || failed=$((failed + 1)); fi
+python3 gate/prove.py --above "$wanted" || failed=$((failed + 1))
+python3 gate/run_tests.py --above "$wanted" || failed=$((failed + 1))
+if [ -d "crates/$wanted/must-fail" ]; then python3 gate/edits.py --changed "$wanted" || failed=$((failed + 1)); fi
 echo "gate: $wanted and what stands on it: $(($(date +%s) - begun)) s, $failed failed"
 [ "$failed" = 0 ]

@@ -124,13 +124,6 @@ def prover_words(verb, crate, crates, libraries=CRATES, jobs=1, keeps=True):
     return [*words, "--antt-project", f"{kit()}/rattle/logic/antt-project.json", "--logic-built", f"{kit()}/logic_built"]
 
 
-def program_beside(program, name):
-    """The program of this name that was built with another one: in the folder of its crate or, if it is not there, beside the other."""
-    folder = os.path.dirname(os.path.abspath(program))
-    of_crate = os.path.join(os.path.dirname(os.path.dirname(folder)), name, "out", name)
-    return of_crate if os.path.isfile(of_crate) else os.path.join(folder, name)
-
-
 def linked(program):
     """Makes a program of its object file, PROGRAM.o, and says whether that could be done."""
     words = [f"{kit()}/bin/rattle-link", "--target", "x86_64-unknown-linux-gnu", "--toolchain", f"{kit()}/toolchain", "-o", program]

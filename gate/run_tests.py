@@ -6,7 +6,7 @@ usage: run_tests.py [--times FILE] [--above] [--only run|built] [CRATE ...]
 Each test of the named crates (all, without a name; with --above those that stand on them too) is run without a proof, compiled with
 checks for bad accesses (`rt try --test`). Tests whose names begin with `refused_or_not_` run with each request for memory of their
 calls refused in turn (tests/refuse_each.c, which is linked to them): in each crate that is named, and without a name in REFUSED. They
-are proved too, where the libraries below their crate are built, built and run: tests/refused-memory.sh runs what is built,
+are proved too, where the libraries below their crate are built, built and run: gate/refused-memory.sh runs what is built,
 crates/NAME/out/NAME_tests, over a `malloc` that refuses.
 --only does one of the two. The last line counts the tests.
 """
@@ -64,7 +64,7 @@ class Runs:
         self.passed = self.failed = 0
         words = f"tar -c --exclude=must-fail --exclude=out HANDLES crates.txt crates | tar -x -C {room}"
         subprocess.run(["sh", "-c", words], cwd=TOP, check=True)
-        subprocess.run([sys.executable, f"{TOP}/tests/strip_tests.py", "--keep", KEPT, room], check=True, stdout=subprocess.DEVNULL)
+        subprocess.run([sys.executable, f"{TOP}/gate/strip_tests.py", "--keep", KEPT, room], check=True, stdout=subprocess.DEVNULL)
 
     def begin(self, key, jobs, ended):
         crate, kind = key

@@ -13,7 +13,7 @@ import re
 import sys
 
 ROOT = os.path.dirname(os.path.dirname(os.path.abspath(__file__)))
-PAGES = ("README.md", "docs/*.md", "crates/*/README.md", "bench/*.md", "tests/README.md", "examples/*.md", "examples/*/README.md")
+PAGES = ("README.md", "docs/*.md", "crates/*/README.md", "bench/*.md", "gate/README.md", "tests/README.md", "examples/*.md", "examples/*/README.md")
 MEAN, LONGEST, LONG, COLUMNS = 16, 35, 25, 100
 # What not to write, and what to write in its place. Code, quotes and comments may have it.
 PHRASES = (

@@ -5,7 +5,7 @@ usage: lemmas.py
 
 A lemma that nothing names but its own proof is told; worked rows, in files named RowLemmas, are proved for their own sake. So are two
 lemmas that state the same of variables that may be named otherwise, where each takes more than four lines: one of them moves to the
-lowest crate that both stand on (tests/lemmas_above.txt lists the files of lemmas that are named from above).
+lowest crate that both stand on (gate/lemmas_above.txt lists the files of lemmas that are named from above).
 """
 import collections
 import glob

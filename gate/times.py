@@ -14,7 +14,7 @@ from rooms import TOP, listed
 
 PAGE = f"{TOP}/docs/GATE.md"
 TIMES = f"{TOP}/out/gate-times"
-BEGIN, END = "<!-- written by tests/times.py -->\n", "<!-- as far as here -->\n"
+BEGIN, END = "<!-- written by gate/times.py -->\n", "<!-- as far as here -->\n"
 
 
 def read():
