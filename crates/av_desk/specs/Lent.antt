@@ -1,6 +1,6 @@
 -- A work with the automaton of its version.
 use Rattle.std.specs.Prelude.{◌≡◌, List, [], ◌∷◌, Option, None, Some}
-use Rattle.av_match.specs.Scanning.{Compiled}
+use Rattle.av_match.specs.Scanning.{AreSolid, Compiled}
 use Rattle.av_service.specs.Work.{WorkState}
 use Rattle.av_sigset.specs.Publication.{Publication, published_as}
 
@@ -8,6 +8,11 @@ use Rattle.av_sigset.specs.Publication.{Publication, published_as}
 pub record LentState : Type 0 where
   pub work : WorkState
   pub automaton : Compiled
+
+-- The automaton is of the work's version, and each of its patterns has 1 to 64 bytes.
+pub record FitsItsWork (l : LentState) : Type 0 where
+  pub version : l.automaton.version ≡ l.work.version
+  pub solid : AreSolid l.automaton.patterns
 
 -- of these publications, the works that were given out, and under what each was published
 abbrev pub AreLent : List Publication → List WorkState → Option LentState → Type 0

@@ -1,6 +1,7 @@
 ghost use Rattle.std.specs.Prelude.{◌≡◌, ◌≤◌, ◌+◌, ◌++◌, ℕ, List, length};
-ghost use Rattle.av_desk.specs.Lent.{IsMet, lent_with};
-ghost use Rattle.av_match.specs.Scanning.{AreSolid, IsScan, fitting, run};
+ghost use Rattle.av_desk.specs.Lent.{FitsItsWork, IsMet, lent_with};
+ghost use Rattle.av_match.specs.Match.{if_hit, verdict};
+ghost use Rattle.av_match.specs.Scanning.{IsScan, fitting, if_found, run};
 
 use crate::shared::SharedAutomaton;
 use av_service::{Done, Note, Work, WorkParcel};
@@ -13,14 +14,13 @@ pub struct Lent {
 }
 
 impl Model for Lent {
-    ghost use Rattle.std.specs.Prelude.{◌≡◌};
-    ghost use Rattle.av_desk.specs.Lent.{LentState};
+    ghost use Rattle.av_desk.specs.Lent.{FitsItsWork, LentState};
 
     ghost Value = { LentState };
 
     ghost view = { λ l. record { work = l.work; automaton = l.automaton } };
 
-    ghost invariant = { λ l. l.automaton.version ≡ l.work.version };
+    ghost invariant = { λ l. FitsItsWork (record { work = l.work; automaton = l.automaton }) };
 }
 
 /// A lent work that may be let go, as a channel asks of what it carries. `Lent::pack` makes it.
@@ -31,14 +31,13 @@ pub struct LentParcel {
 }
 
 impl Model for LentParcel {
-    ghost use Rattle.std.specs.Prelude.{◌≡◌};
-    ghost use Rattle.av_desk.specs.Lent.{LentState};
+    ghost use Rattle.av_desk.specs.Lent.{FitsItsWork, LentState};
 
     ghost Value = { LentState };
 
     ghost view = { λ l. record { work = l.work; automaton = l.automaton } };
 
-    ghost invariant = { λ l. l.automaton.version ≡ l.work.version };
+    ghost invariant = { λ l. FitsItsWork (record { work = l.work; automaton = l.automaton }) };
 }
 
 impl Lent {
@@ -47,6 +46,8 @@ impl Lent {
         requires { automaton.version ≡ work.version }
         ensures { result ≡ record { work = work; automaton = automaton } }
     {
+        // Read for the prover: the patterns of an automaton have their lengths.
+        let _version = automaton.get().version();
         Lent { work, automaton }
     }
 
@@ -54,6 +55,7 @@ impl Lent {
     pub fn work(&self) -> &Work
         ensures work { result.now ≡ self.now.work }
         ensures version { self.now.automaton.version ≡ self.now.work.version }
+        ensures fits { FitsItsWork self.now }
     {
         &self.work
     }
@@ -64,9 +66,12 @@ impl Lent {
         ensures lease { result.lease ≡ self.work.lease }
         ensures scan { result.scan ≡ run self.automaton.patterns self.work.scan (fitting self.work.scan self.work.chunk) }
         ensures version { self.automaton.version ≡ self.work.version }
+        ensures fits { FitsItsWork self }
         ensures judged { (bytes : ℕ) (c : List ℕ) → IsScan self.automaton bytes c self.work.scan
-            → length c + length self.work.chunk ≤ bytes → AreSolid self.automaton.patterns
-            → IsScan self.automaton bytes (c ++ self.work.chunk) result.scan }
+            → length c + length self.work.chunk ≤ bytes → IsScan self.automaton bytes (c ++ self.work.chunk) result.scan }
+        ensures verdict { (bytes : ℕ) (c : List ℕ) → IsScan self.automaton bytes c self.work.scan
+            → length c + length self.work.chunk ≤ bytes
+            → if_found result.scan ≡ if_hit (verdict self.automaton.patterns (c ++ self.work.chunk)) }
     {
         let Lent { work, automaton } = self;
         work.run(automaton.get())
@@ -80,7 +85,8 @@ impl Lent {
 
     /// The same as a parcel. Takes no memory.
     pub fn pack(self) -> LentParcel
-        ensures { result ≡ self }
+        ensures same { result ≡ self }
+        ensures fits { FitsItsWork self }
     {
         let Lent { work, automaton } = self;
         LentParcel {

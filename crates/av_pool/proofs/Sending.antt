@@ -1,9 +1,9 @@
 -- What longer lists of items hold, and a worker that goes on.
 use Rattle.std.proofs.Common.{◌≡◌, ◌==◌, cond, ℕ, ◌+◌, arith, List, [], ◌∷◌, ◌++◌, append_assoc, map, refl, sym, ap, ◌∙◌}
-use Rattle.std.specs.List.{flat_map}
+use Rattle.std.specs.List.{AllByRecursion as Each, flat_map}
 use Rattle.std.proofs.lemmas.List.{append-nil}
 use Rattle.std.proofs.lemmas.List.Concat.{flat_map-append}
-use Rattle.av_desk.specs.Lent.{LentState}
+use Rattle.av_desk.specs.Lent.{FitsItsWork, LentState}
 use Rattle.crossbeam_channel.specs.Claims.{Pass, view}
 use Rattle.av_pool.proofs.Weighing.{weigh-append, weigh-flat, weigh-map}
 use Rattle.av_pool.specs.Channel.{channel_of}
@@ -26,6 +26,11 @@ flat_more f xs x = flat_map-append f xs (x ∷ []) ∙ ap (λ l. flat_map f xs +
 -- what a pass put, with one item more
 pub given_more : (v v' : Tally WorkItem) (x : WorkItem) → v' ≡ tally v.parts (v.put ++ x ∷ []) v.taken → lents_of v'.put ≡ lents_of v.put ++ lent_in x
 given_more v v' x e = ap (λ (z : Tally WorkItem). lents_of z.put) e ∙ flat_more lent_in v.put x
+
+-- where each of them fits its work, so it is with one more that does
+pub fits_more : (xs : List LentState) (l : LentState) → Each FitsItsWork xs → FitsItsWork l → Each FitsItsWork (xs ++ l ∷ [])
+fits_more [] l all fits = (fits, tt)
+fits_more (x ∷ xs) l all fits = (all.0, fits_more xs l all.1 fits)
 
 -- what a pass took, with one item more
 pub taken_more : (v v' : Tally DoneItem) (x : DoneItem) → v' ≡ tally v.parts v.put (v.taken ++ x ∷ []) → dones_of v'.taken ≡ dones_of v.taken ++ done_in x

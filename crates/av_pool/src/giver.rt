@@ -14,7 +14,9 @@ pub struct Giver {
 }
 
 impl Model for Giver {
+    ghost use Rattle.std.specs.List.{AllByRecursion};
     ghost use Rattle.std.specs.Prelude.{◌≡◌, []};
+    ghost use Rattle.av_desk.specs.Lent.{FitsItsWork};
     ghost use Rattle.crossbeam_channel.specs.Claims.{IsSeatAt};
     ghost use Rattle.crossbeam_channel.specs.Ends.{sends_on};
     ghost use Rattle.av_pool.specs.Channel.{tally_of};
@@ -25,7 +27,8 @@ impl Model for Giver {
     ghost view = { λ g. giver_state g.pass };
 
     ghost invariant = { λ g. IsSeatAt (sends_on g.works) g.pass × ((tally_of g.pass).parts ≡ 1)
-        × ((tally_of g.pass).taken ≡ []) };
+        × ((tally_of g.pass).taken ≡ [])
+        × AllByRecursion FitsItsWork (giver_state g.pass).given };
 }
 
 impl Giver {

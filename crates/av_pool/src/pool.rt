@@ -1,11 +1,12 @@
 ghost use Rattle.std.specs.Prelude.{◌≡◌, ◌++◌, ◌<◌, ◌+◌, [], ℕ, IfOk, IfErr, length};
-ghost use Rattle.std.specs.List.{All};
+ghost use Rattle.std.specs.List.{All, AllByRecursion};
 ghost use Rattle.crossbeam_channel.specs.Claims.{view};
 ghost use Rattle.av_pool.specs.Channel.{channel_of};
 ghost use Rattle.av_pool.specs.Crew.{IsFresh};
 ghost use Rattle.av_pool.specs.Handle.{IsHandleOf};
 ghost use Rattle.av_pool.specs.Items.{lents_of};
 ghost use Rattle.av_pool.specs.Pool.{AreEndsOf, AreRunsOf, IsCrewSize, IsStartRefusal, times_done, times_given};
+ghost use Rattle.av_pool.specs.Run.{IsRunOfOne};
 
 use crate::crew::{Crew, HELD, Worker};
 use crate::fault::StartFault;
@@ -16,6 +17,7 @@ use crate::stopped::Stopped;
 use crate::taker::Taker;
 use crate::tally::Cut;
 use av_base::Refusal;
+use av_match::laws::scan_goes_on;
 use av_service::Done;
 use std::alloc::Global;
 use std::marker::Model;
@@ -86,12 +88,16 @@ impl Pool {
     }
 
     /// Ends and joins the workers, runs the works that none of them took, and gives what was run and not taken. With what was
-    /// taken before it is what the runs of the given works give, each as often. Takes no memory.
+    /// taken before it is what the runs of the given works give, each as often. Each of it is what the run of one of them gives,
+    /// by the automaton that was lent with that one. Takes no memory.
     pub fn stop<R: Threads + Wait>(self, rt: &R, giver: Giver, taker: Taker) -> Stopped
         requires ends { AreEndsOf self giver taker }
         ensures all { (lease : ℕ) → times_done lease (taker.taken ++ result.dones.items) ≡ times_given lease giver.given }
         ensures runs { AreRunsOf giver.given (taker.taken ++ result.dones.items) }
+        ensures each { AllByRecursion (IsRunOfOne giver.given) (taker.taken ++ result.dones.items) }
     {
+        // The law of a scan that goes on, for the prover: a worker's scan is no other.
+        scan_goes_on();
         let took = Snapshot::of(&taker);
         let Pool { crew, dones } = self;
         let Crew {

@@ -8,7 +8,6 @@ returns c =
     let bytes = length c.args.content.now in
     let set : Compiled = record { version = c.args.set.now.version; patterns = patterns_of c.args.set.now.signatures } in
     let solid : AreSolid set.patterns = c.version.ensures.set.ranges.lengths in
-    let begun : IsScan set bytes [] c.start-scan.result = c.start-scan.ensures.scan set (sym c.version.ensures.version) solid in
-    let fed = c.feed.ensures.scan bytes [] (subst (λ a. IsScan a bytes [] c.start-scan.result) (sym c.requires) begun) (omega arith)
-    (subst (λ (a : Compiled). AreSolid a.patterns) (sym c.requires) solid) in
+    let begun : IsScan set bytes [] c.start-scan.result = c.start-scan.ensures.scan set (sym c.version.ensures.version) in
+    let fed = c.feed.ensures.scan bytes [] (subst (λ a. IsScan a bytes [] c.start-scan.result) (sym c.requires) begun) (omega arith) in
     c.end.ensures.verdict set bytes c.args.content.now (subst (λ a. IsScan a bytes c.args.content.now c.feed.new.self) c.requires fed) solid

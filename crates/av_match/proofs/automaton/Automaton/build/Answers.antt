@@ -8,7 +8,7 @@ use Rattle.av_match.specs.Search.{bytes_of}
 use Rattle.av_match.specs.Shifts.{IsSkimmer}
 use Rattle.av_match.specs.Words.{words_of}
 use Rattle.av_match.proofs.GrowLemmas.{upto_few, upto_most}
-use Rattle.av_match.proofs.TableLemmas.{set_patterns, build_is}
+use Rattle.av_match.proofs.TableLemmas.{set_patterns, build_is, solid_patterns}
 use Rattle.av_match.proofs.automaton.Automaton.build.Goals as goal
 
 pub trie_of-requires : goal.trie_of-requires
@@ -51,6 +51,7 @@ invariant_of-result c =
           c.in_ok-skimmer.ensures,
       subst (λ qs. IsRangedOf qs c.in_ok-ranged.ranged) c.as_slice-3.ensures.value c.in_ok-ranged.ensures,
       subst (λ qs. IsHorizon qs c.horizon_of-horizon.result) c.as_slice-10.ensures.value c.horizon_of-horizon.ensures,
+      solid_patterns c.in_ok-patterns.patterns.items (subst AllPatterns (sym here) (set_patterns c.args.set.now c.signatures.ensures.set).1),
     )
 
 pub returns : goal.returns
