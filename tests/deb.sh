@@ -50,6 +50,11 @@ check "no file can be written by others" sh -c "! dpkg-deb -c '$package' | grep 
 for unit in avscan-guard avscan-service; do
     check "the unit $unit starts the installed program" grep -q "^ExecStart=/usr/bin/av" "$room/files/usr/lib/systemd/system/$unit.service"
 done
+if command -v systemd-analyze > /dev/null; then
+    for unit in avscan-guard avscan-service; do
+        check "the exposure of $unit is at most 1.0" systemd-analyze security --offline=true --threshold=10 --no-pager "$room/files/usr/lib/systemd/system/$unit.service"
+    done
+fi
 check "no unit names a folder of a build" sh -c "! grep -r /usr/local '$room/files/usr/lib'"
 
 # a system of its own, of which dpkg knows nothing yet
