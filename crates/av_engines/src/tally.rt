@@ -1,9 +1,7 @@
 ghost use Rattle.std.specs.Prelude.{◌≡◌, ◌+◌, ◌≤◌, ◌++◌, [], false, length, OnOk, vec_len};
 ghost use Rattle.std.specs.Vec.{vec_capacity};
 ghost use Rattle.av_engines.specs.Watching.{later};
-ghost use Rattle.av_pend.specs.Pend.{open_of};
 
-use av_base::OpenId;
 use av_filter::Filter;
 use av_pend::Answer;
 use std::alloc::{AllocError, Global};
@@ -67,20 +65,9 @@ fn count_later(first: u64, answers: &[Answer]) -> usize
 {
     let mut count = 0;
     'answers: for answer in answers {
-        if first < open_of(answer).get() {
+        if first < answer.open_id().get() {
             count += 1;
         }
     }
     count
-}
-
-// The open that an answer is for.
-fn open_of(answer: &Answer) -> OpenId
-    ensures { result ≡ open_of answer.now }
-{
-    match answer {
-        Answer::Granted { open_id, .. } => *open_id,
-        Answer::Unscanned { open_id, .. } => *open_id,
-        Answer::Denied { open_id, .. } => *open_id,
-    }
 }

@@ -111,9 +111,5 @@ fn sort_by_open(answers: &mut Vec<Answer>)
 fn open_of(answer: &Answer) -> u64
     ensures { result ≡ open_of answer.now }
 {
-    match answer {
-        Answer::Granted { open_id, .. }
-        | Answer::Unscanned { open_id, .. }
-        | Answer::Denied { open_id, .. } => open_id.get(),
-    }
+    answer.open_id().get()
 }

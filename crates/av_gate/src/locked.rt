@@ -402,7 +402,7 @@ impl Locked {
 // Shows each answer in the cell of its open. It takes no memory.
 fn show(owed: &mut BTreeMap<u64, Due>, answers: &[Answer]) {
     for answer in answers {
-        if let Some(due) = owed.remove(&open_of(*answer).get()) {
+        if let Some(due) = owed.remove(&answer.open_id().get()) {
             due.show(*answer);
         }
     }
@@ -411,7 +411,7 @@ fn show(owed: &mut BTreeMap<u64, Due>, answers: &[Answer]) {
 // Keeps where the answers of an event stand. It takes no memory.
 fn place(places: &mut Vec<AnswerPlace>, before: u64, event: usize, answers: &[Answer]) {
     for (i, answer) in answers.iter().enumerate() {
-        if let Some(place) = places.get_mut(order_of(open_of(*answer), before)) {
+        if let Some(place) = places.get_mut(order_of(answer.open_id(), before)) {
             *place = AnswerPlace { event, answer: i };
         }
     }
@@ -428,18 +428,7 @@ fn order_of(open_id: OpenId, before: u64) -> usize
 fn is_told(answer: &Answer, receipt: &Receipt) -> bool
     ensures { IsTrue result ↔ (open_of answer.now ≡ receipt.now.open_id) × (answer.now ≡ receipt.now.answer) }
 {
-    open_of(*answer) == receipt.open_id && *answer == receipt.answer
-}
-
-// The open that an answer is to.
-fn open_of(answer: Answer) -> OpenId
-    ensures { result ≡ open_of answer }
-{
-    match answer {
-        Answer::Granted { open_id, .. }
-        | Answer::Unscanned { open_id, .. }
-        | Answer::Denied { open_id, .. } => open_id,
-    }
+    answer.open_id() == receipt.open_id && *answer == receipt.answer
 }
 
 // A copy of a volume that can be mounted.

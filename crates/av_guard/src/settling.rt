@@ -9,7 +9,6 @@ use crate::answered::Answered;
 use crate::given::{Given, Told};
 use crate::shelf::Shelf;
 use crate::waiter::Waiter;
-use av_base::OpenId;
 use av_filter::{Filter, Out};
 use av_pend::Answer;
 use std::alloc::AllocError;
@@ -64,7 +63,7 @@ fn tell(
     ensures counted { AreCounted shelf.new.waits waiting.new.entries }
     ensures shelf { (shelf.new.count ≡ shelf.old.count) × (shelf.new.bytes ≡ shelf.old.bytes) }
 {
-    let Some(waiter) = leave(waiting, shelf, open_of(answer).get()) else {
+    let Some(waiter) = leave(waiting, shelf, answer.open_id().get()) else {
         return;
     };
     if clients.contains(&waiter.client) {
@@ -122,16 +121,5 @@ pub(crate) fn leave(
             Some(waiter)
         }
         None => None,
-    }
-}
-
-// The open that an answer is for.
-fn open_of(answer: &Answer) -> OpenId
-    ensures { result ≡ open_of answer.now }
-{
-    match answer {
-        Answer::Granted { open_id, .. }
-        | Answer::Unscanned { open_id, .. }
-        | Answer::Denied { open_id, .. } => *open_id,
     }
 }

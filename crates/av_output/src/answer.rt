@@ -1,6 +1,5 @@
 ghost use Rattle.std.specs.Prelude.{◌≡◌};
 ghost use Rattle.av_base.specs.Device.{Writes};
-ghost use Rattle.av_pend.specs.Pend.{open_of};
 ghost use Rattle.av_pend.specs.declared.answer.Answer.TheVariants.{Denied, Granted, Unscanned};
 ghost use Rattle.av_output.specs.Text.Answers.{answer_text, answers_text, is_answered, pended_text, submitted_text};
 
@@ -155,16 +154,5 @@ pub fn is_answered(open_id: OpenId, answers: &[Given]) -> bool
 {
     answers
         .iter()
-        .any(|given| open_of(&given.answer) == open_id)
-}
-
-// The open that an answer is for.
-fn open_of(answer: &Answer) -> OpenId
-    ensures { result ≡ open_of answer.now }
-{
-    match *answer {
-        Answer::Granted { open_id, .. } => open_id,
-        Answer::Unscanned { open_id, .. } => open_id,
-        Answer::Denied { open_id, .. } => open_id,
-    }
+        .any(|given| given.answer.open_id() == open_id)
 }

@@ -1,3 +1,6 @@
+ghost use Rattle.std.specs.Prelude.{◌≡◌};
+ghost use Rattle.av_pend.specs.Pend.{open_of};
+
 use av_base::{Cause, Generation, OpenId, StreamId, Version};
 
 /// What an open is told.
@@ -23,4 +26,17 @@ pub enum Answer {
         open_id: OpenId,
         cause: Cause,
     },
+}
+
+impl Answer {
+    /// The open that it is for.
+    pub fn open_id(&self) -> OpenId
+        ensures { result ≡ open_of self.now }
+    {
+        match *self {
+            Answer::Granted { open_id, .. } => open_id,
+            Answer::Unscanned { open_id, .. } => open_id,
+            Answer::Denied { open_id, .. } => open_id,
+        }
+    }
 }

@@ -149,11 +149,7 @@ fn filter_id(note: FilterNote) -> u64
 pub fn id_of(answer: &Answer) -> u64
     ensures { result ≡ open_of answer.now }
 {
-    match *answer {
-        Answer::Granted { open_id, .. } => open_id.get(),
-        Answer::Unscanned { open_id, .. } => open_id.get(),
-        Answer::Denied { open_id, .. } => open_id.get(),
-    }
+    answer.open_id().get()
 }
 
 /// What befalls the filter.
