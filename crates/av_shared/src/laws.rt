@@ -3,6 +3,7 @@ ghost use Rattle.std.specs.Option.{option_copied};
 ghost use Rattle.av_filter.specs.Once.{AuditAnswersOnce};
 ghost use Rattle.av_gate.specs.Claims.{IsLegal, table_of};
 ghost use Rattle.av_shared.specs.History.{AreOneHistory, HaveOneSets, IsDeskAudit, IsSpare, sets_at, told_at};
+ghost use Rattle.av_shared.specs.Runs.{AreOneRunHistory};
 ghost use Rattle.av_store.specs.Files.{File};
 ghost use Rattle.av_store.specs.Seen.{Keeps};
 ghost use Rattle.av_store.specs.Sound.{IsOfFiles};
@@ -15,7 +16,8 @@ use av_history::laws::audits;
 /// where each work that came back to a desk is one that it lent: no two verdicts stand for one stream, generation and version;
 /// each grant of a fail-closed gate names the present generation of a content that holds no signature of its version; and each
 /// open is pended or answered, once. What is asked of each audit is what `close` says of it; a version names one set, whichever
-/// desk it was published to; and the gate's volume, as every volume, keeps what some files say.
+/// desk it was published to; and the gate's volume, as every volume, keeps what some files say. A work that came back is one
+/// that the desk lent where it is what `Lent::run` or a pool gave of it: so says `of_runs`.
 pub fn headline_of_audits(
     gate: &av_gate::Audit,
     desk: &av_desk::Audit,
@@ -26,6 +28,8 @@ pub fn headline_of_audits(
     requires spare { IsSpare desk.now (option_copied spare) }
     requires one_sets { HaveOneSets desk.now (option_copied spare) }
     ensures files { IsOfFiles gate.now.volume }
+    ensures of_runs { (history : List SideEntry) → AreOneRunHistory gate.now desk.now (option_copied spare.entry) history
+        → AreOneHistory gate.now desk.now (option_copied spare.entry) history }
     ensures one_verdict { (files : List File) (history : List SideEntry) → Keeps gate.now.volume files
         → AreOneHistory gate.now desk.now (option_copied spare.entry) history
         → AuditsHoldOneVerdict files (table_of gate.now) gate.now.volume (told_at desk.now (option_copied spare.entry))

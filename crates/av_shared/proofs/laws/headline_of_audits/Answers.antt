@@ -1,5 +1,6 @@
 use Rattle.std.proofs.Common.{◌≡◌, Bool, true, false, List, [], Option, None, Some, ap, refl, sym, subst, ◌∙◌, if◌then◌else◌}
 use Rattle.std.proofs.lemmas.Option.{none-some}
+use Rattle.std.specs.Option.{option_copied}
 use Rattle.av_base.specs.Port.{other, same_port}
 use Rattle.av_base.specs.declared.port.Port.{Port}
 use Rattle.av_base.specs.declared.port.Port.TheVariants.{One, Two}
@@ -10,7 +11,8 @@ use Rattle.av_gate.specs.Claims.{IsLegal, table_of}
 use Rattle.av_gate.specs.declared.audit.Audit.{Audit as GateAudit}
 use Rattle.av_service.specs.Audit.{IsCatalogue, IsServiceAudit}
 use Rattle.av_service.specs.Desk.{just_started}
-use Rattle.av_shared.specs.History.{AreOneHistory, HaveOneSets, IsDeskAudit, IsSpare, events_of, opened_as, sets_at, told_as, told_at, told_by}
+use Rattle.av_shared.specs.History.{AreOneHistory, HaveOneSets, IsDeskAudit, IsSpare, entries_at, events_of, opened_as, sets_at, told_as, told_at, told_by}
+use Rattle.av_shared.proofs.RunLemmas.{runs_are_works}
 use Rattle.av_shared.proofs.laws.headline_of_audits.Goals as goal
 use Rattle.av_sigset.specs.Publication.{Publication, latest_as, published_as}
 use Rattle.av_store.specs.Files.{File}
@@ -80,3 +82,13 @@ returns-clause-only_clean c = λ files es keeps one. c.audits.ensures.only_clean
 
 pub returns-clause-answers_once : goal.returns-clause-answers_once
 returns-clause-answers_once c = c.audits.ensures.answers_once _ _ _ _ c.requires.gate
+
+pub returns-clause-of_runs : goal.returns-clause-of_runs
+returns-clause-of_runs c = λ es one.
+    let d = c.args.desk.now in
+    let o = option_copied c.args.spare in
+    record {
+      merge = one.merge;
+      works = λ port. runs_are_works (entries_at d o port) (sets_at d o port) (desk_at_first port (told_at d o port) (sets_at d o port)) [] []
+          (catalogue_at d o c.requires.desk c.requires.spare (same_port d.port port)) (service_at d o c.requires.desk c.requires.spare d.port port refl) tt (one.runs port);
+    }
