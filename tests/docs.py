@@ -8,7 +8,7 @@ import glob, os, re, shutil, subprocess, sys, tempfile
 from programs import program_beside
 
 ROOT = os.path.dirname(os.path.dirname(os.path.abspath(__file__)))
-PAGES = ["README.md", "bench/README.md"] + [f"docs/{name}.md" for name in ("ARCHITECTURE", "CONDUCT", "DECISIONS", "FORMATS", "GATE", "MUTANTS", "READING", "OPERATING", "PROMISES", "SCANNER", "THREADS")]
+PAGES = ["README.md", "CHANGELOG.md", "bench/README.md", "gate/README.md", "tests/README.md"] + [f"docs/{name}.md" for name in ("ARCHITECTURE", "CHECK", "CONDUCT", "DECISIONS", "FORMATS", "GATE", "MUTANTS", "READING", "OPERATING", "PROMISES", "SCANNER", "THREADS")]
 # words of the language, of std and of formats that stand in backticks too
 OUTSIDE = set("make test run install scan rt clang slab lru bytes hex clap thiserror itoa std memchr Drop Display Error From Ok Err Some None "
               "true false requires ensures main malloc grep nice yara clamscan clamonacc clamd cargo valgrind".split())
