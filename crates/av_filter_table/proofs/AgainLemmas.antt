@@ -14,7 +14,7 @@ use Rattle.av_context.specs.declared.context_state.ContextState.TheVariants.{Mod
 use Rattle.av_filter_table.specs.Asking.{again_under, is_lost, is_spent as is_spent_open, moved as moved_open, moved_opens}
 use Rattle.av_filter_table.specs.Chains.{Questions, Opens, IsChain, AreChained, plains, of, is_spent, once_more, asked_about, essence, essences}
 use Rattle.av_filter_table.specs.Moving.{is_over, overs, moved, moved_all, refusal, refusals}
-use Rattle.av_filter_table.specs.Numbered.{IsAscending}
+use Rattle.av_numbered.specs.Numbered.{IsAscending}
 use Rattle.av_filter_table.specs.Answering.{by_mode}
 use Rattle.av_filter_table.specs.FilterTable.{id_of, asked_of, held_of, questions_of, pended_of, AreNumbered, IsUnasked, IsConsistent}
 use Rattle.av_filter_table.specs.StreamContexts.{Known, states, let_loose, given_back, held_of as held_out}
@@ -22,7 +22,7 @@ use Rattle.av_filter_table.specs.Table.{Table, waits_for, without_question}
 use Rattle.av_filter_table.specs.declared.asked.Asked.{Asked}
 use Rattle.av_filter_table.specs.declared.pended.Pended.{Pended}
 use Rattle.av_filter_table.proofs.ChainLemmas.{apart-test, has_none}
-use Rattle.av_filter_table.proofs.MapLemmas.{puts_at, same_map, puts-ascends, with-ascends, at-with, at-with_other, at-without, at-without_other, none_some, some_same, if_some, if_some_at, is_there}
+use Rattle.av_numbered.proofs.MapLemmas.{puts_at, same_map, puts-ascends, with-ascends, at-with, at-with_other, at-without, at-without_other, none_some, some_same, if_some, if_some_at, is_there}
 use Rattle.av_filter_table.proofs.TableLemmas.{first-none_of, test-boot, keys-essences, rows-kept, known-at, Ends, ends, Asks, asks as asks-rows, states-puts, all-at}
 use Rattle.av_pend.specs.Waiting.{Waiting}
 use Rattle.av_store.specs.Store.{Store}

@@ -13,10 +13,10 @@ use Rattle.av_context.specs.Contexts.{at, with, without, PutsAt}
 use Rattle.av_filter_table.specs.declared.asked.Asked.{Asked}
 use Rattle.av_filter_table.specs.declared.waits.Waits.{Waits}
 use Rattle.av_pend.specs.Waiting.{Waiting}
-use Rattle.av_filter_table.specs.Numbered.{IsAscending}
+use Rattle.av_numbered.specs.Numbered.{IsAscending}
 use Rattle.av_filter_table.specs.Chains.{Questions, Opens, IsChain, AreChained, longer, shorter, last_after, essence, essences, waits_for, first_of, last_of, count_of, AreLinked, plain, plains, of, others}
 use Rattle.av_filter_table.specs.FilterTable.{AreNumbered}
-use Rattle.av_filter_table.proofs.MapLemmas.{puts-ascends, keys-end, keys-with, row_found, with-end, same_map, if_some, if_some_at, none_some, some_same, not_there, is_there, at-same, at-apart, at-none, head-above, tail-ascends, with-here, with-above, without-here, without-apart, three, AreAbove, above-less}
+use Rattle.av_numbered.proofs.MapLemmas.{puts-ascends, keys-end, keys-with, row_found, with-end, same_map, if_some, if_some_at, none_some, some_same, not_there, is_there, at-same, at-apart, at-none, head-above, tail-ascends, with-here, with-above, without-here, without-apart, three, AreAbove, above-less}
 
 -- the question of an open is this one, or another
 pub test-same : (a n : ℕ) → (a == n) ≡ true → a ≡ n

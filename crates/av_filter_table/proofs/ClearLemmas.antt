@@ -5,11 +5,11 @@ use Rattle.std.proofs.lemmas.Bool.{eq-eqb, eqb-true}
 use Rattle.av_context.specs.declared.context.Context.{Context}
 use Rattle.av_context.specs.Context.{loosened}
 use Rattle.av_context.specs.Contexts.{Contexts, at, attachments_to, CountsAgree}
-use Rattle.av_filter_table.specs.Numbered.{IsAscending}
+use Rattle.av_numbered.specs.Numbered.{IsAscending}
 use Rattle.av_filter_table.specs.StreamContexts.{known, known_at, known_of, AreAttached, held_of}
 use Rattle.av_filter_table.proofs.ContextLemmas.{at-known}
 use Rattle.av_filter_table.proofs.CountLemmas.{count-cons}
-use Rattle.av_filter_table.proofs.MapLemmas.{if_some_at, none_some, at-same, tail-ascends}
+use Rattle.av_numbered.proofs.MapLemmas.{if_some_at, none_some, at-same, tail-ascends}
 use Rattle.av_filter_table.proofs.WalkLemmas.{at-later}
 
 -- what is attached somewhere is attached to a stream

@@ -17,10 +17,10 @@ use Rattle.av_context.specs.declared.context_state.ContextState.{ContextState}
 use Rattle.av_context.specs.Context.{fresh, referred, attached, released, detached, with_state}
 use Rattle.av_context.specs.Contexts.{Contexts, at, with, without, set_at, change, attachments_to, CountsAgree, IsHeld, IsSound, PutsAt}
 use Rattle.av_context.specs.Calls.{delete, delete_at, set_keep, keep_at, state_at, get_at, refer, refer_at, get, is_spent, set_state, release, attach}
-use Rattle.av_filter_table.specs.Numbered.{IsAscending}
+use Rattle.av_numbered.specs.Numbered.{IsAscending}
 use Rattle.av_filter_table.specs.StreamContexts.{Known, known, known_at, known_of, AreAttached, given_back, let_loose, held_of}
 use Rattle.av_filter_table.proofs.ChainLemmas.{apart-test}
-use Rattle.av_filter_table.proofs.MapLemmas.{not_there, if_some, if_some_at, none_some, some_same, at-with, at-with_other, with-ascends, at-without, at-without_other, without-ascends, at-joined, joined-ascends, joined-puts, same_map}
+use Rattle.av_numbered.proofs.MapLemmas.{not_there, if_some, if_some_at, none_some, some_same, at-with, at-with_other, with-ascends, at-without, at-without_other, without-ascends, at-joined, joined-ascends, joined-puts, same_map}
 
 -- a map with what is at a number changed, there and elsewhere
 pub at-change : {X : Type 0} (f : X → Option X) (m : List (ℕ × X)) (k : ℕ) → IsAscending m → at (change f m k) k ≡ option_and_then f (at m k)

@@ -8,11 +8,11 @@ use Rattle.std.proofs.lemmas.List.Sums.{sum_by-cons}
 use Rattle.av_context.specs.declared.context.Context.{Context}
 use Rattle.av_context.specs.Contexts.{Contexts, at, without, attachments_to, CountsAgree}
 use Rattle.av_filter_table.proofs.RoomLemmas.{length-without}
-use Rattle.av_filter_table.specs.Numbered.{IsAscending}
+use Rattle.av_numbered.specs.Numbered.{IsAscending}
 use Rattle.av_filter_table.specs.StreamContexts.{known, known_at, known_of, AreAttached}
 use Rattle.av_filter_table.proofs.ContextLemmas.{context-of}
-use Rattle.av_filter_table.proofs.MapLemmas.{if_some_at, is_there, at-same, at-without, at-without_other, without-ascends}
-use Rattle.av_filter_table.proofs.BoundedLemmas.{length-joined}
+use Rattle.av_numbered.proofs.MapLemmas.{if_some_at, is_there, at-same, at-without, at-without_other, without-ascends}
+use Rattle.av_numbered.proofs.BoundedLemmas.{length-joined}
 
 abbrev is_key : ℕ → ℕ → ℕ
 is_key k key = cond (key == k) 1 0

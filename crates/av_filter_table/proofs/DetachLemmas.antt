@@ -10,7 +10,7 @@ use Rattle.av_context.specs.Contexts.{Contexts, at, without, change, PutsAt}
 use Rattle.av_context.specs.Calls.{delete, delete_at}
 use Rattle.av_filter_table.specs.StreamContexts.{known, known_at, known_of, AreAttached, held_of}
 use Rattle.av_filter_table.proofs.ContextLemmas.{at-change, at-change_other, at-known, context-of, known-ascends, known-puts, none-known, streams-apart, Forgets, ok_is, err_not_ok}
-use Rattle.av_filter_table.proofs.MapLemmas.{if_some, if_some_at, none_some, puts_at, at-without, at-without_other, without-ascends}
+use Rattle.av_numbered.proofs.MapLemmas.{if_some, if_some_at, none_some, puts_at, at-without, at-without_other, without-ascends}
 
 abbrev without_stream : Contexts → ℕ → ℕ → Contexts
 without_stream t s k = record { contexts = change detached t.contexts k; attachments = without t.attachments s }

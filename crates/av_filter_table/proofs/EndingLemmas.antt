@@ -11,11 +11,11 @@ use Rattle.av_context.specs.declared.context_state.ContextState.TheVariants.{Mod
 use Rattle.av_filter_table.specs.Asking.{is_held, lost_contexts}
 use Rattle.av_filter_table.specs.Chains.{Questions, Opens, essences, is_left, is_spent}
 use Rattle.av_filter_table.specs.FilterTable.{id_of, held_of, IsConsistent, IsUnasked}
-use Rattle.av_filter_table.specs.Numbered.{IsAscending}
+use Rattle.av_numbered.specs.Numbered.{IsAscending}
 use Rattle.av_filter_table.specs.StreamContexts.{Known, states, held_of as held_out}
 use Rattle.av_filter_table.specs.Table.{Table}
 use Rattle.av_filter_table.specs.declared.question.Question.{Question}
-use Rattle.av_filter_table.proofs.MapLemmas.{if_some, if_some_at}
+use Rattle.av_numbered.proofs.MapLemmas.{if_some, if_some_at}
 use Rattle.av_filter_table.proofs.TableLemmas.{test-boot, states-without}
 use Rattle.av_pend.specs.Waiting.{Waiting}
 

@@ -1,14 +1,11 @@
 pub mod AgainLemmas
-pub mod BoundedLemmas
 pub mod ChainLemmas
 pub mod ClearLemmas
 pub mod ContextLemmas
 pub mod CountLemmas
 pub mod DetachLemmas
 pub mod EndingLemmas
-pub mod MapLemmas
 pub mod MovingLemmas
-pub mod NumberedLemmas
 pub mod PlainLemmas
 pub mod PortLemmas
 pub mod RoomLemmas

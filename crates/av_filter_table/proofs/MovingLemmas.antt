@@ -9,11 +9,11 @@ use Rattle.av_context.specs.Contexts.{at, with, without, PutsAt}
 use Rattle.av_filter_table.specs.declared.asked.Asked.{Asked}
 use Rattle.av_filter_table.specs.declared.waits.Waits.{Waits}
 use Rattle.av_pend.specs.Waiting.{Waiting}
-use Rattle.av_filter_table.specs.Numbered.{IsAscending}
+use Rattle.av_numbered.specs.Numbered.{IsAscending}
 use Rattle.av_filter_table.specs.Chains.{Questions, Opens, IsChain, AreChained, longer, shorter, last_after, essences, waits_for, first_of, last_of, count_of, AreLinked, plain, plains, of, first_waiting, without_first, moved_first, IsBehind, after_first, once_more, is_spent}
 use Rattle.av_filter_table.specs.FilterTable.{number_of, AreNumbered}
 use Rattle.av_filter_table.proofs.ChainLemmas.{test-same, test-apart, apart-test, same-test, or-none, or-some, has_none, first-none, last_there, same_next, new_entry, above-there, some-first, Pops, pops, essences-set, first-there, chained-pops}
-use Rattle.av_filter_table.proofs.MapLemmas.{AreAbove, if_some, if_some_at, row_found, puts-ascends, keys-with, none_some, some_same, is_there, below-cmp, at-same, at-apart, at-none, head-above, tail-ascends, with-here, with-above, without-here, without-apart}
+use Rattle.av_numbered.proofs.MapLemmas.{AreAbove, if_some, if_some_at, row_found, puts-ascends, keys-with, none_some, some_same, is_there, below-cmp, at-same, at-apart, at-none, head-above, tail-ascends, with-here, with-above, without-here, without-apart}
 use Rattle.av_filter_table.proofs.TableLemmas.{first-none_of}
 
 -- the first open of a question gone, and another entry in its place

@@ -9,7 +9,7 @@ use Rattle.av_filter_table.specs.declared.asked.Asked.{Asked}
 use Rattle.av_filter_table.specs.Chains.{Questions, essence, essences, of, is_spent, once_more, first_waiting, without_first, moved_first, after_first, IsBehind}
 use Rattle.av_filter_table.specs.Moving.{is_over, overs, moved, moved_all}
 use Rattle.av_filter_table.proofs.ChainLemmas.{apart-test}
-use Rattle.av_filter_table.proofs.MapLemmas.{none_some, some_same}
+use Rattle.av_numbered.proofs.MapLemmas.{none_some, some_same}
 use Rattle.av_pend.specs.Waiting.{Waiting}
 
 -- a question is there as long as its content is

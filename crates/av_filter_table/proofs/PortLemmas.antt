@@ -12,8 +12,8 @@ use Rattle.av_filter_table.specs.FilterTable.{question_in, questions_of}
 use Rattle.av_filter_table.specs.Table.{on_port}
 use Rattle.av_filter_table.specs.declared.asked.Asked.{Asked}
 use Rattle.av_filter_table.specs.declared.question.Question.{Question}
-use Rattle.av_filter_table.proofs.BoundedLemmas.{pair}
-use Rattle.av_filter_table.proofs.MapLemmas.{none_some, some_same}
+use Rattle.av_numbered.proofs.BoundedLemmas.{pair}
+use Rattle.av_numbered.proofs.MapLemmas.{none_some, some_same}
 
 -- the test of two ports by their derived `==`
 pub port-test : (a b : Port) → sameb the_type a b ≡ same_port a b

@@ -8,9 +8,9 @@ use Rattle.av_context.specs.Contexts.{at, without, PutsAt}
 use Rattle.av_filter_table.specs.Chains.{Questions, essence, essences}
 use Rattle.av_filter_table.specs.FilterTable.{asked_of, questions_of}
 use Rattle.av_filter_table.specs.declared.asked.Asked.{Asked}
-use Rattle.av_filter_table.specs.declared.bounded.TheConstants.{MOST_ROWS}
-use Rattle.av_filter_table.proofs.BoundedLemmas.{pair}
-use Rattle.av_filter_table.proofs.MapLemmas.{none_some, at-apart, without-here, without-apart}
+use Rattle.av_numbered.specs.declared.bounded.TheConstants.{MOST_ROWS}
+use Rattle.av_numbered.proofs.BoundedLemmas.{pair}
+use Rattle.av_numbered.proofs.MapLemmas.{none_some, at-apart, without-here, without-apart}
 
 -- questions of the same contents are as many
 same-count : (q q' : Questions) → essences q' ≡ essences q → length q' ≡ length q

@@ -10,7 +10,7 @@ use Rattle.av_filter_table.specs.Asking.{ended, settled}
 use Rattle.av_filter_table.specs.Table.{Table, question_at, opens_of, other_opens, raised, waits_for}
 use Rattle.av_filter_table.specs.declared.pended.Pended.{Pended}
 use Rattle.av_filter_table.specs.declared.question.Question.{Question}
-use Rattle.av_filter_table.proofs.MapLemmas.{if_some_at}
+use Rattle.av_numbered.proofs.MapLemmas.{if_some_at}
 use Rattle.av_filter_table.proofs.TableLemmas.{refused-ended}
 
 -- a version that may judge all opens may judge those of a question

@@ -20,13 +20,13 @@ use Rattle.av_filter_table.specs.StreamContexts.{Known, states, given_back, let_
 use Rattle.av_filter_table.specs.declared.asked.Asked.{Asked}
 use Rattle.av_filter_table.specs.declared.question.Question.{Question}
 use Rattle.av_filter_table.specs.declared.pended.Pended.{Pended}
-use Rattle.av_filter_table.specs.Numbered.{IsAscending}
+use Rattle.av_numbered.specs.Numbered.{IsAscending}
 use Rattle.av_filter_table.specs.Asking.{ended}
 use Rattle.av_filter_table.specs.Chains.{Questions, Opens, IsChain, AreChained, first_of, count_of, plain, plains, of, others, asked_about, essence, essences}
 use Rattle.av_filter_table.specs.FilterTable.{id_of, question_in, asked_of, held_of, questions_of, pended_of, number_of, open_numbers, IsRising, AreNumbered, AreScanned, IsUnasked, IsConsistent}
 use Rattle.av_filter_table.specs.Table.{Table, question_of, question_at, without_question, waits_for, opens_of, other_opens}
 use Rattle.av_filter_table.proofs.ChainLemmas.{has_none, apart-test}
-use Rattle.av_filter_table.proofs.MapLemmas.{puts_at, put_back, none-past, with-end, keys-end, row_found, if_some, if_some_at, some_same, same_map, puts-ascends, with-ascends, at-with, at-with_other, without-here, without-apart, AreAbove, at-none, below-cmp, none_some, at-same, at-apart, head-above, tail-ascends}
+use Rattle.av_numbered.proofs.MapLemmas.{puts_at, put_back, none-past, with-end, keys-end, row_found, if_some, if_some_at, some_same, same_map, puts-ascends, with-ascends, at-with, at-with_other, without-here, without-apart, AreAbove, at-none, below-cmp, none_some, at-same, at-apart, head-above, tail-ascends}
 use Rattle.av_pend.specs.Waiting.{Waiting}
 
 -- ids of one boot are told apart by their numbers

@@ -5,10 +5,10 @@ use Rattle.std.specs.Option.{option_map}
 use Rattle.av_context.specs.Contexts.{at}
 use Rattle.av_filter_table.specs.declared.asked.Asked.{Asked}
 use Rattle.av_filter_table.specs.declared.waits.Waits.{Waits}
-use Rattle.av_filter_table.specs.Numbered.{IsAscending}
+use Rattle.av_numbered.specs.Numbered.{IsAscending}
 use Rattle.av_filter_table.specs.Chains.{Questions, Opens, IsChain, AreChained, AreLinked, waits_for, first_of, count_of, plain, plains, is_left, is_spent}
 use Rattle.av_filter_table.proofs.ChainLemmas.{has_none, test-same}
-use Rattle.av_filter_table.proofs.MapLemmas.{none_some, some_same, row_found, if_some_at, at-same, at-apart, at-none, head-above, tail-ascends}
+use Rattle.av_numbered.proofs.MapLemmas.{none_some, some_same, row_found, if_some_at, at-same, at-apart, at-none, head-above, tail-ascends}
 use Rattle.av_pend.specs.Waiting.{Waiting}
 
 -- what is behind the first of a map is in the map

@@ -1,10 +1,8 @@
 pub mod Answering
 pub mod Asking
-pub mod Bounded
 pub mod Chains
 pub mod FilterTable
 pub mod Moving
-pub mod Numbered
 pub mod Ports
 pub mod StreamContexts
 pub mod Table

@@ -4,7 +4,7 @@ use Rattle.std.specs.Option.{option_map}
 use Rattle.av_context.specs.declared.context.Context.{Context}
 use Rattle.av_context.specs.declared.context_state.ContextState.{ContextState}
 use Rattle.av_context.specs.Contexts.{Contexts, IsSound, at}
-use Rattle.av_filter_table.specs.Numbered.{joined}
+use Rattle.av_numbered.specs.Numbered.{joined}
 
 -- a stream's context: its key, its state, and how many references were given out and have not come back
 pub record Known : Type 0 where

@@ -7,10 +7,9 @@ ghost use Rattle.av_filter_table.specs.FilterTable.{AreNumbered};
 ghost use Rattle.av_filter_table.specs.Chains.{AreChained, plains, of, others, shorter, essences, first_waiting, without_first, moved_first, once_more, IsBehind, is_left, is_spent};
 
 use crate::asked::Asked;
-use crate::bounded::Bounded;
-use crate::numbered::Numbered;
 use crate::waits::Waits;
 use av_context::ContextRef;
+use av_numbered::{Bounded, Numbered};
 use av_pend::pended_open::MOST_RESCANS;
 use av_pend::{Again, PendedOpen};
 use std::alloc::AllocFailed;

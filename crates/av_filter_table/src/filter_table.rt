@@ -8,14 +8,13 @@ ghost use Rattle.std.specs.Prelude.{IfOk, ◌≡◌, [], ◌≤◌};
 ghost use Rattle.av_filter_table.specs.Table.{mounted};
 
 use crate::asked::Asked;
-use crate::bounded::Bounded;
-use crate::numbered::Numbered;
 use crate::ports::Ports;
 use crate::stream_contexts::StreamContexts;
 use crate::waits::Waits;
 use av_base::{Limits, Mode, Version};
 use av_cache::VerdictCache;
 use av_context::ContextRef;
+use av_numbered::{Bounded, Numbered};
 use av_pend::PendedOpen;
 use std::alloc::{AllocError, Global};
 use std::marker::Model;

@@ -10,11 +10,9 @@
 
 pub mod answering;
 mod asked;
-mod bounded;
 mod chains;
 pub mod filter_table;
 mod moving;
-mod numbered;
 pub mod pended;
 pub mod ports;
 pub mod present;

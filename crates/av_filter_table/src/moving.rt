@@ -6,13 +6,12 @@ ghost use Rattle.av_filter_table.specs.Moving.{overs, moved_all, refusals};
 ghost use Rattle.av_filter_table.specs.FilterTable.{AreNumbered};
 
 use crate::asked::Asked;
-use crate::bounded::Bounded;
 use crate::chains;
-use crate::numbered::Numbered;
 use crate::present::generation_now;
 use crate::waits::Waits;
 use av_base::{Cause, Mode};
 use av_context::ContextRef;
+use av_numbered::{Bounded, Numbered};
 use av_pend::{Answer, PendedOpen};
 use av_store::Volume;
 

@@ -1,7 +1,7 @@
 ghost use Rattle.std.specs.Prelude.{◌≡◌, ℕ, length, ◌+◌, ◌-◌, ◌<◌, ◌≤◌, ◌^◌, [], Some, None, IsSome, IsSomeAnd, IfSome, IfOk, OnErr};
 ghost use Rattle.std.specs.Option.{option_map};
 ghost use Rattle.av_context.specs.Contexts.{at, PutsAt};
-ghost use Rattle.av_filter_table.specs.Numbered.{IsAscending};
+ghost use Rattle.av_numbered.specs.Numbered.{IsAscending};
 ghost use Rattle.av_filter_table.specs.StreamContexts.{Known, given_back, known_again, let_loose, held_of, known_of, AreAttached};
 
 use av_base::StreamId;

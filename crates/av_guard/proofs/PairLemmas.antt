@@ -13,7 +13,7 @@ use Rattle.av_filter.specs.Conduct.{FilterEvent, filter_step}
 use Rattle.av_filter.specs.Fit.{Fits, IsPresent}
 use Rattle.av_filter.specs.Once.{once_up_to, times}
 use Rattle.av_filter.specs.Reaction.{Reaction}
-use Rattle.av_filter_table.proofs.MapLemmas.{at-without_other}
+use Rattle.av_numbered.proofs.MapLemmas.{at-without_other}
 use Rattle.av_filter_table.specs.Table.{Table}
 use Rattle.av_filter_table.specs.declared.pended.Pended.{Pended}
 use Rattle.av_filter_table.specs.declared.question.Question.{Question}

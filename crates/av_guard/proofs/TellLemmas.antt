@@ -17,7 +17,7 @@ use Rattle.av_filter.proofs.MapLemmas.{each-without}
 use Rattle.av_filter.specs.Audit.{FilterEntry, answers_given}
 use Rattle.av_filter.specs.Once.{times}
 use Rattle.av_filter.specs.Verdict.{verdict_of}
-use Rattle.av_filter_table.proofs.MapLemmas.{at-without_other}
+use Rattle.av_numbered.proofs.MapLemmas.{at-without_other}
 use Rattle.av_filter_table.specs.Table.{Table, context_of}
 use Rattle.av_guard.proofs.CountLemmas.{without_none}
 use Rattle.av_guard.proofs.PairLemmas.{at_none, key_less, keys}

@@ -3,7 +3,7 @@ ghost use Rattle.av_context.specs.declared.context_state.ContextState.TheVariant
 ghost use Rattle.std.specs.Prelude.{◌+◌, ◌^◌, IfOk, ◌≡◌, ◌++◌, ◌∷◌, ◌<◌, [], None, Some, IsSome, length, IfSome, IfNone, OnOk, OnErr, IfErr};
 ghost use Rattle.std.specs.List.{AllByRecursion};
 ghost use Rattle.av_filter_table.specs.Asking.{ended};
-ghost use Rattle.av_filter_table.specs.Numbered.{IsAscending};
+ghost use Rattle.av_numbered.specs.Numbered.{IsAscending};
 ghost use Rattle.av_filter_table.specs.Table.{next_id, on_port, question_of, question_at, opens_of};
 ghost use Rattle.av_filter_table.specs.FilterTable.{id_of, open_numbers};
 

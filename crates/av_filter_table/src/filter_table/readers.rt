@@ -1,7 +1,7 @@
 ghost use Rattle.std.specs.Prelude.{◌≡◌, length, ◌≤◌};
 ghost use Rattle.av_base.specs.Limits.{AreInRange};
 ghost use Rattle.av_filter_table.specs.FilterTable.{IsRising, open_numbers};
-ghost use Rattle.av_filter_table.specs.Numbered.{IsAscending};
+ghost use Rattle.av_numbered.specs.Numbered.{IsAscending};
 ghost use Rattle.av_filter_table.specs.Table.{mounted, raised};
 
 use super::FilterTable;

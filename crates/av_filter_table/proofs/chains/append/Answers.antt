@@ -1,7 +1,7 @@
 use Rattle.std.proofs.Common.{subst}
 use Rattle.std.specs.Option.{option_map}
 use Rattle.av_context.specs.Contexts.{at, PutsAt}
-use Rattle.av_filter_table.proofs.MapLemmas.{none-past}
+use Rattle.av_numbered.proofs.MapLemmas.{none-past}
 use Rattle.av_filter_table.proofs.ChainLemmas.{appended, link-there, few-opens}
 use Rattle.av_filter_table.proofs.chains.append.Goals as goal
 

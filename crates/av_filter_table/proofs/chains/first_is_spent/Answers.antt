@@ -1,7 +1,7 @@
 use Rattle.std.proofs.Common.{sym, ap, ◌∙◌}
 use Rattle.std.specs.Option.{option_map}
 use Rattle.av_filter_table.specs.Chains.{is_spent}
-use Rattle.av_filter_table.proofs.MapLemmas.{none_some}
+use Rattle.av_numbered.proofs.MapLemmas.{none_some}
 use Rattle.av_filter_table.proofs.MovingLemmas.{waiting-none, waiting-some, first_row}
 use Rattle.av_filter_table.proofs.chains.first_is_spent.Goals as goal
 

@@ -1,7 +1,7 @@
 use Rattle.std.proofs.Common.{◌≡◌, ◌≤◌, ◌<◌, ◌+◌, ℕ, true, false, nat_le, sym, ap, subst, ◌∙◌, arith}
 use Rattle.std.specs.Option.{option_map}
 use Rattle.std.proofs.lemmas.Bool.Decides.{nat_tests}
-use Rattle.av_filter_table.proofs.MapLemmas.{none_some, some_same}
+use Rattle.av_numbered.proofs.MapLemmas.{none_some, some_same}
 use Rattle.av_filter_table.proofs.WalkLemmas.{Walks, starts, more, goes, ends-walk}
 use Rattle.av_filter_table.proofs.chains.has_rescan_left.Goals as goal
 

@@ -5,7 +5,7 @@ use Rattle.av_filter_table.specs.Chains.{first_waiting, plains}
 use Rattle.av_pend.specs.Waiting.{Waiting}
 use Rattle.av_filter_table.specs.Chains.{once_more}
 use Rattle.av_filter_table.proofs.ChainLemmas.{few-opens, some-opens}
-use Rattle.av_filter_table.proofs.MapLemmas.{none_some, if_some, row_found}
+use Rattle.av_numbered.proofs.MapLemmas.{none_some, if_some, row_found}
 use Rattle.av_filter_table.proofs.MovingLemmas.{waiting-none, first_row, moved, moved-link, numbered-moved, exchanged-at, left_rescans}
 use Rattle.av_filter_table.proofs.chains.move_first.Goals as goal
 

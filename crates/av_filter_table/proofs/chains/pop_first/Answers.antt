@@ -2,7 +2,7 @@ use Rattle.av_pend.specs.Waiting.{Waiting}
 use Rattle.av_filter_table.specs.declared.waits.Waits.{Waits}
 use Rattle.std.proofs.Common.{ℕ, [], ◌≡◌, ap, subst}
 use Rattle.av_filter_table.specs.Chains.{AreChained, plain, plains, of}
-use Rattle.av_filter_table.specs.Numbered.{IsAscending}
+use Rattle.av_numbered.specs.Numbered.{IsAscending}
 use Rattle.av_filter_table.proofs.MovingLemmas.{head-opens, pops-all, of-tail}
 use Rattle.av_filter_table.proofs.chains.pop_first.Goals as goal
 

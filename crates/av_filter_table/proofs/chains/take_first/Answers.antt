@@ -2,7 +2,7 @@ use Rattle.std.proofs.Common.{sym, ap, subst, ◌∙◌}
 use Rattle.std.specs.Option.{option_map}
 use Rattle.av_context.specs.Contexts.{at, PutsAt}
 use Rattle.av_filter_table.specs.FilterTable.{AreNumbered}
-use Rattle.av_filter_table.proofs.MapLemmas.{not_there, is_there}
+use Rattle.av_numbered.proofs.MapLemmas.{not_there, is_there}
 use Rattle.av_filter_table.proofs.ChainLemmas.{taken, first-there, some-opens, no-opens, numbered-without}
 use Rattle.av_filter_table.specs.Chains.{plains}
 use Rattle.av_filter_table.proofs.MovingLemmas.{rest-popped}

@@ -5,7 +5,7 @@ use Rattle.av_filter_table.specs.Chains.{plains, of, first_waiting, is_spent}
 use Rattle.av_filter_table.specs.Moving.{overs, refusal, refusals}
 use Rattle.av_filter_table.specs.Answering.{present_generation}
 use Rattle.av_pend.specs.Pend.{refused}
-use Rattle.av_filter_table.proofs.MapLemmas.{some_same}
+use Rattle.av_numbered.proofs.MapLemmas.{some_same}
 use Rattle.av_filter_table.proofs.PlainLemmas.{there-kept, fresh-behind, first-of, Outs, outs, Ins, ins, all-moved, none-over, told_some, told_none, push-front, some-of}
 use Rattle.av_filter_table.proofs.moving.move_opens.Goals as goal
 

@@ -10,7 +10,7 @@ use Rattle.av_filter_table.specs.FilterTable.{id_of, asked_of, questions_of, pen
 use Rattle.av_filter_table.specs.StreamContexts.{states, held_of as held_out}
 use Rattle.av_filter_table.specs.Table.{Table, question_at, opens_of}
 use Rattle.av_filter_table.proofs.AgainLemmas.{asks_again, chained-new, same-key, held-again, lost-refused}
-use Rattle.av_filter_table.proofs.MapLemmas.{not_there, is_there, row_found}
+use Rattle.av_numbered.proofs.MapLemmas.{not_there, is_there, row_found}
 use Rattle.av_filter_table.proofs.PlainLemmas.{there-kept}
 use Rattle.av_filter_table.proofs.RoomLemmas.{room-beside, as-many}
 use Rattle.av_filter_table.proofs.TableLemmas.{question-there, question-found, numbers-below, known-at, opens-of, length-held, all-at}

@@ -5,12 +5,12 @@ use Rattle.std.specs.Option.{option_map}
 use Rattle.av_context.specs.Contexts.{at, PutsAt}
 use Rattle.av_context.specs.declared.context_state.ContextState.TheVariants.{Scanning}
 use Rattle.av_filter_table.specs.Chains.{plains, asked_about}
-use Rattle.av_filter_table.specs.Numbered.{IsAscending}
+use Rattle.av_numbered.specs.Numbered.{IsAscending}
 use Rattle.av_filter_table.specs.FilterTable.{id_of, asked_of, held_of, open_numbers, questions_of, pended_of, IsConsistent}
 use Rattle.av_filter_table.specs.StreamContexts.{states, known_again, held_of as held_out}
 use Rattle.av_filter_table.specs.Table.{question_of}
 use Rattle.av_filter_table.proofs.AgainLemmas.{chained-new, held-key}
-use Rattle.av_filter_table.proofs.MapLemmas.{puts-ascends, put_back, is_there}
+use Rattle.av_numbered.proofs.MapLemmas.{puts-ascends, put_back, is_there}
 use Rattle.av_filter_table.proofs.RoomLemmas.{room-for_one, still-allowed, still-few}
 use Rattle.av_filter_table.proofs.TableLemmas.{unasked-of, numbers-below, new-question, asks, undone, keys-below, numbered-result, unasked-result, rows-kept, pended-end}
 use Rattle.av_filter_table.proofs.filter_table.FilterTable.ask_for.Goals as goal

@@ -1,5 +1,5 @@
 use Rattle.std.proofs.Common.{subst, sym, ◌∙◌}
-use Rattle.av_filter_table.specs.Numbered.{IsAscending}
+use Rattle.av_numbered.specs.Numbered.{IsAscending}
 use Rattle.av_filter_table.proofs.EndingLemmas.{states-ascend, length-states}
 use Rattle.av_filter_table.proofs.filter_table.FilterTable.context_count.Goals as goal
 

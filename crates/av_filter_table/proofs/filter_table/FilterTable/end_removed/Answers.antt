@@ -8,7 +8,7 @@ use Rattle.av_filter_table.proofs.TableLemmas.{known-at, ends_gone, all-others, 
 use Rattle.av_context.specs.Contexts.{at}
 use Rattle.av_filter_table.specs.Asking.{ended}
 use Rattle.av_filter_table.specs.FilterTable.{pended_of}
-use Rattle.av_filter_table.proofs.MapLemmas.{not_there}
+use Rattle.av_numbered.proofs.MapLemmas.{not_there}
 use Rattle.av_filter_table.proofs.filter_table.FilterTable.end_removed.Goals as goal
 
 pub unreachable-requires : goal.unreachable-requires

@@ -4,7 +4,7 @@ use Rattle.av_context.specs.declared.context_state.ContextState.TheVariants.{Mod
 use Rattle.av_filter_table.specs.FilterTable.{questions_of, pended_of, IsConsistent}
 use Rattle.av_filter_table.specs.StreamContexts.{states, held_of as held_out}
 use Rattle.av_filter_table.specs.Table.{question_of}
-use Rattle.av_filter_table.proofs.MapLemmas.{puts-ascends}
+use Rattle.av_numbered.proofs.MapLemmas.{puts-ascends}
 use Rattle.av_filter_table.proofs.RewritingLemmas.{as_it_was}
 use Rattle.av_filter_table.proofs.TableLemmas.{unasked-of, sets, undone}
 use Rattle.av_filter_table.proofs.filter_table.FilterTable.modify.Goals as goal

@@ -1,10 +1,10 @@
 use Rattle.std.proofs.Common.{◌≡◌, ◌++◌, ◌∷◌, [], ◌≤◌, IsSomeAnd, arith, refl, sym, ap, subst, ◌∙◌}
 use Rattle.av_context.specs.Contexts.{at, with}
-use Rattle.av_filter_table.specs.Numbered.{IsAscending}
+use Rattle.av_numbered.specs.Numbered.{IsAscending}
 use Rattle.av_filter_table.specs.FilterTable.{questions_of, pended_of}
 use Rattle.av_filter_table.specs.StreamContexts.{states}
 use Rattle.av_filter_table.proofs.EndingLemmas.{states-ascend}
-use Rattle.av_filter_table.proofs.BoundedLemmas.{at-end}
+use Rattle.av_numbered.proofs.BoundedLemmas.{at-end}
 use Rattle.av_filter_table.proofs.RoomLemmas.{fewer-left}
 use Rattle.av_filter_table.proofs.TableLemmas.{known-at, ends, questions-end}
 use Rattle.av_filter_table.proofs.filter_table.FilterTable.pop_question.Goals as goal

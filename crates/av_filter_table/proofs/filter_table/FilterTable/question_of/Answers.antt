@@ -1,7 +1,7 @@
 use Rattle.std.proofs.Common.{◌≢◌, Some, IfSome, sym, ap, subst, ◌∙◌}
 use Rattle.av_context.specs.declared.context_state.ContextState.TheVariants.{Scanning}
 use Rattle.av_filter_table.specs.Table.{question_at}
-use Rattle.av_filter_table.proofs.MapLemmas.{none_some, some_same}
+use Rattle.av_numbered.proofs.MapLemmas.{none_some, some_same}
 use Rattle.av_filter_table.proofs.TableLemmas.{not-named, question-named, question-misnamed}
 use Rattle.av_filter_table.proofs.filter_table.FilterTable.question_of.Goals as goal
 

@@ -1,6 +1,6 @@
 use Rattle.std.proofs.Common.{ap, subst, ◌∙◌}
 use Rattle.av_context.specs.Calls.{release}
-use Rattle.av_filter_table.specs.Numbered.{IsAscending}
+use Rattle.av_numbered.specs.Numbered.{IsAscending}
 use Rattle.av_filter_table.proofs.ContextLemmas.{known-ascends, is-held, held-in_state, gives_back}
 use Rattle.av_filter_table.proofs.stream_contexts.StreamContexts.give_back.Goals as goal
 

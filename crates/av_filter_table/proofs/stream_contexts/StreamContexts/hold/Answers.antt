@@ -1,6 +1,6 @@
 use Rattle.std.proofs.Common.{◌≡◌, Err, IfOk, IfSome, Some, None, ap, subst, ◌∙◌}
 use Rattle.av_context.specs.Contexts.{PutsAt}
-use Rattle.av_filter_table.specs.Numbered.{IsAscending}
+use Rattle.av_numbered.specs.Numbered.{IsAscending}
 use Rattle.av_filter_table.specs.StreamContexts.{Known, known_of}
 use Rattle.av_filter_table.proofs.ContextLemmas.{known-ascends, holds, still-held, never-spent, not-found, none-known, if_ok_any}
 use Rattle.av_filter_table.proofs.stream_contexts.StreamContexts.hold.Goals as goal

@@ -1,5 +1,5 @@
 use Rattle.std.proofs.Common.{subst, ◌∙◌}
-use Rattle.av_filter_table.specs.Numbered.{IsAscending}
+use Rattle.av_numbered.specs.Numbered.{IsAscending}
 use Rattle.av_filter_table.proofs.ContextLemmas.{known-ascends}
 use Rattle.av_filter_table.proofs.CountLemmas.{length-known}
 use Rattle.av_filter_table.proofs.stream_contexts.StreamContexts.len.Goals as goal

@@ -2,7 +2,7 @@ use Rattle.std.proofs.Common.{◌<◌, IsSome, sym, subst}
 use Rattle.av_base.specs.Answers.{AnswersAtOnce}
 use Rattle.av_context.specs.Calls.{get}
 use Rattle.av_context.specs.Contexts.{at}
-use Rattle.av_filter_table.specs.Numbered.{IsAscending}
+use Rattle.av_numbered.specs.Numbered.{IsAscending}
 use Rattle.av_filter_table.specs.StreamContexts.{held_of}
 use Rattle.av_filter_table.proofs.ContextLemmas.{known-ascends, holds, still-held, is-given}
 use Rattle.av_filter_table.proofs.stream_contexts.StreamContexts.share.Goals as goal

@@ -1,6 +1,0 @@
-use Rattle.std.proofs.Common.{◌∙◌}
-use Rattle.av_filter_table.proofs.NumberedLemmas.{none-held, all-empty}
-use Rattle.av_filter_table.proofs.numbered.Numbered.end.Goals as goal
-
-pub release-requires : goal.release-requires
-release-requires g c = all-empty c.self.inside.values.items (none-held c.self.inside.index.entries c.self.inside.rows.slots c.self.inside.values.items c.self.invariant (c.self.view_is ∙ c.requires))

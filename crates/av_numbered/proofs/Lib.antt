@@ -1,0 +1,3 @@
+pub mod BoundedLemmas
+pub mod MapLemmas
+pub mod NumberedLemmas
