@@ -1,18 +1,19 @@
 -- What comes back to a desk as the runs of the works that it lent are its own works.
-use Rattle.std.proofs.Common.{◌≡◌, List, [], ◌∷◌, ◌++◌, Option, None, Some, ap, refl, sym, subst, ◌∙◌, inl}
+use Rattle.std.proofs.Common.{◌≡◌, ◌+◌, ◌≤◌, List, [], ◌∷◌, ◌++◌, length, Option, None, Some, ap, ap₂, refl, sym, subst, ◌∙◌, inl}
 use Rattle.std.specs.List.{AllByRecursion as Each}
 use Rattle.std.specs.Option.{option_to_list}
 use Rattle.av_base.proofs.AmongLemmas.{among_each, among_left, among_right}
 use Rattle.av_base.specs.Among.{Among}
 use Rattle.av_desk.specs.Lent.{AreLent, LentState}
-use Rattle.av_match.specs.Scanning.{fitting, if_found, run}
+use Rattle.av_match.specs.Match.{if_hit, verdict}
+use Rattle.av_match.specs.Scanning.{Compiled, IsScan, fitting, if_found, run}
 use Rattle.av_pool.specs.Run.{IsRunOf}
 use Rattle.av_service.specs.Audit.{By, Call, IsAccepted, IsCatalogue, IsServiceAudit, Publishes, ServiceEntry, respond, sets_after}
 use Rattle.av_service.specs.Conduct.{Connects, Disconnects, Finishes, Receives, Restarts}
 use Rattle.av_service.specs.Conduct as service
 use Rattle.av_service.specs.Desk.{Desk}
 use Rattle.av_service.specs.Work.{DoneState, WorkState}
-use Rattle.av_shared.specs.Runs.{FinishesItsRuns, IsOfRuns}
+use Rattle.av_shared.specs.Runs.{FinishesItsRuns, IsOfRuns, RunWorksHaveVerdicts}
 use Rattle.av_sigset.specs.Publication.{Publication, published_as}
 use Rattle.av_sigset.specs.declared.signature.Pattern.{Pattern}
 use Rattle.av_history.proofs.UnionLemmas.{catalogue_after, published_after}
@@ -87,3 +88,17 @@ runs_are_works (x ∷ xs) sets d works lents cat legal known runs =
       runs_are_works xs (sets_after sets x.call) (respond d x.call).desk (works ++ x.works) (lents ++ option_to_list o)
           (catalogue_after sets d x.call cat legal.0) legal.2 next runs.1.2,
     )
+
+-- ---- its verdict
+
+pub run_verdict : RunWorksHaveVerdicts
+run_verdict sets works l d ps bytes c lent is published was room =
+    let w : d.work ≡ l.work = ap (λ (x : DoneState). x.work) is.done in
+    let same : Some ps ≡ Some l.automaton.patterns = sym published ∙ ap (λ (x : WorkState). published_as sets x.version) w ∙ lent.1 in
+    let patterns : ps ≡ l.automaton.patterns = cc (same) in
+    let version : d.work.version ≡ l.automaton.version = ap (λ (x : WorkState). x.version) w ∙ sym is.fits.version in
+    let built : ◌≡◌ {A = Compiled} (record { version = d.work.version; patterns = ps }) l.automaton = λ i. record { version = version i; patterns = patterns i } in
+    let scanned : IsScan l.automaton bytes c l.work.scan =
+    subst (IsScan l.automaton bytes c) (ap (λ (x : WorkState). x.scan) w) (subst (λ (a : Compiled). IsScan a bytes c d.work.scan) built was) in
+    is.hits bytes c scanned (subst (λ (x : WorkState). length c + length x.chunk ≤ bytes) w room)
+    ∙ sym (ap₂ (λ (qs : List Pattern) (x : WorkState). if_hit (verdict qs (c ++ x.chunk))) patterns w)

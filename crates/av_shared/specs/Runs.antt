@@ -1,16 +1,18 @@
 -- A desk that gets back what the runs of the works that it lent gave, whoever ran them.
-use Rattle.std.specs.Prelude.{◌≡◌, List, [], ◌∷◌, ◌++◌, Option}
+use Rattle.std.specs.Prelude.{◌≡◌, ℕ, ◌+◌, ◌≤◌, List, [], ◌∷◌, ◌++◌, length, Option, Some}
 use Rattle.std.specs.Option.{option_to_list}
 use Rattle.av_base.specs.declared.port.Port.{Port}
 use Rattle.av_desk.specs.Lent.{AreLent, LentState}
 use Rattle.av_desk.specs.declared.audit.Audit.{Audit as DeskAudit}
 use Rattle.av_gate.specs.declared.audit.Audit.{Audit as GateAudit}
-use Rattle.av_match.specs.Scanning.{if_found}
-use Rattle.av_pool.specs.Run.{IsRunOfOne}
+use Rattle.av_match.specs.Match.{if_hit, verdict}
+use Rattle.av_match.specs.Scanning.{IsScan, if_found}
+use Rattle.av_pool.specs.Run.{IsRunOf, IsRunOfOne}
 use Rattle.av_service.specs.Audit.{By, Call, ServiceEntry, sets_after}
 use Rattle.av_service.specs.Conduct.{Finishes}
-use Rattle.av_service.specs.Work.{DoneState}
-use Rattle.av_sigset.specs.Publication.{Publication}
+use Rattle.av_service.specs.Work.{DoneState, WorkState}
+use Rattle.av_sigset.specs.Publication.{Publication, published_as}
+use Rattle.av_sigset.specs.declared.signature.Pattern.{Pattern}
 use Rattle.av_shared.specs.History.{IsMerge, entries_at, sets_at}
 use Rattle.av_history.specs.Audits.{SideEntry}
 
@@ -37,3 +39,13 @@ AreRunWorks desk spare = (port : Port) → FinishesItsRuns (sets_at desk spare p
 pub record AreOneRunHistory (gate : GateAudit) (desk : DeskAudit) (spare : Option DeskAudit) (history : List SideEntry) : Type 0 where
   pub merge : IsMerge gate desk spare history
   pub runs : AreRunWorks desk spare
+
+-- A work that was run has the verdict of its bytes, whoever ran it. The work was lent with the patterns that were published as its
+-- version, and came back as its run gave it. Its scan had been that of the bytes c under those patterns, and the content has room
+-- for its own. Then its hit is that of the verdict of both under those patterns.
+abbrev pub RunWorksHaveVerdicts : Type 0
+RunWorksHaveVerdicts =
+    (sets : List Publication) (works : List WorkState) (l : LentState) (d : DoneState) (ps : List Pattern) (bytes : ℕ) (c : List ℕ)
+    → AreLent sets works (Some l) → IsRunOf l d → published_as sets d.work.version ≡ Some ps
+    → IsScan (record { version = d.work.version; patterns = ps }) bytes c d.work.scan → length c + length d.work.chunk ≤ bytes
+    → if_found d.scan ≡ if_hit (verdict ps (c ++ d.work.chunk))

@@ -3,7 +3,7 @@ ghost use Rattle.std.specs.Option.{option_copied};
 ghost use Rattle.av_filter.specs.Once.{AuditAnswersOnce};
 ghost use Rattle.av_gate.specs.Claims.{IsLegal, table_of};
 ghost use Rattle.av_shared.specs.History.{AreOneHistory, HaveOneSets, IsDeskAudit, IsSpare, sets_at, told_at};
-ghost use Rattle.av_shared.specs.Runs.{AreOneRunHistory};
+ghost use Rattle.av_shared.specs.Runs.{AreOneRunHistory, RunWorksHaveVerdicts};
 ghost use Rattle.av_store.specs.Files.{File};
 ghost use Rattle.av_store.specs.Seen.{Keeps};
 ghost use Rattle.av_store.specs.Sound.{IsOfFiles};
@@ -42,3 +42,9 @@ pub fn headline_of_audits(
     let _of_files = gate.volume.last_created();
     audits();
 }
+
+/// A work that a desk lent and that `Lent::run`, or any worker of a pool, ran has the verdict of the bytes so far and its own, under
+/// the patterns that were published as its version.
+pub fn run_works_have_verdicts()
+    ensures { RunWorksHaveVerdicts }
+{}
