@@ -1,4 +1,4 @@
--- Each event of the filter keeps the fit of its table and the volume.
+-- Each event of the filter leaves its table coherent, and keeps its fit with the volume.
 use Rattle.std.proofs.Common.{◌≡◌, ◌≢◌, ℕ, ◌+◌, ◌<◌, ◌≤◌, Bool, true, false, not, ◌&&◌, if◌then◌else◌, ◌==◌, max, List, [], ◌∷◌, ◌++◌, find, map}
 use Rattle.std.proofs.Common.{filter, Option, Some, None, Result, Ok, Err, refl, sym, ap, ◌∙◌, subst, arith, eqb-true}
 use Rattle.std.proofs.lemmas.Bool.{and_right, cond_both, ltb-false, ne_eqb, not-true, true≢false}
@@ -20,9 +20,10 @@ use Rattle.av_filter.proofs.RowLemmas.{again_row, again_volume, open_row, row_of
 use Rattle.av_filter.proofs.VolumeLemmas.{Leaves, SameBut, changed_same, left_by, stays_there, there_after}
 use Rattle.av_filter.specs.Again.{again, again_at, ends}
 use Rattle.av_filter_table.specs.Asking.{again_under, asks, ended, is_lost, lost_contexts, moved, next_question, settled}
-use Rattle.av_filter.specs.Changing.{changed_volume}
-use Rattle.av_filter.specs.Conduct.{FilterEvent, again_each, booted, filter_refusal, filter_step, loses_all, moves, restarts}
-use Rattle.av_filter.specs.Fit.{AreApart, AreInOrder, Fits, IsAsked, IsGiven, IsPresent, IsScanned, IsThere, KeepsFit, Rises}
+use Rattle.av_filter.specs.Changing.{changed_volume, changes}
+use Rattle.av_filter.specs.Conduct.{Changes, FilterEvent, again_each, booted, filter_refusal, filter_step, loses_all, moves, restarts}
+use Rattle.av_filter.specs.Fit.{Fits, IsAsked, IsPresent, IsThere, KeepsFit, Stands}
+use Rattle.av_filter_table.specs.Orderly.{AreApart, AreInOrder, IsGiven, IsScanned, Rises}
 use Rattle.av_filter.specs.Opening.{new_open, opened, taken}
 use Rattle.av_filter.specs.Rows
 use Rattle.av_filter.specs.Rows.{AgainRow, OpenRow, Rewrites, Row, marked, without}
@@ -49,7 +50,7 @@ use Rattle.av_store.specs.declared.fault.StoreFault.{StoreFault}
 abbrev Marks : Type 0
 Marks = List (ℕ × ContextState)
 
--- what the fit says of contexts and questions
+-- what coherence and fit say of contexts and questions
 record Whole (boot sequence : ℕ) (contexts : Marks) (qs : List Question) (ss : Streams) : Type 0 where
   rises : Rises contexts
   given : Each (IsGiven boot sequence) qs
@@ -70,8 +71,8 @@ record Away (s boot sequence : ℕ) (contexts : Marks) (qs : List Question) (ss 
   there : Each (λ c. c.0 ≢ s → IsThere ss c.0) contexts
   present : Each (IsPresent ss) qs
 
-whole_of : (t : Table) (v : Store) → Fits t v → Whole t.boot t.sequence t.contexts t.questions v.streams
-whole_of t v f = record { rises = f.rises; given = f.given; order = f.order; apart = f.apart; scanned = f.scanned; there = f.there; present = f.present }
+whole_of : (t : Table) (v : Store) → Stands t v → Whole t.boot t.sequence t.contexts t.questions v.streams
+whole_of t v f = record { rises = f.coherent.orderly.rises; given = f.coherent.orderly.given; order = f.coherent.orderly.order; apart = f.coherent.orderly.apart; scanned = f.coherent.orderly.scanned; there = f.fits.there; present = f.fits.present }
 
 module _ (boot sequence : ℕ) (contexts : Marks) (qs : List Question) (ss : Streams) where
   -- a question leaves, or there was none
@@ -181,41 +182,36 @@ abbrev Taken : ℕ → Pended → Type 0
 Taken opens p = p.held.open_id ≤ opens
 
 -- a whole that is given, with its opens
-fit : (t : Table) (v : Store) → t.boot ≡ v.boot → Whole t.boot t.sequence t.contexts t.questions v.streams → Each (IsAsked t.questions) t.pended → Each (Least t.floor) t.pended → Each (Taken v.opens) t.pended → Fits t v
+fit : (t : Table) (v : Store) → t.boot ≡ v.boot → Whole t.boot t.sequence t.contexts t.questions v.streams → Each (IsAsked t.questions) t.pended → Each (Least t.floor) t.pended → Each (Taken v.opens) t.pended → Stands t v
 fit t v boots w asked leasts taken = record {
-  boots = boots;
-  rises = w.rises;
-  given = w.given;
-  order = w.order;
-  apart = w.apart;
-  scanned = w.scanned;
-  there = w.there;
-  present = w.present;
-  asked = asked;
-  leasts = leasts;
-  taken = taken;
+  coherent = record {
+    orderly = record { rises = w.rises; given = w.given; order = w.order; apart = w.apart; scanned = w.scanned };
+    asked = asked;
+    leasts = leasts;
+  };
+  fits = record { boots = boots; there = w.there; present = w.present; taken = taken };
 }
 
 abbrev pub FitsAfter : Reaction → Type 0
-FitsAfter r = Fits r.table r.volume
+FitsAfter r = Stands r.table r.volume
 
 abbrev pub FitsAt : Store → Reaction → Type 0
-FitsAt v r = Fits r.table v
+FitsAt v r = Stands r.table v
 
 -- a question whose stream is left out ends, or is asked anew, at a volume that has as many opens
 module _ (t : Table) (v : Store) (q : Question) (boots : t.boot ≡ v.boot) (a : Away q.stream t.boot t.sequence t.contexts (without_question q.id t.questions) v.streams) (asked : Each (IsAsked t.questions) t.pended) (leasts : Each (Least t.floor) t.pended) (taken : Each (Taken v.opens) t.pended) where
-  others_fit : (w : Table) → w.boot ≡ t.boot → w.questions ≡ without_question q.id t.questions → w.pended ≡ other_opens q.id t.pended → w.floor ≡ t.floor → Whole w.boot w.sequence w.contexts w.questions v.streams → Fits w v
+  others_fit : (w : Table) → w.boot ≡ t.boot → w.questions ≡ without_question q.id t.questions → w.pended ≡ other_opens q.id t.pended → w.floor ≡ t.floor → Whole w.boot w.sequence w.contexts w.questions v.streams → Stands w v
   others_fit w same qs ps fl whole =
       fit w v (same ∙ boots) whole
       (subst (λ xs. Each (IsAsked xs) w.pended) (sym qs) (subst (Each (IsAsked (without_question q.id t.questions))) (sym ps) (asked_without q.id t.questions t.pended asked)))
       (subst (λ n. Each (Least n) w.pended) (sym fl) (subst (Each (Least t.floor)) (sym ps) (each-filter (Least t.floor) (λ p. not (waits_for q.id p)) t.pended leasts)))
       (subst (Each (Taken v.opens)) (sym ps) (each-filter (Taken v.opens) (λ p. not (waits_for q.id p)) t.pended taken))
 
-  ended_fits : (c : ContextState) → IsThere v.streams q.stream → Fits (ended t q (Some c)) v
+  ended_fits : (c : ContextState) → IsThere v.streams q.stream → Stands (ended t q (Some c)) v
   unfolding ended
   ended_fits c here = others_fit _ refl refl refl refl (close t.boot t.sequence t.contexts (without_question q.id t.questions) v.streams q.stream c here a)
 
-  cleared_fits : Fits (ended t q None) v
+  cleared_fits : Stands (ended t q None) v
   unfolding ended
   cleared_fits = others_fit _ refl refl refl refl (clear t.boot t.sequence t.contexts (without_question q.id t.questions) v.streams q.stream a)
 
@@ -251,25 +247,25 @@ module _ (t : Table) (v : Store) (q : Question) (boots : t.boot ≡ v.boot) (a :
 
   again_fits : (early : List Letter) → question_at q.id t.questions ≡ Some q → IsThere v.streams q.stream → FitsAfter (again t v q early)
   again_fits early at here =
-      let row = again_row (least_port t.connected) t v q early in subst (Fits (again t v q early).table) (sym (again_volume row)) (again_at_fits row at here)
+      let row = again_row (least_port t.connected) t v q early in subst (Stands (again t v q early).table) (sym (again_volume row)) (again_at_fits row at here)
 
 -- the stream of a question that runs is there
-runs_there : (t : Table) (v : Store) (f : Fits t v) (test : Question → Bool) (q : Question) → find test t.questions ≡ Some q → IsThere v.streams q.stream
-runs_there t v f test q at = let h = find_each (IsPresent v.streams) test t.questions q f.present at in (h.0, h.1)
+runs_there : (t : Table) (v : Store) (f : Stands t v) (test : Question → Bool) (q : Question) → find test t.questions ≡ Some q → IsThere v.streams q.stream
+runs_there t v f test q at = let h = find_each (IsPresent v.streams) test t.questions q f.fits.present at in (h.0, h.1)
 
-away_of : (t : Table) (v : Store) (f : Fits t v) (test : Question → Bool) (q : Question) → find test t.questions ≡ Some q → Away q.stream t.boot t.sequence t.contexts (without_question q.id t.questions) v.streams
+away_of : (t : Table) (v : Store) (f : Stands t v) (test : Question → Bool) (q : Question) → find test t.questions ≡ Some q → Away q.stream t.boot t.sequence t.contexts (without_question q.id t.questions) v.streams
 away_of t v f test q at = leave t.boot t.sequence t.contexts t.questions v.streams test q at (whole_of t v f)
 
 -- an open, whose least is not above the floor
-module _ (t : Table) (v : Store) (f : Fits t v) (s least : ℕ) (low : least ≤ t.floor) where
+module _ (t : Table) (v : Store) (f : Stands t v) (s least : ℕ) (low : least ≤ t.floor) where
   abbrev new : MessageId → Pended
   new id = record { question = id; held = new_open v s least }
 
   leasts_more : (id : MessageId) → Each (Least t.floor) (t.pended ++ new id ∷ [])
-  leasts_more id = each-append (Least t.floor) t.pended (new id ∷ []) f.leasts (low, tt)
+  leasts_more id = each-append (Least t.floor) t.pended (new id ∷ []) f.coherent.leasts (low, tt)
 
   taken_more : (id : MessageId) → Each (Taken v.opens) (t.pended ++ new id ∷ [])
-  taken_more id = each-append (Taken v.opens) t.pended (new id ∷ []) f.taken (omega arith, tt)
+  taken_more id = each-append (Taken v.opens) t.pended (new id ∷ []) f.fits.taken (omega arith, tt)
 
   away_new : question_of s t.questions ≡ None → Away s t.boot t.sequence t.contexts t.questions v.streams
   away_new none = leave_none t.boot t.sequence t.contexts t.questions v.streams s none (whole_of t v f)
@@ -279,26 +275,26 @@ module _ (t : Table) (v : Store) (f : Fits t v) (s least : ℕ) (low : least ≤
   open_fits (Rows.joins x q at found room) =
       let test : Question → Bool = λ (q : Question). q.stream == s in
       let same : q.stream ≡ s = eqb-true q.stream s (find_passes test t.questions q found) in
-      let asked : IsAsked t.questions (new q.id) = record { question = q; runs = found_own test q t.questions f.order found; stream = same } in
-      fit _ v f.boots (whole_of t v f) (each-append (IsAsked t.questions) t.pended (new q.id ∷ []) f.asked (asked, tt)) (leasts_more q.id) (taken_more q.id)
+      let asked : IsAsked t.questions (new q.id) = record { question = q; runs = found_own test q t.questions f.coherent.orderly.order found; stream = same } in
+      fit _ v f.fits.boots (whole_of t v f) (each-append (IsAsked t.questions) t.pended (new q.id ∷ []) f.coherent.asked (asked, tt)) (leasts_more q.id) (taken_more q.id)
   open_fits (Rows.cached x e at none found) =
-      fit _ v f.boots (close t.boot t.sequence t.contexts t.questions v.streams s (context.Judged t.floor e.verdict) (x, at) (away_new none)) f.asked f.leasts f.taken
+      fit _ v f.fits.boots (close t.boot t.sequence t.contexts t.questions v.streams s (context.Judged t.floor e.verdict) (x, at) (away_new none)) f.coherent.asked f.coherent.leasts f.fits.taken
   open_fits (Rows.asked x port at none room e) =
       let q : Question = next_question t v port s in
-      let asked : IsAsked (t.questions ++ q ∷ []) (new (next_id t)) = record { question = q; runs = found_new t.boot t.sequence q t.questions (omega arith) f.given; stream = refl } in
-      fit _ v f.boots (ask t.boot t.sequence t.contexts t.questions v.streams port s (x, at) (away_new none))
-      (each-append (IsAsked (t.questions ++ q ∷ [])) t.pended (new (next_id t) ∷ []) (asked_more t.questions (q ∷ []) t.pended f.asked) (asked, tt))
+      let asked : IsAsked (t.questions ++ q ∷ []) (new (next_id t)) = record { question = q; runs = found_new t.boot t.sequence q t.questions (omega arith) f.coherent.orderly.given; stream = refl } in
+      fit _ v f.fits.boots (ask t.boot t.sequence t.contexts t.questions v.streams port s (x, at) (away_new none))
+      (each-append (IsAsked (t.questions ++ q ∷ [])) t.pended (new (next_id t) ∷ []) (asked_more t.questions (q ∷ []) t.pended f.coherent.asked) (asked, tt))
       (leasts_more (next_id t)) (taken_more (next_id t))
   open_fits _ = f
 
 -- its number is taken, and the floor is raised to its least
-begun : (t : Table) (v : Store) → Fits t v → (least : ℕ) → Fits (raised least t) (taken v)
+begun : (t : Table) (v : Store) → Stands t v → (least : ℕ) → Stands (raised least t) (taken v)
 begun t v f least =
-    let higher : Each (Least (max t.floor least)) t.pended = each_weaker (Least t.floor) (Least (max t.floor least)) (λ p le. omega arith) t.pended f.leasts in
-    let more : Each (Taken (v.opens + 1)) t.pended = each_weaker (Taken v.opens) (Taken (v.opens + 1)) (λ p le. omega arith) t.pended f.taken in
-    fit (raised least t) (taken v) f.boots (whole_of t v f) f.asked higher more
+    let higher : Each (Least (max t.floor least)) t.pended = each_weaker (Least t.floor) (Least (max t.floor least)) (λ p le. omega arith) t.pended f.coherent.leasts in
+    let more : Each (Taken (v.opens + 1)) t.pended = each_weaker (Taken v.opens) (Taken (v.opens + 1)) (λ p le. omega arith) t.pended f.fits.taken in
+    fit (raised least t) (taken v) f.fits.boots (whole_of t v f) f.coherent.asked higher more
 
-pub opened_fits : (t : Table) (v : Store) → Fits t v → (s least : ℕ) → FitsAfter (opened t v s least)
+pub opened_fits : (t : Table) (v : Store) → Stands t v → (s least : ℕ) → FitsAfter (opened t v s least)
 unfolding opened
 opened_fits t v f s least = open_fits (raised least t) (taken v) (begun t v f least) s least (omega arith) (open_row (raised least t) (taken v) s least _ refl)
 
@@ -309,12 +305,21 @@ rewrites_of (Write u o b) s is = (sym is, λ e. cc (e))
 rewrites_of (Cut u n) s is = (sym is, λ e. cc (e))
 rewrites_of (Remove u) s is = absurd is
 
-module _ (t : Table) (v w : Store) (f : Fits t v) (same : SameBut v w) where
+-- a stream that is created keeps the fit, of a table that is not coherent too
+created_keeps : (t : Table) (v w : Store) → Fits t v → SameBut v w → (name : List ℕ) → change_of v (Create name) ≡ Ok w → Fits t w
+created_keeps t v w f same name ok = record {
+  boots = f.boots ∙ sym same.boot;
+  there = each_weaker (λ (c : ℕ × ContextState). IsThere v.streams c.0) (λ (c : ℕ × ContextState). IsThere w.streams c.0) (λ c h. (h.0, stays_there v w name c.0 h.0 ok h.1)) t.contexts f.there;
+  present = each_weaker (IsPresent v.streams) (IsPresent w.streams) (λ q h. (h.0, stays_there v w name q.stream h.0 ok h.1, h.2)) t.questions f.present;
+  taken = subst (λ n. Each (Taken n) t.pended) (sym same.opens) f.taken;
+}
+
+module _ (t : Table) (v w : Store) (f : Stands t v) (same : SameBut v w) where
   boots : t.boot ≡ w.boot
-  boots = f.boots ∙ sym same.boot
+  boots = f.fits.boots ∙ sym same.boot
 
   taken_still : Each (Taken w.opens) t.pended
-  taken_still = subst (λ n. Each (Taken n) t.pended) (sym same.opens) f.taken
+  taken_still = subst (λ n. Each (Taken n) t.pended) (sym same.opens) f.fits.taken
 
   away_none_at : (c : Change) (s : ℕ) → IsOf c s → change_of v c ≡ Ok w → question_of s t.questions ≡ None → Away s t.boot t.sequence t.contexts t.questions w.streams
   away_none_at c s of ok none = change_away t.boot t.sequence t.contexts t.questions v.streams s w.streams (left_by v w c s of ok) (leave_none t.boot t.sequence t.contexts t.questions v.streams s none (whole_of t v f))
@@ -325,37 +330,26 @@ module _ (t : Table) (v w : Store) (f : Fits t v) (same : SameBut v w) where
       let is : q.stream ≡ s = eqb-true q.stream s (find_passes test t.questions q at) in
       (is, change_away t.boot t.sequence t.contexts (without_question q.id t.questions) v.streams q.stream w.streams (left_by v w c q.stream (subst (IsOf c) (sym is) of) ok) (away_of t v f test q at))
 
-  rewritten_fits : (c : Change) (s : ℕ) → Rewrites s c → change_of v c ≡ Ok w → question_of s t.questions ≡ None → Fits (marked t s (Some context.Modified)) w
+  rewritten_fits : (c : Change) (s : ℕ) → Rewrites s c → change_of v c ≡ Ok w → question_of s t.questions ≡ None → Stands (marked t s (Some context.Modified)) w
   rewritten_fits c s is ok none =
       let of = rewrites_of c s is in
-      fit _ w boots (close t.boot t.sequence t.contexts t.questions w.streams s context.Modified (there_after v w c s of.0 of.1 ok) (away_none_at c s of.0 ok none)) f.asked f.leasts taken_still
+      fit _ w boots (close t.boot t.sequence t.contexts t.questions w.streams s context.Modified (there_after v w c s of.0 of.1 ok) (away_none_at c s of.0 ok none)) f.coherent.asked f.coherent.leasts taken_still
 
   outdated_fits : (c : Change) (s : ℕ) (q : Question) → Rewrites s c → change_of v c ≡ Ok w → question_of s t.questions ≡ Some q → FitsAfter (again t w q (via q.port (Abort q.id) ∷ []))
   outdated_fits c s q is ok at =
       let of = rewrites_of c s is in
       let a = away_at c s of.0 ok q at in
-      again_fits t w q boots a.1 f.asked f.leasts taken_still _ (found_own (λ (q : Question). q.stream == s) q t.questions f.order at)
+      again_fits t w q boots a.1 f.coherent.asked f.coherent.leasts taken_still _ (found_own (λ (q : Question). q.stream == s) q t.questions f.coherent.orderly.order at)
       (subst (IsThere w.streams) (sym a.0) (there_after v w c s of.0 of.1 ok))
 
-  removed_fits : (s : ℕ) → change_of v (Remove s) ≡ Ok w → question_of s t.questions ≡ None → Fits (marked t s None) w
-  removed_fits s ok none = fit _ w boots (clear t.boot t.sequence t.contexts t.questions w.streams s (away_none_at (Remove s) s refl ok none)) f.asked f.leasts taken_still
+  removed_fits : (s : ℕ) → change_of v (Remove s) ≡ Ok w → question_of s t.questions ≡ None → Stands (marked t s None) w
+  removed_fits s ok none = fit _ w boots (clear t.boot t.sequence t.contexts t.questions w.streams s (away_none_at (Remove s) s refl ok none)) f.coherent.asked f.coherent.leasts taken_still
 
-  gone_fits : (s : ℕ) (q : Question) → change_of v (Remove s) ≡ Ok w → question_of s t.questions ≡ Some q → Fits (ended t q None) w
-  gone_fits s q ok at = let a = away_at (Remove s) s refl ok q at in cleared_fits t w q boots a.1 f.asked f.leasts taken_still
+  gone_fits : (s : ℕ) (q : Question) → change_of v (Remove s) ≡ Ok w → question_of s t.questions ≡ Some q → Stands (ended t q None) w
+  gone_fits s q ok at = let a = away_at (Remove s) s refl ok q at in cleared_fits t w q boots a.1 f.coherent.asked f.coherent.leasts taken_still
 
-  created_fits : (name : List ℕ) → change_of v (Create name) ≡ Ok w → Fits t w
-  created_fits name ok =
-      fit t w boots
-      (record {
-        rises = f.rises;
-        given = f.given;
-        order = f.order;
-        apart = f.apart;
-        scanned = f.scanned;
-        there = each_weaker (λ (c : ℕ × ContextState). IsThere v.streams c.0) (λ (c : ℕ × ContextState). IsThere w.streams c.0) (λ c h. (h.0, stays_there v w name c.0 h.0 ok h.1)) t.contexts f.there;
-        present = each_weaker (IsPresent v.streams) (IsPresent w.streams) (λ q h. (h.0, stays_there v w name q.stream h.0 ok h.1, h.2)) t.questions f.present;
-      })
-      f.asked f.leasts taken_still
+  created_fits : (name : List ℕ) → change_of v (Create name) ≡ Ok w → Stands t w
+  created_fits name ok = record { coherent = f.coherent; fits = created_keeps t v w f.fits same name ok }
 
 -- the contexts once the service is lost
 lost_rises : (qs : List Question) (contexts : Marks) → Rises contexts → Rises (lost_contexts qs contexts)
@@ -384,30 +378,30 @@ no_question contexts qs all s modified = go (question_of s qs) refl
         absurd (true≢false (sym modified ∙ ap is_modified marked))
 
 -- the other events
-module _ (t : Table) (v : Store) (f : Fits t v) where
-  with_floor : (connected : Ports) (version : ℕ) → t.floor ≤ version → Fits (record t { connected = connected; floor = version }) v
-  with_floor connected version up = fit _ v f.boots (whole_of t v f) f.asked (each_weaker (Least t.floor) (Least version) (λ p le. omega arith) t.pended f.leasts) f.taken
+module _ (t : Table) (v : Store) (f : Stands t v) where
+  with_floor : (connected : Ports) (version : ℕ) → t.floor ≤ version → Stands (record t { connected = connected; floor = version }) v
+  with_floor connected version up = fit _ v f.fits.boots (whole_of t v f) f.coherent.asked (each_weaker (Least t.floor) (Least version) (λ p le. omega arith) t.pended f.coherent.leasts) f.fits.taken
 
-  with_ports : (connected : Ports) → Fits (record t { connected = connected }) v
-  with_ports connected = fit _ v f.boots (whole_of t v f) f.asked f.leasts f.taken
+  with_ports : (connected : Ports) → Stands (record t { connected = connected }) v
+  with_ports connected = fit _ v f.fits.boots (whole_of t v f) f.coherent.asked f.coherent.leasts f.fits.taken
 
-  closed_fits : (test : Question → Bool) (q : Question) → find test t.questions ≡ Some q → Fits (ended t q (Some context.Modified)) v
-  closed_fits test q at = ended_fits t v q f.boots (away_of t v f test q at) f.asked f.leasts f.taken context.Modified (runs_there t v f test q at)
+  closed_fits : (test : Question → Bool) (q : Question) → find test t.questions ≡ Some q → Stands (ended t q (Some context.Modified)) v
+  closed_fits test q at = ended_fits t v q f.fits.boots (away_of t v f test q at) f.coherent.asked f.coherent.leasts f.fits.taken context.Modified (runs_there t v f test q at)
 
-  replied_fits : (port : Port) (id : MessageId) (version : ℕ) (r : Verdict) (q : Question) → question_on port id t.questions ≡ Some q → t.floor ≤ version → Fits (settled t q version r) v
+  replied_fits : (port : Port) (id : MessageId) (version : ℕ) (r : Verdict) (q : Question) → question_on port id t.questions ≡ Some q → t.floor ≤ version → Stands (settled t q version r) v
   unfolding ended
   replied_fits port id version r q at up =
       let test : Question → Bool = λ (q : Question). same_id q.id id && same_port q.port port in
       let left : Pended → Bool = λ p. not (waits_for q.id p) in
-      let high = each_weaker (Least t.floor) (Least version) (λ p le. omega arith) t.pended f.leasts in
-      fit _ v f.boots (close t.boot t.sequence t.contexts (without_question q.id t.questions) v.streams q.stream (context.Judged version r) (runs_there t v f test q at) (away_of t v f test q at))
-      (asked_without q.id t.questions t.pended f.asked) (each-filter (Least version) left t.pended high) (each-filter (Taken v.opens) left t.pended f.taken)
+      let high = each_weaker (Least t.floor) (Least version) (λ p le. omega arith) t.pended f.coherent.leasts in
+      fit _ v f.fits.boots (close t.boot t.sequence t.contexts (without_question q.id t.questions) v.streams q.stream (context.Judged version r) (runs_there t v f test q at) (away_of t v f test q at))
+      (asked_without q.id t.questions t.pended f.coherent.asked) (each-filter (Least version) left t.pended high) (each-filter (Taken v.opens) left t.pended f.fits.taken)
 
   loses_fits : FitsAfter (loses_all t v)
   unfolding loses_all
   loses_fits =
-      let there = lost_there v.streams t.questions t.contexts f.rises f.present f.there in
-      fit _ v f.boots (record { rises = lost_rises t.questions t.contexts f.rises; given = tt; order = tt; apart = tt; scanned = tt; there = there; present = tt }) tt tt tt
+      let there = lost_there v.streams t.questions t.contexts f.coherent.orderly.rises f.fits.present f.fits.there in
+      fit _ v f.fits.boots (record { rises = lost_rises t.questions t.contexts f.coherent.orderly.rises; given = tt; order = tt; apart = tt; scanned = tt; there = there; present = tt }) tt tt tt
 
 -- a question of this list runs
 abbrev pub Runs : Table → Question → Type 0
@@ -441,23 +435,26 @@ pub all_run : (t : Table) (v : Store) (o : Option Port) (q : Question) (ks : Lis
 all_run t v o q [] less h = tt
 all_run t v o q (k ∷ ks) less h = (still_runs k (again_row o t v q []) less.0 h.0, all_run t v o q ks less.1 h.1)
 
-pub each_fits : (v : Store) (qs : List Question) (t : Table) → Fits t v → AreInOrder qs → Each (Runs t) qs → Fits (again_each t v qs).table v
+pub each_fits : (v : Store) (qs : List Question) (t : Table) → Stands t v → AreInOrder qs → Each (Runs t) qs → Stands (again_each t v qs).table v
 unfolding again_each
 each_fits v [] t f order runs = f
 each_fits v (q ∷ qs) t f order runs =
     let test : Question → Bool = λ (k : Question). same_id k.id q.id in
     let row = again_row (least_port t.connected) t v q [] in
-    let next : Fits (again t v q []).table v = again_at_fits t v q f.boots (away_of t v f test q runs.0) f.asked f.leasts f.taken row runs.0 (runs_there t v f test q runs.0) in
+    let next : Stands (again t v q []).table v = again_at_fits t v q f.fits.boots (away_of t v f test q runs.0) f.coherent.asked f.coherent.leasts f.fits.taken row runs.0 (runs_there t v f test q runs.0) in
     each_fits v qs (again t v q []).table next order.1 (all_run t v (least_port t.connected) q qs order.0 runs.1)
 
-moved_fits : (t : Table) (v : Store) → Fits t v → (port : Port) → Fits (again_each t v (on_port port t.questions)).table v
+moved_fits : (t : Table) (v : Store) → Stands t v → (port : Port) → Stands (again_each t v (on_port port t.questions)).table v
 moved_fits t v f port =
-    each_fits v (on_port port t.questions) t f (order-filter (λ q. same_port q.port port) t.questions f.order)
-    (each-filter (Runs t) (λ q. same_port q.port port) t.questions (all_found t.questions f.order))
+    each_fits v (on_port port t.questions) t f (order-filter (λ q. same_port q.port port) t.questions f.coherent.orderly.order)
+    (each-filter (Runs t) (λ q. same_port q.port port) t.questions (all_found t.questions f.coherent.orderly.order))
 
-pub mounted_fits : (mode : Mode) (limits : LimitValues) (v : Store) → Fits (mounted mode limits v.boot) v
+pub mounted_fits : (mode : Mode) (limits : LimitValues) (v : Store) → Stands (mounted mode limits v.boot) v
 unfolding Rises
-mounted_fits mode limits v = record { boots = refl; rises = tt; given = tt; order = tt; apart = tt; scanned = tt; there = tt; present = tt; asked = tt; leasts = tt; taken = tt }
+mounted_fits mode limits v = record {
+  coherent = record { orderly = record { rises = tt; given = tt; order = tt; apart = tt; scanned = tt }; asked = tt; leasts = tt };
+  fits = record { boots = refl; there = tt; present = tt; taken = tt };
+}
 
 -- an accepted change leads to the volume after it
 pub accepted : (v : Store) (c : Change) → option_map filter_fault.Store (result_err (change_of v c)) ≡ None → change_of v c ≡ Ok (changed_volume v c)
@@ -467,7 +464,12 @@ accepted v c = go (change_of v c)
     go (Ok w) h = refl
     go (Err f) h = absurd (cc (h))
 
-row_fits : (t : Table) (v : Store) → Fits t v → {e : FilterEvent} {r : Reaction} → Row t v e r → filter_refusal t v e ≡ None → FitsAfter r
+pub creation_fits : (t : Table) (v : Store) (name : List ℕ) → Fits t v → filter_refusal t v (Changes (Create name)) ≡ None
+    → Fits (filter_step t v (Changes (Create name))).table (filter_step t v (Changes (Create name))).volume
+unfolding filter_refusal filter_step changes
+creation_fits t v name f ok = created_keeps t v _ f (changed_same v (Create name)) name (accepted v (Create name) ok)
+
+row_fits : (t : Table) (v : Store) → Stands t v → {e : FilterEvent} {r : Reaction} → Row t v e r → filter_refusal t v e ≡ None → FitsAfter r
 unfolding filter_refusal asks ended moves restarts
 row_fits t v f (Rows.opens s least r row) ok = open_fits (raised least t) (taken v) (begun t v f least) s least (omega arith) row
 row_fits t v f (Rows.created name) ok = created_fits t v _ f (changed_same v (Create name)) name (accepted v (Create name) ok)
@@ -476,14 +478,14 @@ row_fits t v f (Rows.outdated c s q is at) ok = outdated_fits t v _ f (changed_s
 row_fits t v f (Rows.removed s at) ok = removed_fits t v _ f (changed_same v (Remove s)) s (accepted v (Remove s) ok) at
 row_fits t v f (Rows.gone s q at) ok = gone_fits t v _ f (changed_same v (Remove s)) s q (accepted v (Remove s) ok) at
 row_fits t v f (Rows.cleaned s x port at is e) ok =
-    let away = leave_none t.boot t.sequence t.contexts t.questions v.streams s (no_question t.contexts t.questions f.scanned s is) (whole_of t v f) in
-    fit _ v f.boots (ask t.boot t.sequence t.contexts t.questions v.streams port s (x, at) away) (asked_more t.questions _ t.pended f.asked) f.leasts f.taken
+    let away = leave_none t.boot t.sequence t.contexts t.questions v.streams s (no_question t.contexts t.questions f.coherent.orderly.scanned s is) (whole_of t v f) in
+    fit _ v f.fits.boots (ask t.boot t.sequence t.contexts t.questions v.streams port s (x, at) away) (asked_more t.questions _ t.pended f.coherent.asked) f.coherent.leasts f.fits.taken
 row_fits t v f (Rows.greeted port number version same free up) ok = with_floor t v f (with_port port t.connected) version (ltb-false version t.floor up)
 row_fits t v f (Rows.updated port version) ok = with_floor t v f t.connected (max t.floor version) (omega arith)
 row_fits t v f (Rows.failed port id why q at) ok = closed_fits t v f (λ q. same_id q.id id && same_port q.port port) q at
 row_fits t v f (Rows.stale port id version r q at old) ok =
     let test : Question → Bool = λ (q : Question). same_id q.id id && same_port q.port port in
-    again_fits t v q f.boots (away_of t v f test q at) f.asked f.leasts f.taken _ (found_own test q t.questions f.order at) (runs_there t v f test q at)
+    again_fits t v q f.fits.boots (away_of t v f test q at) f.coherent.asked f.coherent.leasts f.fits.taken _ (found_own test q t.questions f.coherent.orderly.order at) (runs_there t v f test q at)
 row_fits t v f (Rows.replied port id version r q at up) ok = replied_fits t v f port id version r q at (ltb-false version t.floor up)
 row_fits t v f (Rows.timed_out seq q at) ok = closed_fits t v f (λ q. same_id q.id (record { boot = t.boot; seq = seq })) q at
 row_fits t v f (Rows.moved port other left) ok = moved_fits (without t port) v (with_ports t v f (without_port port t.connected)) port
@@ -491,7 +493,7 @@ row_fits t v f (Rows.lost port none) ok = loses_fits (without t port) v (with_po
 row_fits t v f Rows.restarted ok = mounted_fits t.mode t.limits (booted v)
 row_fits t v f _ ok = f
 
-pub event_fits : (t : Table) (v : Store) (e : FilterEvent) → Fits t v → filter_refusal t v e ≡ None → Fits (filter_step t v e).table (filter_step t v e).volume
+pub event_fits : (t : Table) (v : Store) (e : FilterEvent) → Stands t v → filter_refusal t v e ≡ None → Stands (filter_step t v e).table (filter_step t v e).volume
 event_fits t v e f ok = row_fits t v f (row_of t v e) ok
 
 pub keeps_fit : KeepsFit

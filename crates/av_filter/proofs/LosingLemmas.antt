@@ -9,7 +9,8 @@ use Rattle.av_filter.proofs.FitLemmas.{all_found, all_run, each_fits}
 use Rattle.av_filter.proofs.QuestionLemmas.{order-filter}
 use Rattle.av_filter.specs.Again.{again}
 use Rattle.av_filter.specs.Conduct.{again_each, disconnects, disconnects_to, loses_all, moves}
-use Rattle.av_filter.specs.Fit.{AreInOrder, Fits}
+use Rattle.av_filter.specs.Fit.{Stands}
+use Rattle.av_filter_table.specs.Orderly.{AreInOrder}
 use Rattle.av_filter.specs.declared.note.Note.TheVariants.{Quiet}
 use Rattle.av_filter_table.specs.Ports.{least_port, without_port}
 use Rattle.av_filter_table.specs.Table.{Table, on_port, question_at}
@@ -27,9 +28,9 @@ abbrev pub Runs : Table → Question → Type 0
 Runs t q = question_at q.id t.questions ≡ Some q
 
 module _ (t : Table) (v : Store) (q : Question) where
-  pub next_fits : Fits t v → Runs t q → Fits (next t v q) v
+  pub next_stands : Stands t v → Runs t q → Stands (next t v q) v
   unfolding again_each
-  next_fits fits runs = each_fits v (q ∷ []) t fits (tt, tt) (runs, tt)
+  next_stands stands runs = each_fits v (q ∷ []) t stands (tt, tt) (runs, tt)
 
   pub next_run : (qs : List Question) → Each (λ k. q.id.seq < k.id.seq) qs → Each (Runs t) qs → Each (Runs (next t v q)) qs
   next_run qs above run = all_run t v (least_port t.connected) q qs above run

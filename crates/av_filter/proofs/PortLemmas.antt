@@ -12,7 +12,7 @@ use Rattle.av_filter.specs.Rows
 use Rattle.av_filter.specs.Rows.{AgainRow, OpenRow, Row, without}
 use Rattle.av_filter.specs.Again.{again, ends}
 use Rattle.av_filter_table.specs.Asking.{asks, ended, next_question}
-use Rattle.av_filter.specs.Conduct.{FilterEvent, again_each, loses_all, moves, restarts}
+use Rattle.av_filter.specs.Conduct.{FilterEvent, again_each, filter_step, loses_all, moves, restarts}
 use Rattle.av_filter.specs.Fit.{KeepsPorts, RunOnOpen}
 use Rattle.av_frame.specs.Message.{Letter}
 use Rattle.av_base.specs.declared.port.Port.TheVariants.{One, Two}
@@ -160,5 +160,8 @@ row_runs (Rows.lost port none) h = tt
 row_runs Rows.restarted h = tt
 row_runs _ h = h
 
+pub event_runs : (t : Table) (v : Store) (e : FilterEvent) → RunOnOpen t → RunOnOpen (filter_step t v e).table
+event_runs t v e h = row_runs (row_of t v e) h
+
 pub keeps_ports : KeepsPorts
-keeps_ports t v e f h ok = row_runs (row_of t v e) h
+keeps_ports t v e h ok = event_runs t v e h

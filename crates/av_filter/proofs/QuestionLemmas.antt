@@ -8,7 +8,7 @@ use Rattle.av_base.specs.Port.{same_port}
 use Rattle.av_base.specs.declared.port.Port.{Port}
 use Rattle.av_base.specs.declared.message_id.MessageId.{MessageId}
 use Rattle.av_filter.proofs.EachLemmas.{each_weaker, each-append, each-filter, find_each}
-use Rattle.av_filter.specs.Fit.{AreApart, AreInOrder, IsGiven}
+use Rattle.av_filter_table.specs.Orderly.{AreApart, AreInOrder, IsGiven}
 use Rattle.av_filter_table.specs.Table.{question_at, question_of, question_on, without_question}
 use Rattle.av_filter_table.specs.declared.question.Question.{Question}
 

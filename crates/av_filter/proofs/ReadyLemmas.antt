@@ -1,5 +1,5 @@
 -- What events rest on, at one stream and at one question.
-use Rattle.std.proofs.Common.{◌≡◌, ℕ, Result, Ok, Err, OnOk, ◌≤◌, ◌<◌, ◌^◌, ◌==◌, Bool, true, false, cond, find, List, [], ◌∷◌, Option, Some, None, IfSome, length, refl, sym, ap, ◌∙◌, subst, arith}
+use Rattle.std.proofs.Common.{◌≡◌, ℕ, Result, Ok, Err, OnOk, ◌≤◌, ◌<◌, ◌^◌, ◌==◌, Bool, true, false, cond, find, List, [], ◌∷◌, Option, Some, None, IfSome, OnSome, length, refl, sym, ap, ◌∙◌, subst, arith}
 use Rattle.std.proofs.lemmas.Bool.{eqb-true}
 use Rattle.std.proofs.lemmas.Bool.Decides.{nat_tests}
 use Rattle.std.specs.List.{AllByRecursion as Each}
@@ -15,7 +15,8 @@ use Rattle.av_filter.proofs.EachLemmas.{find_each, find_passes}
 use Rattle.av_filter.proofs.ClosingLemmas.{own_id}
 use Rattle.av_filter.proofs.VolumeLemmas.{there_after}
 use Rattle.av_filter.proofs.QuestionLemmas.{found_own}
-use Rattle.av_filter.specs.Fit.{AreInOrder, Fits, IsGiven, IsPresent, IsScanned, IsThere}
+use Rattle.av_filter.specs.Fit.{Fits, IsPresent, IsThere}
+use Rattle.av_filter_table.specs.Orderly.{AreInOrder, IsGiven, IsOrderly, IsScanned}
 use Rattle.av_filter.specs.Ready.{IsRunning}
 use Rattle.av_filter_table.specs.FilterTable.{id_of}
 use Rattle.av_filter_table.specs.Rewriting.{change_by}
@@ -52,14 +53,14 @@ pub stream_in : (v : Store) (s : ℕ) (x : Stream) → AreInBounds v → stream_
 stream_in v s x bounds there = found_row (IsInBounds v.limits) v.streams s x bounds.streams there
 
 -- a question that is found by a test runs
-pub running : (t : Table) (test : Question → Bool) (o : Option Question) → Each (IsGiven t.boot t.sequence) t.questions → AreInOrder t.questions → (1 ≤ t.boot) → (t.boot < 2 ^ 64) → (t.sequence < 2 ^ 64) → o ≡ find test t.questions → IfSome o (λ q. IsRunning t q)
-running t test None all order boot small last by = tt
-running t test (Some q) all order boot small last by =
-    let given = find_each (IsGiven t.boot t.sequence) test t.questions q all (sym by) in
+pub running : (t : Table) (test : Question → Bool) (o : Option Question) → IsOrderly t → (1 ≤ t.boot) → (t.boot < 2 ^ 64) → (t.sequence < 2 ^ 64) → o ≡ find test t.questions → IfSome o (λ q. IsRunning t q)
+running t test None orderly boot small last by = tt
+running t test (Some q) orderly boot small last by =
+    let given = find_each (IsGiven t.boot t.sequence) test t.questions q orderly.given (sym by) in
     let boot_is : q.id.boot ≡ t.boot = given.boot_is in
     let low : 1 ≤ q.id.seq = given.low in
     let high : q.id.seq ≤ t.sequence = given.high in
-    record { found = found_own test q t.questions order (sym by); boot = boot_is; id = ((omega arith, omega arith), (omega arith, omega arith)) }
+    record { found = found_own test q t.questions orderly.order (sym by); boot = boot_is; id = ((omega arith, omega arith), (omega arith, omega arith)) }
 
 pub stream_of : (qs : List Question) (s : ℕ) (q : Question) → question_of s qs ≡ Some q → q.stream ≡ s
 stream_of qs s q found = eqb-true q.stream s (find_passes (λ k. k.stream == s) qs q found)
@@ -74,8 +75,8 @@ stream_there t v q fits runs =
     let present = find_each (IsPresent v.streams) _ t.questions q fits.present runs.found in (present.0, present.1)
 
 -- no question runs of a stream whose context is Modified
-pub unasked : (t : Table) (v : Store) (s : ℕ) → Fits t v → is_modified (context_of t.contexts s) ≡ true → question_of s t.questions ≡ None
-unasked t v s fits modified = go (question_of s t.questions) refl
+pub unasked : (t : Table) (s : ℕ) → IsOrderly t → is_modified (context_of t.contexts s) ≡ true → question_of s t.questions ≡ None
+unasked t s orderly modified = go (question_of s t.questions) refl
   where
     not_scanned : (o : Option ContextState) (id : MessageId) → o ≡ Some (Scanning id) → is_modified o ≡ true → ⊥
     not_scanned o id is h = let off : is_modified o ≡ false = ap is_modified is in absurd (cc (off, h))
@@ -83,7 +84,7 @@ unasked t v s fits modified = go (question_of s t.questions) refl
     go : (o : Option Question) → question_of s t.questions ≡ o → question_of s t.questions ≡ None
     go None is = is
     go (Some q) is =
-        let scanned = find_each (IsScanned t.contexts) _ t.questions q fits.scanned is in
+        let scanned = find_each (IsScanned t.contexts) _ t.questions q orderly.scanned is in
         absurd (not_scanned (context_of t.contexts s) q.id (ap (context_of t.contexts) (sym (stream_of t.questions s q is)) ∙ scanned) modified)
 
 -- the content of a stream that is there is no longer than a message can say
@@ -112,3 +113,8 @@ there_by v w s (rewriting.Cut n) h = there_after v w (Cut s n) s refl (λ e. abs
 pub on_ok : {A E : Type 0} (r : Result A E) (P Q : Type 0) → (P → Q) → OnOk r P → OnOk r Q
 on_ok (Ok a) P Q f p = f p
 on_ok (Err e) P Q f p = tt
+
+-- what holds anyhow, holds where there is something
+pub on_some : {A : Type 0} (o : Option A) (P : Type 0) → P → OnSome o P
+on_some None P p = tt
+on_some (Some a) P p = p

@@ -4,7 +4,6 @@ ghost use Rattle.av_filter.specs.Again.{again};
 ghost use Rattle.av_filter.specs.Call.{Meets, MeetsAlways};
 ghost use Rattle.av_filter.specs.Changing.{changed_volume, changes, cleaned, removed, rewritten};
 ghost use Rattle.av_filter.specs.Conduct.{Changes, filter_refusal};
-ghost use Rattle.av_filter.specs.Fit.{Fits};
 ghost use Rattle.av_filter.specs.Ready.{IsRunning};
 ghost use Rattle.av_filter.specs.declared.fault.FilterFault.{FilterFault};
 ghost use Rattle.av_filter.specs.declared.fault.FilterFault.TheVariants as fault;
@@ -40,7 +39,6 @@ pub(crate) fn rewrite(
     stream: StreamId,
     rewriting: Rewriting<'_>,
 ) -> Result<Out, Refusal<FilterFault>>
-    requires { Fits table.old volume.old }
     ensures { Meets table.old volume.old table.new volume.new result
         (option_map fault.Store (result_err (change_of volume.old (change_by stream rewriting.entry)))) (rewritten table.old
         (changed_volume volume.old (change_by stream rewriting.entry)) stream (question_of stream table.old.questions)) }
@@ -63,7 +61,6 @@ fn rewrite_asked(
     question: &Question,
     rewriting: Rewriting<'_>,
 ) -> Result<Out, AllocError>
-    requires fits { Fits table.old volume.old }
     requires runs { IsRunning table.old question.now }
     requires accepted { result_err (change_of volume.old (change_by question.now.stream rewriting)) ≡ None }
     ensures { MeetsAlways table.old volume.old table.new volume.new result (again table.old
@@ -97,7 +94,6 @@ pub(crate) fn remove(
     volume: &mut Volume,
     stream: StreamId,
 ) -> Result<Out, Refusal<FilterFault>>
-    requires { Fits table.old volume.old }
     ensures { Meets table.old volume.old table.new volume.new result
         (filter_refusal table.old volume.old (Changes (Remove stream))) (changes table.old volume.old (Remove stream)) }
 {
@@ -138,7 +134,6 @@ pub(crate) fn clean_up(
     volume: &Volume,
     stream: StreamId,
 ) -> Result<Out, AllocError>
-    requires { Fits table.old volume.now }
     ensures { MeetsAlways table.old volume.now table.new volume.now result
         (cleaned table.old volume.now stream (stream_at stream volume.now.streams)) }
 {
@@ -159,9 +154,11 @@ pub(crate) fn clean_up(
 // Where a stream is asked about, if it was written and a question can be asked.
 fn port_to_ask(table: &FilterTable, stream: StreamId) -> Option<Port>
     ensures port { result ≡ (if is_modified (context_of table.now.contexts stream) then asking table.now else None) }
+    ensures unasked { OnSome result (question_of stream table.now.questions ≡ None) }
     ensures room { OnSome result (length table.now.questions < table.now.limits.questions) }
     ensures left { OnSome result (sequence_left table.now ≡ true) }
 {
+    let _scanned_by_their_questions = table.boot();
     match table.state_of(stream) {
         Some(ContextState::Modified) => asking(table),
         _ => None,

@@ -3,7 +3,7 @@ ghost use Rattle.av_base.specs.Answers.{Reads};
 ghost use Rattle.av_filter.specs.Call.{Meets, MeetsAlways, Reacts};
 ghost use Rattle.av_filter.specs.Changing.{changes, cleaned};
 ghost use Rattle.av_filter.specs.Conduct.{Changes, Opens, TimesOut, disconnects, filter_refusal, filter_step, restarts};
-ghost use Rattle.av_filter.specs.Fit.{Fits};
+ghost use Rattle.av_filter.specs.Fit.{Fits, IsCoherent, RunOnOpen};
 ghost use Rattle.av_filter.specs.Opening.{opened};
 ghost use Rattle.av_filter.specs.Receiving.{receives};
 ghost use Rattle.av_filter.specs.Verdict.{verdict_of};
@@ -36,11 +36,14 @@ pub struct Filter {
 }
 
 impl Model for Filter {
+    ghost use Rattle.av_filter.specs.Fit.{IsCoherent, RunOnOpen};
     ghost use Rattle.av_filter_table.specs.Table.{Table};
 
     ghost Value = { Table };
 
     ghost view = { λ f. f.table };
+
+    ghost invariant = { λ f. IsCoherent f.table × RunOnOpen f.table };
 }
 
 impl Filter {
@@ -279,9 +282,11 @@ impl Filter {
         self.table.connected().is_open(port)
     }
 
-    /// How many questions run. At once.
+    /// How many questions run. At once. Its contract says what holds of every filter.
     pub fn question_count(&self) -> usize
-        ensures { result ≡ length self.now.questions }
+        ensures count { result ≡ length self.now.questions }
+        ensures coherent { IsCoherent self.now }
+        ensures run { RunOnOpen self.now }
     {
         self.table.question_count()
     }

@@ -4,7 +4,8 @@ ghost use Rattle.std.specs.List.Sorted.{IsNonDecreasingBy, IsPermutation};
 ghost use Rattle.std.specs.Vec.{vec_capacity};
 ghost use Rattle.av_filter.specs.Call.{MeetsAlways};
 ghost use Rattle.av_filter.specs.Conduct.{again_each, disconnects};
-ghost use Rattle.av_filter.specs.Fit.{AreInOrder, Fits};
+ghost use Rattle.av_filter.specs.Fit.{Stands};
+ghost use Rattle.av_filter_table.specs.Orderly.{AreInOrder};
 ghost use Rattle.av_filter_table.specs.Ports.{least_port, without_port};
 ghost use Rattle.av_filter_table.specs.Table.{question_at};
 ghost use Rattle.av_pend.specs.Pend.{open_of};
@@ -27,7 +28,7 @@ pub(crate) fn disconnect(
     volume: &Volume,
     port: Port,
 ) -> Result<Out, AllocError>
-    requires { Fits table.old volume.now }
+    requires { Stands table.old volume.now }
     ensures { MeetsAlways table.old volume.now table.new volume.now result (disconnects table.old volume.now port) }
 {
     match table.connected().without(port).least() {
@@ -63,7 +64,7 @@ fn move_questions(
     volume: &Volume,
     port: Port,
 ) -> Result<Out, AllocError>
-    requires fits { Fits table.old volume.now }
+    requires stands { Stands table.old volume.now }
     requires left { IsSome (least_port (without_port port table.old.connected)) }
     ensures { MeetsAlways table.old volume.now table.new volume.now result (disconnects table.old volume.now port) }
 {
@@ -84,7 +85,7 @@ fn move_each(
     answers: &mut Vec<Answer>,
     messages: &mut Vec<Message>,
 )
-    requires fits { Fits table.old volume.now }
+    requires stands { Stands table.old volume.now }
     requires order { AreInOrder lost.now }
     requires run { AllByRecursion (λ q. question_at q.id table.old.questions ≡ Some q) lost.now }
     requires answer_room { vec_len answers.old + length table.old.pended ≤ vec_capacity answers.old }

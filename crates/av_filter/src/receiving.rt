@@ -3,6 +3,7 @@ ghost use Rattle.av_base.specs.declared.limits.TheConstants.{MAX_CHUNK, MAX_LENG
 ghost use Rattle.av_filter.specs.Call.{MeetsAlways, Reacts};
 ghost use Rattle.av_filter.specs.Fit.{Fits};
 ghost use Rattle.av_filter.specs.Receiving.{greeted, reads, receives, receives_at, replies};
+ghost use Rattle.av_filter_table.specs.Answering.{MayJudge};
 ghost use Rattle.av_filter_table.specs.Table.{question_on};
 ghost use Rattle.av_frame.specs.Message.{IsInRange, IsPart};
 ghost use Rattle.av_frame.specs.declared.message.Body.TheVariants.{Read};
@@ -27,7 +28,8 @@ pub(crate) fn receive(
     volume: &Volume,
     message: &Message,
 ) -> Result<Out, AllocError>
-    requires { Fits table.old volume.now }
+    requires fits { Fits table.old volume.now }
+    requires leasts { MayJudge table.old.floor table.old.pended }
     ensures { MeetsAlways table.old volume.now table.new volume.now result (receives table.old volume.now message.now) }
 {
     let port = message.port();
@@ -86,7 +88,6 @@ fn read(
     offset: u64,
     count: u32,
 ) -> Result<Out, AllocError>
-    requires fits { Fits table.now volume.now }
     requires asked { IsInRange (Read id offset count) }
     ensures { IfOk result
         (λ out. Reacts out table.now volume.now
@@ -126,7 +127,8 @@ fn reply(
     id: MessageId,
     outcome: Outcome,
 ) -> Result<Out, AllocError>
-    requires { Fits table.old volume.now }
+    requires fits { Fits table.old volume.now }
+    requires leasts { MayJudge table.old.floor table.old.pended }
     ensures { MeetsAlways table.old volume.now table.new volume.now result
         (replies table.old volume.now outcome (question_on port id table.old.questions)) }
 {

@@ -1,6 +1,5 @@
 ghost use Rattle.std.specs.Prelude.{◌≡◌, ◌<◌, true, None, IfOk, IfSome, OnErr, OnOk, OnSome, is_some, length};
-ghost use Rattle.std.specs.List.{AllByRecursion};
-ghost use Rattle.av_filter.specs.Fit.{AreInOrder, IsGiven, IsThere};
+ghost use Rattle.av_filter.specs.Fit.{IsThere};
 ghost use Rattle.av_filter.specs.Ready.{IsRunning};
 ghost use Rattle.av_filter_table.specs.Answering.{present_bytes, present_generation};
 ghost use Rattle.av_filter_table.specs.Asking.{asks};
@@ -18,8 +17,6 @@ use std::alloc::AllocError;
 
 // The question of an id, if it runs.
 pub(crate) fn running_at(table: &FilterTable, id: MessageId) -> Option<Question>
-    requires given { AllByRecursion (IsGiven table.now.boot table.now.sequence) table.now.questions }
-    requires order { AreInOrder table.now.questions }
     ensures found { result ≡ question_at id table.now.questions }
     ensures runs { IfSome result (λ q. IsRunning table.now q) }
 {
@@ -29,11 +26,10 @@ pub(crate) fn running_at(table: &FilterTable, id: MessageId) -> Option<Question>
 
 // The question of an id, if it runs on this port.
 pub(crate) fn running_on(table: &FilterTable, port: Port, id: MessageId) -> Option<Question>
-    requires given { AllByRecursion (IsGiven table.now.boot table.now.sequence) table.now.questions }
-    requires order { AreInOrder table.now.questions }
     ensures found { result ≡ question_on port id table.now.questions }
     ensures runs { IfSome result (λ q. IsRunning table.now q) }
 {
+    let _in_order = table.boot();
     let question = running_at(table, id)?;
     if question.port != port {
         return None;
@@ -43,8 +39,6 @@ pub(crate) fn running_on(table: &FilterTable, port: Port, id: MessageId) -> Opti
 
 // The question that runs of a stream.
 pub(crate) fn running_of(table: &FilterTable, stream: StreamId) -> Option<Question>
-    requires given { AllByRecursion (IsGiven table.now.boot table.now.sequence) table.now.questions }
-    requires order { AreInOrder table.now.questions }
     ensures found { result ≡ question_of stream table.now.questions }
     ensures runs { IfSome result (λ q. IsRunning table.now q) }
     ensures stream { IfSome result (λ q. q.stream ≡ stream) }

@@ -1,6 +1,5 @@
 ghost use Rattle.av_filter.specs.Call.{MeetsAlways};
 ghost use Rattle.av_filter.specs.Conduct.{times_out};
-ghost use Rattle.av_filter.specs.Fit.{Fits};
 ghost use Rattle.av_filter_table.specs.FilterTable.{id_of};
 ghost use Rattle.av_filter_table.specs.Table.{question_at};
 
@@ -22,7 +21,6 @@ pub(crate) fn time_out(
     volume: &Volume,
     seq: u64,
 ) -> Result<Out, AllocError>
-    requires { Fits table.old volume.now }
     ensures { MeetsAlways table.old volume.now table.new volume.now result
         (times_out table.old volume.now (question_at (id_of table.old.boot seq) table.old.questions)) }
 {

@@ -36,6 +36,7 @@ forgot boot sequence q p k k' stream consistent unasked gone = record {
   consistent = record {
     chained = consistent.chained;
     numbered = consistent.numbered;
+    counted = consistent.counted;
     asked = consistent.asked;
     unasked = consistent.unasked;
     scanned = λ m. if_some (λ y. at k' y.0 ≡ Some (record { key = y.1.1; state = Scanning (id_of boot m); held = 1 })) (at (essences q) m) (λ y at_m.

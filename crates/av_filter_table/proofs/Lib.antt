@@ -6,6 +6,7 @@ pub mod CountLemmas
 pub mod DetachLemmas
 pub mod EndingLemmas
 pub mod MovingLemmas
+pub mod OrderlyLemmas
 pub mod PlainLemmas
 pub mod PortLemmas
 pub mod RoomLemmas

@@ -108,6 +108,7 @@ pub rows-kept : (boot sequence : ℕ) (q q' : Questions) (p p' : Opens) (k : Lis
 rows-kept boot sequence q q' p p' k consistent chained numbered unasked same = record {
   chained = chained;
   numbered = numbered;
+  counted = subst (AllByRecursion (λ n. 1 ≤ n)) (sym (keys-essences q q' same)) consistent.counted;
   asked = subst (AllByRecursion (λ n. n ≤ sequence)) (sym (keys-essences q q' same)) consistent.asked;
   unasked = unasked;
   scanned = subst (λ es. AreScanned boot es k) (sym same) consistent.scanned;
@@ -248,6 +249,7 @@ gone_consistent boot sequence n q q' p k k' x key o out consistent found gone pu
         ]);
       };
       numbered = consistent.numbered;
+      counted = subst (λ m. AllByRecursion (λ j. 1 ≤ j) (keys_of m)) (sym gone.whole) (all-without (λ j. 1 ≤ j) q n consistent.counted);
       asked = subst (λ m. AllByRecursion (λ j. j ≤ sequence) (keys_of m)) (sym gone.whole) (all-without (λ j. j ≤ sequence) q n consistent.asked);
       unasked = consistent.unasked;
       free = λ s none. elim (cases_eq s x.stream) [
@@ -458,6 +460,8 @@ asks boot sequence q q' p k k' port stream generation key consistent up_k unaske
           ]);
         };
         numbered = consistent.numbered;
+        counted = subst (AllByRecursion (λ j. 1 ≤ j)) (sym (ap keys_of is_end ∙ keys-end q (sequence + 1) (asked_about stream generation port, key)))
+            (all-end (λ j. 1 ≤ j) (keys_of q) (sequence + 1) consistent.counted (omega arith));
         asked = subst (λ m. AllByRecursion (λ j. j ≤ sequence + 1) m) (sym (ap keys_of is_end ∙ keys-end q (sequence + 1) (asked_about stream generation port, key)))
             (all-end (λ j. j ≤ sequence + 1) (keys_of q) (sequence + 1) (all-more (λ j. j ≤ sequence) (λ j. j ≤ sequence + 1) (keys_of q) (λ j low. omega arith) consistent.asked) (omega arith));
         unasked = λ n above. consistent.unasked n (omega arith);
@@ -582,6 +586,7 @@ sets boot sequence q p k k1 k' stream key state consistent up unasked first seco
       consistent = record {
         chained = consistent.chained;
         numbered = consistent.numbered;
+        counted = consistent.counted;
         asked = consistent.asked;
         unasked = consistent.unasked;
         scanned = λ m. if_some (λ y. at k' y.0 ≡ Some (record { key = y.1.1; state = Scanning (id_of boot m); held = 1 })) (at (essences q) m) (λ y at_m.

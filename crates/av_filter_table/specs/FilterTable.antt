@@ -54,11 +54,12 @@ AreScanned boot es k =
 abbrev pub IsUnasked : ℕ → List (ℕ × Essence) → Type 0
 IsUnasked s es = (n : ℕ) → IfSome (at es n) (λ y. y.0 ≢ s)
 
--- what holds of the rows between calls: chains are chains, each open stands at its number, no question is above the last one
--- given and no open waits for such a one, each question holds its stream's context, and no other reference is out
+-- what holds of the rows between calls: chains are chains, each open stands at its number, no question is below 1 or above the
+-- last one given and no open waits for one above that, each question holds its stream's context, and no other reference is out
 pub record IsConsistent (boot sequence : ℕ) (q : Questions) (p : Opens) (k : List (ℕ × Known)) : Type 0 where
   pub chained : AreChained q p
   pub numbered : AreNumbered p
+  pub counted : AllByRecursion (λ n. 1 ≤ n) (keys_of q)
   pub asked : AllByRecursion (λ n. n ≤ sequence) (keys_of q)
   pub unasked : (n : ℕ) → sequence < n → of n (plains p) ≡ []
   pub scanned : AreScanned boot (essences q) k

@@ -3,6 +3,7 @@ pub mod Asking
 pub mod Chains
 pub mod FilterTable
 pub mod Moving
+pub mod Orderly
 pub mod Ports
 pub mod StreamContexts
 pub mod Table

@@ -237,6 +237,7 @@ impl Locked {
             return Err(Refusal::NoMemory);
         }
         events_keep_fit();
+        let _coherent = self.filter.question_count();
         let Some(out) = happen(&mut self.filter, &mut self.volume, alloc, &event) else {
             return Err(Refusal::NoMemory);
         };

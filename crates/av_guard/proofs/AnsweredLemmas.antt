@@ -100,10 +100,10 @@ module _ (client tag : ℕ) (t0 : Table) (v0 : Store) (asks : List Ask) (told : 
   asked_counts g c t bytes s none there here h = go (place_of g bytes) refl there
     where
       go : (spot : Spot) → place_of g bytes ≡ spot → IsThere g bytes spot → Counts g (asked g c t bytes spot).state (asked g c t bytes spot).told (one_if client tag c t)
-      go (Held n) place is_there = opened_counts client tag g n c t (number_free g.table g.volume g.waiting s.fits s.paired) here h
+      go (Held n) place is_there = opened_counts client tag g n c t (number_free g.table g.volume g.waiting s.stands.fits s.paired) here h
       go (Unused name) place is_there =
           let k = kept_story t0 v0 asks told sent history g s name is_there.0 bytes (free_name g.key g.volume bytes name place) is_there in
-          let done = opened_counts client tag (kept g name bytes) (g.volume.last + 1) c t (number_free (kept g name bytes).table (kept g name bytes).volume g.waiting k.1.fits k.1.paired) here h in
+          let done = opened_counts client tag (kept g name bytes) (g.volume.last + 1) c t (number_free (kept g name bytes).table (kept g name bytes).volume g.waiting k.1.stands.fits k.1.paired) here h in
           record { sum = done.sum; here = done.here }
       go Missing place is_there = absurd (no_place g bytes none place)
 

@@ -7,7 +7,7 @@ use Rattle.av_filter.proofs.EachLemmas.{each-append, each_weaker}
 use Rattle.av_filter.proofs.FitLemmas.{event_fits}
 use Rattle.av_filter.specs.Audit.{FilterEntry}
 use Rattle.av_filter.specs.Conduct.{FilterEvent, Changes, Opens, filter_refusal, filter_step}
-use Rattle.av_filter.specs.Fit.{Fits}
+use Rattle.av_filter.specs.Fit.{Stands}
 use Rattle.av_filter.specs.Reaction.{Reaction, only}
 use Rattle.av_filter.specs.declared.fault.FilterFault.TheVariants as filter_fault
 use Rattle.av_filter.specs.declared.note.Note.TheVariants.{Quiet}
@@ -44,11 +44,11 @@ use Rattle.av_store.specs.declared.stream.Stream.{Stream}
 
 module _ (t0 : Table) (v0 : Store) (asks : List Ask) (told : List Told) (sent : List Letter) where
   -- what stays of a guard whose history is longer by two events that told nothing
-  two_more : (history : List FilterEntry) (x y : FilterEntry) (g : State) (t : Table) (v : Store) → IsOfGuard x.event → IsOfGuard y.event → Story t0 v0 asks told sent history g → Past t0 v0 t v sent (history ++ x ∷ [] ++ y ∷ []) → Fits t v → AreWritten g.key v.streams → t.pended ≡ g.table.pended
+  two_more : (history : List FilterEntry) (x y : FilterEntry) (g : State) (t : Table) (v : Store) → IsOfGuard x.event → IsOfGuard y.event → Story t0 v0 asks told sent history g → Past t0 v0 t v sent (history ++ x ∷ [] ++ y ∷ []) → Stands t v → AreWritten g.key v.streams → t.pended ≡ g.table.pended
       → Story t0 v0 asks told sent (history ++ x ∷ [] ++ y ∷ []) (record g { table = t; volume = v })
-  two_more history x y g t v own_x own_y s past fits written same = record {
+  two_more history x y g t v own_x own_y s past stands written same = record {
     past = past;
-    fits = fits;
+    stands = stands;
     written = written;
     paired = subst (λ ps. ArePaired ps g.waiting) (sym same) s.paired;
     waiting = each_weaker (λ e. IsAsking asks history e.1) (λ e. IsAsking asks (history ++ x ∷ [] ++ y ∷ []) e.1) (λ e h. asking_more (history ++ x ∷ []) y asks e.1 (asking_more history x asks e.1 h)) g.waiting s.waiting;
@@ -80,8 +80,8 @@ module _ (t0 : Table) (v0 : Store) (asks : List Ask) (told : List Told) (sent : 
         subst (λ ms. Past t0 v0 g.table made.volume ms (history ++ x ∷ [])) (append-nil sent)
         (subst (λ (r : Reaction). Past t0 v0 r.table r.volume (sent ++ r.messages) (history ++ x ∷ [])) is (past_more t0 v0 g.table g.volume sent history first s.past (creation_taken g.table g.volume made.volume name made.id made.ok)))
 
-    fits_first : Fits g.table made.volume
-    fits_first = creation_fits g.table g.volume made.volume name made.id s.fits made.ok
+    stands_first : Stands g.table made.volume
+    stands_first = record { coherent = s.stands.coherent; fits = creation_fits g.table g.volume made.volume name made.id s.stands.fits made.ok }
 
     -- a content comes to be kept
     pub kept_story : (c : List ℕ) → IsNameOf g.key c name → IsThere g c (Unused name) → (h : List FilterEntry) × Story t0 v0 asks told sent h (kept g name c)
@@ -93,16 +93,16 @@ module _ (t0 : Table) (v0 : Store) (asks : List Ask) (told : List Told) (sent : 
         let number : made.id ≡ n = (created_as g.volume made.volume name made.id made.ok).number in
         let whole : filter_step g.table made.volume second ≡ stored g.table g.volume name c = ap (λ (r : Reaction). filter_step r.table r.volume second) (sym is) in
         let kept_so : IsStored g.table g.volume name c (filter_step g.table made.volume (Changes (Write made.id 0 c))).table (filter_step g.table made.volume (Changes (Write made.id 0 c))).volume =
-        stored_by g.table _ g.volume made.volume _ name c made.id s.fits away made.ok (subst (λ k. filter_refusal g.table made.volume (Changes (Write k 0 c)) ≡ None) (sym number) here) refl refl in
+        stored_by g.table _ g.volume made.volume _ name c made.id s.stands.fits away made.ok (subst (λ k. filter_refusal g.table made.volume (Changes (Write k 0 c)) ≡ None) (sym number) here) refl refl in
         let y = entry_of g.table made.volume second in
         let quiet : (filter_step g.table made.volume second).messages ≡ [] = ap (λ (r : Reaction). r.messages) whole ∙ kept_so.messages in
         let past : Past t0 v0 (stored g.table g.volume name c).table (stored g.table g.volume name c).volume sent (history ++ x ∷ [] ++ y ∷ []) =
         subst (λ (r : Reaction). Past t0 v0 r.table r.volume sent (history ++ x ∷ [] ++ y ∷ [])) whole
         (subst (λ ms. Past t0 v0 (filter_step g.table made.volume second).table (filter_step g.table made.volume second).volume ms (history ++ x ∷ [] ++ y ∷ [])) (ap (λ ms. sent ++ ms) quiet ∙ append-nil sent)
         (past_more t0 v0 g.table made.volume sent (history ++ x ∷ []) second past_first here)) in
-        let fits : Fits (stored g.table g.volume name c).table (stored g.table g.volume name c).volume = subst (λ (r : Reaction). Fits r.table r.volume) whole (event_fits g.table made.volume second fits_first here) in
+        let stands : Stands (stored g.table g.volume name c).table (stored g.table g.volume name c).volume = subst (λ (r : Reaction). Stands r.table r.volume) whole (event_fits g.table made.volume second stands_first here) in
         let pended : (stored g.table g.volume name c).table.pended ≡ g.table.pended = sym (ap (λ (t : Table). t.pended) kept_so.table) ∙ kept_so.pended in
-        (history ++ x ∷ [] ++ y ∷ [], two_more history x y g (stored g.table g.volume name c).table (stored g.table g.volume name c).volume tt tt s past fits (written_same _ _ _ there.1 (written_more _ _ _ name c s.written named)) pended)
+        (history ++ x ∷ [] ++ y ∷ [], two_more history x y g (stored g.table g.volume name c).table (stored g.table g.volume name c).volume tt tt s past stands (written_same _ _ _ there.1 (written_more _ _ _ name c s.written named)) pended)
 
     -- and its opens are counted as before
     pub kept_opens : (c : List ℕ) → IsThere g c (Unused name) → (kept g name c).volume.opens ≡ g.volume.opens
@@ -112,7 +112,7 @@ module _ (t0 : Table) (v0 : Store) (asks : List Ask) (told : List Told) (sent : 
         let here : filter_refusal g.table made.volume second ≡ None = subst (λ (r : Reaction). filter_refusal r.table r.volume second ≡ None) is (write_taken g.table g.volume name c made away there.1) in
         let number : made.id ≡ n = (created_as g.volume made.volume name made.id made.ok).number in
         let kept_so : IsStored g.table g.volume name c (filter_step g.table made.volume (Changes (Write made.id 0 c))).table (filter_step g.table made.volume (Changes (Write made.id 0 c))).volume =
-        stored_by g.table _ g.volume made.volume _ name c made.id s.fits away made.ok (subst (λ k. filter_refusal g.table made.volume (Changes (Write k 0 c)) ≡ None) (sym number) here) refl refl in
+        stored_by g.table _ g.volume made.volume _ name c made.id s.stands.fits away made.ok (subst (λ k. filter_refusal g.table made.volume (Changes (Write k 0 c)) ≡ None) (sym number) here) refl refl in
         sym (ap (λ (v : Store). v.opens) kept_so.volume) ∙ kept_so.opens
 
     pub kept_stream : (c : List ℕ) → IsThere g c (Unused name) → stream_at (g.volume.last + 1) (kept g name c).volume.streams ≡ Some (stream_with name c)
@@ -122,13 +122,13 @@ module _ (t0 : Table) (v0 : Store) (asks : List Ask) (told : List Told) (sent : 
     pub spent_story : (h : List FilterEntry) × Story t0 v0 asks told sent h (spent g)
     spent_story =
         let second = Changes (Remove (g.volume.last + 1)) in
-        let done = undone_step g.table g.volume name made s.fits away in
+        let done = undone_step g.table g.volume name made s.stands.fits away in
         let y = entry_of g.table made.volume second in
         let past : Past t0 v0 g.table (record g.volume { last = g.volume.last + 1 }) sent (history ++ x ∷ [] ++ y ∷ []) =
         subst (λ ms. Past t0 v0 g.table (record g.volume { last = g.volume.last + 1 }) ms (history ++ x ∷ [] ++ y ∷ [])) (append-nil sent)
         (subst (λ (r : Reaction). Past t0 v0 r.table r.volume (sent ++ r.messages) (history ++ x ∷ [] ++ y ∷ [])) done.1 (past_more t0 v0 g.table made.volume sent (history ++ x ∷ []) second past_first done.0)) in
-        let fits : Fits g.table (record g.volume { last = g.volume.last + 1 }) = subst (λ (r : Reaction). Fits r.table r.volume) done.1 (event_fits g.table made.volume second fits_first done.0) in
-        (history ++ x ∷ [] ++ y ∷ [], two_more history x y g g.table (record g.volume { last = g.volume.last + 1 }) tt tt s past fits s.written refl)
+        let stands : Stands g.table (record g.volume { last = g.volume.last + 1 }) = subst (λ (r : Reaction). Stands r.table r.volume) done.1 (event_fits g.table made.volume second stands_first done.0) in
+        (history ++ x ∷ [] ++ y ∷ [], two_more history x y g g.table (record g.volume { last = g.volume.last + 1 }) tt tt s past stands s.written refl)
 
   -- memory was refused to an ask
   pub refused_story : (history : List FilterEntry) (old new : State) (c : List ℕ) → Story t0 v0 asks told sent history old → IsRefused old new c → (h : List FilterEntry) × Story t0 v0 asks told sent h new

@@ -10,7 +10,7 @@ use Rattle.av_context.specs.Contexts.{at, with}
 use Rattle.av_filter.proofs.EachLemmas.{each_weaker, find_each}
 use Rattle.av_filter.proofs.OpeningLemmas.{opened_joined}
 use Rattle.av_filter.specs.Conduct.{Opens, filter_step}
-use Rattle.av_filter.specs.Fit.{Fits, IsAsked}
+use Rattle.av_filter.specs.Fit.{IsAsked, IsCoherent}
 use Rattle.av_filter.specs.Once.{times}
 use Rattle.av_filter.specs.Opening.{pends, taken}
 use Rattle.av_filter.specs.Reaction.{Reaction}
@@ -107,15 +107,15 @@ asked_at g Missing bad = absurd cc
 some_wait : (n : ℕ) → nat_lt 0 n ≡ true → 1 ≤ n
 some_wait n is = grind (arith, nat_tests, is)
 
-awaited_question : (t : Table) (v : Store) (m : Waiters) (s : ℕ) → Fits t v → ArePaired t.pended m → is_awaited m s ≡ true → is_some (question_of s t.questions) ≡ true
-awaited_question t v m s fits p awaited =
+awaited_question : (t : Table) (m : Waiters) (s : ℕ) → IsCoherent t → ArePaired t.pended m → is_awaited m s ≡ true → is_some (question_of s t.questions) ≡ true
+awaited_question t m s coherent p awaited =
     let w = waits_for m s (λ n. omega (arith, p.each n, p.once n)) (some_wait _ awaited) in
-    question_there m t.questions w.number s w.waiter t.pended w.found w.stream p.streams fits.asked (omega (arith, p.each w.number, counted_once m w.number w.waiter w.found))
+    question_there m t.questions w.number s w.waiter t.pended w.found w.stream p.streams coherent.asked (omega (arith, p.each w.number, counted_once m w.number w.waiter w.found))
 
-pub asked_question : (g : State) (c : List ℕ) → Fits g.table g.volume → ArePaired g.table.pended g.waiting → class_of g c ≡ Asked → HasQuestion g c
-asked_question g c fits p is =
+pub asked_question : (g : State) (c : List ℕ) → IsCoherent g.table → ArePaired g.table.pended g.waiting → class_of g c ≡ Asked → HasQuestion g c
+asked_question g c coherent p is =
     let a = asked_at g (place_of g c) is in
-    record { stream = a.stream; held = a.held; runs = awaited_question g.table g.volume g.waiting a.stream fits p a.awaited }
+    record { stream = a.stream; held = a.held; runs = awaited_question g.table g.waiting a.stream coherent p a.awaited }
 
 question_some : (o : Option Question) → is_some o ≡ true → (q : Question) × (o ≡ Some q)
 question_some None bad = absurd cc
@@ -141,11 +141,11 @@ joins_told g new s client tag given x q there unjudged runs room gives =
     }
 
 -- an ask of a content that was asked about, and that is not refused, waits
-pub asked_waits : (old new : State) (client tag : ℕ) (c : List ℕ) (given : Given) → Fits old.table old.volume → ArePaired old.table.pended old.waiting → is_busy_with old (class_of old c) ≡ false → Takes old new given client tag c → class_of old c ≡ Asked → GivesNothing given
-asked_waits old new client tag c given fits p free takes is =
+pub asked_waits : (old new : State) (client tag : ℕ) (c : List ℕ) (given : Given) → IsCoherent old.table → ArePaired old.table.pended old.waiting → is_busy_with old (class_of old c) ≡ false → Takes old new given client tag c → class_of old c ≡ Asked → GivesNothing given
+asked_waits old new client tag c given coherent p free takes is =
     let a = asked_at old (place_of old c) is in
     let x = stream_there (stream_at a.stream old.volume.streams) c (opens_its_bytes old c a.stream a.held) in
-    let q = question_some (question_of a.stream old.table.questions) (awaited_question old.table old.volume old.waiting a.stream fits p a.awaited) in
+    let q = question_some (question_of a.stream old.table.questions) (awaited_question old.table old.waiting a.stream coherent p a.awaited) in
     let room : has_room old.table ≡ true = turned (has_room old.table) (sym (ap (is_busy_with old) is) ∙ free) in
     joins_told old new a.stream client tag given x.0 q.0 x.1 (verdict_none_there (current (context_of old.table.contexts a.stream) old.table.floor) a.unjudged) q.1 room
     (subst (λ k. Gives given new (asked old client tag c k)) a.held takes.1)

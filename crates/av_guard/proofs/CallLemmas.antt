@@ -81,7 +81,7 @@ module _ (t0 : Table) (v0 : Store) (asks : List Ask) (told : List Told) (sent : 
 
     -- others come or leave
     other : (clients : List ℕ) (last : ℕ) → Story t0 v0 asks told sent history (record old { clients = clients; last = last })
-    other clients last = record { past = s.past; fits = s.fits; written = s.written; paired = s.paired; waiting = s.waiting; founded = s.founded; events = s.events }
+    other clients last = record { past = s.past; stands = s.stands; written = s.written; paired = s.paired; waiting = s.waiting; founded = s.founded; events = s.events }
 
     -- a call that is an event of the filter
     heard : (new : State) (given : Given) (e : FilterEvent) → Story t0 v0 asks (told ++ (happens old e).told) (sent ++ (happens old e).messages) (history ++ entry_of old.table old.volume e ∷ []) (happens old e).state → Gives given new (happens old e)
@@ -161,7 +161,7 @@ run t0 v0 (c ∷ cs) asks told sent history old new s (mid, does, rest) =
 pub first_story : (settings : Settings) → Story (first_table settings) (first_volume settings) [] [] [] [] (begun settings)
 first_story settings = record {
   past = record { legal = tt; leads = refl; sends = refl; keeps = record { streams = (follows.starts 1 (limits_of settings.questions)).streams; last = (follows.starts 1 (limits_of settings.questions)).last } };
-  fits = mounted_fits settings.mode _ (first_volume settings);
+  stands = mounted_fits settings.mode _ (first_volume settings);
   written = tt;
   paired = record { each = λ n. refl; once = λ n. omega arith; streams = tt };
   waiting = tt;

@@ -11,7 +11,7 @@ use Rattle.av_filter.proofs.RowLemmas.{again_row, row_of}
 use Rattle.av_filter.specs.Again.{ends}
 use Rattle.av_filter.specs.Audit.{FilterEntry, IsFilterAudit, sent_down}
 use Rattle.av_filter.specs.Conduct.{FilterEvent, filter_step, loses_all}
-use Rattle.av_filter.specs.Fit.{Fits, RunOnOpen}
+use Rattle.av_filter.specs.Fit.{RunOnOpen, Stands}
 use Rattle.av_filter.specs.Rows
 use Rattle.av_filter.specs.Rows.{AgainRow, OpenRow, Row}
 use Rattle.av_filter.specs.Reaction.{Reaction}
@@ -85,9 +85,9 @@ step_first : (t : Table) (v : Store) (e : FilterEvent) → HasOnePort t → RunO
 step_first t v e alone run is = row_first (row_of t v e) alone run is
 
 -- all of an audit of such events
-pub audit_first : (t : Table) (v : Store) (down : List Letter) (xs : List FilterEntry) → Fits t v → HasOnePort t → RunOnOpen t → IsFilterAudit t v xs → Each (λ x. IsOfGuard x.event) xs → Each IsFirst down → Each IsFirst (sent_down down xs)
-audit_first t v down [] fits alone run legal all first = first
-audit_first t v down (x ∷ xs) fits alone run legal all first =
+pub audit_first : (t : Table) (v : Store) (down : List Letter) (xs : List FilterEntry) → Stands t v → HasOnePort t → RunOnOpen t → IsFilterAudit t v xs → Each (λ x. IsOfGuard x.event) xs → Each IsFirst down → Each IsFirst (sent_down down xs)
+audit_first t v down [] stands alone run legal all first = first
+audit_first t v down (x ∷ xs) stands alone run legal all first =
     let r : Reaction = filter_step t v x.event in
     let more : Each IsFirst x.messages = subst (Each IsFirst) (sym legal.1.messages) (step_first t v x.event alone run all.0) in
-    audit_first r.table r.volume (down ++ x.messages) xs (event_fits t v x.event fits legal.0) (still_alone t v x.event alone all.0) (keeps_ports t v x.event fits run legal.0) legal.2 all.1 (each-append IsFirst down x.messages first more)
+    audit_first r.table r.volume (down ++ x.messages) xs (event_fits t v x.event stands legal.0) (still_alone t v x.event alone all.0) (keeps_ports t v x.event run legal.0) legal.2 all.1 (each-append IsFirst down x.messages first more)

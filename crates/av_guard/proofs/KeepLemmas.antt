@@ -12,7 +12,7 @@ use Rattle.av_base.specs.declared.limits.LimitValues.{LimitValues}
 use Rattle.av_context.specs.Contexts.{set_at}
 use Rattle.av_context.specs.declared.context_state.ContextState.TheVariants.{Modified}
 use Rattle.av_filter.proofs.EachLemmas.{find_each}
-use Rattle.av_filter.proofs.FitLemmas.{accepted, event_fits}
+use Rattle.av_filter.proofs.FitLemmas.{accepted, creation_fits as created_fits}
 use Rattle.av_filter.proofs.ReadyLemmas.{stream_of as stream_of_question}
 use Rattle.av_filter.specs.Changing.{changed_volume, changes, rewritten}
 use Rattle.av_filter.specs.Fit.{IsPresent}
@@ -91,21 +91,14 @@ unfolding filter_refusal change_of
 creation_taken t v w name id ok = ap (λ r. option_map filter_fault.Store (result_err (volume_of r))) ok
 
 pub creation_fits : (t : Table) (v w : Store) (name : List ℕ) (id : ℕ) → Fits t v → create_of v name ≡ Ok (id, w) → Fits t w
-creation_fits t v w name id fits ok = subst (λ (r : Reaction). Fits r.table r.volume) (created_is t v w name id ok) (event_fits t v (Changes (Create name)) fits (creation_taken t v w name id ok))
+creation_fits t v w name id fits ok = subst (λ (r : Reaction). Fits r.table r.volume) (created_is t v w name id ok) (created_fits t v name fits (creation_taken t v w name id ok))
 
 -- a volume whose last number alone is another
 pub spent_fits : (t : Table) (v : Store) (n : ℕ) → Fits t v → Fits t (record v { last = n })
 spent_fits t v n f = record {
   boots = f.boots;
-  rises = f.rises;
-  given = f.given;
-  order = f.order;
-  apart = f.apart;
-  scanned = f.scanned;
   there = f.there;
   present = f.present;
-  asked = f.asked;
-  leasts = f.leasts;
   taken = f.taken;
 }
 

@@ -13,7 +13,7 @@ use Rattle.av_filter.proofs.FitLemmas.{event_fits}
 use Rattle.av_filter.proofs.MapLemmas.{each-without}
 use Rattle.av_filter.specs.Audit.{FilterEntry, answers_given}
 use Rattle.av_filter.specs.Conduct.{FilterEvent, Opens, filter_refusal, filter_step}
-use Rattle.av_filter.specs.Fit.{Fits}
+use Rattle.av_filter.specs.Fit.{Stands}
 use Rattle.av_filter.specs.Once.{once_up_to, times}
 use Rattle.av_filter.specs.Reaction.{Reaction}
 use Rattle.av_filter_table.specs.Table.{Table}
@@ -41,7 +41,7 @@ use Rattle.av_store.specs.Store.{Store}
 -- the asks that were taken, what was told, and what was sent
 pub record Story (t0 : Table) (v0 : Store) (asks : List Ask) (told : List Told) (sent : List Letter) (history : List FilterEntry) (g : State) : Type 0 where
   pub past : Past t0 v0 g.table g.volume sent history
-  pub fits : Fits g.table g.volume
+  pub stands : Stands g.table g.volume
   pub written : AreWritten g.key g.volume.streams
   pub paired : ArePaired g.table.pended g.waiting
   pub waiting : Each (λ e. IsAsking asks history e.1) g.waiting
@@ -52,7 +52,7 @@ pub record Story (t0 : Table) (v0 : Store) (asks : List Ask) (told : List Told) 
 pub later : (t0 : Table) (v0 : Store) (asks more : List Ask) (told : List Told) (sent : List Letter) (history : List FilterEntry) (g : State) → Story t0 v0 asks told sent history g → ((a : Ask) → Among a asks → Among a (asks ++ more)) → Story t0 v0 (asks ++ more) told sent history g
 later t0 v0 asks more told sent history g s among = record {
   past = s.past;
-  fits = s.fits;
+  stands = s.stands;
   written = s.written;
   paired = s.paired;
   waiting = each_weaker (λ e. IsAsking asks history e.1) (λ e. IsAsking (asks ++ more) history e.1) (λ e h. asking_later asks more history e.1 h) g.waiting s.waiting;
@@ -77,7 +77,7 @@ with_each P (e ∷ m) k w all h =
 
 -- an event, of a guard in which these wait as it comes
 module _ (t0 : Table) (v0 : Store) (asks : List Ask) (told : List Told) (sent : List Letter) (history : List FilterEntry) (g : State) (e : FilterEvent)
-    (past : Past t0 v0 g.table g.volume sent history) (fits : Fits g.table g.volume) (written : AreWritten g.key g.volume.streams)
+    (past : Past t0 v0 g.table g.volume sent history) (stands : Stands g.table g.volume) (written : AreWritten g.key g.volume.streams)
     (counts : (n : ℕ) → times n (keys g.waiting) + once_up_to g.volume.opens n ≡ times n (ids g.table.pended) + once_up_to (opens_after g.volume.opens e) n)
     (once : (n : ℕ) → times n (keys g.waiting) ≤ 1)
     (streams : Each (λ p. IsAwaited g.waiting p.held.open_id p.held.stream) g.table.pended)
@@ -109,15 +109,15 @@ module _ (t0 : Table) (v0 : Store) (asks : List Ask) (told : List Told) (sent : 
   pub event_story : Story t0 v0 asks (told ++ (happens g e).told) (sent ++ (happens g e).messages) longer (happens g e).state
   event_story = record {
     past = past_more t0 v0 g.table g.volume sent history e past ok;
-    fits = event_fits g.table g.volume e fits ok;
+    stands = event_fits g.table g.volume e stands ok;
     written = stay;
-    paired = paired g.key g.table g.volume g.waiting e fits written counts once streams comes;
+    paired = paired g.key g.table g.volume g.waiting e stands.fits written counts once streams comes;
     events = each-append (λ x. IsOfGuard x.event) history (x ∷ []) events (own, tt);
     waiting = left_each (λ e. IsAsking asks longer e.1) r.answers g.waiting waits_on;
     founded =
         each-append (IsFounded asks longer) told (happens g e).told (each_weaker (IsFounded asks history) (IsFounded asks longer) (founded_more history x asks) told founded)
         (told_founded g.clients r.table asks longer r.answers g.waiting waits_on once
-        (each_both (IsOf (IsAwaited g.waiting) 2) (λ a. Among a r.answers) (IsMeant longer g.waiting) meant r.answers (stays g.key g.table g.volume g.waiting e fits written counts once streams comes).answers (each_self r.answers)));
+        (each_both (IsOf (IsAwaited g.waiting) 2) (λ a. Among a r.answers) (IsMeant longer g.waiting) meant r.answers (stays g.key g.table g.volume g.waiting e stands.fits written counts once streams comes).answers (each_self r.answers)));
   }
 
 -- an event that submits no open
@@ -125,7 +125,7 @@ pub quiet_story : (t0 : Table) (v0 : Store) (asks : List Ask) (told : List Told)
     → Comes (IsAwaited g.waiting) 2 g.volume e → filter_refusal g.table g.volume e ≡ None → AreWritten g.key (filter_step g.table g.volume e).volume.streams
     → Story t0 v0 asks (told ++ (happens g e).told) (sent ++ (happens g e).messages) (history ++ entry_of g.table g.volume e ∷ []) (happens g e).state
 quiet_story t0 v0 asks told sent history g e s own none comes ok stay =
-    event_story t0 v0 asks told sent history g e s.past s.fits s.written (λ n. omega (arith, s.paired.each n, ap (λ k. once_up_to k n) none)) (λ n. omega (arith, s.paired.each n, s.paired.once n)) s.paired.streams comes s.events own s.waiting s.founded ok stay
+    event_story t0 v0 asks told sent history g e s.past s.stands s.written (λ n. omega (arith, s.paired.each n, ap (λ k. once_up_to k n) none)) (λ n. omega (arith, s.paired.each n, s.paired.once n)) s.paired.streams comes s.events own s.waiting s.founded ok stay
 
 -- an open of a stream that has the content of an ask that was taken
 pub opens_story : (t0 : Table) (v0 : Store) (asks : List Ask) (told : List Told) (sent : List Letter) (history : List FilterEntry) (g : State) (w : Waiter) → Story t0 v0 asks told sent history g → IsAsking asks history w → filter_refusal g.table g.volume (Opens w.stream 0) ≡ None
@@ -134,10 +134,10 @@ opens_story t0 v0 asks told sent history g w s is ok =
     let k = g.volume.opens + 1 in
     let e = Opens w.stream 0 in
     let now : State = record g { waiting = with g.waiting k w } in
-    let away : at g.waiting k ≡ None = number_free g.table g.volume g.waiting s.fits s.paired in
+    let away : at g.waiting k ≡ None = number_free g.table g.volume g.waiting s.stands.fits s.paired in
     let streams : (filter_step g.table g.volume e).volume.streams ≡ g.volume.streams = ap (λ (u : Store). u.streams) (leads_to g.table g.volume e) in (
       history ++ entry_of g.table g.volume e ∷ [],
-      event_story t0 v0 asks told sent history now e s.past s.fits s.written (λ n. omega (arith, key_more g.waiting k w n away, s.paired.each n, one_more g.volume.opens n))
-          (λ n. at_most g.table g.volume g.waiting w n s.fits s.paired) (still_awaited g.table g.volume g.waiting w s.fits s.paired g.table.pended s.fits.taken s.paired.streams) (w, at_new g.waiting k w away, refl) s.events tt
+      event_story t0 v0 asks told sent history now e s.past s.stands s.written (λ n. omega (arith, key_more g.waiting k w n away, s.paired.each n, one_more g.volume.opens n))
+          (λ n. at_most g.table g.volume g.waiting w n s.stands.fits s.paired) (still_awaited g.table g.volume g.waiting w s.stands.fits s.paired g.table.pended s.stands.fits.taken s.paired.streams) (w, at_new g.waiting k w away, refl) s.events tt
           (with_each (λ u. IsAsking asks history u) g.waiting k w s.waiting is) s.founded ok (written_same _ _ _ streams s.written),
     )

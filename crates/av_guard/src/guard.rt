@@ -133,6 +133,7 @@ impl Guard {
         ensures value { result ≡ class_of self.now content.now }
         ensures asked { result ≡ Asked → HasQuestion self.now content.now }
     {
+        let _coherent = self.filter.question_count();
         self.class_at(&find_place(self.key, &self.volume, content))
     }
 
@@ -161,6 +162,7 @@ impl Guard {
         if content.len() > 1_048_576 {
             return refuse(content, Refusal::Fault(AskFault::TooLarge));
         }
+        let _coherent = self.filter.question_count();
         let place = find_place(self.key, &self.volume, content.as_slice());
         if self.is_busy(self.class_at(&place)) {
             return refuse(content, Refusal::Fault(AskFault::Busy));

@@ -75,7 +75,7 @@ fn take_away(volume: &mut Volume, stream: StreamId)
 }
 
 // A stream of this name, which is free, is created.
-#[tactic(auto, using(av_store::proofs::SeenLemmas::next_free, crate::proofs::KeepLemmas::creation_fits))]
+#[tactic(auto, using(av_store::proofs::SeenLemmas::next_free))]
 fn create(
     alloc: Global,
     filter: &Filter,

@@ -13,7 +13,7 @@ use Rattle.av_filter.proofs.FitLemmas.{keeps_fit}
 use Rattle.av_filter.specs.Audit.{IsFilterAudit, Kept, filter_end, sent_down}
 use Rattle.av_filter.specs.Conduct.{FilterEvent, Changes, filter_refusal, filter_step}
 use Rattle.av_filter.specs.Conduct as filter_events
-use Rattle.av_filter.specs.Fit.{Rises}
+use Rattle.av_filter_table.specs.Orderly.{Rises}
 use Rattle.av_filter.specs.Reaction.{Reaction}
 use Rattle.av_filter_table.specs.Table.{mounted}
 use Rattle.av_frame.specs.Message.{Letter}

@@ -17,7 +17,7 @@ use Rattle.av_cache.specs.Cache.{has_key, look, in_front, put, same_key}
 use Rattle.av_cache.specs.declared.entry.Entry.{Entry}
 use Rattle.av_context.specs.declared.context_state.ContextState.{ContextState}
 use Rattle.av_context.specs.declared.context_state.ContextState.TheVariants as context
-use Rattle.av_filter.specs.Fit.{AreInOrder, Rises}
+use Rattle.av_filter_table.specs.Orderly.{AreInOrder, Rises}
 use Rattle.av_filter.specs.Again.{again, ends, scan_message}
 use Rattle.av_filter_table.specs.Asking.{again_cause, again_under, asks, ended, is_lost, moved, next_question, settled}
 use Rattle.av_filter.specs.Changing.{changed_volume}

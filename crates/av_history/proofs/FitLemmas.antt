@@ -11,8 +11,8 @@ use Rattle.av_context.specs.Contexts.{set_at}
 use Rattle.av_context.specs.declared.context_state.ContextState.{ContextState}
 use Rattle.av_context.specs.declared.context_state.ContextState.TheVariants as context
 use Rattle.av_filter.proofs.MapLemmas.{at-set, at-set_other, rises-set}
-use Rattle.av_filter.specs.Fit.{AreApart, Rises}
-pub use Rattle.av_filter.specs.Fit.{IsScanned}
+use Rattle.av_filter_table.specs.Orderly.{AreApart, Rises}
+pub use Rattle.av_filter_table.specs.Orderly.{IsScanned}
 use Rattle.av_filter_table.specs.Asking.{lost_contexts}
 use Rattle.av_filter_table.specs.Answering.{stream_bytes, stream_generation}
 use Rattle.av_filter_table.specs.Table.{Table, context_of, question_of, without_question}

@@ -5,7 +5,7 @@ use Rattle.av_base.proofs.KeyLemmas.{same_port-refl}
 use Rattle.av_service.specs.Work.{WorkState}
 use Rattle.av_sigset.specs.Publication.{Publication, latest_as, published_as}
 use Rattle.av_filter.specs.Conduct.{FilterEvent, Opens, Changes, filter_refusal, filter_step}
-use Rattle.av_filter.specs.Fit.{Fits}
+use Rattle.av_filter.specs.Fit.{Stands}
 use Rattle.av_frame.specs.Message.{Letter}
 use Rattle.av_base.specs.declared.port.Port.TheVariants.{One, Two}
 use Rattle.av_base.specs.declared.port.Port.{Port}
@@ -60,7 +60,7 @@ pub record Lawful (mode : Mode) (p : Past) (w : WorldState) : Type 0 where
   pub keeps : Keeps w.volume (map now p.streams)
   pub opens : Each (OpenFits w.down) w.table.pended
   pub boots : w.table.boot ≡ w.volume.boot
-  pub fits : Fits w.table w.volume
+  pub fits : Stands w.table w.volume
   pub mode_kept : w.table.mode ≡ mode
   pub solid : Each IsSolid p.sets
   pub desks : (port : Port) → DeskFits p w.down (works_of port w.works) (desk_of w port)
@@ -88,7 +88,7 @@ published_before (q ∷ qs) u set fall at =
 -- ---- one event of the filter
 module _ (mode : Mode) (p : Past) (w : WorldState) (f : FilterEvent) (l : Lawful mode p w) (comes : Comes p w.down w.table w.volume f) (ok : filter_refusal w.table w.volume f ≡ None) where
   reacts_well : Good (past_filter p f) w.table.mode w.down (filter_step w.table w.volume f)
-  reacts_well = filter_good p w.table w.volume w.down l.filter l.boots l.opens l.keeps l.fits.order f comes
+  reacts_well = filter_good p w.table w.volume w.down l.filter l.boots l.opens l.keeps l.fits.coherent.orderly.order f comes
 
   -- the answers that an event gives are justified by the past with it
   pub answers_just : Each (IsJustified mode (past_filter p f)) (filter_step w.table w.volume f).answers

@@ -8,7 +8,7 @@ use Rattle.av_base.specs.declared.mode.Mode.{Mode}
 use Rattle.av_frame.specs.declared.message.Body.{Body}
 use Rattle.av_frame.specs.declared.message.Body.TheVariants.{Reply}
 use Rattle.av_frame.specs.declared.outcome.Outcome.TheVariants.{Judged}
-use Rattle.av_filter.specs.Fit.{Fits, RunOnOpen}
+use Rattle.av_filter.specs.Fit.{RunOnOpen, Stands}
 use Rattle.av_frame.specs.Message.{Letter}
 use Rattle.av_base.specs.declared.port.Port.{Port}
 use Rattle.av_sigset.specs.Catalogue.{set_at}
@@ -25,12 +25,12 @@ use Rattle.av_history.specs.declared.report.Report.{Report}
 abbrev pub IsPublishedAs : List NumberedSet → ℕ → Type 0
 IsPublishedAs sets version = (s : NumberedSet) × (set_at sets version ≡ Some s)
 
--- Volume and sets are those that the history tells, the filter's table fits the volume, its streams are in their ranges, and
--- its questions run on connected ports. Each service is on its port; its version is published, and it has one where it is
--- connected; and so is the version of each work that is out.
+-- Volume and sets are those that the history tells. The filter's table is coherent and fits the volume, whose streams are in
+-- their ranges, and its questions run on connected ports. Each service is on its port; its version is published, and it has
+-- one where it is connected; and so is the version of each work that is out.
 pub record IsWhole (w : WorldState) : Type 0 where
   pub told : IsTold w
-  pub fits : Fits w.table w.volume
+  pub stands : Stands w.table w.volume
   pub bounds : AreInBounds w.volume
   pub runs : RunOnOpen w.table
   pub ports : (port : Port) → (desk_of w port).port ≡ port

@@ -54,7 +54,8 @@ use Rattle.av_history.proofs.FitLemmas.{Fits as FilterFits, core, OutcomeFits, a
 use Rattle.av_history.specs.Held.{Asked, asked}
 use Rattle.av_history.specs.Past.{Past, IsVerdictOf}
 use Rattle.av_history.specs.Safety.{Waits, Explains, IsByMode, IsExplained, IsRightFor, Moves, Submission, next_open}
-use Rattle.av_filter.specs.Fit.{AreInOrder, Fits, IsAsked, IsGiven, RunOnOpen}
+use Rattle.av_filter.specs.Fit.{IsAsked, IsCoherent, RunOnOpen}
+use Rattle.av_filter_table.specs.Orderly.{AreInOrder, IsGiven}
 
 -- what the open of each number asked for
 abbrev pub Wanted : Type 0
@@ -365,7 +366,7 @@ question_stream {qs} q o at a waiting =
     ap (λ (x : Question). x.stream) (sym same) ∙ a.stream
 
 -- the other events
-module _ (wanted : Wanted) (p : Past) (t : Table) (v : Store) (down : List Letter) (fits : FilterFits p v.streams (core t) down) (sits : Fits t v) (runs_on : RunOnOpen t) (stand : Stand wanted t.floor t.pended) where
+module _ (wanted : Wanted) (p : Past) (t : Table) (v : Store) (down : List Letter) (fits : FilterFits p v.streams (core t) down) (sits : IsCoherent t) (runs_on : RunOnOpen t) (stand : Stand wanted t.floor t.pended) where
   submitted_so : (o : Pended) → Among o t.pended → wanted o.held.open_id ≡ Some (record { stream = o.held.stream; least = o.held.least })
   submitted_so o a = (among_each (Stands wanted t.floor) t.pended o stand a).0
 
@@ -384,7 +385,7 @@ module _ (wanted : Wanted) (p : Past) (t : Table) (v : Store) (down : List Lette
       let right : IsVerdictOf p q.stream q.generation version r = subst (λ (a : Asked). IsVerdictOf p a.stream a.generation version r) about_it h.right in
       opens_get (IsExplained wanted p t v (Receives (via port (Reply id (Judged version r)))) version) t q.id (λ (o : Pended). judged r q.generation version o.held) (λ o a w.
       let stands : Stands wanted t.floor o = among_each (Stands wanted t.floor) t.pended o stand a in
-      by_verdict o (waits t q.id o a w) refl (question_stream q o (found_on port id t.questions q sits.order at) (among_each (IsAsked t.questions) t.pended o sits.asked a) w) stands.0 (omega (arith, stands.1, up)) r (subst (λ g. IsVerdictOf p q.stream g version r) run.present right))
+      by_verdict o (waits t q.id o a w) refl (question_stream q o (found_on port id t.questions q sits.orderly.order at) (among_each (IsAsked t.questions) t.pended o sits.asked a) w) stands.0 (omega (arith, stands.1, up)) r (subst (λ g. IsVerdictOf p q.stream g version r) run.present right))
     where
       by_verdict : (o : Pended) (w : Waits t q.id o.held.open_id) → w.waiting ≡ o → q.stream ≡ o.held.stream → wanted o.held.open_id ≡ Some (record { stream = o.held.stream; least = o.held.least }) → o.held.least ≤ version → (x : Verdict) → IsVerdictOf p q.stream (generation_of p.streams q.stream) version x
           → IsExplained wanted p t v (Receives (via port (Reply id (Judged version r)))) version (judged x q.generation version o.held)
@@ -430,8 +431,8 @@ module _ (wanted : Wanted) (p : Past) (t : Table) (v : Store) (down : List Lette
   unfolding moves
   moved_fair port other left =
       let qs : List Question = on_port port t.questions in
-      let w = walk port other left [] qs (without t port) refl (nothing_walked (without t port) v) refl refl stand (order-filter (λ q. same_port q.port port) t.questions sits.order)
-      (each-filter (λ (q : Question). q.id.seq ≤ t.sequence) (λ q. same_port q.port port) t.questions (each_weaker (IsGiven t.boot t.sequence) (λ (q : Question). q.id.seq ≤ t.sequence) (λ q h. h.high) t.questions sits.given)) (λ o k among a w. a) in
+      let w = walk port other left [] qs (without t port) refl (nothing_walked (without t port) v) refl refl stand (order-filter (λ q. same_port q.port port) t.questions sits.orderly.order)
+      (each-filter (λ (q : Question). q.id.seq ≤ t.sequence) (λ q. same_port q.port port) t.questions (each_weaker (IsGiven t.boot t.sequence) (λ (q : Question). q.id.seq ≤ t.sequence) (λ q h. h.high) t.questions sits.orderly.given)) (λ o k among a w. a) in
       record {
         stand = subst (λ k. Stand wanted k (again_each (without t port) v qs).table.pended) (sym w.1) w.0;
         explained = order_just (IsExplained wanted p t v (Disconnects port) (again_each (without t port) v qs).table.floor) (again_each (without t port) v qs).answers (subst (λ k. Each (IsExplained wanted p t v (Disconnects port) k) (again_each (without t port) v qs).answers) (sym w.1) w.2);

@@ -20,7 +20,8 @@ use Rattle.av_filter.proofs.EachLemmas.{each_weaker, each-append, each-filter_pa
 use Rattle.av_filter_table.specs.Asking.{ended, settled}
 use Rattle.av_filter_table.specs.declared.pended.Pended.{Pended}
 use Rattle.av_filter_table.specs.declared.question.Question.{Question}
-use Rattle.av_filter.specs.Fit.{AreInOrder, IsAsked}
+use Rattle.av_filter.specs.Fit.{IsAsked}
+use Rattle.av_filter_table.specs.Orderly.{AreInOrder}
 use Rattle.av_filter_table.specs.Answering.{judged as answer_for, present_bytes, present_generation, stream_generation}
 use Rattle.av_filter_table.specs.Table.{Table, on_port, opens_of, other_opens, question_at, question_on, waits_for, without_question}
 use Rattle.av_pend.specs.declared.answer.Answer.{Answer}
@@ -176,7 +177,7 @@ module _ (mode : Mode) (w : WorldState) (st : Idle mode w) (q : Question) (qs : 
   home = desk_of w q.port
 
   order : AreInOrder (q ∷ qs)
-  order = subst AreInOrder are st.steady.sound.lawful.fits.order
+  order = subst AreInOrder are st.steady.sound.lawful.fits.coherent.orderly.order
 
   found_at : question_at q.id w.table.questions ≡ Some q
   found_at = subst (λ xs. question_at q.id xs ≡ Some q) (sym are) (first_found q qs)
@@ -278,7 +279,7 @@ module _ (mode : Mode) (w : WorldState) (st : Idle mode w) (q : Question) (qs : 
   own_gets : (more : List Given) → Each (GetsVerdict w (given ++ more)) (opens_of q.id w.table.pended)
   own_gets more =
       let opens : List Pended = opens_of q.id w.table.pended in
-      let streams : Each (λ (p : Pended). q.stream ≡ p.held.stream) opens = each-filter_passed (IsAsked w.table.questions) (λ (p : Pended). q.stream ≡ p.held.stream) (waits_for q.id) of_stream w.table.pended st.steady.sound.lawful.fits.asked in
+      let streams : Each (λ (p : Pended). q.stream ≡ p.held.stream) opens = each-filter_passed (IsAsked w.table.questions) (λ (p : Pended). q.stream ≡ p.held.stream) (waits_for q.id) of_stream w.table.pended st.steady.sound.lawful.fits.coherent.asked in
       let all : Each (λ (p : Pended). Among (given_at one.event (answer p)) (map (λ (p : Pended). given_at one.event (answer p)) opens)) opens = each_among (λ (p : Pended). given_at one.event (answer p)) opens in
       let same : map (given_at one.event) (map answer opens) ≡ map (λ (p : Pended). given_at one.event (answer p)) opens = map_same (given_at one.event) answer (λ (p : Pended). given_at one.event (answer p)) (λ p. refl) opens in
       each_both (λ (p : Pended). q.stream ≡ p.held.stream) (λ (p : Pended). Among (given_at one.event (answer p)) given) (GetsVerdict w (given ++ more)) (gets more) opens streams
@@ -326,7 +327,7 @@ module _ (mode : Mode) (w : WorldState) (st : Idle mode w) (q : Question) (qs : 
 pub all_settled : (mode : Mode) (qs : List Question) (w : WorldState) → Idle mode w → w.table.questions ≡ qs → HaveLeases w qs → AllSettled w (onward (settling_all qs w) w) (settling_all qs w)
 unfolding settling_all onward
 all_settled mode [] w st are leases =
-    let none : w.table.pended ≡ [] = none_waits w.table.questions w.table.pended are st.steady.sound.lawful.fits.asked in
+    let none : w.table.pended ≡ [] = none_waits w.table.questions w.table.pended are st.steady.sound.lawful.fits.coherent.asked in
     record {
       happened = refl;
       carries = tt;

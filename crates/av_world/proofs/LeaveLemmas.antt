@@ -8,7 +8,7 @@ use Rattle.av_base.specs.MessageId.{same_id}
 use Rattle.av_base.specs.Port.{same_port}
 use Rattle.av_base.specs.declared.port.Port.{Port}
 use Rattle.av_filter.specs.Again.{again, ends}
-use Rattle.av_filter.specs.Fit.{AreInOrder}
+use Rattle.av_filter_table.specs.Orderly.{AreInOrder}
 use Rattle.av_filter.proofs.EachLemmas.{each-filter}
 use Rattle.av_filter.proofs.FitLemmas.{Runs, all_found, all_run}
 use Rattle.av_filter.proofs.RowLemmas.{again_row, row_of}

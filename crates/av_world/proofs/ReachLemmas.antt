@@ -9,7 +9,7 @@ use Rattle.av_base.specs.declared.mode.Mode.{Mode}
 use Rattle.av_base.specs.declared.port.Port.{Port}
 use Rattle.av_base.specs.declared.port.Port.TheVariants.{One, Two}
 use Rattle.av_filter.proofs.FitLemmas.{keeps_fit}
-use Rattle.av_filter.specs.Fit.{Fits}
+use Rattle.av_filter.specs.Fit.{Stands}
 use Rattle.av_filter_table.specs.Ports.{least_port, none_open, without_port}
 use Rattle.av_history.proofs.SceneLemmas.{heard_desks}
 use Rattle.av_filter.proofs.EachLemmas.{each_weaker}
@@ -137,7 +137,7 @@ record IsUntouched (w : WorldState) : Type 0 where
 
 -- all sides have the world's limits, both services have the latest version, and nothing begins before one is published
 record Standing (limits : LimitValues) (w : WorldState) : Type 0 where
-  pub fits : Fits w.table w.volume
+  pub fits : Stands w.table w.volume
   pub table : w.table.limits ≡ limits
   pub desk : (port : Port) → (desk_of w port).limits ≡ limits
   pub version : (port : Port) → (desk_of w port).version ≡ latest w.sets
@@ -185,7 +185,7 @@ standing_keeps : (limits : LimitValues) (w : WorldState) → Standing limits w �
 standing_keeps limits w s = record {
   filter = λ e f is ok. record {
     fits = keeps_fit.events w.table w.volume f s.fits ok;
-    table = (filter_leaves w.table w.volume f s.fits.order).0 ∙ s.table;
+    table = (filter_leaves w.table w.volume f s.fits.coherent.orderly.order).0 ∙ s.table;
     desk = s.desk;
     version = s.version;
     before = λ none.
@@ -424,7 +424,7 @@ module _ (mode : Mode) (limits : LimitValues) (w : WorldState) (steady : Steady 
           happens = all.happened ∙ (ap (λ h. reverse (settling_all (q ∷ qs) anew) ++ h) same_history ∙ sym (back_onto reconnecting (settling_all (q ∷ qs) anew) w.history));
           carries = (tt, (tt, (tt, (tt, all.carries))));
           short = omega (arith, all.short, ap length anew_questions, ap (all_chunks anew) anew_questions, anew_chunks, ap length are, ap (all_chunks w) are);
-          waits = none_waits _ _ all.runs (steady_onward mode (settling_all (q ∷ qs) anew) anew idle_anew.steady).sound.lawful.fits.asked;
+          waits = none_waits _ _ all.runs (steady_onward mode (settling_all (q ∷ qs) anew) anew idle_anew.steady).sound.lawful.fits.coherent.asked;
           volume = all.volume ∙ same_volume;
           sets = all.same_sets ∙ same_sets;
           answers = all.given;
@@ -453,7 +453,7 @@ module _ (mode : Mode) (limits : LimitValues) (w : WorldState) (steady : Steady 
       })
 
   by_questions : CanFinish w → (p : Pended) (ps : List Pended) → w.table.pended ≡ p ∷ ps → (qs : List Question) → w.table.questions ≡ qs → Finishes w
-  by_questions can p ps pend [] are = finishes_none (none_waits w.table.questions w.table.pended are steady.sound.lawful.fits.asked)
+  by_questions can p ps pend [] are = finishes_none (none_waits w.table.questions w.table.pended are steady.sound.lawful.fits.coherent.asked)
   by_questions can p ps pend (q ∷ qs) are = finishes_some can p ps pend q qs are
 
   by_opens : (IsWaiting w → CanFinish w) → (ps : List Pended) → w.table.pended ≡ ps → Finishes w

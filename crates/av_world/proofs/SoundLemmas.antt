@@ -7,7 +7,7 @@ use Rattle.av_service.specs.Work.{WorkState}
 use Rattle.av_sigset.specs.Publication.{Publication, latest_as, published_as, publication_of}
 use Rattle.av_store.specs.Files as change
 use Rattle.av_filter.specs.Conduct.{FilterEvent, filter_refusal, filter_step}
-use Rattle.av_filter.specs.Fit.{Rises}
+use Rattle.av_filter_table.specs.Orderly.{Rises}
 use Rattle.av_frame.specs.Message.{Letter}
 use Rattle.av_base.specs.declared.port.Port.TheVariants.{One, Two}
 use Rattle.av_base.specs.declared.port.Port.{Port}

@@ -8,7 +8,7 @@ use Rattle.av_base.specs.Port.{same_port}
 use Rattle.av_base.specs.declared.port.Port.{Port}
 use Rattle.av_base.specs.declared.port.Port.TheVariants.{One, Two}
 use Rattle.av_filter.proofs.FitLemmas.{keeps_fit}
-use Rattle.av_filter.specs.Fit.{Fits}
+use Rattle.av_filter.specs.Fit.{Stands}
 use Rattle.av_filter_table.specs.Table.{on_port}
 use Rattle.av_service.specs.Response.{Response}
 use Rattle.av_world.proofs.FinishLemmas.{HaveLeases}
@@ -36,7 +36,7 @@ use Rattle.av_history.specs.World.{WorldState, after, at_port, back_at, desk_of,
 record Spent (w : WorldState) : Type 0 where
   leases : (port : Port) → (desk_of w port).last_lease ≤ length w.history
   questions : length w.table.questions ≤ length w.history
-  fits : Fits w.table w.volume
+  fits : Stands w.table w.volume
   bounds : AreInBounds w.volume
 
 -- one event more, at which a service lends under one lease more at most
@@ -45,7 +45,7 @@ heard_few w n before at r now = heard_desks (λ port d. d.last_lease ≤ n + 1) 
 
 spent_keeps : (w : WorldState) → Spent w → Preserves (λ e. Spent) w
 spent_keeps w s = record {
-  filter = λ e f is ok. record { leases = λ port. omega (arith, s.leases port); questions = omega (arith, s.questions, (filter_leaves w.table w.volume f s.fits.order).1); fits = keeps_fit.events w.table w.volume f s.fits ok; bounds = keeps_bounds.events w.table w.volume f s.bounds ok };
+  filter = λ e f is ok. record { leases = λ port. omega (arith, s.leases port); questions = omega (arith, s.questions, (filter_leaves w.table w.volume f s.fits.coherent.orderly.order).1); fits = keeps_fit.events w.table w.volume f s.fits ok; bounds = keeps_bounds.events w.table w.volume f s.bounds ok };
   service = λ e port x is. record {
     leases = λ at. omega (arith, heard_few w (length w.history) s.leases port (service_step (desk_of w port) x) (omega (arith, s.leases port, (service_leaves (desk_of w port) x).1)) at);
     questions = omega (arith, s.questions);

@@ -11,7 +11,7 @@ use Rattle.av_filter.proofs.BoundLemmas.{keeps_bounds, leads_to, volume_after}
 use Rattle.av_filter.proofs.EachLemmas.{each_weaker}
 use Rattle.av_filter.proofs.FitLemmas.{accepted, event_fits, mounted_fits}
 use Rattle.av_filter.proofs.PortLemmas.{keeps_ports}
-use Rattle.av_filter.specs.Fit.{Fits, RunOnOpen}
+use Rattle.av_filter.specs.Fit.{RunOnOpen, Stands}
 use Rattle.av_filter.specs.Conduct.{FilterEvent, Opens, Changes, Restarts, filter_refusal, filter_step}
 use Rattle.av_filter_table.specs.Table.{Table}
 use Rattle.av_service.specs.Audit.{IsNew}
@@ -65,9 +65,9 @@ filter_whole w h e f is ok =
             (subst (λ v. Keeps v (map now (past_filter p f).streams)) (sym (leads_to w.table w.volume f)) (kept_after p w.table w.volume f h.told.volume ok));
         sets = h.told.sets ∙ sym (ap (λ (q : Past). q.sets) tells ∙ sets_same p f);
       };
-      fits = event_fits w.table w.volume f h.fits ok;
+      stands = event_fits w.table w.volume f h.stands ok;
       bounds = keeps_bounds.events w.table w.volume f h.bounds ok;
-      runs = keeps_ports w.table w.volume f h.fits h.runs ok;
+      runs = keeps_ports w.table w.volume f h.runs ok;
       ports = h.ports;
       present = h.present;
       connected = h.connected;
@@ -123,7 +123,7 @@ by_port sets w s Two = s.second
 whole_by : (w next : WorldState) → IsWhole w → next.table ≡ w.table → next.volume ≡ w.volume → IsTold next → AllServe next.sets next → IsWhole next
 whole_by w next h table volume told s = record {
   told = told;
-  fits = subst (λ t. Fits t next.volume) (sym table) (subst (Fits w.table) (sym volume) h.fits);
+  stands = subst (λ t. Stands t next.volume) (sym table) (subst (Stands w.table) (sym volume) h.stands);
   bounds = subst AreInBounds (sym volume) h.bounds;
   runs = subst RunOnOpen (sym table) h.runs;
   ports = λ port. (by_port next.sets next s port).place;
@@ -282,7 +282,7 @@ whole_start number mode limits ok =
     let b = keeps_bounds.starts number limits ok in
     record {
       told = record { volume = record { streams = k.streams; last = k.last }; sets = refl };
-      fits = mounted_fits mode limits (start number mode limits).volume;
+      stands = mounted_fits mode limits (start number mode limits).volume;
       bounds = record { limits = b.limits; streams = b.streams };
       runs = tt;
       ports = starts_at number mode limits;

@@ -2,6 +2,7 @@ ghost use Rattle.std.specs.Prelude.{◌≡◌, length, ◌≤◌};
 ghost use Rattle.av_base.specs.Limits.{AreInRange};
 ghost use Rattle.av_filter_table.specs.FilterTable.{IsRising, open_numbers};
 ghost use Rattle.av_numbered.specs.Numbered.{IsAscending};
+ghost use Rattle.av_filter_table.specs.Orderly.{IsOrderly};
 ghost use Rattle.av_filter_table.specs.Table.{mounted, raised};
 
 use super::FilterTable;
@@ -30,7 +31,10 @@ impl FilterTable {
     pub fn boot(&self) -> u64
         ensures value { result ≡ self.now.boot }
         ensures mounted { 1 ≤ self.now.boot }
+        ensures orderly { IsOrderly self.now }
     {
+        let _numbers_ascend = self.questions.len();
+        let _streams_ascend = self.contexts.len();
         self.boot
     }
 

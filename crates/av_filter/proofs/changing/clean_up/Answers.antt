@@ -1,6 +1,5 @@
 use Rattle.std.proofs.Common.{◌≡◌, ℕ, Bool, true, false, length, ◌∷◌, [], Option, None, Some, if◌then◌else◌, is_some, refl, rules, sym, ap, ◌∙◌, subst}
 use Rattle.av_base.specs.declared.port.Port.{Port}
-use Rattle.av_filter.proofs.ReadyLemmas.{unasked}
 use Rattle.av_filter.specs.Again.{scan_message}
 use Rattle.av_filter.specs.Call.{Reacts}
 use Rattle.av_filter.specs.Changing.{cleaned, cleaned_at}
@@ -35,15 +34,6 @@ module _ (t : Table) (v : Store) (s : ℕ) where
   asked true None p e = absurd (cc (e))
   asked true (Some q) p e = let same : q ≡ p = cc (e) in ap (λ k. sends (asks t v k s) v (scan_message t v k s)) same
   asked false o p e = absurd (cc (e))
-
-written : (b : Bool) (o : Option Port) (p : Port) → (if b then o else None) ≡ Some p → b ≡ true
-written true o p e = refl
-written false o p e = absurd (cc (e))
-
-pub ask_scan-requires-clause-none : goal.ask_scan-requires-clause-none
-ask_scan-requires-clause-none c =
-    let t = c.args.table.now in
-    unasked t c.args.volume.now c.args.stream c.requires (written (is_modified (context_of t.contexts c.args.stream)) (asking t) c.in-Some.port (sym c.port_to_ask.ensures.port ∙ c.in-Some.is))
 
 pub returns-in_default : goal.returns-in_default
 returns-in_default c =

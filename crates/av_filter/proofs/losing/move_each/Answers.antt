@@ -2,12 +2,13 @@ use Rattle.std.proofs.Common.{◌≡◌, ◌+◌, ◌<◌, ◌^◌, ◌++◌, �
 use Rattle.std.proofs.lemmas.List.{append-nil, drop_all, drop_more, length-append}
 use Rattle.std.specs.List.{AllByRecursion as Each}
 use Rattle.av_base.specs.MessageId.{same_id}
-use Rattle.av_filter.proofs.LosingLemmas.{Runs, answers_behind, messages_behind, next_fits, next_run, none_behind, table_behind}
+use Rattle.av_filter.proofs.LosingLemmas.{Runs, answers_behind, messages_behind, next_stands, next_run, none_behind, table_behind}
 use Rattle.av_filter.proofs.ReadyLemmas.{running, stream_there}
 use Rattle.av_filter.proofs.RoomLemmas.{again_gives, passed}
 use Rattle.av_filter.specs.Again.{again}
 use Rattle.av_filter.specs.Conduct.{again_each}
-use Rattle.av_filter.specs.Fit.{AreInOrder, Fits}
+use Rattle.av_filter.specs.Fit.{Stands}
+use Rattle.av_filter_table.specs.Orderly.{AreInOrder}
 use Rattle.av_filter_table.specs.Ports.{least_port}
 use Rattle.av_filter_table.specs.Table.{Table, waits_for}
 use Rattle.av_filter_table.specs.declared.question.Question.{Question}
@@ -17,7 +18,7 @@ use Rattle.av_filter.proofs.losing.move_each.Goals as goal
 
 pub lost-init : goal.lost-init
 lost-init c = record {
-  fits = c.requires.fits;
+  stands = c.requires.stands;
   order = c.requires.order;
   run = c.requires.run;
   answer_room = c.requires.answer_room;
@@ -36,11 +37,11 @@ ask_or_close-requires-clause-runs c =
     let split : drop c.lost.question-index c.args.lost.now ≡ q ∷ drop (c.lost.question-index + 1) c.args.lost.now =
     drop_more c.args.lost.now c.lost.question-index q c.lost-test.true ∙ ap (λ (k : Question). k ∷ drop (c.lost.question-index + 1) c.args.lost.now) (sym c.question-item.is) in
     let run = subst (Each (Runs t)) split c.lost.invariant.run in
-    running t (λ k. same_id k.id q.id) (Some q) c.lost.invariant.fits.given c.lost.invariant.fits.order c.boot-boot.ensures.mounted small last (sym run.0)
+    running t (λ k. same_id k.id q.id) (Some q) c.boot-boot.ensures.orderly c.boot-boot.ensures.mounted small last (sym run.0)
 
 pub ask_or_close-requires-clause-there : goal.ask_or_close-requires-clause-there
 ask_or_close-requires-clause-there c =
-    stream_there c.lost.table c.args.volume.now c.question-item.result c.lost.invariant.fits (ask_or_close-requires-clause-runs c)
+    stream_there c.lost.table c.args.volume.now c.question-item.result c.lost.invariant.stands.fits (ask_or_close-requires-clause-runs c)
 
 pub ask_or_close-requires-clause-answer_room : goal.ask_or_close-requires-clause-answer_room
 ask_or_close-requires-clause-answer_room c =
@@ -84,7 +85,7 @@ lost-preserved c =
     let answer_capacity = c.ask_or_close.ensures.answer_capacity in
     let message_capacity = c.ask_or_close.ensures.message_capacity in
     record {
-      fits = subst (λ u. Fits u v) (sym is) (next_fits t v q before.fits run.0);
+      stands = subst (λ u. Stands u v) (sym is) (next_stands t v q before.stands run.0);
       order = order.1;
       run = subst (λ u. Each (Runs u) rest) (sym is) (next_run t v q rest order.0 run.1);
       answer_room = omega (arith, waiting, counted, given, answer_room, answers_old, answers_new, answer_capacity);

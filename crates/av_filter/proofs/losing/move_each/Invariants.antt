@@ -2,14 +2,15 @@ use Rattle.std.proofs.Common.{◌≡◌, ◌≤◌, ◌+◌, ◌++◌, Some, dro
 use Rattle.std.specs.List.{AllByRecursion}
 use Rattle.std.specs.Vec.{vec_capacity}
 use Rattle.av_filter.specs.Conduct.{again_each}
-use Rattle.av_filter.specs.Fit.{AreInOrder, Fits}
+use Rattle.av_filter.specs.Fit.{Stands}
+use Rattle.av_filter_table.specs.Orderly.{AreInOrder}
 use Rattle.av_filter_table.specs.Table.{question_at}
 use Rattle.av_filter.proofs.losing.move_each.Given as goal
 
 -- the questions that are left still run, there is room for what they give out, and what was given out with what they give is all
 abbrev pub invariant-lost : goal.invariant-lost
 invariant-lost l = record {
-  fits : Fits l.table l.volume;
+  stands : Stands l.table l.volume;
   order : AreInOrder (drop l.question-index l.lost);
   run : AllByRecursion (λ q. question_at q.id l.table.questions ≡ Some q) (drop l.question-index l.lost);
   answer_room : vec_len l.answers + length l.table.pended ≤ vec_capacity l.answers;

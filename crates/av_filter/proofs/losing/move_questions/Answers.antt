@@ -5,7 +5,7 @@ use Rattle.av_filter.proofs.LosingLemmas.{Runs, each_quiet, moved_where, port_or
 use Rattle.av_filter.proofs.OrderLemmas.{sorted_answers}
 use Rattle.av_filter.specs.Call.{Reacts}
 use Rattle.av_filter.specs.Conduct.{again_each, moves}
-use Rattle.av_filter.specs.Fit.{AreInOrder}
+use Rattle.av_filter_table.specs.Orderly.{AreInOrder}
 use Rattle.av_filter.specs.Reaction.{Reaction}
 use Rattle.av_filter_table.specs.Ports.{without_port}
 use Rattle.av_filter_table.specs.Table.{Table, on_port}
@@ -13,14 +13,14 @@ use Rattle.av_filter.proofs.losing.move_questions.Goals as goal
 
 pub move_each-requires-clause-order : goal.move_each-requires-clause-order
 move_each-requires-clause-order c =
-    subst AreInOrder (sym (c.deref.ensures.value ∙ c.in_ok-lost.ensures)) (port_order c.args.port c.args.table.now.questions c.requires.fits.order)
+    subst AreInOrder (sym (c.deref.ensures.value ∙ c.in_ok-lost.ensures)) (port_order c.args.port c.args.table.now.questions c.requires.stands.coherent.orderly.order)
 
 pub move_each-requires-clause-run : goal.move_each-requires-clause-run
 move_each-requires-clause-run c =
     let t = c.args.table.now in
     let set : c.set_connected.new.self ≡ record t { connected = c.without.result } = c.set_connected.ensures in
     subst (Each (Runs c.set_connected.new.self)) (sym (c.deref.ensures.value ∙ c.in_ok-lost.ensures))
-    (subst (λ u. Each (Runs u) (on_port c.args.port t.questions)) (sym set) (port_run t c.args.port c.requires.fits.order))
+    (subst (λ u. Each (Runs u) (on_port c.args.port t.questions)) (sym set) (port_run t c.args.port c.requires.stands.coherent.orderly.order))
 
 pub returns : goal.returns
 unfolding moves

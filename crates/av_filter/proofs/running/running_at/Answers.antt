@@ -8,4 +8,4 @@ returns-clause-runs c =
     let t = c.args.table.now in
     let small : t.boot < 2 ^ 64 = omega arith in
     let last : t.sequence < 2 ^ 64 = omega arith in
-    running t (λ q. same_id q.id c.args.id) _ c.requires.given c.requires.order c.boot-boot.ensures.mounted small last c.question_at.ensures
+    running t (λ q. same_id q.id c.args.id) _ c.boot-boot.ensures.orderly c.boot-boot.ensures.mounted small last c.question_at.ensures

@@ -7,7 +7,7 @@ returns-clause-runs c =
     let t = c.args.table.now in
     let small : t.boot < 2 ^ 64 = omega arith in
     let last : t.sequence < 2 ^ 64 = omega arith in
-    running t (λ q. q.stream == c.args.stream) _ c.requires.given c.requires.order c.boot-boot.ensures.mounted small last c.question_of.ensures
+    running t (λ q. q.stream == c.args.stream) _ c.boot-boot.ensures.orderly c.boot-boot.ensures.mounted small last c.question_of.ensures
 
 pub returns-clause-stream : goal.returns-clause-stream
 returns-clause-stream c = of_stream c.args.table.now.questions c.args.stream _ c.question_of.ensures

@@ -1,11 +1,13 @@
 use Rattle.std.proofs.Common.{refl, sym, subst}
-use Rattle.av_filter.proofs.FilterLemmas.{fits_always}
+use Rattle.av_filter.proofs.FilterLemmas.{always, on_ok}
 use Rattle.av_filter.specs.Conduct.{Disconnects, filter_refusal, filter_step}
 use Rattle.av_filter.specs.Fit.{Fits}
 use Rattle.av_filter.proofs.filter.Filter.disconnect.Goals as goal
 
+pub invariant_of-self : goal.invariant_of-self
+unfolding filter_refusal filter_step
+invariant_of-self c = let v = c.args.volume.now in (always c.disconnect.result c.self.inside.table v c.disconnect.new.table v (Disconnects c.args.port) (record { kept = c.self.invariant; fits = subst (λ t. Fits t v) (sym c.self.view_is) c.requires.fits }) refl c.disconnect.ensures).kept
+
 pub returns-clause-fits : goal.returns-clause-fits
 unfolding filter_refusal filter_step
-returns-clause-fits c =
-    let v = c.args.volume.now in
-    fits_always c.disconnect.result c.self.inside.table v c.disconnect.new.table v (Disconnects c.args.port) (subst (λ t. Fits t v) (sym c.self.view_is) c.requires.fits) refl c.disconnect.ensures
+returns-clause-fits c = let v = c.args.volume.now in on_ok c.disconnect.result _ (always c.disconnect.result c.self.inside.table v c.disconnect.new.table v (Disconnects c.args.port) (record { kept = c.self.invariant; fits = subst (λ t. Fits t v) (sym c.self.view_is) c.requires.fits }) refl c.disconnect.ensures).fits

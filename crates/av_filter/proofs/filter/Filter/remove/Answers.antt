@@ -1,13 +1,15 @@
 use Rattle.std.proofs.Common.{sym, subst}
-use Rattle.av_filter.proofs.FilterLemmas.{fits_unless}
+use Rattle.av_filter.proofs.FilterLemmas.{unless, on_ok}
 use Rattle.av_filter.specs.Changing.{changes}
 use Rattle.av_filter.specs.Conduct.{Changes, filter_refusal, filter_step}
 use Rattle.av_filter.specs.Fit.{Fits}
 use Rattle.av_store.specs.Files.{Remove}
 use Rattle.av_filter.proofs.filter.Filter.remove.Goals as goal
 
+pub invariant_of-self : goal.invariant_of-self
+unfolding filter_refusal filter_step changes
+invariant_of-self c = let v = c.args.volume.now in (unless c.remove.result c.self.inside.table v c.remove.new.table c.remove.new.volume (Changes (Remove c.args.stream)) (record { kept = c.self.invariant; fits = subst (λ t. Fits t v) (sym c.self.view_is) c.requires.fits }) c.remove.ensures).kept
+
 pub returns-clause-fits : goal.returns-clause-fits
 unfolding filter_refusal filter_step changes
-returns-clause-fits c =
-    let v = c.args.volume.now in
-    fits_unless c.remove.result c.self.inside.table v c.remove.new.table c.remove.new.volume (Changes (Remove c.args.stream)) (subst (λ t. Fits t v) (sym c.self.view_is) c.requires.fits) c.remove.ensures
+returns-clause-fits c = let v = c.args.volume.now in on_ok c.remove.result _ (unless c.remove.result c.self.inside.table v c.remove.new.table c.remove.new.volume (Changes (Remove c.args.stream)) (record { kept = c.self.invariant; fits = subst (λ t. Fits t v) (sym c.self.view_is) c.requires.fits }) c.remove.ensures).fits

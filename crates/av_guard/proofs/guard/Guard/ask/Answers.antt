@@ -20,4 +20,4 @@ returns-in-Ok-clause-asked c =
     let place : IsPlace c.place_of-place.result (place_of c.args.self.now c.as_slice.result.now) = rw (← c.self.view_is) c.place_of-place.ensures in
     let class : c.class_at.result ≡ class_of c.args.self.now c.args.content.items = c.class_at.ensures ∙ class_is c.args.self.now _ (place_of c.args.self.now c.as_slice.result.now) place ∙ ap (class_of c.args.self.now) c.as_slice.ensures.value in
     let free : is_busy_with c.args.self.now (class_of c.args.self.now c.args.content.items) ≡ false = ap (is_busy_with c.args.self.now) (sym class) ∙ sym c.is_busy.ensures ∙ c.if-is_busy.false in
-    asked_waits c.args.self.now c.ask_at.new.self c.args.client c.args.tag c.args.content.items c.in-Ok.given (rw (← c.self.view_is) c.self.invariant.fits) (rw (← c.self.view_is) c.self.invariant.paired) free takes
+    asked_waits c.args.self.now c.ask_at.new.self c.args.client c.args.tag c.args.content.items c.in-Ok.given (rw (← c.self.view_is) c.question_count-coherent.ensures.coherent) (rw (← c.self.view_is) c.self.invariant.paired) free takes

@@ -8,4 +8,4 @@ pub returns-clause-value : goal.returns-clause-value
 returns-clause-value c = c.class_at.ensures ∙ class_is c.args.self.now _ (place_of c.args.self.now c.args.content.now) (rw (← c.self.view_is) c.place_of.ensures)
 
 pub returns-clause-asked : goal.returns-clause-asked
-returns-clause-asked c = λ is. asked_question c.args.self.now c.args.content.now (rw (← c.self.view_is) c.self.invariant.fits) (rw (← c.self.view_is) c.self.invariant.paired) (sym (returns-clause-value c) ∙ is)
+returns-clause-asked c = λ is. asked_question c.args.self.now c.args.content.now (rw (← c.self.view_is) c.question_count-coherent.ensures.coherent) (rw (← c.self.view_is) c.self.invariant.paired) (sym (returns-clause-value c) ∙ is)
