@@ -21,20 +21,23 @@ number_self n = (eq_by_cmp_equiv nat_cmp_total).refl n
 number_above : (n k : ℕ) → k < n → is_number n k ≡ false
 number_above n k h = rw (sym (nat_cmp_is n k Greater h)) refl
 
--- ---- the stream behind those of some files
+-- ---- a stream behind others, of a number that none of them has
 
-at_next : (files : List FileRead) (number next : ℕ) (s : Stream) → next ≡ number + length files → stream_at next (streams_from number files ++ (next, s) ∷ []) ≡ Some s
-at_next [] number next s is = rw (number_self next) refl
-at_next (f ∷ fs) number next s is =
-    let below : number < next = omega arith in
-    rw (number_above next number below) (at_next fs (number + 1) next s (omega arith))
+last_set : (ss : Streams) (n : ℕ) (s t : Stream) → stream_at n ss ≡ None → (stream_at n (ss ++ (n, s) ∷ []) ≡ Some s) × (replaced n t (ss ++ (n, s) ∷ []) ≡ ss ++ (n, t) ∷ [])
+last_set [] n s t none = (rw (number_self n) refl, rw (number_self n) refl)
+last_set (e ∷ ss) n s t none =
+    (elim (is_number n e.0) as (λ b. cond b (Some e.1) (stream_at n ss) ≡ None → (cond b (Some e.1) (stream_at n (ss ++ (n, s) ∷ [])) ≡ Some s)
+    × (cond b ((e.0, t) ∷ (ss ++ (n, s) ∷ [])) (e ∷ replaced n t (ss ++ (n, s) ∷ [])) ≡ e ∷ (ss ++ (n, t) ∷ []))) [
+      | true ↦ λ some. absurd cc
+      | false ↦ λ rest. let later = last_set ss n s t rest in (later.0, ap (λ l. e ∷ l) later.1)
+    ]) none
 
-replaced_next : (files : List FileRead) (number next : ℕ) (s t : Stream) → next ≡ number + length files
-    → replaced next t (streams_from number files ++ (next, s) ∷ []) ≡ streams_from number files ++ (next, t) ∷ []
-replaced_next [] number next s t is = rw (number_self next) refl
-replaced_next (f ∷ fs) number next s t is =
+-- the next number is that of none of some files
+none_next : (files : List FileRead) (number next : ℕ) → next ≡ number + length files → stream_at next (streams_from number files) ≡ None
+none_next [] number next is = refl
+none_next (f ∷ fs) number next is =
     let below : number < next = omega arith in
-    rw (number_above next number below) (ap (λ ss. (number, stream_of_file f) ∷ ss) (replaced_next fs (number + 1) next s t (omega arith)))
+    rw (number_above next number below) (none_next fs (number + 1) next (omega arith))
 
 streams_more : (files : List FileRead) (number next : ℕ) (f : FileRead) → next ≡ number + length files
     → streams_from number (files ++ f ∷ []) ≡ streams_from number files ++ (next, stream_of_file f) ∷ []
@@ -74,6 +77,22 @@ put_leaves : (v w : Store) (id : ℕ) (left : Result Stream StoreFault) → with
 put_leaves v w id (Ok t) ok = (t, refl, cc)
 put_leaves v w id (Err fault) ok = absurd cc
 
+-- one create and one write leave a stream of the content behind the others
+pub file_added : (v created new : Store) (name content : List ℕ) (id : ℕ) → stream_at (v.last + 1) v.streams ≡ None → create_of v name ≡ Ok (id, created) → write_of created id 0 content ≡ Ok new
+    → ◌≡◌ {A = Store} new (record v { streams = v.streams ++ (v.last + 1, stream_of_file (record { name = name; content = content })) ∷ []; last = v.last + 1 })
+file_added v created new name content id none made wrote =
+    let file : FileRead = record { name = name; content = content } in
+    let next : ℕ = v.last + 1 in
+    let amid : Store = record v { streams = v.streams ++ (next, new_stream name) ∷ []; last = next } in
+    let leaves : (id ≡ next) × (created ≡ amid) = create_leaves v created name id made in
+    let wrote_amid : write_of amid next 0 content ≡ Ok new = subst (λ (w : Store). write_of w next 0 content ≡ Ok new) leaves.1 (subst (λ (n : ℕ). write_of created n 0 content ≡ Ok new) leaves.0 wrote) in
+    let step = subst (λ (s : Option Stream). with_streams amid (put_stream amid.streams next (on_stream s (written amid.limits 0 content))) ≡ Ok new) (last_set v.streams next (new_stream name) (stream_of_file file) none).0 wrote_amid in
+    let put = put_leaves amid new next (written amid.limits 0 content (new_stream name)) step in
+    let stream : put.0 ≡ stream_of_file file = written_leaves amid.limits name content put.0 put.1 in
+    let streams : replaced next put.0 amid.streams ≡ v.streams ++ (next, stream_of_file file) ∷ [] =
+    ap (λ t. replaced next t amid.streams) stream ∙ (last_set v.streams next (new_stream name) (stream_of_file file) none).1 in
+    put.2 ∙ ap (λ ss. let w : Store = record v { streams = ss; last = next } in w) streams
+
 -- some files, and one more
 one_more : (files : List FileRead) (created new : Store) (name content : List ℕ) (id : ℕ) → create_of (volume_of_files files) name ≡ Ok (id, created) → write_of created id 0 content ≡ Ok new
     → new ≡ volume_of_files (files ++ record { name = name; content = content } ∷ [])
@@ -82,16 +101,9 @@ one_more files created new name content id made wrote =
     let next : ℕ = length files + 1 in
     let place : next ≡ 1 + length files = omega arith in
     let with : ℕ → Streams → Store = λ last streams. record (volume_of_files files) { last = last; streams = streams } in
-    let amid : Store = with next (streams_from 1 files ++ (next, new_stream name) ∷ []) in
-    let leaves : (id ≡ next) × (created ≡ amid) = create_leaves (volume_of_files files) created name id made in
-    let wrote_amid : write_of amid next 0 content ≡ Ok new = subst (λ (v : Store). write_of v next 0 content ≡ Ok new) leaves.1 (subst (λ (n : ℕ). write_of created n 0 content ≡ Ok new) leaves.0 wrote) in
-    let step = subst (λ (s : Option Stream). with_streams amid (put_stream amid.streams next (on_stream s (written amid.limits 0 content))) ≡ Ok new) (at_next files 1 next (new_stream name) place) wrote_amid in
-    let put = put_leaves amid new next (written amid.limits 0 content (new_stream name)) step in
-    let stream : put.0 ≡ stream_of_file file = written_leaves amid.limits name content put.0 put.1 in
-    let streams : replaced next put.0 amid.streams ≡ streams_from 1 (files ++ file ∷ []) =
-    ap (λ t. replaced next t amid.streams) stream ∙ replaced_next files 1 next (new_stream name) (stream_of_file file) place ∙ sym (streams_more files 1 next file place) in
     let count : next ≡ length (files ++ file ∷ []) = sym (length-append files (file ∷ [])) in
-    put.2 ∙ ap (λ ss. with next ss) streams ∙ ap (λ n. with n (streams_from 1 (files ++ file ∷ []))) count
+    file_added (volume_of_files files) created new name content id (none_next files 1 next place) made wrote
+    ∙ ap (with next) (sym (streams_more files 1 next file place)) ∙ ap (λ n. with n (streams_from 1 (files ++ file ∷ []))) count
 
 -- one create and one write add a file
 pub adds_file : (old new : Store) (name : List ℕ) (content : Option (List ℕ)) → HasFile old new name content → AddsFile old new name content

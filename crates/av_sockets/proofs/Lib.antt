@@ -4,3 +4,4 @@ pub mod GroupLemmas
 pub mod PlaceLemmas
 pub mod ServiceLemmas
 pub mod RefusalLemmas
+pub mod ContentLemmas

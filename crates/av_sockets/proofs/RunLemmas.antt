@@ -1,8 +1,10 @@
 -- What led a filter of a run, event by event.
 use Rattle.std.proofs.Common.{ℕ, ◌≡◌, ◌≢◌, ◌+◌, ◌≤◌, ◌&&◌, not, Bool, true, false, cond, List, [], ◌∷◌, ◌++◌, length, refl, sym, ap, subst, ◌∙◌, append_assoc, append-nil, arith, ne_eqb}
-use Rattle.std.specs.Prelude.{Option, Some, None, Result, Ok, Err, OnOk, if◌then◌else◌}
+use Rattle.std.specs.Prelude.{Option, Some, None, Result, Ok, Err, OnOk, is_some, if◌then◌else◌}
 use Rattle.std.specs.Result.{is_err, is_ok}
-use Rattle.std.specs.List.{AllByRecursion}
+use Rattle.std.specs.List.{AllByRecursion, AllByRecursion as Each}
+use Rattle.av_base.proofs.AmongLemmas.{among_each, each_self}
+use Rattle.av_base.specs.Among.{Among}
 use Rattle.av_base.specs.Port.{same_port}
 use Rattle.av_base.specs.declared.refusal.Refusal.{Refusal}
 use Rattle.av_base.specs.declared.refusal.Refusal.TheVariants.{Fault, NoMemory}
@@ -12,10 +14,14 @@ use Rattle.av_engines.specs.Incoming.{Received}
 use Rattle.av_engines.specs.Watching.{Led, Standing, all_happened, due, happened, heard, heard_all, is_done, joined, opens_of, run_from, unled}
 use Rattle.av_frame.specs.declared.end.End.{End}
 use Rattle.av_frame.specs.declared.end.End.TheVariants.{Done, ReadFault, WriteFault, Frame, Closed, Memory, AuditFull}
+use Rattle.av_files.proofs.VolumeLemmas.{file_added}
 use Rattle.av_filter.proofs.BoundLemmas.{leads_to}
+use Rattle.av_filter.proofs.EachLemmas.{each_weaker}
+use Rattle.av_filter.proofs.FitLemmas.{accepted as is_made}
+use Rattle.av_filter.proofs.MapLemmas.{each-without}
 use Rattle.av_filter.specs.Audit.{Kept}
 use Rattle.av_filter.specs.Call.{Meets, Reacts}
-use Rattle.av_filter.specs.Changing.{changes, rewritten}
+use Rattle.av_filter.specs.Changing.{changed_volume, changes, rewritten}
 use Rattle.av_filter.specs.Conduct.{FilterEvent, Changes, Disconnects, Opens, Receives, filter_refusal, filter_step}
 use Rattle.av_filter.specs.Fit.{Fits, IsPresent}
 use Rattle.av_filter.specs.Opening.{opened}
@@ -28,12 +34,13 @@ use Rattle.av_frame.specs.Message.{Letter}
 use Rattle.av_pend.specs.declared.answer.Answer.{Answer}
 use Rattle.av_store.proofs.SeenLemmas.{next_free}
 use Rattle.av_store.specs.Files.{Create, Remove, Write}
-use Rattle.av_store.specs.Rows.{Streams, stream_at}
-use Rattle.av_store.specs.Seen.{change_of}
+use Rattle.av_store.specs.Rows.{Streams, stream_at, without}
+use Rattle.av_store.specs.Seen.{change_of, kept_or}
 use Rattle.av_store.specs.Sound.{IsOfFiles}
-use Rattle.av_store.specs.Store.{Store, create_of, greatest}
+use Rattle.av_store.specs.Store.{Store, create_of, greatest, with_streams, write_of}
+use Rattle.av_store.specs.declared.fault.StoreFault.TheVariants.{NoStream}
 use Rattle.av_sockets.proofs.AddLemmas.{created, next_given}
-use Rattle.av_sockets.specs.Run.{AreAccepted, Leads, LeadsLate, LeadsOn, Mounted}
+use Rattle.av_sockets.specs.Run.{Adds, AreAccepted, Leads, LeadsLate, LeadsOn, Mounted}
 
 -- where events lead, whatever was sent and answered before
 abbrev final : Table → Store → List FilterEvent → Kept
@@ -117,11 +124,12 @@ leads_then m mid m' xs ys first second =
 
 -- ---- the engine of a filter
 
--- one standing led to another by these events
+-- one standing led to another by these events, which changed no stream
 record HasEvents (s r : Standing) : Type 0 where
   events : List FilterEvent
   accepted : AreAccepted s.led.table s.led.volume events
   led : r.led ≡ all_happened s.led events
+  still : r.led.volume.streams ≡ s.led.volume.streams
 
 -- where the opens were not submitted their numbers are left
 abbrev IsReady : List ℕ → Standing → Type 0
@@ -141,6 +149,15 @@ due_by : (b : Bool) (opens : List ℕ) (submitted : Bool) (w : Led) → (b ≡ t
     → AreAccepted w.table w.volume (cond b (opens_of opens) [])
 due_by true opens submitted w left = opens_accepted w.table w.volume opens (left refl)
 due_by false opens submitted w left = tt
+
+-- opens change no stream
+opens_still : (w : Led) (ss : List ℕ) → (all_happened w (opens_of ss)).volume.streams ≡ w.volume.streams
+opens_still w [] = refl
+opens_still w (s ∷ ss) = opens_still (happened w (Opens s 0)) ss ∙ ap (λ (v : Store). v.streams) (leads_to w.table w.volume (Opens s 0))
+
+due_still : (b : Bool) (opens : List ℕ) (w : Led) → (all_happened w (cond b (opens_of opens) [])).volume.streams ≡ w.volume.streams
+due_still true opens w = opens_still w opens
+due_still false opens w = refl
 
 abbrev joined_as : Bool → Bool → List FilterEvent → Led → Standing
 joined_as b submitted es w = cond b (record { led = all_happened w es; submitted = true }) (record { led = w; submitted = submitted })
@@ -162,6 +179,7 @@ joined_events opens submitted w left =
       events = due opens submitted w.table;
       accepted = due_by b opens submitted w (λ both. left (unsubmitted (is_open One w.table.connected) submitted both));
       led = led_by b submitted (opens_of opens) w;
+      still = ap (λ (x : Led). x.volume.streams) (led_by b submitted (opens_of opens) w) ∙ due_still b opens w;
     }
 
 received_stays : (w : Led) (m : Letter) → (happened w (Receives m)).volume ≡ w.volume
@@ -176,8 +194,8 @@ heard_by : (b : Bool) (opens : List ℕ) (s : Standing) (m : Letter) → IsReady
 heard_by true opens s m ready =
     let w = happened s.led (Receives m) in
     let h = joined_events opens s.submitted w (λ before. subst (λ (v : Store). v.opens + length opens ≤ greatest) (sym (received_stays s.led m)) (ready before)) in
-    record { events = Receives m ∷ h.events; accepted = (received_accepted s.led.table s.led.volume m, h.accepted); led = h.led }
-heard_by false opens s m ready = record { events = []; accepted = tt; led = refl }
+    record { events = Receives m ∷ h.events; accepted = (received_accepted s.led.table s.led.volume m, h.accepted); led = h.led; still = h.still ∙ ap (λ (v : Store). v.streams) (received_stays s.led m) }
+heard_by false opens s m ready = record { events = []; accepted = tt; led = refl; still = refl }
 
 heard_events : (opens : List ℕ) (s : Standing) (m : Letter) → IsReady opens s → HasEvents s (heard opens s m)
 heard_events opens s m ready = heard_by (same_port m.port One) opens s m ready
@@ -206,14 +224,15 @@ events_then s r q first second =
           (subst (λ k. AreAccepted (final s.led.table s.led.volume first.events).table k second.events) volume
           (subst (λ k. AreAccepted k r.led.volume second.events) table second.accepted));
       led = second.led ∙ ap (λ x. all_happened x second.events) first.led ∙ sym (happened_then s.led first.events second.events);
+      still = second.still ∙ first.still;
     }
 
 events_by : (b : Bool) (s x : Standing) → HasEvents s x → HasEvents s (cond b s x)
-events_by true s x h = record { events = []; accepted = tt; led = refl }
+events_by true s x h = record { events = []; accepted = tt; led = refl; still = refl }
 events_by false s x h = h
 
 all_events : (opens : List ℕ) (first : ℕ) (s : Standing) (ms : List Letter) → IsReady opens s → HasEvents s (heard_all opens first s ms)
-all_events opens first s [] ready = record { events = []; accepted = tt; led = refl }
+all_events opens first s [] ready = record { events = []; accepted = tt; led = refl; still = refl }
 all_events opens first s (m ∷ ms) ready =
     events_by (is_done first (length opens) s) s (heard_all opens first (heard opens s m) ms)
     (events_then s (heard opens s m) (heard_all opens first (heard opens s m) ms) (heard_events opens s m ready)
@@ -233,19 +252,27 @@ run_events t v opens ms left =
     events_then (record { led = w; submitted = false }) s (run_from true t v opens ms) (joined_events opens false w (λ before. left))
     (all_events opens v.opens s ms (joined_ready_by (is_open One t.connected && true) opens w (opens_of opens) left))
 
+-- opens were submitted and messages came, which led there, and no stream was changed
+pub record LeadsStill (m m' : Mounted) (answers : List Answer) : Type 0 where
+  pub leads : Leads m m' answers
+  pub still : m'.volume.streams ≡ m.volume.streams
+
 -- where it ended
 left_there : (t : Table) (v : Store) (m' : Mounted) (opens : List ℕ) (ms : List Letter) (answers : List Answer) → v.opens + length opens ≤ greatest
-    → IsAt (run_from true t v opens ms).led m'.table m'.volume answers → Leads (record { table = t; volume = v }) m' answers
+    → IsAt (run_from true t v opens ms).led m'.table m'.volume answers → LeadsStill (record { table = t; volume = v }) m' answers
 left_there t v m' opens ms answers left at =
     let h = run_events t v opens ms left in
     record {
-      events = h.events;
-      accepted = h.accepted;
-      at = record {
-        table = at.table ∙ ap (λ (x : Led). x.table) h.led;
-        volume = at.volume ∙ ap (λ (x : Led). x.volume) h.led;
-        answered = at.answered ∙ ap (λ (x : Led). x.answers) h.led;
+      leads = record {
+        events = h.events;
+        accepted = h.accepted;
+        at = record {
+          table = at.table ∙ ap (λ (x : Led). x.table) h.led;
+          volume = at.volume ∙ ap (λ (x : Led). x.volume) h.led;
+          answered = at.answered ∙ ap (λ (x : Led). x.answers) h.led;
+        };
       };
+      still = ap (λ (w : Store). w.streams) at.volume ∙ h.still;
     }
 
 disconnected_accepted : (t : Table) (v : Store) → filter_refusal t v (Disconnects One) ≡ None
@@ -253,24 +280,28 @@ unfolding filter_refusal
 disconnected_accepted t v = refl
 
 left_behind : (t : Table) (v : Store) (m' : Mounted) (opens : List ℕ) (ms : List Letter) (answers : List Answer) → v.opens + length opens ≤ greatest
-    → IsAt (happened (run_from true t v opens ms).led (Disconnects One)) m'.table m'.volume answers → Leads (record { table = t; volume = v }) m' answers
+    → IsAt (happened (run_from true t v opens ms).led (Disconnects One)) m'.table m'.volume answers → LeadsStill (record { table = t; volume = v }) m' answers
 left_behind t v m' opens ms answers left at =
     let h = run_events t v opens ms left in
-    let all : happened (run_from true t v opens ms).led (Disconnects One) ≡ all_happened (unled t v []) (h.events ++ Disconnects One ∷ []) =
+    let w = (run_from true t v opens ms).led in
+    let all : happened w (Disconnects One) ≡ all_happened (unled t v []) (h.events ++ Disconnects One ∷ []) =
     ap (λ x. happened x (Disconnects One)) h.led ∙ sym (happened_then (unled t v []) h.events (Disconnects One ∷ [])) in
     record {
-      events = h.events ++ Disconnects One ∷ [];
-      accepted = accepted_then t v h.events (Disconnects One ∷ []) h.accepted (disconnected_accepted _ _, tt);
-      at = record {
-        table = at.table ∙ ap (λ (x : Led). x.table) all;
-        volume = at.volume ∙ ap (λ (x : Led). x.volume) all;
-        answered = at.answered ∙ ap (λ (x : Led). x.answers) all;
+      leads = record {
+        events = h.events ++ Disconnects One ∷ [];
+        accepted = accepted_then t v h.events (Disconnects One ∷ []) h.accepted (disconnected_accepted _ _, tt);
+        at = record {
+          table = at.table ∙ ap (λ (x : Led). x.table) all;
+          volume = at.volume ∙ ap (λ (x : Led). x.volume) all;
+          answered = at.answered ∙ ap (λ (x : Led). x.answers) all;
+        };
       };
+      still = ap (λ (u : Store). u.streams) (at.volume ∙ leads_to w.table w.volume (Disconnects One)) ∙ h.still;
     }
 
 -- an engine that memory did not end
 pub watched_leads : (opens : List ℕ) (m m' : Mounted) (answers : List Answer) (from now : Received) (a b w u : Option (List ℕ)) (end : End)
-    → m.volume.opens + length opens ≤ greatest → end ≢ Memory → WatchesOver true opens m.table m.volume m'.table m'.volume answers from now a b w u end → Leads m m' answers
+    → m.volume.opens + length opens ≤ greatest → end ≢ Memory → WatchesOver true opens m.table m.volume m'.table m'.volume answers from now a b w u end → LeadsStill m m' answers
 watched_leads opens m m' answers from now a b w u Done left there h = left_there m.table m.volume m' opens h.messages answers left h.left.1
 watched_leads opens m m' answers from now a b w u ReadFault left there h = left_behind m.table m.volume m' opens h.messages answers left h.left.1
 watched_leads opens m m' answers from now a b w u WriteFault left there h = left_behind m.table m.volume m' opens h.messages answers left h.left
@@ -282,23 +313,32 @@ watched_leads opens m m' answers from now a b w u AuditFull left there h = absur
 -- ---- answers that are kept
 
 pub kept_none : (m : Mounted) (kept : List Answer) → LeadsOn m kept m kept
-kept_none m kept = record { given = []; leads = leads_nowhere m; behind = sym (append-nil kept) }
+kept_none m kept = record { given = []; leads = leads_nowhere m; behind = sym (append-nil kept); still = refl }
 
-pub kept_then : (m mid m' : Mounted) (xs ys zs given : List Answer) → LeadsOn m xs mid ys → Leads mid m' given → zs ≡ ys ++ given → LeadsOn m xs m' zs
-kept_then m mid m' xs ys zs given first second is = record {
+pub kept_then : (m mid m' : Mounted) (xs ys zs given : List Answer) → LeadsOn m xs mid ys → Leads mid m' given → m'.volume.streams ≡ mid.volume.streams → zs ≡ ys ++ given → LeadsOn m xs m' zs
+kept_then m mid m' xs ys zs given first second still is = record {
   given = first.given ++ given;
   leads = leads_then m mid m' first.given given first.leads second;
   behind = is ∙ ap (λ l. l ++ given) first.behind ∙ append_assoc xs first.given given;
+  still = still ∙ first.still;
 }
 
 pub kept_more : (m mid m' : Mounted) (xs ys zs : List Answer) → LeadsOn m xs mid ys → LeadsOn mid ys m' zs → LeadsOn m xs m' zs
-kept_more m mid m' xs ys zs first second = kept_then m mid m' xs ys zs second.given first second.leads second.behind
+kept_more m mid m' xs ys zs first second = kept_then m mid m' xs ys zs second.given first second.leads second.still second.behind
 
 pub kept_all : (m m' : Mounted) (xs zs : List Answer) → xs ≡ [] → LeadsOn m xs m' zs → Leads m m' zs
 kept_all m m' xs zs none on = subst (Leads m m') (sym (on.behind ∙ ap (λ l. l ++ on.given) none)) on.leads
 
 pub late_then : (m mid m' : Mounted) → LeadsLate m mid → LeadsLate mid m' → LeadsLate m m'
-late_then m mid m' first second = record { late = first.late ++ second.late; leads = leads_then m mid m' first.late second.late first.leads second.leads }
+late_then m mid m' first second = record {
+  late = first.late ++ second.late;
+  leads = leads_then m mid m' first.late second.late first.leads second.leads;
+  fewer = each_weaker (λ s. Among s mid.volume.streams) (λ s. Among s m.volume.streams)
+      (λ s there. among_each (λ x. Among x m.volume.streams) mid.volume.streams s first.fewer there) m'.volume.streams second.fewer;
+}
+
+pub late_none : (m : Mounted) → LeadsLate m m
+late_none m = record { late = []; leads = leads_nowhere m; fewer = each_self m.volume.streams }
 
 -- items that were added where there was memory
 pub ok_items : {A E X : Type 0} (r : Result A E) (xs ys zs : List X) → zs ≡ (if is_ok r then ys else xs) → OnOk r (zs ≡ ys)
@@ -322,13 +362,31 @@ not_memory e done same = apart (sym done ∙ same)
 pub open_kept : (m m' : Mounted) (s least : ℕ) (out : Out) (kept keeps : List Answer)
     → filter_refusal m.table m.volume (Opens s least) ≡ None → Reacts out m'.table m'.volume (opened m.table m.volume s least) → keeps ≡ kept ++ out.answers.items → LeadsOn m kept m' keeps
 unfolding filter_step
-open_kept m m' s least out kept keeps accepted reacts is = record { given = out.answers.items; leads = leads_by m m' (Opens s least) out accepted reacts; behind = is }
+open_kept m m' s least out kept keeps accepted reacts is = record {
+  given = out.answers.items;
+  leads = leads_by m m' (Opens s least) out accepted reacts;
+  behind = is;
+  still = ap (λ (w : Store). w.streams) (reacts.volume ∙ leads_to m.table m.volume (Opens s least));
+}
+
+-- a removal leaves streams that were there
+removed_fewer : (v : Store) (s : ℕ) → Each (λ x. Among x v.streams) (changed_volume v (Remove s)).streams
+unfolding change_of
+removed_fewer v s =
+    elim (is_some (stream_at s v.streams)) as (λ b. Each (λ x. Among x v.streams) (kept_or v (with_streams v (cond b (Ok (without s v.streams)) (Err NoStream)))).streams) [
+      | true ↦ each-without (λ x. Among x v.streams) v.streams s (each_self v.streams)
+      | false ↦ each_self v.streams
+    ]
 
 -- or taken away
 pub removed_late : (m m' : Mounted) (s : ℕ) (out : Out)
     → filter_refusal m.table m.volume (Changes (Remove s)) ≡ None → Reacts out m'.table m'.volume (changes m.table m.volume (Remove s)) → LeadsLate m m'
 unfolding filter_step
-removed_late m m' s out accepted reacts = record { late = out.answers.items; leads = leads_by m m' (Changes (Remove s)) out accepted reacts }
+removed_late m m' s out accepted reacts = record {
+  late = out.answers.items;
+  leads = leads_by m m' (Changes (Remove s)) out accepted reacts;
+  fewer = subst (λ (w : Store). Each (λ x. Among x m.volume.streams) w.streams) (sym (reacts.volume ∙ leads_to m.table m.volume (Changes (Remove s)))) (removed_fewer m.volume s);
+}
 
 -- ---- a mounted filter stays fit
 
@@ -352,16 +410,22 @@ no_question ss s (q ∷ qs) none (here, rest) =
 -- a content was written to a stream that was just created
 pub added : (t t' : Table) (v w v' : Store) (name : List ℕ) (id : ℕ) (bytes : List ℕ) (out : Out) → IsOfFiles v → Fits t v → create_of v name ≡ Ok (id, w)
     → filter_refusal t w (Changes (Write id 0 bytes)) ≡ None → Reacts out t' v' (changes t w (Write id 0 bytes))
-    → Leads (record { table = t; volume = v }) (record { table = t'; volume = v' }) []
-unfolding filter_refusal filter_step changes rewritten
+    → Adds (record { table = t; volume = v }) (record { table = t'; volume = v' }) name bytes
+unfolding filter_refusal filter_step changes rewritten change_of
 added t t' v w v' name id bytes out files fits ok accepted reacts =
     let is : change_of v (Create name) ≡ Ok w = created v w name id ok in
-    let free : stream_at id v.streams ≡ None = ap (λ n. stream_at n v.streams) (next_given v w name id ok) ∙ next_free v files in
+    let next : stream_at (v.last + 1) v.streams ≡ None = next_free v files in
+    let free : stream_at id v.streams ≡ None = ap (λ n. stream_at n v.streams) (next_given v w name id ok) ∙ next in
     let none : question_of id t.questions ≡ None = no_question v.streams id t.questions free fits.present in
     let quiet : out.answers.items ≡ [] = reacts.answers ∙ rw none refl in
     let first : Leads (record { table = t; volume = v }) (record { table = t; volume = w }) [] =
     record { events = Changes (Create name) ∷ []; accepted = (rw is refl, tt); at = record { table = refl; volume = rw is refl; answered = refl } } in
     let second : Leads (record { table = t; volume = w }) (record { table = t'; volume = v' }) out.answers.items =
     leads_by (record { table = t; volume = w }) (record { table = t'; volume = v' }) (Changes (Write id 0 bytes)) out accepted reacts in
-    leads_then (record { table = t; volume = v }) (record { table = t; volume = w }) (record { table = t'; volume = v' }) [] [] first
-    (subst (λ l. Leads (record { table = t; volume = w }) (record { table = t'; volume = v' }) l) quiet second)
+    let wrote : write_of w id 0 bytes ≡ Ok (changed_volume w (Write id 0 bytes)) = is_made w (Write id 0 bytes) accepted in
+    record {
+      leads = leads_then (record { table = t; volume = v }) (record { table = t; volume = w }) (record { table = t'; volume = v' }) [] [] first
+          (subst (λ l. Leads (record { table = t; volume = w }) (record { table = t'; volume = v' }) l) quiet second);
+      number = v.last + 1;
+      added = ap (λ (u : Store). u.streams) (reacts.volume ∙ leads_to t w (Changes (Write id 0 bytes)) ∙ file_added v w (changed_volume w (Write id 0 bytes)) name bytes id next ok wrote);
+    }

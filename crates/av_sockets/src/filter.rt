@@ -1,10 +1,15 @@
-ghost use Rattle.std.specs.Prelude.{◌≡◌, [], IfErr, IfOk, IsTrue, OnOk, map};
+ghost use Rattle.std.specs.Prelude.{◌≡◌, [], IfErr, IfOk, IsTrue, OnErr, OnOk, Some, map};
+ghost use Rattle.std.specs.Io.KnownBytes.{Appends};
 ghost use Rattle.std.specs.List.{zip};
+ghost use Rattle.std.specs.Option.{option_copied, option_map};
 ghost use Rattle.std.specs.List.Sorted.{IsNonDecreasingBy, IsPermutation};
+ghost use Rattle.av_files.specs.Opened.{opened_lines};
 ghost use Rattle.av_pend.specs.Pend.{open_of};
-ghost use Rattle.av_sockets.specs.Filter.{AreFiltered, AreOpened, AreTold, GoesOn, IsTold, PrintsInOrder, opened_as};
-ghost use Rattle.av_sockets.specs.Run.{AreOfTheirStreams, IsItsStream, IsOfItsStream, first};
+ghost use Rattle.av_sockets.specs.Filter.{AreFiltered, AreInOrder, AreOpenedInPart, AreTold, AreToldSoFar, GoesOn, GoesOnInPart, IsTold, IsToldInPart, OpensStreams, opened_as};
+ghost use Rattle.av_sockets.specs.Run.{AreOfTheirStreams, IsContentIn, IsItsStream, IsOfItsStream, first};
 ghost use Rattle.av_status.specs.Status.{EndsWell, IsFault};
+ghost use Rattle.av_status.specs.Tally.{no_files};
+ghost use Rattle.av_store.specs.Rows.{number_named, stream_at};
 
 use crate::opener::Opener;
 use crate::sockets::Meeting;
@@ -27,7 +32,8 @@ use std::time::Clock;
 /// Opens files by their names, through a filter that one service may join at a socket with these rights, and writes a line for
 /// each, in the order given, as far as it is to be shown. An open that no service has answered is denied. The files are read and
 /// held a group at a time, the first one before the socket is made; one that can't be read ends it behind the lines of the groups
-/// before.
+/// before. Each line that was written is an answer of the filter, also in a run that ends with a fault, and each grant is of the content
+/// that was read for the file's name.
 pub fn filter_files<R: Files + Net + Clock, F: Contents, C: Clock, W: Write, E: Write>(
     rt: &R,
     alloc: Global,
@@ -39,7 +45,8 @@ pub fn filter_files<R: Files + Net + Clock, F: Contents, C: Clock, W: Write, E: 
     out: &mut W,
     err: &mut Progress<'_, C, E>,
 ) -> Status
-    ensures { EndsWell result → AreFiltered names.now wishes (W.contents out.old) (W.contents out.new) result }
+    ensures so_far { AreToldSoFar (F.has_content files.now) wishes no_files (W.contents out.old) first names.now (W.contents out.new) }
+    ensures filtered { EndsWell result → AreFiltered (F.has_content files.now) names.now wishes (W.contents out.old) (W.contents out.new) result }
 {
     let Ok(mut opener) = Opener::new(rt, alloc, meeting, mode) else {
         return out_of_memory(err);
@@ -60,7 +67,8 @@ fn filter_over<'a, R: Files + Net + Clock, F: Contents, C: Clock, W: Write, E: W
 ) -> Status
     requires first { opener.old.mount ≡ first }
     requires empty { opener.old.group.names.items ≡ [] }
-    ensures { EndsWell result → AreFiltered names.now wishes (W.contents out.old) (W.contents out.new) result }
+    ensures so_far { AreToldSoFar (F.has_content files.now) wishes no_files (W.contents out.old) first names.now (W.contents out.new) }
+    ensures filtered { EndsWell result → AreFiltered (F.has_content files.now) names.now wishes (W.contents out.old) (W.contents out.new) result }
 {
     let mut tally = Tally::new();
     match open_all(opener, files, names, wishes, &mut tally, out, err) {
@@ -83,9 +91,12 @@ fn open_all<'a, R: Files + Net + Clock, F: Contents, C: Clock, W: Write, E: Writ
     err: &mut Progress<'_, C, E>,
 ) -> Result<(), Status>
     requires empty { opener.old.group.names.items ≡ [] }
+    requires none { opener.old.mount.volume.streams ≡ [] }
     ensures told { OnOk result
-        (AreTold wishes tally.old (W.contents out.old) opener.old.mount names.now tally.new
+        (AreTold (F.has_content files.now) wishes tally.old (W.contents out.old) opener.old.mount names.now tally.new
         (W.contents out.new) opener.new.mount) }
+    ensures so_far { OnErr result
+        (AreToldSoFar (F.has_content files.now) wishes tally.old (W.contents out.old) opener.old.mount names.now (W.contents out.new)) }
     ensures failed { IfErr result (λ status. IsFault status) }
 {
     let Ok(mut buffer) = vec![in opener.alloc; 0u8; MAX_FILE + 2] else {
@@ -112,8 +123,11 @@ fn go_on<'a, R: Files + Net + Clock, C: Clock, W: Write, E: Write>(
     err: &mut Progress<'_, C, E>,
 ) -> Result<(), Status>
     ensures goes_on { OnOk result
-        (GoesOn wishes name.entry opener.old.group.names.items opener.new.group.names.items tally.old tally.new (W.contents out.old)
-        (W.contents out.new) opener.old.mount opener.new.mount) }
+        (GoesOn wishes name.entry (option_copied content.entry) opener.old.group.names.items opener.new.group.names.items tally.old
+        tally.new (W.contents out.old) (W.contents out.new) opener.old.mount opener.new.mount) }
+    ensures part { OnErr result
+        (GoesOnInPart wishes name.entry (option_copied content.entry) opener.old.group.names.items (W.contents out.old)
+        (W.contents out.new) opener.old.mount) }
     ensures failed { IfErr result (λ status. IsFault status) }
 {
     opener.add(name, content, err)?;
@@ -132,8 +146,11 @@ fn open_group<R: Files + Net + Clock, C: Clock, W: Write, E: Write>(
     err: &mut Progress<'_, C, E>,
 ) -> Result<(), Status>
     ensures opened { OnOk result
-        (AreOpened wishes opener.old.group.names.items tally.old tally.new (W.contents out.old) (W.contents out.new)
+        (OpensStreams wishes opener.old.group.names.items tally.old tally.new (W.contents out.old) (W.contents out.new)
         opener.old.mount opener.new.mount) }
+    ensures part { OnErr result
+        (AreOpenedInPart (IsContentIn opener.old.mount.volume.streams) wishes opener.old.group.names.items (W.contents out.old)
+        (W.contents out.new) opener.old.mount) }
     ensures empty { OnOk result (opener.new.group.names.items ≡ []) }
     ensures failed { IfErr result (λ status. IsFault status) }
 {
@@ -159,8 +176,11 @@ fn tell<R: Files + Net + Clock, W: Write, E: Write>(
     err: &mut E,
 ) -> Result<(), Status>
     ensures told { OnOk result
-        (IsTold wishes opener.now.group.names.items answers.items opener.now.mount.volume tally.old tally.new (W.contents out.old)
-        (W.contents out.new)) }
+        (IsTold (IsContentIn opener.now.mount.volume.streams) wishes opener.now.group.names.items answers.items
+        opener.now.mount.volume tally.old tally.new (W.contents out.old) (W.contents out.new)) }
+    ensures part { OnErr result
+        (IsToldInPart (IsContentIn opener.now.mount.volume.streams) wishes opener.now.group.names.items answers.items
+        opener.now.mount.volume (W.contents out.old) (W.contents out.new)) }
     ensures failed { IfErr result (λ status. IsFault status) }
 {
     match print_answers(opener, answers, wishes, out, err) {
@@ -181,9 +201,13 @@ fn print_answers<'a, R: Files + Net + Clock, W: Write, E: Write>(
     out: &mut W,
     err: &mut E,
 ) -> Result<Vec<Opened<'a>>, Status>
-    ensures printed { IfOk result (λ opened.
-        PrintsInOrder wishes opener.now.group.names.items answers.items opened.items (W.contents out.old) (W.contents out.new)) }
-    ensures named { IfOk result (λ opened. AreOfTheirStreams opener.now.mount.volume opened.items) }
+    ensures ordered { IfOk result (λ opened. AreInOrder opener.now.group.names.items answers.items opened.items) }
+    ensures named { IfOk result (λ opened.
+        AreOfTheirStreams (IsContentIn opener.now.mount.volume.streams) opener.now.mount.volume opened.items) }
+    ensures printed { IfOk result (λ opened. Appends (W.contents out.old) (W.contents out.new) (opened_lines wishes opened.items)) }
+    ensures part { OnErr result
+        (IsToldInPart (IsContentIn opener.now.mount.volume.streams) wishes opener.now.group.names.items answers.items
+        opener.now.mount.volume (W.contents out.old) (W.contents out.new)) }
     ensures failed { IfErr result (λ status. IsFault status) }
 {
     let names = opener.group.names.as_slice();
@@ -202,7 +226,7 @@ fn print_answers<'a, R: Files + Net + Clock, W: Write, E: Write>(
 
 // Whether each grant is of the stream that has the file's name, of its present generation.
 fn are_of_their_streams(opened: &[Opened<'_>], volume: &Volume) -> bool
-    ensures { IsTrue result → AreOfTheirStreams volume.now opened.now }
+    ensures { IsTrue result → AreOfTheirStreams (IsContentIn volume.now.streams) volume.now opened.now }
 {
     'files: for line in opened {
         if !is_of_its_stream(line.name, line.answer, volume) {
@@ -213,7 +237,7 @@ fn are_of_their_streams(opened: &[Opened<'_>], volume: &Volume) -> bool
 }
 
 fn is_of_its_stream(name: &str, answer: Answer, volume: &Volume) -> bool
-    ensures { IsTrue result → IsOfItsStream volume.now name.now answer }
+    ensures { IsTrue result → IsOfItsStream (IsContentIn volume.now.streams) volume.now name.now answer }
 {
     match answer {
         Answer::Granted {
@@ -226,9 +250,22 @@ fn is_of_its_stream(name: &str, answer: Answer, volume: &Volume) -> bool
 }
 
 fn is_stream_of(name: &str, stream: StreamId, generation: Generation, volume: &Volume) -> bool
-    ensures { IsTrue result → IsItsStream volume.now name.now stream generation }
+    ensures { IsTrue result → IsItsStream (IsContentIn volume.now.streams) volume.now name.now stream generation }
 {
-    volume.find(name.as_bytes()) == Some(stream) && volume.generation(stream) == Some(generation)
+    let _of_files = volume.last_created();
+    is_named(name, stream, volume) && is_of_generation(stream, generation, volume)
+}
+
+fn is_named(name: &str, stream: StreamId, volume: &Volume) -> bool
+    ensures { IsTrue result → number_named name.now volume.now.streams ≡ Some stream }
+{
+    volume.find(name.as_bytes()) == Some(stream)
+}
+
+fn is_of_generation(stream: StreamId, generation: Generation, volume: &Volume) -> bool
+    ensures { IsTrue result → option_map (λ s. s.generation) (stream_at stream volume.now.streams) ≡ Some generation }
+{
+    volume.generation(stream) == Some(generation)
 }
 
 // The answers in the order of their opens.

@@ -1,6 +1,6 @@
 ghost use Rattle.std.specs.Prelude.{◌≡◌, ◌≢◌, [], IfOk, OnOk};
 ghost use Rattle.av_frame.specs.declared.end.End.TheVariants.{Done, Memory};
-ghost use Rattle.av_sockets.specs.Run.{Leads, LeadsLate, LeadsOn, first};
+ghost use Rattle.av_sockets.specs.Run.{Adds, Leads, LeadsLate, LeadsOn, first};
 
 use crate::duplex::{Duplex, Hearing, Saying};
 use av_base::{Limits, Mode, Port, Refusal, StreamId, Version};
@@ -53,7 +53,7 @@ impl Mount {
         name: &[u8],
         content: &[u8],
     ) -> Result<StreamId, Refusal<StoreFault>>
-        ensures { OnOk result (Leads self.old self.new []) }
+        ensures { OnOk result (Adds self.old self.new name.now content.now) }
     {
         let _of_files = self.volume.last_created();
         let stream = self.volume.create(alloc, name)?;
@@ -78,6 +78,7 @@ impl Mount {
         requires idle { exchange.old.outgoing ≡ [] }
         ensures led { result.end ≢ Memory
             → Leads self.old self.new result.answers.items }
+        ensures still { result.end ≢ Memory → self.new.volume.streams ≡ self.old.volume.streams }
         ensures idle { result.end ≡ Done → exchange.new.outgoing ≡ [] }
     {
         let is_spent = self.volume.opens_left() < streams.len() as u64;

@@ -1,5 +1,6 @@
 ghost use Rattle.std.specs.Prelude.{◌≡◌, ◌++◌, ◌∷◌, [], IfErr, IfOk, OnOk};
-ghost use Rattle.av_sockets.specs.Run.{Leads, LeadsLate, LeadsOn, first};
+ghost use Rattle.std.specs.Option.{option_copied};
+ghost use Rattle.av_sockets.specs.Run.{AddsRead, Leads, LeadsLate, LeadsOn, first};
 ghost use Rattle.av_status.specs.Status.{IsFault};
 
 use crate::group::Group;
@@ -63,7 +64,7 @@ impl<'a, R: Files + Net + Clock> Opener<'a, R> {
     ) -> Result<(), Status>
         ensures names { OnOk result (self.new.group.names.items ≡ self.old.group.names.items ++ name.entry ∷ []) }
         ensures led { OnOk result
-            (Leads self.old.mount self.new.mount []) }
+            (AddsRead self.old.mount self.new.mount name.now (option_copied content.entry)) }
         ensures failed { IfErr result (λ status. IsFault status) }
     {
         let bytes = Input { name, content }.readable(err)?;
@@ -91,6 +92,7 @@ impl<'a, R: Files + Net + Clock> Opener<'a, R> {
     pub(crate) fn open(&mut self) -> Result<Vec<Answer>, AllocError>
         ensures led { IfOk result (λ answers.
             Leads self.old.mount self.new.mount answers.items) }
+        ensures still { OnOk result (self.new.mount.volume.streams ≡ self.old.mount.volume.streams) }
         ensures group { self.new.group ≡ self.old.group }
     {
         let mut answers = Vec::new(self.alloc);
