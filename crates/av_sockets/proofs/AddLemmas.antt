@@ -22,15 +22,8 @@ StaysThere v w = (u : ℕ) (x : Stream) → stream_at u v.streams ≡ Some x →
 kept_fits : (t : Table) (v w : Store) → Fits t v → w.boot ≡ v.boot → w.opens ≡ v.opens → StaysThere v w → Fits t w
 kept_fits t v w f boot opens stays = record {
   boots = f.boots ∙ sym boot;
-  rises = f.rises;
-  given = f.given;
-  order = f.order;
-  apart = f.apart;
-  scanned = f.scanned;
   there = each_weaker (λ c. IsThere v.streams c.0) (λ c. IsThere w.streams c.0) (λ c h. (h.0, stays c.0 h.0 h.1)) t.contexts f.there;
   present = each_weaker (IsPresent v.streams) (IsPresent w.streams) (λ q h. (h.0, stays q.stream h.0 h.1, h.2)) t.questions f.present;
-  asked = f.asked;
-  leasts = f.leasts;
   taken = each_weaker (λ p. p.held.open_id ≤ v.opens) (λ p. p.held.open_id ≤ w.opens) (λ p h. subst (λ n. p.held.open_id ≤ n) (sym opens) h) t.pended f.taken;
 }
 
