@@ -25,11 +25,12 @@ use Rattle.av_match.specs.Match.{verdict}
 use Rattle.av_pend.specs.declared.answer.Answer.{Answer}
 use Rattle.av_pend.specs.declared.answer.Answer.TheVariants.{Denied, Granted, Unscanned}
 use Rattle.av_promise.proofs.ServedLemmas.{answer_just, held_by_end, legal, told_so}
-use Rattle.av_promise.specs.Filtered.{AreRight, IsRightOf, entries_of, entry_of, history_of, history_of_group}
+use Rattle.av_promise.specs.Filtered.{AreRight, AreRightInPart, IsRightOf, entries_of, entry_of, history_of, history_of_group, history_of_part, history_so_far}
 use Rattle.av_promise.specs.Promise.{IsServed, at_first, published_by}
 use Rattle.av_sigset.specs.Publication.{Publication}
-use Rattle.av_sockets.specs.Filter.{AreFiltered, AreOpened, AreTold, PrintsInOrder, more, nothing, opened_as}
-use Rattle.av_sockets.specs.Run.{AreAccepted, IsOfItsStream, Leads, Mounted, first}
+use Rattle.av_sockets.specs.Filter.{AreFiltered, AreInOrder, AreOpened, AreTold, AreToldSoFar, IsToldInPart, begun, more, nothing, opened_as, unwritten}
+use Rattle.av_sockets.specs.Run.{AreAccepted, AreOfTheirStreams, IsOfItsStream, Leads, Mounted, first}
+use Rattle.av_status.specs.Tally.{no_files}
 use Rattle.av_status.specs.declared.status.Status.{Status}
 use Rattle.av_status.specs.declared.tally.Tally.{Tally}
 use Rattle.av_status.specs.declared.tally.Wishes.{Wishes}
@@ -69,19 +70,26 @@ led_reaches m m' answers l history reached =
     subst (λ v. Reaches (record { table = m'.table; volume = v }) xs) (sym l.at.volume)
     (subst (λ t. Reaches (record { table = t; volume = (all_happened (unled m.table m.volume []) l.events).volume }) xs) (sym l.at.table) on)
 
-group_reaches : (wishes : Wishes) (names : List (Bor (List ℕ))) (before after : Tally) (old new : Option (List ℕ)) (m m' : Mounted) (o : AreOpened wishes names before after old new m m') (history : List FilterEntry)
+group_reaches : (has : List ℕ → List ℕ → Type 0) (wishes : Wishes) (names : List (Bor (List ℕ))) (before after : Tally) (old new : Option (List ℕ)) (m m' : Mounted) (o : AreOpened has wishes names before after old new m m') (history : List FilterEntry)
     → Reaches m history → Reaches m' (history ++ history_of_group o)
-group_reaches wishes names before after old new m m' o history reached =
+group_reaches has wishes names before after old new m m' o history reached =
     let here = entries_of m.table m.volume o.led.events in
     let clearing = entries_of o.amid.table o.amid.volume o.cleared.leads.events in
     subst (Reaches m') (append_assoc history here clearing)
     (led_reaches o.amid m' o.cleared.late o.cleared.leads (history ++ here) (led_reaches m o.amid o.answers o.led history reached))
 
-told_reaches : (wishes : Wishes) (before : Tally) (old : Option (List ℕ)) (names : List (Bor (List ℕ))) (after : Tally) (new : Option (List ℕ)) (m : Mounted) (t : AreTold wishes before old first names after new m) → Reaches m (history_of t)
-told_reaches wishes before old _ after new m nothing =
+told_reaches : (has : List ℕ → List ℕ → Type 0) (wishes : Wishes) (before : Tally) (old : Option (List ℕ)) (names : List (Bor (List ℕ))) (after : Tally) (new : Option (List ℕ)) (m : Mounted) (t : AreTold has wishes before old first names after new m)
+    → Reaches m (history_of t)
+told_reaches has wishes before old _ after new m nothing =
     record { sent = []; past = record { legal = tt; leads = refl; sends = refl; keeps = starts_empty } }
-told_reaches wishes before old _ after new m (more names group counted _ held _ mid _ told opened) =
-    group_reaches wishes group counted after held new mid m opened (history_of told) (told_reaches wishes before old names counted held mid told)
+told_reaches has wishes before old _ after new m (more names group counted _ held _ mid _ told opened) =
+    group_reaches has wishes group counted after held new mid m opened (history_of told) (told_reaches has wishes before old names counted held mid told)
+
+-- and before a front of lines was written
+so_far_reaches : (has : List ℕ → List ℕ → Type 0) (wishes : Wishes) (before : Tally) (old : Option (List ℕ)) (names : List (Bor (List ℕ))) (new : Option (List ℕ)) (t : AreToldSoFar has wishes before old first names new)
+    → Reaches t.last.amid (history_so_far t)
+so_far_reaches has wishes before old names new t =
+    led_reaches t.end t.last.amid t.last.answers t.last.led (history_of t.told) (told_reaches has wishes before old t.opened t.tally t.held t.end t.told)
 
 -- the answers of events
 entries_answers : (w : Led) (es : List FilterEvent) → w.answers ++ answers_given (entries_of w.table w.volume es) ≡ (all_happened w es).answers
@@ -119,16 +127,16 @@ zipped P [] answers all = tt
 zipped P (n ∷ ns) [] all = tt
 zipped P (n ∷ ns) (a ∷ rest) all = (all.0, zipped P ns rest all.1)
 
-printed_among : (wishes : Wishes) (names : List (Bor (List ℕ))) (answers : List Answer) (opened : List Opened) (old new : Option (List ℕ)) → PrintsInOrder wishes names answers opened old new → Each (λ (o : Opened). Among o.answer answers) opened
-printed_among wishes names answers opened old new p =
+files_among : (names : List (Bor (List ℕ))) (answers : List Answer) (opened : List Opened) → AreInOrder names answers opened → Each (λ (o : Opened). Among o.answer answers) opened
+files_among names answers opened p =
     subst (Each (λ (o : Opened). Among o.answer answers)) (sym p.named) (zipped (λ a. Among a answers) names p.ordered (ordered_among answers p.ordered p.same))
 
 -- ---- a run that was served
 
-module _ (history : List FilterEntry) (audit : IsFilterAudit first.table first.volume history) (number : ℕ) (limits : LimitValues) (sets : List Publication) (es : List SideEntry) (served : IsServed history number limits sets es) (clean : AuditsGrantOnlyClean FailClosed [] (at_first sets) es) where
+module _ (has : List ℕ → List ℕ → Type 0) (history : List FilterEntry) (audit : IsFilterAudit first.table first.volume history) (number : ℕ) (limits : LimitValues) (sets : List Publication) (es : List SideEntry) (served : IsServed history number limits sets es) (clean : AuditsGrantOnlyClean FailClosed [] (at_first sets) es) where
   -- an answer of the history, told of a stream in the volume that a front of the history led to
   answer_right : (amid : Mounted) (front back : List FilterEntry) → history ≡ front ++ back → Reaches amid front → (name : List ℕ) (a : Answer) → Among a (answers_given history)
-      → IsOfItsStream amid.volume name a → IsRightOf (published_by sets es) amid.volume name a
+      → IsOfItsStream has amid.volume name a → IsRightOf has (published_by sets es) amid.volume name a
   answer_right amid front back is led name (Granted n least s g version) there own =
       let then = answer_just FailClosed greatest_values first.volume history starts_empty audit number limits sets es served clean (Granted n least s g version) there in
       let right : IsVerdictOf (past_end (opening_past [] (at_first sets)) es) s g version Clean = right_grows then.past _ s g version Clean then.grown then.just.1 in
@@ -144,6 +152,7 @@ module _ (history : List FilterEntry) (audit : IsFilterAudit first.table first.v
         content = own.content;
         there = own.there;
         generation_is = own.generation_is;
+        read = own.read;
         patterns = right.patterns;
         published = right.published;
         clean = ap (λ b. verdict right.patterns b) (sym same) ∙ sym right.right;
@@ -152,7 +161,22 @@ module _ (history : List FilterEntry) (audit : IsFilterAudit first.table first.v
       absurd ((answer_just FailClosed greatest_values first.volume history starts_empty audit number limits sets es served clean (Unscanned n s g cause) there).just refl)
   answer_right amid front back is led name (Denied n cause) there own = tt
 
-  told_right : (wishes : Wishes) (before : Tally) (old : Option (List ℕ)) (names : List (Bor (List ℕ))) (after : Tally) (new : Option (List ℕ)) (m : Mounted) (t : AreTold wishes before old first names after new m) (later : List FilterEntry)
+  -- lines of answers of the history, under their names
+  lines_right : (m amid : Mounted) (answers : List Answer) (l : Leads m amid answers) (front later : List FilterEntry) → history ≡ (front ++ entries_of m.table m.volume l.events) ++ later → Reaches m front
+      → (names : List (Bor (List ℕ))) (opened : List Opened) → AreInOrder names answers opened → AreOfTheirStreams has amid.volume opened
+      → Each (λ (k : Opened). IsRightOf has (published_by sets es) amid.volume k.name.now k.answer) opened
+  lines_right m amid answers l front later parts reached names opened files own =
+      let here = entries_of m.table m.volume l.events in
+      let led = led_reaches m amid answers l front reached in
+      let among : (a : Answer) → Among a answers → Among a (answers_given history) = λ a given.
+      subst (λ h. Among a (answers_given h)) (sym parts)
+      (subst (Among a) (sym (answers_then (front ++ here) later))
+      (among_left a (answers_given (front ++ here)) (answers_given later)
+      (subst (Among a) (sym (answers_then front here)) (among_right a (answers_given front) (answers_given here) (subst (Among a) (sym (led_answers m amid answers l)) given))))) in
+      each_both (λ (k : Opened). Among k.answer answers) (λ (k : Opened). IsOfItsStream has amid.volume k.name.now k.answer) (λ (k : Opened). IsRightOf has (published_by sets es) amid.volume k.name.now k.answer)
+      (λ k given its. answer_right amid (front ++ here) later parts led k.name.now k.answer (among k.answer given) its) opened (files_among names answers opened files) own
+
+  told_right : (wishes : Wishes) (before : Tally) (old : Option (List ℕ)) (names : List (Bor (List ℕ))) (after : Tally) (new : Option (List ℕ)) (m : Mounted) (t : AreTold has wishes before old first names after new m) (later : List FilterEntry)
       → history ≡ history_of t ++ later → AreRight (published_by sets es) t
   told_right wishes before old _ after new m nothing later is = tt
   told_right wishes before old _ after new m (more names group counted _ held _ mid _ told o) later is =
@@ -161,26 +185,40 @@ module _ (history : List FilterEntry) (audit : IsFilterAudit first.table first.v
       let clearing = entries_of o.amid.table o.amid.volume o.cleared.leads.events in
       let split : history ≡ front ++ ((here ++ clearing) ++ later) = is ∙ append_assoc front (here ++ clearing) later in
       let parts : history ≡ (front ++ here) ++ (clearing ++ later) =
-      split ∙ ap (λ l. front ++ l) (append_assoc here clearing later) ∙ sym (append_assoc front here (clearing ++ later)) in
-      let led = led_reaches mid o.amid o.answers o.led front (told_reaches wishes before old names counted held mid told) in
-      let among : (a : Answer) → Among a o.answers → Among a (answers_given history) = λ a given.
-      subst (λ h. Among a (answers_given h)) (sym parts)
-      (subst (Among a) (sym (answers_then (front ++ here) (clearing ++ later)))
-      (among_left a (answers_given (front ++ here)) (answers_given (clearing ++ later))
-      (subst (Among a) (sym (answers_then front here)) (among_right a (answers_given front) (answers_given here) (subst (Among a) (sym (led_answers mid o.amid o.answers o.led)) given))))) in (
+      split ∙ ap (λ l. front ++ l) (append_assoc here clearing later) ∙ sym (append_assoc front here (clearing ++ later)) in (
         told_right wishes before old names counted held mid told ((here ++ clearing) ++ later) split,
-        each_both (λ (k : Opened). Among k.answer o.answers) (λ (k : Opened). IsOfItsStream o.amid.volume k.name.now k.answer) (λ (k : Opened). IsRightOf (published_by sets es) o.amid.volume k.name.now k.answer)
-            (λ k given own. answer_right o.amid (front ++ here) (clearing ++ later) parts led k.name.now k.answer (among k.answer given) own) o.told.opened
-            (printed_among wishes group o.answers o.told.opened held new o.told.printed) o.told.named,
+        lines_right mid o.amid o.answers o.led front (clearing ++ later) parts (told_reaches has wishes before old names counted held mid told) group o.told.opened o.told.files o.told.named,
       )
 
+  -- and those of which a front was written
+  part_right : (wishes : Wishes) (names : List (Bor (List ℕ))) (old new : Option (List ℕ)) (m amid : Mounted) (answers : List Answer) (l : Leads m amid answers) (front : List FilterEntry)
+      → history ≡ front ++ entries_of m.table m.volume l.events → Reaches m front → (t : IsToldInPart has wishes names answers amid.volume old new) → AreRightInPart (published_by sets es) t
+  part_right wishes names old new m amid answers l front is reached (unwritten same) = tt
+  part_right wishes names old new m amid answers l front is reached (begun opened files named lines) =
+      lines_right m amid answers l front [] (is ∙ sym (append-nil (front ++ entries_of m.table m.volume l.events))) reached names opened files named
+
 -- a run that was served is legal
-module _ (names : List (Bor (List ℕ))) (wishes : Wishes) (old new : Option (List ℕ)) (status : Status) (run : AreFiltered names wishes old new status) (number : ℕ) (limits : LimitValues) (sets : List Publication) (es : List SideEntry) (served : IsServed (history_of run.told) number limits sets es) where
+module _ (has : List ℕ → List ℕ → Type 0) (names : List (Bor (List ℕ))) (wishes : Wishes) (old new : Option (List ℕ)) (status : Status) (run : AreFiltered has names wishes old new status) (number : ℕ) (limits : LimitValues) (sets : List Publication) (es : List SideEntry) (served : IsServed (history_of run.told) number limits sets es) where
   whole_audited : IsFilterAudit first.table first.volume (history_of run.told)
-  whole_audited = (told_reaches wishes _ _ names _ _ run.end run.told).past.legal
+  whole_audited = (told_reaches has wishes _ _ names _ _ run.end run.told).past.legal
 
   pub run_legal : AreLegal FailClosed greatest_values (told_so number limits) [] first.volume (at_first sets) es
   run_legal = legal FailClosed greatest_values first.volume (history_of run.told) starts_empty whole_audited number limits sets es served
 
   pub run_right : AuditsGrantOnlyClean FailClosed [] (at_first sets) es → AreRight (published_by sets es) run.told
-  run_right clean = told_right (history_of run.told) whole_audited number limits sets es served clean wishes _ _ names _ _ run.end run.told [] (sym (append-nil (history_of run.told)))
+  run_right clean = told_right has (history_of run.told) whole_audited number limits sets es served clean wishes _ _ names _ _ run.end run.told [] (sym (append-nil (history_of run.told)))
+
+-- so is one that ended with a fault, as far as its lines go
+module _ (has : List ℕ → List ℕ → Type 0) (names : List (Bor (List ℕ))) (wishes : Wishes) (old new : Option (List ℕ)) (run : AreToldSoFar has wishes no_files old first names new) (number : ℕ) (limits : LimitValues) (sets : List Publication) (es : List SideEntry) (served : IsServed (history_so_far run) number limits sets es) where
+  front_audited : IsFilterAudit first.table first.volume (history_so_far run)
+  front_audited = (so_far_reaches has wishes no_files old names new run).past.legal
+
+  pub front_legal : AreLegal FailClosed greatest_values (told_so number limits) [] first.volume (at_first sets) es
+  front_legal = legal FailClosed greatest_values first.volume (history_so_far run) starts_empty front_audited number limits sets es served
+
+  pub front_right : AuditsGrantOnlyClean FailClosed [] (at_first sets) es → AreRight (published_by sets es) run.told × AreRightInPart (published_by sets es) run.last.told
+  front_right clean = (
+    told_right has (history_so_far run) front_audited number limits sets es served clean wishes no_files old run.opened run.tally run.held run.end run.told (history_of_part run.last) refl,
+    part_right has (history_so_far run) front_audited number limits sets es served clean wishes run.group run.held new run.end run.last.amid run.last.answers run.last.led (history_of run.told) refl
+        (told_reaches has wishes no_files old run.opened run.tally run.held run.end run.told) run.last.told,
+  )

@@ -14,8 +14,9 @@ use Rattle.av_pend.specs.declared.answer.Answer.TheVariants.{Denied, Granted, Un
 use Rattle.av_promise.specs.Promise.{IsServed, published_by}
 use Rattle.av_sigset.specs.Publication.{Publication, published_as}
 use Rattle.av_sigset.specs.declared.signature.Pattern.{Pattern}
-use Rattle.av_sockets.specs.Filter.{AreFiltered, AreOpened, AreTold, more, nothing}
-use Rattle.av_sockets.specs.Run.{Mounted}
+use Rattle.av_sockets.specs.Filter.{AreFiltered, AreOpened, AreOpenedInPart, AreTold, AreToldSoFar, IsToldInPart, begun, more, nothing, unwritten}
+use Rattle.av_sockets.specs.Run.{Mounted, first}
+use Rattle.av_status.specs.Tally.{no_files}
 use Rattle.av_status.specs.declared.status.Status.{Status}
 use Rattle.av_status.specs.declared.tally.Tally.{Tally}
 use Rattle.av_status.specs.declared.tally.Wishes.{Wishes}
@@ -35,44 +36,70 @@ entries_of t v [] = []
 entries_of t v (e ∷ es) = entry_of t v e ∷ entries_of (filter_step t v e).table (filter_step t v e).volume es
 
 -- what happened while a group of files was opened, and while their streams were taken away
-abbrev pub history_of_group : {wishes : Wishes} {names : List (Bor (List ℕ))} {before after : Tally} {old new : Option (List ℕ)} {m m' : Mounted}
-    → AreOpened wishes names before after old new m m' → List FilterEntry
+abbrev pub history_of_group : {has_content : List ℕ → List ℕ → Type 0} {wishes : Wishes} {names : List (Bor (List ℕ))} {before after : Tally} {old new : Option (List ℕ)} {m m' : Mounted}
+    → AreOpened has_content wishes names before after old new m m' → List FilterEntry
 history_of_group {m = m} group =
     entries_of m.table m.volume group.led.events ++ entries_of group.amid.table group.amid.volume group.cleared.leads.events
 
 -- and all groups
-abbrev pub history_of : {wishes : Wishes} {before : Tally} {old : Option (List ℕ)} {from : Mounted} {names : List (Bor (List ℕ))} {after : Tally} {new : Option (List ℕ)} {m : Mounted}
-    → AreTold wishes before old from names after new m → List FilterEntry
+abbrev pub history_of : {has_content : List ℕ → List ℕ → Type 0} {wishes : Wishes} {before : Tally} {old : Option (List ℕ)} {from : Mounted} {names : List (Bor (List ℕ))} {after : Tally} {new : Option (List ℕ)} {m : Mounted}
+    → AreTold has_content wishes before old from names after new m → List FilterEntry
 history_of nothing = []
 history_of (more names group counted after held new m m' told opened) = history_of told ++ history_of_group opened
 
--- A grant of this stream, generation and version: the stream has the file's name, and its content, of that generation, is clean under
--- the patterns that were published as that version.
-pub record IsCleanGrant (sets : List Publication) (v : Store) (name : List ℕ) (stream generation version : ℕ) : Type 0 where
+-- what happened before a front of the lines of a group was written
+abbrev pub history_of_part : {has_content : List ℕ → List ℕ → Type 0} {wishes : Wishes} {names : List (Bor (List ℕ))} {old new : Option (List ℕ)} {m : Mounted}
+    → AreOpenedInPart has_content wishes names old new m → List FilterEntry
+history_of_part {m = m} part = entries_of m.table m.volume part.led.events
+
+-- what happened before the last line of a run was written, whatever followed
+abbrev pub history_so_far : {has_content : List ℕ → List ℕ → Type 0} {wishes : Wishes} {before : Tally} {old : Option (List ℕ)} {from : Mounted} {names : List (Bor (List ℕ))} {new : Option (List ℕ)}
+    → AreToldSoFar has_content wishes before old from names new → List FilterEntry
+history_so_far run = history_of run.told ++ history_of_part run.last
+
+-- A grant of this stream, generation and version: the stream has the file's name, and its content, of that generation, is one that was
+-- read for that name, and is clean under the patterns that were published as that version.
+pub record IsCleanGrant (has_content : List ℕ → List ℕ → Type 0) (sets : List Publication) (v : Store) (name : List ℕ) (stream generation version : ℕ) : Type 0 where
   pub named : number_named name v.streams ≡ Some stream
   pub content : Stream
   pub there : stream_at stream v.streams ≡ Some content
   pub generation_is : generation ≡ content.generation
+  pub read : has_content name content.bytes
   pub patterns : List Pattern
   pub published : published_as sets version ≡ Some patterns
   pub clean : verdict patterns content.bytes ≡ Clean
 
 -- what a file was told lets it through only so
-abbrev pub IsRightOf : List Publication → Store → List ℕ → Answer → Type 0
-IsRightOf sets v name (Granted n least s g version) = IsCleanGrant sets v name s g version
-IsRightOf sets v name (Unscanned n s g cause) = ⊥
-IsRightOf sets v name (Denied n cause) = Unit {0}
+abbrev pub IsRightOf : (List ℕ → List ℕ → Type 0) → List Publication → Store → List ℕ → Answer → Type 0
+IsRightOf has_content sets v name (Granted n least s g version) = IsCleanGrant has_content sets v name s g version
+IsRightOf has_content sets v name (Unscanned n s g cause) = ⊥
+IsRightOf has_content sets v name (Denied n cause) = Unit {0}
 
 -- each line of each group, by the volume as it was when the line was written
-abbrev pub AreRight : {wishes : Wishes} {before : Tally} {old : Option (List ℕ)} {from : Mounted} {names : List (Bor (List ℕ))} {after : Tally} {new : Option (List ℕ)} {m : Mounted}
-    → List Publication → AreTold wishes before old from names after new m → Type 0
+abbrev pub AreRight : {has_content : List ℕ → List ℕ → Type 0} {wishes : Wishes} {before : Tally} {old : Option (List ℕ)} {from : Mounted} {names : List (Bor (List ℕ))} {after : Tally} {new : Option (List ℕ)} {m : Mounted}
+    → List Publication → AreTold has_content wishes before old from names after new m → Type 0
 AreRight sets nothing = Unit {0}
-AreRight sets (more names group counted after held new m m' told opened) =
-    AreRight sets told × Each (λ (o : Opened). IsRightOf sets opened.amid.volume o.name.now o.answer) opened.told.opened
+AreRight {has_content = has_content} sets (more names group counted after held new m m' told opened) =
+    AreRight sets told × Each (λ (o : Opened). IsRightOf has_content sets opened.amid.volume o.name.now o.answer) opened.told.opened
 
--- Of every run of a filter over files, by what its function ensures, and every service that keeps the conduct: each line is right.
-abbrev pub FilteredGrantsAreClean : Type 0
-FilteredGrantsAreClean =
-    (names : List (Bor (List ℕ))) (wishes : Wishes) (old new : Option (List ℕ)) (status : Status) (run : AreFiltered names wishes old new status)
+-- each line of which a front was written
+abbrev pub AreRightInPart : {has_content : List ℕ → List ℕ → Type 0} {wishes : Wishes} {names : List (Bor (List ℕ))} {answers : List Answer} {v : Store} {old new : Option (List ℕ)}
+    → List Publication → IsToldInPart has_content wishes names answers v old new → Type 0
+AreRightInPart sets (unwritten same) = Unit {0}
+AreRightInPart {has_content = has_content} {v = v} sets (begun opened files named lines) = Each (λ (o : Opened). IsRightOf has_content sets v o.name.now o.answer) opened
+
+-- Of every run of a filter over files that ended well, by what its function ensures, and every service that keeps the conduct: each line
+-- is right.
+abbrev pub FilteredGrantsAreClean : (List ℕ → List ℕ → Type 0) → Type 0
+FilteredGrantsAreClean has_content =
+    (names : List (Bor (List ℕ))) (wishes : Wishes) (old new : Option (List ℕ)) (status : Status) (run : AreFiltered has_content names wishes old new status)
     (number : ℕ) (limits : LimitValues) (sets : List Publication) (es : List SideEntry) → IsServed (history_of run.told) number limits sets es
     → AreRight (published_by sets es) run.told
+
+-- Of every run, however it ended: each line that was written is right, those of the groups that were opened, and those of which a front was
+-- written.
+abbrev pub WrittenGrantsAreClean : (List ℕ → List ℕ → Type 0) → Type 0
+WrittenGrantsAreClean has_content =
+    (names : List (Bor (List ℕ))) (wishes : Wishes) (old new : Option (List ℕ)) (run : AreToldSoFar has_content wishes no_files old first names new)
+    (number : ℕ) (limits : LimitValues) (sets : List Publication) (es : List SideEntry) → IsServed (history_so_far run) number limits sets es
+    → AreRight (published_by sets es) run.told × AreRightInPart (published_by sets es) run.last.told

@@ -143,7 +143,7 @@ fn filter_all<R: Hosting, W: Write, E: Write>(
     out: &mut W,
     err: &mut Progress<'_, HostRuntime, E>,
 ) -> Status
-    ensures { EndsWell result → AreFiltered names.now asked.now.named.wishes (W.contents out.old) (W.contents out.new) result }
+    ensures { EndsWell result → AreFiltered (λ _ _. Unit {0}) names.now asked.now.named.wishes (W.contents out.old) (W.contents out.new) result }
 {
     match look_over(rt, alloc, names, err) {
         Ok(()) => filter_files(
