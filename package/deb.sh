@@ -20,6 +20,10 @@ umask 022
 mkdir -p "$root/DEBIAN" "$doc/examples"
 
 make -s -C "$top" install-built BUILT="$built" DESTDIR="$root" PREFIX=/usr > "$room/log" || { cat "$room/log" >&2; exit 1; }
+# names of functions are of no use to who installs it
+if command -v strip > /dev/null; then
+    strip --strip-unneeded "$root"/usr/bin/* 2> "$room/log" || true
+fi
 find "$root/usr/share/man" -type f -exec gzip -9n {} +
 mkdir -p "$root/usr/share/zsh/vendor-completions"
 mv "$root"/usr/share/zsh/site-functions/* "$root/usr/share/zsh/vendor-completions"
