@@ -1,7 +1,9 @@
--- A status that tells of no fault is of files that were all judged.
-use Rattle.std.proofs.Common.{ℕ, ◌≡◌, ◌||◌, Bool, false, true, if◌then◌else◌, List, [], ◌∷◌, refl, rules}
+-- A status that tells of no fault is of files that were all judged; and what was written by then.
+use Rattle.std.proofs.Common.{ℕ, ◌≡◌, ◌||◌, Bool, false, true, if◌then◌else◌, List, [], ◌∷◌, Option, refl, rules}
+use Rattle.std.proofs.KnownBytes.{Appends-nil}
 use Rattle.std.specs.List.{AllByRecursion}
-use Rattle.av_files.specs.Opened.{is_granted, is_infected, tally_from, with_opened, worst_of}
+use Rattle.av_base.specs.Device.{AppendsPrefix}
+use Rattle.av_files.specs.Opened.{is_granted, is_infected, opened_lines, tally_from, with_opened, worst_of}
 use Rattle.av_files.specs.declared.opened.Opened.{Opened}
 use Rattle.av_status.specs.Status.{graver_status}
 use Rattle.av_status.specs.Tally.{concluded, ending_of, has_found, no_files, with_missed, with_scanned}
@@ -9,7 +11,8 @@ use Rattle.av_status.specs.declared.status.Status.{Status}
 use Rattle.av_status.specs.declared.status.Status.TheVariants.{Done, Refused, Usage, Memory, Device, Found, FoundInPart}
 use Rattle.av_status.specs.declared.tally.Tally.{Tally}
 use Rattle.av_status.specs.declared.tally.Wishes.{Wishes}
-use Rattle.avguard.specs.Ask.{AreJudged, IsJudged, asked_tally}
+use Rattle.av_pend.specs.declared.answer.Answer.{Answer}
+use Rattle.avguard.specs.Ask.{AreJudged, AreToldSoFar, IsJudged, IsToldSoFar, answered, asked_tally}
 
 -- a device fault is never none
 device_stays : (s : Status) → graver_status s Device ≡ Done → ⊥
@@ -66,3 +69,13 @@ judged_all w opened files missed =
     let t = tally_from no_files opened in
     by_worst w (asked_tally opened files missed) opened (worst_of (graver_status missed t.worst) t.worst)
     (λ e. (counted_judged no_files opened (none_counted (graver_status missed t.worst) t.worst e)).1)
+
+-- nothing was written
+pub none_written : (old : Option (List ℕ)) (text : List ℕ) → AppendsPrefix old old text
+none_written old text = record { front = []; back = text; parts = refl; appended = Appends-nil old }
+
+pub none_told : (answers : List (Option Answer)) (wishes : Wishes) (old : Option (List ℕ)) → AreToldSoFar answers wishes old old
+none_told answers wishes old = record { names = []; front = none_written old (opened_lines wishes (answered [] answers)) }
+
+pub none_asked : (wishes : Wishes) (old : Option (List ℕ)) → IsToldSoFar wishes old old
+none_asked wishes old = ([], none_told [] wishes old)

@@ -1,10 +1,11 @@
 ghost use Rattle.std.specs.Prelude.{◌≡◌, IfErr, IfOk};
 ghost use Rattle.std.specs.Io.KnownBytes.{Appends};
+ghost use Rattle.av_base.specs.Device.{AppendsPrefix};
 ghost use Rattle.av_files.specs.Opened.{IsDoneOrFault, opened_lines};
 ghost use Rattle.av_status.specs.Status.{EndsWell, IsFault};
 ghost use Rattle.av_status.specs.Tally.{concluded};
 ghost use Rattle.av_status.specs.declared.status.Status.TheVariants.{Device};
-ghost use Rattle.avguard.specs.Ask.{AreAsked, AreJudged, answered, asked_tally, failed_of};
+ghost use Rattle.avguard.specs.Ask.{AreAsked, AreJudged, AreToldSoFar, IsToldSoFar, answered, asked_tally, failed_of};
 
 use crate::guarding::Guards;
 use av_daemon::{Asker, AskingFault};
@@ -21,7 +22,7 @@ use std::alloc::{AllocError, Global};
 use std::io::Write;
 
 /// Asks a guard about files by their names, and writes a line for each that it answered, in the order given. One buffer holds each
-/// content on its way.
+/// content on its way. Whatever the status, nothing was written but a front of these lines.
 pub fn ask_named<R: Guards, W: Write, E: Write>(
     rt: &HostRuntime,
     system: &R,
@@ -30,7 +31,8 @@ pub fn ask_named<R: Guards, W: Write, E: Write>(
     out: &mut W,
     err: &mut Progress<'_, HostRuntime, E>,
 ) -> Status
-    ensures { EndsWell result → AreAsked asked.now.named.wishes (W.contents out.old) (W.contents out.new) result }
+    ensures so_far { IsToldSoFar asked.now.named.wishes (W.contents out.old) (W.contents out.new) }
+    ensures asked { EndsWell result → AreAsked asked.now.named.wishes (W.contents out.old) (W.contents out.new) result }
 {
     let mut text = Vec::new(alloc);
     let mut tally = Tally::new();
@@ -59,7 +61,8 @@ fn ask_names<R: Guards, W: Write, E: Write>(
     out: &mut W,
     err: &mut Progress<'_, HostRuntime, E>,
 ) -> Status
-    ensures { EndsWell result → AreAsked asked.now.named.wishes (W.contents out.old) (W.contents out.new) result }
+    ensures so_far { IsToldSoFar asked.now.named.wishes (W.contents out.old) (W.contents out.new) }
+    ensures asked { EndsWell result → AreAsked asked.now.named.wishes (W.contents out.old) (W.contents out.new) result }
 {
     let mut found = Vec::new(alloc);
     match add_files(rt, alloc, asked.finding, names, &mut found, &mut tally, err) {
@@ -142,7 +145,8 @@ fn ask_found<R: Guards, W: Write, E: Write>(
     out: &mut W,
     err: &mut Progress<'_, HostRuntime, E>,
 ) -> Status
-    ensures { EndsWell result → AreAsked asked.now.named.wishes (W.contents out.old) (W.contents out.new) result }
+    ensures so_far { IsToldSoFar asked.now.named.wishes (W.contents out.old) (W.contents out.new) }
+    ensures asked { EndsWell result → AreAsked asked.now.named.wishes (W.contents out.old) (W.contents out.new) result }
 {
     let Ok(mut buffer) = vec![in alloc; 0u8; MAX_FILE + 2] else {
         return out_of_memory(err);
@@ -178,7 +182,8 @@ fn ask_all<R: Guards, W: Write, E: Write>(
     out: &mut W,
     err: &mut Progress<'_, HostRuntime, E>,
 ) -> Status
-    ensures { EndsWell result → AreAsked asked.now.named.wishes (W.contents out.old) (W.contents out.new) result }
+    ensures so_far { AreToldSoFar asker.new.answers.items asked.now.named.wishes (W.contents out.old) (W.contents out.new) }
+    ensures asked { EndsWell result → AreAsked asked.now.named.wishes (W.contents out.old) (W.contents out.new) result }
 {
     let mut names = Vec::new(alloc);
     match ask_each(
@@ -331,7 +336,7 @@ fn guard_lost<E: Write>(err: &mut E, socket: &str, answers: &[Option<Answer>]) -
 }
 
 // Writes the lines of what was answered. A file that nobody judged is a fault as any other is, and the greatest counts.
-#[tactic(auto, using(crate::proofs::AskLemmas::judged_all))]
+#[tactic(auto, using(crate::proofs::AskLemmas::judged_all, crate::proofs::AskLemmas::none_written))]
 fn print_answers<W: Write, E: Write>(
     alloc: Global,
     names: &[&str],
@@ -345,6 +350,7 @@ fn print_answers<W: Write, E: Write>(
     ensures lines { EndsWell result → Appends (W.contents out.old) (W.contents out.new) (opened_lines wishes (answered names.now answers.now)) }
     ensures ended { EndsWell result → result ≡ concluded wishes (asked_tally (answered names.now answers.now) files ended) }
     ensures judged { AreJudged result (answered names.now answers.now) }
+    ensures front { AppendsPrefix (W.contents out.old) (W.contents out.new) (opened_lines wishes (answered names.now answers.now)) }
 {
     let Ok(opened) = opened_of(alloc, names, answers) else {
         return out_of_memory(err);
