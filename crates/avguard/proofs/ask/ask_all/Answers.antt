@@ -7,8 +7,8 @@ use Rattle.avguard.specs.Ask.{answered}
 use Rattle.avguard.proofs.AskLemmas.{none_told}
 use Rattle.avguard.proofs.ask.ask_all.Goals as goal
 
-pub returns-in-Err-clause-so_far : goal.returns-in-Err-clause-so_far
-returns-in-Err-clause-so_far g c = none_told _ _ _
+pub returns-clause-so_far : goal.returns-clause-so_far
+returns-clause-so_far g c = none_told _ _ _
 
 pub returns-in-Ok-clause-so_far : goal.returns-in-Ok-clause-so_far
 returns-in-Ok-clause-so_far g c = record {
