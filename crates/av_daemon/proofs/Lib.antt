@@ -1,2 +1,3 @@
 pub mod AskLemmas
 pub mod OwedLemmas
+pub mod TagLemmas

@@ -1,8 +1,9 @@
 -- What a client asks, and where its answers stand.
-use Rattle.std.specs.Prelude.{ℕ, ◌≡◌, ◌+◌, ◌⊎◌, List, [], ◌∷◌, take, Option, None, Some, slice_get, slice_set}
+use Rattle.std.specs.Prelude.{ℕ, ◌≡◌, ◌+◌, ◌⊎◌, List, [], ◌∷◌, length, take, Option, None, Some, slice_get, slice_set}
 use Rattle.av_asks.specs.Spelling as ask
 use Rattle.av_asks.specs.declared.answer.OpenAnswer.{OpenAnswer}
 use Rattle.av_asks.specs.declared.answer.OpenAnswer.TheVariants as open_answer
+use Rattle.av_pend.specs.Pend.{open_of}
 use Rattle.av_pend.specs.declared.answer.Answer.{Answer}
 use Rattle.av_pend.specs.declared.answer.Answer.TheVariants.{Granted, Denied, Unscanned}
 use Rattle.av_sockets.specs.declared.fault.SocketFault.{SocketFault}
@@ -25,6 +26,20 @@ told_of (open_answer.Unscanned tag generation cause) = (tag, Unscanned tag 0 gen
 -- an answer stands at the place of its tag, where none stood
 abbrev pub IsKept : List (Option Answer) → List (Option Answer) → ℕ × Answer → Type 0
 IsKept old new (tag, answer) = (slice_get old tag ≡ Some None) × (new ≡ slice_set old tag (Some answer))
+
+-- an answer that stood at a place stands there still
+abbrev pub Stays : List (Option Answer) → List (Option Answer) → Type 0
+Stays old new = (place : ℕ) (a : Answer) → slice_get old place ≡ Some (Some a) → slice_get new place ≡ Some (Some a)
+
+-- each answer stands at the place of its tag
+abbrev pub AreAtTheirTags : List (Option Answer) → Type 0
+AreAtTheirTags answers = (place : ℕ) (a : Answer) → slice_get answers place ≡ Some (Some a) → open_of a ≡ place
+
+-- what is heard adds answers alone, each at the place of its tag
+pub record Hears (old new : List (Option Answer)) : Type 0 where
+  pub places : length new ≡ length old
+  pub stays : Stays old new
+  pub tags : AreAtTheirTags old → AreAtTheirTags new
 
 -- how many contents have no answer
 abbrev pub unanswered : List (Option Answer) → ℕ

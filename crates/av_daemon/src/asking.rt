@@ -2,7 +2,7 @@ ghost use Rattle.std.specs.Prelude.{◌≡◌, ◌≤◌, ◌+◌, ◌-◌, ◌<
 ghost use Rattle.std.specs.List.{All};
 ghost use Rattle.std.specs.Vec.{vec_capacity};
 ghost use Rattle.av_asks.specs.Spelling.{ask_frame};
-ghost use Rattle.av_daemon.specs.Asking.{IsGuardless, IsKept, IsOwedEach, ask_of, told_of};
+ghost use Rattle.av_daemon.specs.Asking.{AreAtTheirTags, Hears, IsGuardless, IsKept, IsOwedEach, Stays, ask_of, told_of};
 
 use av_asks::{AnswerFeed, OpenAnswer, put_ask};
 use av_base::{OpenId, Refusal, StreamId, Version};
@@ -69,7 +69,7 @@ impl<'a, R: Net + Clock> Asker<'a, R> {
     }
 
     /// Asks about a content, whose name the guard is told as far as it has room for it. The answer may come later.
-    #[tactic(auto, using(crate::proofs::OwedLemmas::asked_each))]
+    #[tactic(auto, using(crate::proofs::OwedLemmas::asked_each, crate::proofs::TagLemmas::asked_stays, crate::proofs::TagLemmas::asked_tags))]
     pub fn ask(&mut self, name: &str, content: &[u8]) -> Result<(), AskingFault>
         ensures place { OnOk result (length self.new.answers.items ≡ length self.old.answers.items + 1) }
         ensures fewer { OnOk result (self.new.owed < 128) }
@@ -77,6 +77,8 @@ impl<'a, R: Net + Clock> Asker<'a, R> {
         ensures frame { OnOk result (self.new.room.items ≡ ask_frame (ask_of (length self.old.answers.items) name.now content.now)) }
         ensures large { result ≡ Err AskingFault.TooLarge → 1_048_576 < length content.now }
         ensures each { IsOwedEach self.old.owed self.old.answers.items → IsOwedEach self.new.owed self.new.answers.items }
+        ensures stays { Stays self.old.answers.items self.new.answers.items }
+        ensures tags { AreAtTheirTags self.old.answers.items → AreAtTheirTags self.new.answers.items }
     {
         self.put(name, content)?;
         let mut saying = Saying {
@@ -118,7 +120,7 @@ impl<'a, R: Net + Clock> Asker<'a, R> {
         ensures none { OnOk result (self.new.owed ≡ 0) }
         ensures each { IsOwedEach self.old.owed self.old.answers.items → IsOwedEach self.new.owed self.new.answers.items }
         ensures all { IsOwedEach self.old.owed self.old.answers.items → OnOk result (All IsSome self.new.answers.items) }
-        ensures places { length self.new.answers.items ≡ length self.old.answers.items }
+        ensures heard { Hears self.old.answers.items self.new.answers.items }
     {
         self.hear_until(1)
     }
@@ -135,7 +137,7 @@ impl<'a, R: Net + Clock> Asker<'a, R> {
         ensures fewer { OnOk result (self.new.owed < count) }
         ensures room { self.new.room.items ≡ self.old.room.items }
         ensures large { ¬ (result ≡ Err AskingFault.TooLarge) }
-        ensures places { length self.new.answers.items ≡ length self.old.answers.items }
+        ensures heard { Hears self.old.answers.items self.new.answers.items }
         ensures each { IsOwedEach self.old.owed self.old.answers.items → IsOwedEach self.new.owed self.new.answers.items }
     {
         let mut piece = [0u8; PIECE];
@@ -161,7 +163,7 @@ impl<'a, R: Net + Clock> Asker<'a, R> {
     fn take(&mut self, piece: &[u8]) -> Result<(), AskingFault>
         ensures room { self.new.room.items ≡ self.old.room.items }
         ensures large { ¬ (result ≡ Err AskingFault.TooLarge) }
-        ensures places { length self.new.answers.items ≡ length self.old.answers.items }
+        ensures heard { Hears self.old.answers.items self.new.answers.items }
         ensures each { IsOwedEach self.old.owed self.old.answers.items → IsOwedEach self.new.owed self.new.answers.items }
     {
         if self.feed.push(piece).is_err() {

@@ -12,6 +12,7 @@ use Rattle.av_status.specs.declared.status.Status.TheVariants.{Done, Refused, Us
 use Rattle.av_status.specs.declared.tally.Tally.{Tally}
 use Rattle.av_status.specs.declared.tally.Wishes.{Wishes}
 use Rattle.av_pend.specs.declared.answer.Answer.{Answer}
+use Rattle.av_daemon.specs.Asking.{AreAtTheirTags}
 use Rattle.avguard.specs.Ask.{AreJudged, AreToldSoFar, IsJudged, IsToldSoFar, answered, asked_tally}
 
 -- a device fault is never none
@@ -77,5 +78,8 @@ none_written old text = record { front = []; back = text; parts = refl; appended
 pub none_told : (answers : List (Option Answer)) (wishes : Wishes) (old : Option (List ℕ)) → AreToldSoFar answers wishes old old
 none_told answers wishes old = record { names = []; front = none_written old (opened_lines wishes (answered [] answers)) }
 
+pub no_tags : AreAtTheirTags []
+no_tags place a at = cc
+
 pub none_asked : (wishes : Wishes) (old : Option (List ℕ)) → IsToldSoFar wishes old old
-none_asked wishes old = ([], none_told [] wishes old)
+none_asked wishes old = record { answers = []; tags = no_tags; told = none_told [] wishes old }

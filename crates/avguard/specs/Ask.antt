@@ -5,6 +5,7 @@ use Rattle.std.specs.Io.KnownBytes.{Appends}
 use Rattle.std.specs.List.{AllByRecursion, filter_map, zip}
 use Rattle.std.specs.Option.{option_map}
 use Rattle.av_base.specs.Device.{AppendsPrefix}
+use Rattle.av_daemon.specs.Asking.{AreAtTheirTags}
 use Rattle.av_daemon.specs.declared.asking.AskingFault.{AskingFault}
 use Rattle.av_daemon.specs.declared.asking.AskingFault.TheVariants as asking
 use Rattle.av_files.specs.Opened.{ended_tally, is_granted, is_infected, opened_lines, tally_from}
@@ -44,9 +45,11 @@ pub record AreToldSoFar (answers : List (Option Answer)) (wishes : Wishes) (old 
   pub names : List (Bor (List ℕ))
   pub front : AppendsPrefix old new (opened_lines wishes (answered names answers))
 
--- the same of the answers that a guard gave
-abbrev pub IsToldSoFar : Wishes → Option (List ℕ) → Option (List ℕ) → Type 0
-IsToldSoFar wishes old new = (answers : List (Option Answer)) × AreToldSoFar answers wishes old new
+-- the same of the answers that a guard gave, each to the ask of its tag
+pub record IsToldSoFar (wishes : Wishes) (old new : Option (List ℕ)) : Type 0 where
+  pub answers : List (Option Answer)
+  pub tags : AreAtTheirTags answers
+  pub told : AreToldSoFar answers wishes old new
 
 -- a guard answered about these of so many files: their lines were written, the status is that of these files, and it is Done only where
 -- each was judged

@@ -1,6 +1,7 @@
 ghost use Rattle.std.specs.Prelude.{◌≡◌, IfErr, IfOk};
 ghost use Rattle.std.specs.Io.KnownBytes.{Appends};
 ghost use Rattle.av_base.specs.Device.{AppendsPrefix};
+ghost use Rattle.av_daemon.specs.Asking.{AreAtTheirTags};
 ghost use Rattle.av_files.specs.Opened.{IsDoneOrFault, opened_lines};
 ghost use Rattle.av_status.specs.Status.{EndsWell, IsFault};
 ghost use Rattle.av_status.specs.Tally.{concluded};
@@ -183,6 +184,7 @@ fn ask_all<R: Guards, W: Write, E: Write>(
     err: &mut Progress<'_, HostRuntime, E>,
 ) -> Status
     ensures so_far { AreToldSoFar asker.new.answers.items asked.now.named.wishes (W.contents out.old) (W.contents out.new) }
+    ensures tags { AreAtTheirTags asker.old.answers.items → AreAtTheirTags asker.new.answers.items }
     ensures asked { EndsWell result → AreAsked asked.now.named.wishes (W.contents out.old) (W.contents out.new) result }
 {
     let mut names = Vec::new(alloc);
@@ -220,7 +222,8 @@ fn ask_each<'b, R: Guards, E: Write>(
     buffer: &mut [u8],
     err: &mut Progress<'_, HostRuntime, E>,
 ) -> Result<Status, Status>
-    ensures { IfErr result (λ status. IsFault status) }
+    ensures failed { IfErr result (λ status. IsFault status) }
+    ensures tags { AreAtTheirTags asker.old.answers.items → AreAtTheirTags asker.new.answers.items }
 {
     let mut ended = missed;
     'files: for (done, file) in found.iter().enumerate() {
@@ -248,7 +251,8 @@ fn finished<R: Guards, E: Write>(
     socket: &str,
     err: &mut Progress<'_, HostRuntime, E>,
 ) -> Status
-    ensures { IsDoneOrFault result }
+    ensures failed { IsDoneOrFault result }
+    ensures tags { AreAtTheirTags asker.old.answers.items → AreAtTheirTags asker.new.answers.items }
 {
     let heard = asker.finish();
     err.wipe();
@@ -274,7 +278,8 @@ fn ask_one<R: Guards, E: Write>(
     buffer: &mut [u8],
     err: &mut Progress<'_, HostRuntime, E>,
 ) -> Result<(), Failed>
-    ensures { IfErr result (λ failed. IsFault failed.status) }
+    ensures failed { IfErr result (λ failed. IsFault failed.status) }
+    ensures tags { AreAtTheirTags asker.old.answers.items → AreAtTheirTags asker.new.answers.items }
 {
     let name = file.name.as_str();
     let input = match file.source {
