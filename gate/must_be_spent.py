@@ -24,7 +24,8 @@ SPENT = {
     "av_gate": [("gate", "Gate")],
     "av_desk": [("lent", "Lent"), ("lent", "Taken")],
     "av_pool": [("pool", "Pool"), ("stopped", "Stopped")],
-    "av_world": [("world", "World")],
+    # of av_world, in a crate that has tests
+    "av_script": [("run_script", "World")],
 }
 LET_GO = "\npub fn let_go_%s(value: %s) {\n    let _left = value;\n}\n"
 
