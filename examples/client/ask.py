@@ -21,9 +21,9 @@ class Lost(Exception):
 
 
 class Guard:
-    """A connection to a guard. With seconds, an answer that takes longer, or a send, is Lost."""
+    """A connection to a guard. One that sends or takes nothing for so many seconds is Lost."""
 
-    def __init__(self, path, seconds=None):
+    def __init__(self, path, seconds=60):
         self.socket = socket.socket(socket.AF_UNIX)
         self.socket.settimeout(seconds)
         try:

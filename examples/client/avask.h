@@ -5,7 +5,7 @@
  *     if (guard >= 0 && av_ask(guard, content, length, &answer) == AV_GRANTED) ...
  *
  * It is C11 and C++11. Nothing is allocated, and nothing is needed but the C library of a Unix. A connection carries one ask at a time,
- * so threads take one each. A guard that is stopped keeps av_ask waiting: av_wait bounds that. docs/FORMATS.md, "Asking a guard", has the frames that go over it. */
+ * so threads take one each. A guard that sends or takes nothing for 60 s is lost; av_wait sets another bound. docs/FORMATS.md, "Asking a guard", has the frames that go over it. */
 #ifndef AVASK_H
 #define AVASK_H
 #include <errno.h>
@@ -17,6 +17,7 @@
 #include <unistd.h>
 
 enum { AV_MOST = 1048576 }; /* the most bytes of a content */
+enum { AV_SECONDS = 60 };   /* how long the guard may send or take nothing, unless av_wait says otherwise */
 
 /* What is said of a content. The last two are no answers of the guard: the connection is of no use any more and is to be closed; nothing
  * was asked, and the connection is as it was. */
@@ -27,6 +28,19 @@ struct av_answer {
     uint64_t version;    /* granted: of the signatures under which it is clean */
     int cause;           /* denied, unscanned: 2 says that a signature occurs, any other that it was not judged */
 };
+
+/* From now on a guard that sends or takes nothing for so many seconds, at least 1, makes the connection AV_LOST. 0, or -1 with errno. */
+static inline int av_wait(int guard, unsigned seconds) {
+    struct timeval most;
+    if (seconds == 0) {
+        errno = EINVAL;
+        return -1;
+    }
+    memset(&most, 0, sizeof most);
+    most.tv_sec = (time_t)seconds;
+    if (setsockopt(guard, SOL_SOCKET, SO_SNDTIMEO, &most, sizeof most) < 0) return -1;
+    return setsockopt(guard, SOL_SOCKET, SO_RCVTIMEO, &most, sizeof most);
+}
 
 /* A connection to the guard that listens at a path, or -1 with errno: ENAMETOOLONG where a socket can't have such a path. */
 static inline int av_connect(const char *path) {
@@ -39,24 +53,18 @@ static inline int av_connect(const char *path) {
         return -1;
     }
     memcpy(at.sun_path, path, length);
-    int guard = socket(AF_UNIX, SOCK_STREAM | SOCK_CLOEXEC, 0), made;
+    int guard = socket(AF_UNIX, SOCK_STREAM | SOCK_CLOEXEC, 0);
     if (guard < 0) return -1;
-    do made = connect(guard, (struct sockaddr *)&at, sizeof at);
-    while (made < 0 && errno == EINTR);
+    int made = av_wait(guard, AV_SECONDS);
+    if (made == 0) {
+        do made = connect(guard, (struct sockaddr *)&at, sizeof at);
+        while (made < 0 && errno == EINTR);
+    }
     if (made == 0) return guard;
     int fault = errno;
     close(guard);
     errno = fault;
     return -1;
-}
-
-/* From now on a send or an answer that takes longer than so many seconds makes the connection AV_LOST. 0, or -1 with errno. */
-static inline int av_wait(int guard, unsigned seconds) {
-    struct timeval most;
-    memset(&most, 0, sizeof most);
-    most.tv_sec = (time_t)seconds;
-    if (setsockopt(guard, SOL_SOCKET, SO_SNDTIMEO, &most, sizeof most) < 0) return -1;
-    return setsockopt(guard, SOL_SOCKET, SO_RCVTIMEO, &most, sizeof most);
 }
 
 static inline int av_send(int guard, const void *bytes, size_t count) {

@@ -7,9 +7,8 @@
 #include <stdlib.h>
 #include <sys/fanotify.h>
 #include <sys/stat.h>
-#include <sys/time.h>
 
-enum { USAGE = 2, DEVICE = 4, PASSING = 8, SECONDS = 60 };
+enum { USAGE = 2, DEVICE = 4, PASSING = 8 };
 
 static const char HELP[] =
     "usage: avguard-fanotify [-m] [-o] [-p PID].. OPENS FOLDER..\n"
@@ -48,22 +47,13 @@ static ssize_t read_file(int file, unsigned char *content) {
     return (ssize_t)length;
 }
 
-/* A guard that takes or gives nothing for SECONDS is as one that is not there: no open waits for ever. */
-static int join(const char *opens) {
-    struct timeval limit = {.tv_sec = SECONDS};
-    int connection = av_connect(opens);
-    if (connection < 0) return -1;
-    setsockopt(connection, SOL_SOCKET, SO_RCVTIMEO, &limit, sizeof limit);
-    setsockopt(connection, SOL_SOCKET, SO_SNDTIMEO, &limit, sizeof limit);
-    return connection;
-}
-
-/* What is said of a content. A connection that was lost, as by a guard that was started anew, is made again once. */
+/* What is said of a content. A connection that was lost, as by a guard that was started anew, is made again once. A guard that takes or
+ * gives nothing for AV_SECONDS is lost: no open waits for ever. */
 static int ask(struct guard *guard, const unsigned char *content, size_t length) {
     struct av_answer answer;
     int said = AV_LOST;
     for (int turn = 0; turn < 2 && said == AV_LOST; turn++) {
-        if (guard->connection < 0) guard->connection = join(guard->opens);
+        if (guard->connection < 0) guard->connection = av_connect(guard->opens);
         if (guard->connection < 0) break;
         said = av_ask(guard->connection, content, length, &answer);
         if (said != AV_LOST) break;
