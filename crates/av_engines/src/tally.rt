@@ -2,7 +2,7 @@ ghost use Rattle.std.specs.Prelude.{◌≡◌, ◌+◌, ◌≤◌, ◌++◌, [],
 ghost use Rattle.std.specs.Vec.{vec_capacity};
 ghost use Rattle.av_engines.specs.Watching.{later};
 
-use av_filter::Filter;
+use av_filter::Mounted;
 use av_pend::Answer;
 use std::alloc::{AllocError, Global};
 
@@ -36,12 +36,12 @@ impl Tally {
     }
 
     /// Makes room for the answers of one event of a filter.
-    pub fn make_room(&mut self, filter: &Filter) -> Result<(), AllocError>
-        ensures room { OnOk result (vec_len self.new.answers + length filter.now.pended + 1 ≤ vec_capacity self.new.answers) }
+    pub fn make_room(&mut self, mounted: &Mounted) -> Result<(), AllocError>
+        ensures room { OnOk result (vec_len self.new.answers + length mounted.now.table.pended + 1 ≤ vec_capacity self.new.answers) }
         ensures answers { self.new.answers.items ≡ self.old.answers.items }
         ensures rest { (self.new.first ≡ self.old.first) × (self.new.submitted ≡ self.old.submitted) }
     {
-        match filter.pended_count().checked_add(1) {
+        match mounted.filter().pended_count().checked_add(1) {
             Some(most) => self.answers.reserve(most),
             None => Err(AllocError),
         }

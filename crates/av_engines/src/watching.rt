@@ -7,7 +7,6 @@ ghost use Rattle.av_engines.specs.Watching.{all_happened, begun, due, events_of,
 ghost use Rattle.av_frame.specs.declared.end.End.TheVariants.{Done};
 ghost use Rattle.av_filter.specs.Call.{MeetsAlways};
 ghost use Rattle.av_filter.specs.Conduct.{Disconnects, Opens, Receives, filter_step};
-ghost use Rattle.av_filter.specs.Fit.{Fits};
 ghost use Rattle.av_filter_table.specs.Ports.{is_open};
 ghost use Rattle.av_frame.specs.Spelling.{frame};
 ghost use Rattle.av_store.specs.Store.{greatest};
@@ -16,11 +15,10 @@ use crate::exchange::Exchange;
 use crate::outgoing::Outgoing;
 use crate::tally::Tally;
 use av_base::{Port, Refusal, StreamId, Version};
-use av_filter::{Filter, Out};
+use av_filter::{Mounted, Out};
 use av_frame::laws::bytes_spell_one_list;
 use av_frame::{End, Message};
 use av_pend::Answer;
-use av_store::Volume;
 use std::alloc::{AllocError, Global};
 use std::io::{Read, Write};
 
@@ -53,25 +51,22 @@ impl Watched {
 /// of one message.
 pub fn serve_filter<R: Read, W: Write>(
     alloc: Global,
-    volume: &mut Volume,
-    filter: &mut Filter,
+    mounted: &mut Mounted,
     opens: &[StreamId],
     reader: &mut R,
     writer: &mut W,
     turns: u64,
 ) -> Watched
-    requires fits { Fits filter.old volume.old }
-    requires alone { is_open Two filter.old.connected ≡ false }
-    requires left { volume.old.opens + length opens.now ≤ greatest }
-    ensures watches { WatchesTo opens.now filter.old volume.old filter.new volume.new result.answers.items
-        (R.remaining reader.old) (W.contents writer.old) (W.contents writer.new) turns result.end }
-    ensures fits { Fits filter.new volume.new }
+    requires alone { is_open Two mounted.old.table.connected ≡ false }
+    requires left { mounted.old.volume.opens + length opens.now ≤ greatest }
+    ensures watches { WatchesTo opens.now mounted.old.table mounted.old.volume mounted.new.table mounted.new.volume
+        result.answers.items (R.remaining reader.old) (W.contents writer.old) (W.contents writer.new) turns result.end }
 {
-    let tally = Tally::new(alloc, volume.opens(), false);
+    let tally = Tally::new(alloc, mounted.volume().opens(), false);
     match Exchange::new(alloc, turns) {
         Ok(mut exchange) => {
             let line = &mut exchange;
-            serve(alloc, volume, filter, opens, tally, line, reader, writer)
+            serve(alloc, mounted, opens, tally, line, reader, writer)
         }
         Err(_) => Watched::of(End::Memory, tally),
     }
@@ -82,80 +77,69 @@ pub fn serve_filter<R: Read, W: Write>(
 /// is left to the next call, where this one ended with Done.
 pub fn serve_further<R: Read, W: Write>(
     alloc: Global,
-    volume: &mut Volume,
-    filter: &mut Filter,
+    mounted: &mut Mounted,
     opens: &[StreamId],
     exchange: &mut Exchange,
     reader: &mut R,
     writer: &mut W,
 ) -> Watched
-    requires fits { Fits filter.old volume.old }
-    requires alone { is_open Two filter.old.connected ≡ false }
-    requires left { volume.old.opens + length opens.now ≤ greatest }
+    requires alone { is_open Two mounted.old.table.connected ≡ false }
+    requires left { mounted.old.volume.opens + length opens.now ≤ greatest }
     requires nothing { exchange.old.outgoing ≡ [] }
-    ensures watches { WatchesOver true opens.now filter.old volume.old filter.new volume.new result.answers.items
-        exchange.old.incoming exchange.new.incoming (R.remaining reader.old) (R.remaining reader.new) (W.contents writer.old)
-        (W.contents writer.new) result.end }
+    ensures watches { WatchesOver true opens.now mounted.old.table mounted.old.volume mounted.new.table mounted.new.volume
+        result.answers.items exchange.old.incoming exchange.new.incoming
+        (R.remaining reader.old) (R.remaining reader.new) (W.contents writer.old) (W.contents writer.new) result.end }
     ensures nothing { result.end ≡ Done → exchange.new.outgoing ≡ [] }
-    ensures fits { Fits filter.new volume.new }
 {
-    let tally = Tally::new(alloc, volume.opens(), true);
-    serve(
-        alloc, volume, filter, opens, tally, exchange, reader, writer,
-    )
+    let tally = Tally::new(alloc, mounted.volume().opens(), true);
+    serve(alloc, mounted, opens, tally, exchange, reader, writer)
 }
 
 // The same, with a tally that has no answer yet.
 fn serve<R: Read, W: Write>(
     alloc: Global,
-    volume: &mut Volume,
-    filter: &mut Filter,
+    mounted: &mut Mounted,
     opens: &[StreamId],
     mut tally: Tally,
     exchange: &mut Exchange,
     reader: &mut R,
     writer: &mut W,
 ) -> Watched
-    requires fits { Fits filter.old volume.old }
-    requires left { volume.old.opens + length opens.now ≤ greatest }
+    requires left { mounted.old.volume.opens + length opens.now ≤ greatest }
     requires nothing { exchange.old.outgoing ≡ [] }
-    requires none { (tally.answers.items ≡ []) × (tally.first ≡ volume.old.opens) × (tally.submitted ≡ false) }
-    ensures watches { WatchesOver tally.at_once opens.now filter.old volume.old filter.new volume.new result.answers.items
-        exchange.old.incoming exchange.new.incoming (R.remaining reader.old) (R.remaining reader.new) (W.contents writer.old)
-        (W.contents writer.new) result.end }
+    requires none { (tally.answers.items ≡ []) × (tally.first ≡ mounted.old.volume.opens) × (tally.submitted ≡ false) }
+    ensures watches { WatchesOver tally.at_once opens.now mounted.old.table mounted.old.volume mounted.new.table
+        mounted.new.volume result.answers.items exchange.old.incoming exchange.new.incoming
+        (R.remaining reader.old) (R.remaining reader.new) (W.contents writer.old) (W.contents writer.new) result.end }
     ensures nothing { result.end ≡ Done → exchange.new.outgoing ≡ [] }
-    ensures fits { Fits filter.new volume.new }
 {
     let line = &mut tally;
-    let would = watch(alloc, volume, filter, opens, line, exchange, reader, writer);
-    let end = leave(alloc, volume, filter, &mut tally, would);
+    let would = watch(alloc, mounted, opens, line, exchange, reader, writer);
+    let end = leave(alloc, mounted, &mut tally, would);
     Watched::of(end, tally)
 }
 
 // Submits the opens where that may be at once, and handles each message that comes, until all opens are answered or none comes.
 fn watch<R: Read, W: Write>(
     alloc: Global,
-    volume: &mut Volume,
-    filter: &mut Filter,
+    mounted: &mut Mounted,
     opens: &[StreamId],
     tally: &mut Tally,
     exchange: &mut Exchange,
     reader: &mut R,
     writer: &mut W,
 ) -> End
-    requires fits { Fits filter.old volume.old }
-    requires left { volume.old.opens + length opens.now ≤ greatest }
+    requires left { mounted.old.volume.opens + length opens.now ≤ greatest }
     requires nothing { exchange.old.outgoing ≡ [] }
-    requires none { (tally.old.answers.items ≡ []) × (tally.old.first ≡ volume.old.opens) × (tally.old.submitted ≡ false) }
-    ensures runs { RunsOver tally.old.at_once opens.now filter.old volume.old filter.new volume.new tally.new.answers.items
-        exchange.old.incoming exchange.new.incoming (R.remaining reader.old) (R.remaining reader.new) (W.contents writer.old)
-        (W.contents writer.new) result }
+    requires none { (tally.old.answers.items ≡ []) × (tally.old.first ≡ mounted.old.volume.opens) × (tally.old.submitted ≡ false) }
+    ensures runs { RunsOver tally.old.at_once opens.now mounted.old.table mounted.old.volume mounted.new.table
+        mounted.new.volume tally.new.answers.items exchange.old.incoming exchange.new.incoming
+        (R.remaining reader.old) (R.remaining reader.new) (W.contents writer.old) (W.contents writer.new) result }
     ensures nothing { result ≡ Done → exchange.new.outgoing ≡ [] }
-    ensures fits { Fits filter.new volume.new }
 {
     bytes_spell_one_list();
     let outgoing = &mut exchange.outgoing;
-    match begin(alloc, volume, filter, opens, tally, outgoing) {
+    match begin(alloc, mounted, opens, tally, outgoing) {
         Ok(()) => {}
         Err(_) => return End::Memory,
     }
@@ -165,7 +149,7 @@ fn watch<R: Read, W: Write>(
             Err(end) => return end,
         };
         let outgoing = &mut exchange.outgoing;
-        match hear(alloc, volume, filter, opens, tally, outgoing, &message) {
+        match hear(alloc, mounted, opens, tally, outgoing, &message) {
             Ok(()) => {}
             Err(_) => return End::Memory,
         }
@@ -179,86 +163,79 @@ fn watch<R: Read, W: Write>(
 // Submits the opens where that may be before any message, and the filter is connected.
 fn begin(
     alloc: Global,
-    volume: &mut Volume,
-    filter: &mut Filter,
+    mounted: &mut Mounted,
     opens: &[StreamId],
     tally: &mut Tally,
     outgoing: &mut Outgoing,
 ) -> Result<(), AllocError>
-    requires fits { Fits filter.old volume.old }
-    requires left { volume.old.opens + length opens.now ≤ greatest }
+    requires left { mounted.old.volume.opens + length opens.now ≤ greatest }
     requires none { (tally.old.answers.items ≡ []) × (tally.old.submitted ≡ false) }
     ensures ok { OnOk result
-        (Hears (begun tally.old.at_once opens.now (unled filter.old volume.old [])) filter.new volume.new
-        tally.new.answers.items tally.new.submitted outgoing.old outgoing.new) }
+        (Hears (begun tally.old.at_once opens.now (unled mounted.old.table mounted.old.volume [])) mounted.new.table
+        mounted.new.volume tally.new.answers.items tally.new.submitted outgoing.old outgoing.new) }
     ensures amid { OnErr result ((tally.old.at_once ≡ true)
-        × IsAmid (unled filter.old volume.old []) (due opens.now false filter.old) filter.new volume.new tally.new.answers.items) }
-    ensures left { OnOk result (tally.new.submitted ≡ false → volume.new.opens ≡ volume.old.opens) }
-    ensures fits { Fits filter.new volume.new }
+        × IsAmid (unled mounted.old.table mounted.old.volume []) (due opens.now false mounted.old.table) mounted.new.table
+        mounted.new.volume tally.new.answers.items) }
+    ensures left { OnOk result (tally.new.submitted ≡ false → mounted.new.volume.opens ≡ mounted.old.volume.opens) }
     ensures first { tally.new.first ≡ tally.old.first }
 {
     if !tally.at_once {
         return Ok(());
     }
-    join(alloc, volume, filter, opens, tally, outgoing)
+    join(alloc, mounted, opens, tally, outgoing)
 }
 
 // Handles a message of the first port, and submits the opens where it connects the filter.
 fn hear(
     alloc: Global,
-    volume: &mut Volume,
-    filter: &mut Filter,
+    mounted: &mut Mounted,
     opens: &[StreamId],
     tally: &mut Tally,
     outgoing: &mut Outgoing,
     message: &Message,
 ) -> Result<(), AllocError>
-    requires fits { Fits filter.old volume.old }
-    requires left { tally.old.submitted ≡ false → volume.old.opens + length opens.now ≤ greatest }
+    requires left { tally.old.submitted ≡ false → mounted.old.volume.opens + length opens.now ≤ greatest }
     ensures ok { OnOk result
-        (Hears (heard opens.now (standing filter.old volume.old tally.old.answers.items tally.old.submitted) message.now)
-        filter.new volume.new tally.new.answers.items tally.new.submitted outgoing.old outgoing.new) }
+        (Hears
+        (heard opens.now (standing mounted.old.table mounted.old.volume tally.old.answers.items tally.old.submitted) message.now)
+        mounted.new.table mounted.new.volume tally.new.answers.items tally.new.submitted outgoing.old outgoing.new) }
     ensures amid { OnErr result
-        (IsAmid (unled filter.old volume.old tally.old.answers.items)
-        (events_of opens.now (standing filter.old volume.old tally.old.answers.items tally.old.submitted) message.now)
-        filter.new volume.new tally.new.answers.items) }
+        (IsAmid (unled mounted.old.table mounted.old.volume tally.old.answers.items)
+        (events_of opens.now (standing mounted.old.table mounted.old.volume tally.old.answers.items tally.old.submitted)
+        message.now) mounted.new.table mounted.new.volume tally.new.answers.items) }
     ensures left { OnOk result (tally.new.submitted ≡ false
-        → (tally.old.submitted ≡ false) × (volume.new.opens ≡ volume.old.opens)) }
-    ensures fits { Fits filter.new volume.new }
+        → (tally.old.submitted ≡ false) × (mounted.new.volume.opens ≡ mounted.old.volume.opens)) }
     ensures first { tally.new.first ≡ tally.old.first }
 {
     if message.port() != Port::One {
         return Ok(());
     }
-    receive(alloc, volume, filter, tally, outgoing, message)?;
-    join(alloc, volume, filter, opens, tally, outgoing)
+    receive(alloc, mounted, tally, outgoing, message)?;
+    join(alloc, mounted, opens, tally, outgoing)
 }
 
 // Submits the opens where the filter is connected and they weren't submitted.
 fn join(
     alloc: Global,
-    volume: &mut Volume,
-    filter: &mut Filter,
+    mounted: &mut Mounted,
     opens: &[StreamId],
     tally: &mut Tally,
     outgoing: &mut Outgoing,
 ) -> Result<(), AllocError>
-    requires fits { Fits filter.old volume.old }
-    requires left { tally.old.submitted ≡ false → volume.old.opens + length opens.now ≤ greatest }
+    requires left { tally.old.submitted ≡ false → mounted.old.volume.opens + length opens.now ≤ greatest }
     ensures ok { OnOk result
-        (Hears (joined opens.now tally.old.submitted (unled filter.old volume.old tally.old.answers.items))
-        filter.new volume.new tally.new.answers.items tally.new.submitted outgoing.old outgoing.new) }
+        (Hears (joined opens.now tally.old.submitted (unled mounted.old.table mounted.old.volume tally.old.answers.items))
+        mounted.new.table mounted.new.volume tally.new.answers.items tally.new.submitted outgoing.old outgoing.new) }
     ensures amid { OnErr result
-        (IsAmid (unled filter.old volume.old tally.old.answers.items) (due opens.now tally.old.submitted filter.old)
-        filter.new volume.new tally.new.answers.items) }
+        (IsAmid (unled mounted.old.table mounted.old.volume tally.old.answers.items)
+        (due opens.now tally.old.submitted mounted.old.table) mounted.new.table mounted.new.volume tally.new.answers.items) }
     ensures left { OnOk result (tally.new.submitted ≡ false
-        → (tally.old.submitted ≡ false) × (volume.new.opens ≡ volume.old.opens)) }
-    ensures fits { Fits filter.new volume.new }
+        → (tally.old.submitted ≡ false) × (mounted.new.volume.opens ≡ mounted.old.volume.opens)) }
     ensures first { tally.new.first ≡ tally.old.first }
 {
-    if filter.connected(Port::One) && !tally.submitted {
+    if mounted.filter().connected(Port::One) && !tally.submitted {
         tally.submitted = true;
-        submit_all(alloc, volume, filter, opens, tally, outgoing)?;
+        submit_all(alloc, mounted, opens, tally, outgoing)?;
     }
     Ok(())
 }
@@ -266,39 +243,36 @@ fn join(
 // Submits an open of each of these streams.
 fn submit_all(
     alloc: Global,
-    volume: &mut Volume,
-    filter: &mut Filter,
+    mounted: &mut Mounted,
     opens: &[StreamId],
     tally: &mut Tally,
     outgoing: &mut Outgoing,
 ) -> Result<(), AllocError>
-    requires fits { Fits filter.old volume.old }
-    requires left { volume.old.opens + length opens.now ≤ greatest }
+    requires left { mounted.old.volume.opens + length opens.now ≤ greatest }
     ensures ok { OnOk result
-        (Puts (all_happened (unled filter.old volume.old tally.old.answers.items) (opens_of opens.now)) filter.new volume.new
-        tally.new.answers.items outgoing.old outgoing.new) }
+        (Puts (all_happened (unled mounted.old.table mounted.old.volume tally.old.answers.items) (opens_of opens.now))
+        mounted.new.table mounted.new.volume tally.new.answers.items outgoing.old outgoing.new) }
     ensures amid { OnErr result
-        (IsAmid (unled filter.old volume.old tally.old.answers.items) (opens_of opens.now) filter.new volume.new
-        tally.new.answers.items) }
-    ensures fits { Fits filter.new volume.new }
+        (IsAmid (unled mounted.old.table mounted.old.volume tally.old.answers.items) (opens_of opens.now)
+        mounted.new.table mounted.new.volume tally.new.answers.items) }
     ensures rest { (tally.new.first ≡ tally.old.first) × (tally.new.submitted ≡ tally.old.submitted) }
 {
     'opens: for stream in opens {
-        submit(alloc, volume, filter, tally, outgoing, *stream)?;
+        submit(alloc, mounted, tally, outgoing, *stream)?;
     }
     Ok(())
 }
 
 // Disconnects the filter, where its engine did not end with Done or Memory. The end; Memory, where it was refused to that.
-fn leave(alloc: Global, volume: &Volume, filter: &mut Filter, tally: &mut Tally, end: End) -> End
-    requires fits { Fits filter.old volume.now }
-    ensures leaves { Leaves end result filter.old volume.now tally.old.answers.items filter.new tally.new.answers.items }
-    ensures fits { Fits filter.new volume.now }
+fn leave(alloc: Global, mounted: &mut Mounted, tally: &mut Tally, end: End) -> End
+    ensures leaves { Leaves end result mounted.old.table mounted.old.volume tally.old.answers.items mounted.new.table
+        tally.new.answers.items }
+    ensures still { mounted.new.volume ≡ mounted.old.volume }
 {
     if matches!(end, End::Done | End::Memory | End::AuditFull) {
         return end;
     }
-    match disconnect(alloc, volume, filter, tally) {
+    match disconnect(alloc, mounted, tally) {
         Ok(()) => end,
         Err(_) => End::Memory,
     }
@@ -306,21 +280,15 @@ fn leave(alloc: Global, volume: &Volume, filter: &mut Filter, tally: &mut Tally,
 
 // Disconnects the filter, behind room for its answers.
 #[tactic(auto, using(crate::proofs::EventLemmas::few_disconnected), unfolding(av_filter::specs::Conduct::filter_step))]
-fn disconnect(
-    alloc: Global,
-    volume: &Volume,
-    filter: &mut Filter,
-    tally: &mut Tally,
-) -> Result<(), AllocError>
-    requires fits { Fits filter.old volume.now }
+fn disconnect(alloc: Global, mounted: &mut Mounted, tally: &mut Tally) -> Result<(), AllocError>
     ensures ok { OnOk result
-        (IsAt (happened (unled filter.old volume.now tally.old.answers.items) (Disconnects One)) filter.new
-        volume.now tally.new.answers.items) }
-    ensures err { OnErr result ((filter.new ≡ filter.old) × (tally.new.answers.items ≡ tally.old.answers.items)) }
-    ensures fits { Fits filter.new volume.now }
+        (IsAt (happened (unled mounted.old.table mounted.old.volume tally.old.answers.items) (Disconnects One)) mounted.new.table
+        mounted.old.volume tally.new.answers.items) }
+    ensures err { OnErr result ((mounted.new.table ≡ mounted.old.table) × (tally.new.answers.items ≡ tally.old.answers.items)) }
+    ensures still { mounted.new.volume ≡ mounted.old.volume }
 {
-    tally.make_room(filter)?;
-    let out = filter.disconnect(alloc, volume, Port::One)?;
+    tally.make_room(mounted)?;
+    let out = mounted.disconnect(alloc, Port::One)?;
     tally.add(out.answers);
     Ok(())
 }
@@ -328,85 +296,67 @@ fn disconnect(
 // A message comes, behind room for its answers.
 fn receive(
     alloc: Global,
-    volume: &Volume,
-    filter: &mut Filter,
+    mounted: &mut Mounted,
     tally: &mut Tally,
     outgoing: &mut Outgoing,
     message: &Message,
 ) -> Result<(), AllocError>
-    requires fits { Fits filter.old volume.now }
     ensures ok { OnOk result
-        (Puts (all_happened (unled filter.old volume.now tally.old.answers.items) (Receives message.now ∷ [])) filter.new
-        volume.now tally.new.answers.items outgoing.old outgoing.new) }
-    ensures amid { IsAmid (unled filter.old volume.now tally.old.answers.items) (Receives message.now ∷ []) filter.new
-        volume.now tally.new.answers.items }
-    ensures fits { Fits filter.new volume.now }
+        (Puts (all_happened (unled mounted.old.table mounted.old.volume tally.old.answers.items) (Receives message.now ∷ []))
+        mounted.new.table mounted.new.volume tally.new.answers.items outgoing.old outgoing.new) }
+    ensures amid { IsAmid (unled mounted.old.table mounted.old.volume tally.old.answers.items) (Receives message.now ∷ [])
+        mounted.new.table mounted.new.volume tally.new.answers.items }
+    ensures still { mounted.new.volume ≡ mounted.old.volume }
     ensures rest { (tally.new.first ≡ tally.old.first) × (tally.new.submitted ≡ tally.old.submitted) }
 {
-    tally.make_room(filter)?;
-    let out = tell(alloc, volume, filter, message)?;
+    tally.make_room(mounted)?;
+    let out = tell(alloc, mounted, message)?;
     give(tally, outgoing, out)
 }
 
 // A message comes to the filter.
 #[tactic(auto, using(crate::proofs::EventLemmas::few_received), unfolding(av_filter::specs::Conduct::filter_step))]
-fn tell(
-    alloc: Global,
-    volume: &Volume,
-    filter: &mut Filter,
-    message: &Message,
-) -> Result<Out, AllocError>
-    requires fits { Fits filter.old volume.now }
-    ensures event { MeetsAlways filter.old volume.now filter.new volume.now result
-        (filter_step filter.old volume.now (Receives message.now)) }
-    ensures few { IfOk result (λ out. length out.answers.items ≤ length filter.old.pended + 1) }
-    ensures fits { Fits filter.new volume.now }
+fn tell(alloc: Global, mounted: &mut Mounted, message: &Message) -> Result<Out, AllocError>
+    ensures event { MeetsAlways mounted.old.table mounted.old.volume mounted.new.table mounted.new.volume result
+        (filter_step mounted.old.table mounted.old.volume (Receives message.now)) }
+    ensures few { IfOk result (λ out. length out.answers.items ≤ length mounted.old.table.pended + 1) }
+    ensures still { mounted.new.volume ≡ mounted.old.volume }
 {
-    filter.message(alloc, volume, message)
+    mounted.message(alloc, message)
 }
 
 // An open of a stream comes, behind room for its answer.
 fn submit(
     alloc: Global,
-    volume: &mut Volume,
-    filter: &mut Filter,
+    mounted: &mut Mounted,
     tally: &mut Tally,
     outgoing: &mut Outgoing,
     stream: StreamId,
 ) -> Result<(), AllocError>
-    requires left { volume.old.opens < greatest }
-    requires fits { Fits filter.old volume.old }
+    requires left { mounted.old.volume.opens < greatest }
     ensures ok { OnOk result
-        (Puts (all_happened (unled filter.old volume.old tally.old.answers.items) (Opens stream 0 ∷ [])) filter.new volume.new
-        tally.new.answers.items outgoing.old outgoing.new) }
-    ensures amid { IsAmid (unled filter.old volume.old tally.old.answers.items) (Opens stream 0 ∷ []) filter.new volume.new
-        tally.new.answers.items }
-    ensures taken { OnOk result (volume.new.opens ≡ volume.old.opens + 1) }
-    ensures fits { Fits filter.new volume.new }
+        (Puts (all_happened (unled mounted.old.table mounted.old.volume tally.old.answers.items) (Opens stream 0 ∷ []))
+        mounted.new.table mounted.new.volume tally.new.answers.items outgoing.old outgoing.new) }
+    ensures amid { IsAmid (unled mounted.old.table mounted.old.volume tally.old.answers.items) (Opens stream 0 ∷ [])
+        mounted.new.table mounted.new.volume tally.new.answers.items }
+    ensures taken { OnOk result (mounted.new.volume.opens ≡ mounted.old.volume.opens + 1) }
     ensures rest { (tally.new.first ≡ tally.old.first) × (tally.new.submitted ≡ tally.old.submitted) }
 {
-    tally.make_room(filter)?;
-    let out = open(alloc, volume, filter, stream)?;
+    tally.make_room(mounted)?;
+    let out = open(alloc, mounted, stream)?;
     give(tally, outgoing, out)
 }
 
 // An open of a stream comes to the filter.
 #[tactic(auto, using(av_filter::proofs::RoomLemmas::few_opened, crate::proofs::EventLemmas::opens_taken), unfolding(av_filter::specs::Conduct::filter_step, av_filter::specs::Conduct::filter_refusal))]
-fn open(
-    alloc: Global,
-    volume: &mut Volume,
-    filter: &mut Filter,
-    stream: StreamId,
-) -> Result<Out, AllocError>
-    requires left { volume.old.opens < greatest }
-    requires fits { Fits filter.old volume.old }
-    ensures event { MeetsAlways filter.old volume.old filter.new volume.new result
-        (filter_step filter.old volume.old (Opens stream 0)) }
-    ensures few { IfOk result (λ out. length out.answers.items ≤ length filter.old.pended + 1) }
-    ensures taken { OnOk result (volume.new.opens ≡ volume.old.opens + 1) }
-    ensures fits { Fits filter.new volume.new }
+fn open(alloc: Global, mounted: &mut Mounted, stream: StreamId) -> Result<Out, AllocError>
+    requires left { mounted.old.volume.opens < greatest }
+    ensures event { MeetsAlways mounted.old.table mounted.old.volume mounted.new.table mounted.new.volume result
+        (filter_step mounted.old.table mounted.old.volume (Opens stream 0)) }
+    ensures few { IfOk result (λ out. length out.answers.items ≤ length mounted.old.table.pended + 1) }
+    ensures taken { OnOk result (mounted.new.volume.opens ≡ mounted.old.volume.opens + 1) }
 {
-    match filter.open(alloc, volume, stream, Version::new(0)) {
+    match mounted.open(alloc, stream, Version::new(0)) {
         Ok(out) => Ok(out),
         Err(Refusal::NoMemory) => Err(AllocError),
         Err(Refusal::Fault(_)) => unreachable!(),

@@ -1,5 +1,6 @@
-ghost use Rattle.std.specs.Prelude.{◌≡◌, map, IfErr, IfOk};
-ghost use Rattle.av_files.specs.Listed.{IsListOf};
+ghost use Rattle.std.specs.Prelude.{◌≡◌, [], map, IfErr, IfOk};
+ghost use Rattle.av_files.specs.Listed.{AreGivenAndListed, IsListOf};
+ghost use Rattle.av_files.specs.declared.listed.Failing.TheVariants.{Ends};
 ghost use Rattle.av_status.specs.Status.{IsFault};
 
 use av_base::line::first_piece;
@@ -34,7 +35,8 @@ pub enum Failing {
     Passes,
 }
 
-/// The names that were given, and behind them those of a list. One that is not UTF-8 is told, with its number in the list.
+/// The given names, and after them the names of a list. A name that is not UTF-8 is told, with its number in the list. It ends the
+/// run, or counts as missed.
 pub fn with_listed<'a, 'b: 'a, E: Write>(
     alloc: Global,
     given: &[&'b str],
@@ -45,6 +47,9 @@ pub fn with_listed<'a, 'b: 'a, E: Write>(
     tally: &mut Tally,
     err: &mut E,
 ) -> Result<Vec<&'a str>, Status>
+    ensures names { IfOk result (λ names. AreGivenAndListed end text.now (map (λ n. n.now) given.now) (map (λ n. n.now) names.items) tally.old tally.new) }
+    ensures alone { text.now ≡ [] → IfOk result (λ names. (map (λ n. n.now) names.items ≡ map (λ n. n.now) given.now) × (tally.new ≡ tally.old)) }
+    ensures ends { failing ≡ Ends → IfOk result (λ names. tally.new ≡ tally.old) }
     ensures status { IfErr result (λ status. IsFault status) }
 {
     let (Ok(listed), Ok(mut names)) = (listed(alloc, text, end), copied(alloc, given)) else {

@@ -18,3 +18,5 @@ pub mod CountLemmas
 pub mod OnceLemmas
 pub mod OrderLemmas
 pub mod AskLemmas
+pub mod StoringLemmas
+pub mod MountedLemmas

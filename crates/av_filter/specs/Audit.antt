@@ -1,6 +1,7 @@
 -- A filter's audit: its events in order, each with the reply.
 use Rattle.std.specs.Prelude.{◌≡◌, ℕ, ◌+◌, List, [], ◌∷◌, ◌++◌, None}
 use Rattle.av_filter.specs.Conduct.{FilterEvent, Opens, filter_refusal, filter_step}
+use Rattle.av_filter.specs.Mount.{Mount}
 use Rattle.av_filter.specs.Reaction.{Reaction}
 use Rattle.av_filter_table.specs.Table.{Table}
 use Rattle.av_filter.specs.declared.note.Note.{Note}
@@ -28,13 +29,8 @@ IsFilterAudit t v (x ∷ xs) =
     (filter_refusal t v x.event ≡ None) × IsReply x (filter_step t v x.event)
     × IsFilterAudit (filter_step t v x.event).table (filter_step t v x.event).volume xs
 
--- where it leads
-pub record Kept : Type 0 where
-  pub table : Table
-  pub volume : Store
-
 -- where the entries lead table and volume
-abbrev pub filter_end : Table → Store → List FilterEntry → Kept
+abbrev pub filter_end : Table → Store → List FilterEntry → Mount
 filter_end t v [] = record { table = t; volume = v }
 filter_end t v (x ∷ xs) = filter_end (filter_step t v x.event).table (filter_step t v x.event).volume xs
 

@@ -8,6 +8,7 @@ pub mod Changing
 pub mod Conduct
 pub mod Ending
 pub mod Fit
+pub mod Mount
 pub mod Once
 pub mod Opening
 pub mod Reaction
@@ -15,4 +16,5 @@ pub mod Ready
 pub mod Receiving
 pub mod Room
 pub mod Rows
+pub mod Storing
 pub mod Verdict

@@ -4,9 +4,9 @@ use Rattle.std.specs.List.{flat_map}
 use Rattle.av_base.specs.declared.limits.LimitValues.{LimitValues}
 use Rattle.av_base.specs.declared.mode.Mode.{Mode}
 use Rattle.av_base.specs.declared.port.Port.{Port}
-use Rattle.av_filter.specs.Audit.{FilterEntry, IsFilterAudit, Kept, filter_end}
+use Rattle.av_filter.specs.Audit.{FilterEntry, IsFilterAudit, filter_end}
 use Rattle.av_filter.specs.Conduct.{FilterEvent, filter_refusal, filter_step}
-use Rattle.av_filter.specs.Fit.{Fits}
+use Rattle.av_filter.specs.Mount.{Mount}
 use Rattle.av_filter.specs.Reaction.{Reaction}
 use Rattle.av_filter.specs.declared.fault.FilterFault.{FilterFault}
 use Rattle.av_filter_table.specs.Table.{Table, mounted}
@@ -36,7 +36,7 @@ abbrev pub table_at_first : Book → Table
 table_at_first b = mounted b.mode b.limits b.start.boot
 
 -- where the audit leads
-abbrev pub state_of : Book → Kept
+abbrev pub state_of : Book → Mount
 state_of b = filter_end (table_at_first b) b.start b.events
 
 -- what the filter does at an event
@@ -104,4 +104,3 @@ pub record IsKept (b : Book) (t : Table) (v : Store) : Type 0 where
   pub legal : IsFilterAudit (table_at_first b) b.start b.events
   pub within : length b.events ≤ b.limits.audit
   pub behind : (port : Port) → sent_at port b ≤ length b.events
-  pub fits : Fits t v

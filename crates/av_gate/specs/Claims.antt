@@ -2,7 +2,8 @@
 use Rattle.std.specs.Prelude.{◌≡◌, ℕ, ◌+◌, ◌≤◌, ◌<◌, ◌==◌, Bool, true, false, List, [], ◌∷◌, length, Some, slice_get}
 use Rattle.std.specs.List.{All, count_by, sum_by, filter}
 use Rattle.av_ends.specs.declared.ticket.Receipt.{Receipt}
-use Rattle.av_filter.specs.Audit.{FilterEntry, IsFilterAudit, Kept, answers_given, filter_end}
+use Rattle.av_filter.specs.Audit.{FilterEntry, IsFilterAudit, answers_given, filter_end}
+use Rattle.av_filter.specs.Mount.{Mount}
 use Rattle.av_filter_table.specs.Table.{Table, mounted}
 use Rattle.av_gate.specs.Calls.{event_called}
 use Rattle.av_gate.specs.declared.audit.Audit.{Audit}
@@ -65,7 +66,7 @@ abbrev pub IsLegal : Audit → Type 0
 IsLegal a = IsFilterAudit (table_of a) a.volume a.events.items
 
 -- where the audit leads
-abbrev pub end_of : Audit → Kept
+abbrev pub end_of : Audit → Mount
 end_of a = filter_end (table_of a) a.volume a.events.items
 
 -- for the tests: 1 where something was seen

@@ -1,24 +1,16 @@
 ghost use Rattle.std.specs.Prelude.{◌≡◌};
 ghost use Rattle.av_filter.specs.Asking.{Calls, event_called};
-ghost use Rattle.av_filter.specs.Fit.{Fits};
 ghost use Rattle.av_gate.specs.Calls.{event_of};
 
 use crate::call::Event;
-use av_filter::{Filter, FilterCall, Out};
-use av_store::Volume;
+use av_filter::{FilterCall, Mounted, Out};
 use std::alloc::Global;
 
-/// Lets an event happen to a filter and its volume. None where that is refused: nothing has changed.
-pub(crate) fn happen(
-    filter: &mut Filter,
-    volume: &mut Volume,
-    alloc: Global,
-    event: &Event,
-) -> Option<Out>
-    requires fits { Fits filter.old volume.old }
-    ensures { Calls filter.old volume.old filter.new volume.new (event_of event.now) result }
+/// Lets an event happen to a mounted filter. None where that is refused: nothing has changed.
+pub(crate) fn happen(mounted: &mut Mounted, alloc: Global, event: &Event) -> Option<Out>
+    ensures { Calls mounted.old.table mounted.old.volume mounted.new.table mounted.new.volume (event_of event.now) result }
 {
-    filter.ask(alloc, volume, &call_of(event))
+    mounted.ask(alloc, &call_of(event))
 }
 
 // What the filter is asked by an event.

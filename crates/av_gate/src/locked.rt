@@ -25,8 +25,8 @@ use crate::port_counts::PortCounts;
 use crate::settled::Settled;
 use av_base::{ByteList, Limits, Mode, OpenId, Port, Refusal, Refused, Version};
 use av_ends::{Due, Receipt, Ticket};
-use av_filter::laws::{audits_answer_once, events_keep_fit};
-use av_filter::{Filter, FilterFault};
+use av_filter::laws::audits_answer_once;
+use av_filter::{FilterFault, Mounted};
 use av_frame::Message;
 use av_pend::Answer;
 use av_store::{BootSpent, Volume};
@@ -40,8 +40,7 @@ pub struct Locked {
     start: Volume,
     mode: Mode,
     limits: Limits,
-    filter: Filter,
-    volume: Volume,
+    mounted: Mounted,
     events: Vec<Entry>,
     // Of how many events the messages of each port were taken out.
     sent: PortCounts,
@@ -61,7 +60,7 @@ impl Model for Locked {
 
     ghost invariant = { λ s.
         IsKept (record { start = s.start; mode = s.mode; limits = s.limits; events = s.events.items; sent = s.sent })
-        s.filter s.volume };
+        s.mounted.table s.mounted.volume };
 }
 
 impl Locked {
@@ -81,18 +80,16 @@ impl Locked {
             Ok(start) => start,
             Err(why) => return Err(Refused { value: volume, why }),
         };
-        let mut volume = volume;
-        let filter = match Filter::mount(alloc, &mut volume, mode, limits) {
-            Ok(filter) => filter,
-            Err(why) => return Err(Refused { value: volume, why }),
+        let mounted = match Mounted::mount(alloc, volume, mode, limits) {
+            Ok(mounted) => mounted,
+            Err(refused) => return Err(refused),
         };
         mount_again(&mut start);
         Ok(Locked {
             start,
             mode,
             limits,
-            filter,
-            volume,
+            mounted,
             events: Vec::new(alloc),
             sent: PortCounts::none(),
             owed: BTreeMap::new(alloc),
@@ -115,11 +112,11 @@ impl Locked {
         ensures room { OnOk result (IsTrue has_room) }
     {
         self.has_place()?;
-        if self.volume.opens_left() == 0 {
+        if self.mounted.volume().opens_left() == 0 {
             return Err(Refusal::Fault(GateFault::Filter(FilterFault::OpensSpent)));
         }
         let stream = stream_of(&self.start, name);
-        let open_id = OpenId::new(self.volume.opens() + 1);
+        let open_id = OpenId::new(self.mounted.volume().opens() + 1);
         let ticket = self.owe(alloc, open_id, least)?;
         match self.add(alloc, has_room, Event::Open { stream, least }) {
             Ok(settled) => Ok((ticket, settled)),
@@ -147,7 +144,7 @@ impl Locked {
     {
         self.has_place()?;
         let stream = stream_of(&self.start, name);
-        if let Some(fault) = self.volume.write_refusal(stream, offset, bytes) {
+        if let Some(fault) = self.mounted.volume().write_refusal(stream, offset, bytes) {
             return Err(Refusal::Fault(GateFault::Filter(FilterFault::Store(fault))));
         }
         let bytes = ByteList::copied(alloc, bytes)?;
@@ -236,15 +233,13 @@ impl Locked {
         if !has_room || self.events.reserve(1).is_err() {
             return Err(Refusal::NoMemory);
         }
-        events_keep_fit();
-        let _coherent = self.filter.question_count();
-        let Some(out) = happen(&mut self.filter, &mut self.volume, alloc, &event) else {
+        let Some(out) = happen(&mut self.mounted, alloc, &event) else {
             return Err(Refusal::NoMemory);
         };
         let settled = Settled {
             place: self.events.len(),
             note: out.note,
-            floor: self.filter.floor(),
+            floor: self.mounted.filter().floor(),
             answers: out.answers.len(),
             messages: count_each(out.messages.as_slice()),
         };
@@ -329,14 +324,14 @@ impl Locked {
     pub fn connected(&self, port: Port) -> bool
         ensures { result ≡ is_open port (state_of self.now).table.connected }
     {
-        self.filter.connected(port)
+        self.mounted.filter().connected(port)
     }
 
     /// Whether a question runs.
     pub fn is_asking(&self) -> bool
         ensures { MatchBool result ((state_of self.now).table.questions ≢ []) ((state_of self.now).table.questions ≡ []) }
     {
-        self.filter.question_count() > 0
+        self.mounted.filter().question_count() > 0
     }
 
     /// Whether a receipt's answer is its open's one answer in the audit. It looks at one place: no audit answers an open twice.
@@ -367,14 +362,13 @@ impl Locked {
             start,
             mode,
             limits,
-            filter,
-            volume: _,
+            mounted,
             events,
             sent: _,
             owed: _,
             places: _,
         } = self;
-        filter.abandon();
+        let _volume = mounted.abandon();
         Audit {
             volume: start,
             mode,
@@ -389,14 +383,13 @@ impl Locked {
             start: _,
             mode: _,
             limits: _,
-            filter,
-            volume: _,
+            mounted,
             events: _,
             sent: _,
             owed: _,
             places: _,
         } = self;
-        filter.abandon();
+        let _volume = mounted.abandon();
     }
 }
 

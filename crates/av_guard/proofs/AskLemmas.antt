@@ -14,7 +14,7 @@ use Rattle.av_filter.specs.declared.note.Note.TheVariants.{Quiet}
 use Rattle.av_filter_table.specs.Table.{Table}
 use Rattle.av_frame.specs.Message.{Letter}
 use Rattle.av_store.proofs.SeenLemmas.{next_free}
-use Rattle.av_guard.proofs.KeepLemmas.{at_last, created_as, created_is, creation_fits, creation_taken, stored_by}
+use Rattle.av_filter.proofs.StoringLemmas.{at_last, created_as, created_is, creation_fits, creation_taken, stored_by}
 use Rattle.av_guard.proofs.LawLemmas.{opens_its_bytes}
 use Rattle.av_guard.proofs.PairLemmas.{of_two}
 use Rattle.av_guard.proofs.OnePortLemmas.{IsOfGuard}
@@ -23,9 +23,9 @@ use Rattle.av_guard.proofs.RunLemmas.{Made, made_of, undone_step, write_taken}
 use Rattle.av_guard.proofs.SoundLemmas.{IsNameOf, free_name, written_more, written_same}
 use Rattle.av_guard.proofs.StoryLemmas.{Story, opens_story}
 use Rattle.av_guard.proofs.TellLemmas.{IsAsking, asking_more, founded_more}
-use Rattle.av_guard.specs.Asking.{IsRefused, IsThere, asked, ask_fault, kept, place_fault, place_of, spent, stored, stream_with}
+use Rattle.av_filter.specs.Storing.{IsStored, stored, stream_with}
+use Rattle.av_guard.specs.Asking.{IsRefused, IsThere, asked, ask_fault, kept, place_fault, place_of, spent}
 use Rattle.av_guard.specs.Asking as refused_so
-use Rattle.av_guard.specs.Keeping.{IsStored}
 use Rattle.av_guard.specs.Place.{Held, Missing, Spot, Unused}
 use Rattle.av_guard.specs.Run.{IsFounded, all_held}
 use Rattle.av_guard.specs.State.{State}

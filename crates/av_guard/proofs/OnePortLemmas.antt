@@ -2,11 +2,9 @@
 use Rattle.std.proofs.Common.{◌≡◌, ℕ, Bool, true, false, List, Option, Some, None, if◌then◌else◌, refl, sym, subst, ◌∙◌}
 use Rattle.av_base.specs.declared.port.Port.{Port}
 use Rattle.av_base.specs.declared.port.Port.TheVariants.{One, Two}
-use Rattle.av_base.specs.declared.refusal.Refusal.{Refusal}
-use Rattle.av_base.specs.declared.refusal.Refusal.TheVariants.{Fault, NoMemory}
 use Rattle.av_filter.proofs.RowLemmas.{again_row, row_of}
 use Rattle.av_filter.specs.Again.{ends}
-use Rattle.av_filter.specs.Call.{Meets, MeetsAlways, Reacts}
+use Rattle.av_filter.specs.Call.{MeetsAlways, Reacts}
 use Rattle.av_filter.specs.Conduct.{FilterEvent, Changes, CleansUp, Disconnects, Opens, Receives, Restarts, TimesOut, disconnects, disconnects_to, filter_step, loses_all}
 use Rattle.av_filter.specs.Rows
 use Rattle.av_filter.specs.Rows.{AgainRow, OpenRow, Row}
@@ -84,8 +82,3 @@ alone_given out t t' v v' e h is reacts = subst HasOnePort (sym reacts.table) (s
 pub alone_after : {E : Type 0} (r : Result Out E) (t t' : Table) (v v' : Store) (e : FilterEvent) → HasOnePort t → IsOfGuard e → MeetsAlways t v t' v' r (filter_step t v e) → HasOnePort t'
 alone_after (Ok out) t t' v v' e h is meets = alone_given out t t' v v' e h is meets
 alone_after (Err why) t t' v v' e h is meets = subst HasOnePort (sym meets.0) h
-
-pub alone_met : {F : Type 0} (r : Result Out (Refusal F)) (t t' : Table) (v v' : Store) (e : FilterEvent) (fault : Option F) → HasOnePort t → IsOfGuard e → Meets t v t' v' r fault (filter_step t v e) → HasOnePort t'
-alone_met (Ok out) t t' v v' e fault h is meets = alone_given out t t' v v' e h is meets.1
-alone_met (Err (Fault f)) t t' v v' e fault h is meets = subst HasOnePort (sym meets.1) h
-alone_met (Err NoMemory) t t' v v' e fault h is meets = subst HasOnePort (sym meets.1) h

@@ -2,9 +2,10 @@
 use Rattle.std.proofs.Common.{◌≡◌, ℕ, List, [], ◌∷◌, ◌++◌, map, Option, Some, None, refl, ap, sym, subst, ◌∙◌, append_assoc, append-nil}
 use Rattle.av_filter.proofs.BoundLemmas.{leads_to, volume_after}
 use Rattle.av_filter.proofs.FitLemmas.{accepted}
-use Rattle.av_filter.specs.Audit.{FilterEntry, IsFilterAudit, IsReply, Kept, answers_given, filter_end, sent_down}
+use Rattle.av_filter.specs.Audit.{FilterEntry, IsFilterAudit, IsReply, answers_given, filter_end, sent_down}
 use Rattle.av_filter.specs.Changing.{changed_volume}
 use Rattle.av_filter.specs.Conduct.{FilterEvent, Changes, Opens, Restarts, filter_refusal, filter_step}
+use Rattle.av_filter.specs.Mount.{Mount}
 use Rattle.av_filter_table.specs.Table.{Table}
 use Rattle.av_frame.specs.Message.{Letter}
 use Rattle.av_guard.specs.Run.{all_held, held_after}
@@ -59,7 +60,7 @@ held_stays hs _ u g c h = h
 -- where a history leads from a first table and volume, and what it sent
 pub record Past (t0 : Table) (v0 : Store) (t : Table) (v : Store) (sent : List Letter) (history : List FilterEntry) : Type 0 where
   pub legal : IsFilterAudit t0 v0 history
-  pub leads : ◌≡◌ {A = Kept} (filter_end t0 v0 history) (record { table = t; volume = v })
+  pub leads : ◌≡◌ {A = Mount} (filter_end t0 v0 history) (record { table = t; volume = v })
   pub sends : sent_down [] history ≡ sent
   pub keeps : Keeps v (map now (all_held [] history))
 
@@ -69,9 +70,9 @@ past_more t0 v0 t v sent history e p ok =
     let x = entry_of t v e in
     record {
       legal =
-          audit_more t0 v0 history x p.legal (subst (λ (k : Kept). filter_refusal k.table k.volume e ≡ None) (sym p.leads) ok)
-          (subst (λ (k : Kept). IsReply x (filter_step k.table k.volume e)) (sym p.leads) (record { answers = refl; messages = refl; note = refl }));
-      leads = end_more t0 v0 history x ∙ ap (λ (k : Kept). filter_end k.table k.volume (x ∷ [])) p.leads;
+          audit_more t0 v0 history x p.legal (subst (λ (k : Mount). filter_refusal k.table k.volume e ≡ None) (sym p.leads) ok)
+          (subst (λ (k : Mount). IsReply x (filter_step k.table k.volume e)) (sym p.leads) (record { answers = refl; messages = refl; note = refl }));
+      leads = end_more t0 v0 history x ∙ ap (λ (k : Mount). filter_end k.table k.volume (x ∷ [])) p.leads;
       sends = sent_more [] history x ∙ ap (λ ms. ms ++ (filter_step t v e).messages) p.sends;
       keeps = subst (λ hs. Keeps (filter_step t v e).volume (map now hs)) (sym (held_more [] history x)) (subst (λ u. Keeps u (map now (held_after (all_held [] history) e))) (sym (leads_to t v e)) (keeps_after t v (all_held [] history) e p.keeps ok));
     }

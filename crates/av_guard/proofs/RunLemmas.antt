@@ -18,8 +18,8 @@ use Rattle.av_filter.specs.declared.fault.FilterFault.TheVariants as filter_faul
 use Rattle.av_filter.specs.declared.note.Note.TheVariants.{Quiet}
 use Rattle.av_filter_table.specs.Table.{Table, question_of}
 use Rattle.av_guard.proofs.CountLemmas.{without_none}
-use Rattle.av_guard.proofs.KeepLemmas.{at_last, created_as, created_is, no_question, removable, undone}
-use Rattle.av_guard.specs.Asking.{created, stored, stream_with}
+use Rattle.av_filter.proofs.StoringLemmas.{at_last, created_as, created_is, no_question, removable, undone}
+use Rattle.av_filter.specs.Storing.{created, stored, stream_with}
 use Rattle.av_store.specs.Content.{new_stream}
 use Rattle.av_store.specs.Files.{Change, Create, Remove, Write}
 use Rattle.av_store.specs.Rows.{Streams, stream_at}

@@ -16,7 +16,7 @@ use Rattle.av_filter_table.specs.Table.{Table}
 use Rattle.av_filter_table.specs.declared.pended.Pended.{Pended}
 use Rattle.av_guard.proofs.PairLemmas.{at_new, at_none, at_other, ids, key_more, keys, paired, times_above}
 use Rattle.av_guard.proofs.StayLemmas.{Comes}
-use Rattle.av_guard.specs.Asking.{stream_with}
+use Rattle.av_filter.specs.Storing.{stream_with}
 use Rattle.av_guard.specs.Naming.{name_of}
 use Rattle.av_guard.specs.Place.{Held, Spot, Unused, has_bytes, place_from, spot_at}
 use Rattle.av_guard.specs.Telling.{Waiters, left_by}

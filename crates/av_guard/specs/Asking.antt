@@ -4,9 +4,9 @@ use Rattle.std.specs.Result.{result_err}
 use Rattle.av_base.specs.declared.refusal.Refusal.{Refusal}
 use Rattle.av_base.specs.declared.refusal.Refusal.TheVariants.{Fault, NoMemory}
 use Rattle.av_context.specs.Contexts.{with}
-use Rattle.av_filter.specs.Conduct.{Changes, Opens, filter_step}
-use Rattle.av_filter.specs.Reaction.{Reaction}
-use Rattle.av_filter_table.specs.Table.{Table, question_of}
+use Rattle.av_filter.specs.Conduct.{Opens}
+use Rattle.av_filter.specs.Storing.{stored, stream_with}
+use Rattle.av_filter_table.specs.Table.{question_of}
 use Rattle.av_guard.specs.declared.fault.AskFault.{AskFault}
 use Rattle.av_guard.specs.declared.fault.AskFault.TheVariants.{Busy, Full, NoClient, OpensSpent, TooLarge}
 use Rattle.av_guard.specs.declared.given.Given.{Given}
@@ -15,10 +15,8 @@ use Rattle.av_guard.specs.Class.{class_at, is_busy_with}
 use Rattle.av_guard.specs.declared.class.Class.{Class}
 use Rattle.av_guard.specs.State.{Gives, State, Turn, happens, rests}
 use Rattle.av_guard.specs.Telling.{is_here}
-use Rattle.av_store.specs.Files.{Create, Write}
 use Rattle.av_store.specs.Rows.{Streams}
 use Rattle.av_store.specs.Store.{Store, create_of, greatest}
-use Rattle.av_store.specs.declared.stream.Stream.{Stream}
 
 -- the bytes of all contents
 abbrev pub bytes_in : Streams → ℕ
@@ -38,17 +36,6 @@ abbrev pub opens : State → ℕ → ℕ → ℕ → Turn
 opens g s client tag =
     happens (record g { waiting = with g.waiting (g.volume.opens + 1) (record { client = client; tag = tag; stream = s }) })
     (Opens s 0)
-
--- what the filter does as a stream is created, and written once
-abbrev pub created : Table → Store → List ℕ → Reaction
-created t v name = filter_step t v (Changes (Create name))
-
-abbrev pub stored : Table → Store → List ℕ → List ℕ → Reaction
-stored t v name c = filter_step (created t v name).table (created t v name).volume (Changes (Write (v.last + 1) 0 c))
-
--- the stream that has a content: it was written once
-abbrev pub stream_with : List ℕ → List ℕ → Stream
-stream_with name c = record { name = name; generation = 2; bytes = c }
 
 -- a content comes to be kept
 abbrev pub kept : State → List ℕ → List ℕ → State

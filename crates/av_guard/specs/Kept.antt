@@ -3,7 +3,8 @@ use Rattle.std.specs.Prelude.{◌≡◌, ℕ, ◌+◌, List, [], ◌∷◌, ◌+
 use Rattle.std.specs.Result.{result_err}
 use Rattle.av_base.specs.declared.refusal.Refusal.{Refusal}
 use Rattle.av_base.specs.declared.refusal.Refusal.TheVariants.{Fault, NoMemory}
-use Rattle.av_guard.specs.Asking.{IsThere, kept, opens, spent, stream_with}
+use Rattle.av_filter.specs.Storing.{stream_with}
+use Rattle.av_guard.specs.Asking.{IsThere, kept, opens, spent}
 use Rattle.av_guard.specs.Place.{Unused}
 use Rattle.av_guard.specs.declared.given.Given.{Given}
 use Rattle.av_guard.specs.State.{Gives, State}

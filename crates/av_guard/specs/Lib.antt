@@ -10,7 +10,6 @@ pub mod Written
 pub mod Sound
 pub mod Class
 pub mod Asking
-pub mod Keeping
 pub mod Kept
 pub mod Beginning
 pub mod Room

@@ -1,7 +1,6 @@
 -- What holds of a guard between calls.
 use Rattle.std.specs.Prelude.{◌≡◌, length}
 use Rattle.std.specs.declared.random_state.RandomState.{RandomState}
-use Rattle.av_filter.specs.Fit.{Fits}
 use Rattle.av_filter_table.specs.Table.{Table}
 use Rattle.av_guard.specs.Asking.{bytes_kept}
 use Rattle.av_guard.specs.Counts.{AreCounted}
@@ -12,11 +11,10 @@ use Rattle.av_guard.specs.Waiting.{ArePaired}
 use Rattle.av_guard.specs.Written.{AreWritten}
 use Rattle.av_store.specs.Store.{Store}
 
--- The filter fits its volume, and no service is connected at its second port. Each stream was written once, with the bytes that its name is of. Each open that the filter holds
+-- No service is connected at the filter's second port. Each stream was written once, with the bytes that its name is of. Each open that the filter holds
 -- has one who waits for it here, and each who waits has one open. As many opens wait for each stream as the shelf says; and as
 -- many contents are kept, of as many bytes.
 pub record IsSound (key : RandomState) (t : Table) (v : Store) (waiting : Waiters) (shelf : Kept) : Type 0 where
-  pub fits : Fits t v
   pub alone : HasOnePort t
   pub written : AreWritten key v.streams
   pub paired : ArePaired t.pended waiting

@@ -3,16 +3,14 @@ ghost use Rattle.std.specs.Vec.{vec_capacity};
 ghost use Rattle.av_base.specs.declared.port.Port.TheVariants.{One};
 ghost use Rattle.av_filter.specs.Call.{MeetsAlways};
 ghost use Rattle.av_filter.specs.Conduct.{Changes, Disconnects, Opens, Receives, TimesOut, filter_refusal, filter_step};
-ghost use Rattle.av_filter.specs.Fit.{Fits};
 ghost use Rattle.av_guard.specs.State.{HasOnePort};
 ghost use Rattle.av_store.specs.Files.{Remove};
 ghost use Rattle.av_store.specs.Store.{greatest};
 
 use crate::given::Told;
 use av_base::{Port, Refusal, StreamId, Version};
-use av_filter::{Filter, Out};
+use av_filter::{Filter, Mounted, Out};
 use av_frame::Message;
-use av_store::Volume;
 use std::alloc::{AllocError, Global};
 
 /// Room for all that an event can answer: an answer to each open that waits, and one more.
@@ -30,76 +28,60 @@ pub(crate) fn room_for_answers(alloc: Global, filter: &Filter) -> Result<Vec<Tol
 #[tactic(auto, unfolding(av_filter::specs::Conduct::filter_step))]
 pub(crate) fn receive(
     alloc: Global,
-    volume: &Volume,
-    filter: &mut Filter,
+    mounted: &mut Mounted,
     message: &Message,
 ) -> Result<Out, AllocError>
     requires first { message.now.port ≡ One }
-    requires fits { Fits filter.old volume.now }
-    requires alone { HasOnePort filter.old }
-    ensures event { MeetsAlways filter.old volume.now filter.new volume.now result
-        (filter_step filter.old volume.now (Receives message.now)) }
-    ensures few { IfOk result (λ out. length out.answers.items ≤ length filter.old.pended + 1) }
-    ensures fits { Fits filter.new volume.now }
-    ensures alone { HasOnePort filter.new }
+    requires alone { HasOnePort mounted.old.table }
+    ensures event { MeetsAlways mounted.old.table mounted.old.volume mounted.new.table mounted.new.volume result
+        (filter_step mounted.old.table mounted.old.volume (Receives message.now)) }
+    ensures few { IfOk result (λ out. length out.answers.items ≤ length mounted.old.table.pended + 1) }
+    ensures still { mounted.new.volume ≡ mounted.old.volume }
+    ensures alone { HasOnePort mounted.new.table }
 {
-    filter.message(alloc, volume, message)
+    mounted.message(alloc, message)
 }
 
 /// The service is lost.
 #[tactic(auto, unfolding(av_filter::specs::Conduct::filter_step))]
-pub(crate) fn disconnect(
-    alloc: Global,
-    volume: &Volume,
-    filter: &mut Filter,
-) -> Result<Out, AllocError>
-    requires fits { Fits filter.old volume.now }
-    requires alone { HasOnePort filter.old }
-    ensures event { MeetsAlways filter.old volume.now filter.new volume.now result
-        (filter_step filter.old volume.now (Disconnects One)) }
-    ensures few { IfOk result (λ out. length out.answers.items ≤ length filter.old.pended + 1) }
-    ensures fits { Fits filter.new volume.now }
-    ensures alone { HasOnePort filter.new }
+pub(crate) fn disconnect(alloc: Global, mounted: &mut Mounted) -> Result<Out, AllocError>
+    requires alone { HasOnePort mounted.old.table }
+    ensures event { MeetsAlways mounted.old.table mounted.old.volume mounted.new.table mounted.new.volume result
+        (filter_step mounted.old.table mounted.old.volume (Disconnects One)) }
+    ensures few { IfOk result (λ out. length out.answers.items ≤ length mounted.old.table.pended + 1) }
+    ensures still { mounted.new.volume ≡ mounted.old.volume }
+    ensures alone { HasOnePort mounted.new.table }
 {
-    filter.disconnect(alloc, volume, Port::One)
+    mounted.disconnect(alloc, Port::One)
 }
 
 /// The time of a question is up.
-pub(crate) fn time_out(
-    alloc: Global,
-    volume: &Volume,
-    filter: &mut Filter,
-    seq: u64,
-) -> Result<Out, AllocError>
-    requires fits { Fits filter.old volume.now }
-    requires alone { HasOnePort filter.old }
-    ensures event { MeetsAlways filter.old volume.now filter.new volume.now result
-        (filter_step filter.old volume.now (TimesOut seq)) }
-    ensures few { IfOk result (λ out. length out.answers.items ≤ length filter.old.pended + 1) }
-    ensures fits { Fits filter.new volume.now }
-    ensures alone { HasOnePort filter.new }
+pub(crate) fn time_out(alloc: Global, mounted: &mut Mounted, seq: u64) -> Result<Out, AllocError>
+    requires alone { HasOnePort mounted.old.table }
+    ensures event { MeetsAlways mounted.old.table mounted.old.volume mounted.new.table mounted.new.volume result
+        (filter_step mounted.old.table mounted.old.volume (TimesOut seq)) }
+    ensures few { IfOk result (λ out. length out.answers.items ≤ length mounted.old.table.pended + 1) }
+    ensures still { mounted.new.volume ≡ mounted.old.volume }
+    ensures alone { HasOnePort mounted.new.table }
 {
-    filter.timeout(alloc, volume, seq)
+    mounted.timeout(alloc, seq)
 }
 
 /// A stream is opened, for any version.
 #[tactic(auto, unfolding(av_filter::specs::Conduct::filter_step, av_filter::specs::Conduct::filter_refusal))]
 pub(crate) fn open(
     alloc: Global,
-    volume: &mut Volume,
-    filter: &mut Filter,
+    mounted: &mut Mounted,
     stream: StreamId,
 ) -> Result<Out, AllocError>
-    requires left { volume.old.opens < greatest }
-    requires fits { Fits filter.old volume.old }
-    requires alone { HasOnePort filter.old }
-    ensures event { MeetsAlways filter.old volume.old filter.new volume.new result
-        (filter_step filter.old volume.old (Opens stream 0)) }
-    ensures few { IfOk result (λ out. length out.answers.items ≤ length filter.old.pended + 1) }
-    ensures fits { Fits filter.new volume.new }
-    ensures alone { HasOnePort filter.new }
+    requires left { mounted.old.volume.opens < greatest }
+    requires alone { HasOnePort mounted.old.table }
+    ensures event { MeetsAlways mounted.old.table mounted.old.volume mounted.new.table mounted.new.volume result
+        (filter_step mounted.old.table mounted.old.volume (Opens stream 0)) }
+    ensures few { IfOk result (λ out. length out.answers.items ≤ length mounted.old.table.pended + 1) }
+    ensures alone { HasOnePort mounted.new.table }
 {
-    match filter.open(alloc, volume, stream, Version::new(0)) {
+    match mounted.open(alloc, stream, Version::new(0)) {
         Ok(out) => Ok(out),
         Err(Refusal::NoMemory) => Err(AllocError),
         Err(Refusal::Fault(_)) => unreachable!(),
@@ -110,20 +92,17 @@ pub(crate) fn open(
 #[tactic(auto, unfolding(av_filter::specs::Conduct::filter_step, av_filter::specs::Conduct::filter_refusal))]
 pub(crate) fn remove(
     alloc: Global,
-    volume: &mut Volume,
-    filter: &mut Filter,
+    mounted: &mut Mounted,
     stream: StreamId,
 ) -> Result<Out, AllocError>
-    requires fits { Fits filter.old volume.old }
-    requires alone { HasOnePort filter.old }
-    ensures event { MeetsAlways filter.old volume.old filter.new volume.new result
-        (filter_step filter.old volume.old (Changes (Remove stream))) }
-    ensures taken { OnOk result (filter_refusal filter.old volume.old (Changes (Remove stream)) ≡ None) }
-    ensures few { IfOk result (λ out. length out.answers.items ≤ length filter.old.pended + 1) }
-    ensures fits { Fits filter.new volume.new }
-    ensures alone { HasOnePort filter.new }
+    requires alone { HasOnePort mounted.old.table }
+    ensures event { MeetsAlways mounted.old.table mounted.old.volume mounted.new.table mounted.new.volume result
+        (filter_step mounted.old.table mounted.old.volume (Changes (Remove stream))) }
+    ensures taken { OnOk result (filter_refusal mounted.old.table mounted.old.volume (Changes (Remove stream)) ≡ None) }
+    ensures few { IfOk result (λ out. length out.answers.items ≤ length mounted.old.table.pended + 1) }
+    ensures alone { HasOnePort mounted.new.table }
 {
-    match filter.remove(alloc, volume, stream) {
+    match mounted.remove(alloc, stream) {
         Ok(out) => Ok(out),
         Err(_) => Err(AllocError),
     }

@@ -24,16 +24,14 @@ use crate::class::Class;
 use crate::events::{disconnect, open, receive, remove, room_for_answers, time_out};
 use crate::fault::{AskFault, SettingsFault};
 use crate::given::Given;
-use crate::keeping::store;
 use crate::place::{Place, place_of as find_place};
 use crate::settings::Settings;
 use crate::settling::{enter, leave, settle};
 use crate::shelf::{Oldest, Shelf};
 use crate::waiter::Waiter;
 use av_base::{LimitField, LimitValues, Limits, Port, Refusal, Refused, StreamId, Version};
-use av_filter::Filter;
+use av_filter::Mounted;
 use av_frame::Message;
-use av_store::Volume;
 use std::alloc::{AllocError, Global};
 use std::collections::{BTreeMap, BTreeSet};
 use std::hash::RandomState;
@@ -42,8 +40,7 @@ use std::marker::Model;
 /// Filter and volume of a daemon, and who waits for which open. It holds opens that have no answer yet, so it can't be
 /// dropped: `abandon` ends it.
 pub struct Guard {
-    filter: Filter,
-    volume: Volume,
+    mounted: Mounted,
     key: RandomState,
     keep: u64,
     clients: BTreeSet<u64>,
@@ -59,8 +56,8 @@ impl Model for Guard {
     ghost Value = { State };
 
     ghost view = { λ g. record {
-      table = g.filter;
-      volume = g.volume;
+      table = g.mounted.table;
+      volume = g.mounted.volume;
       key = g.key;
       keep = g.keep;
       clients = g.clients.keys;
@@ -68,7 +65,7 @@ impl Model for Guard {
       waiting = g.waiting.entries;
     } };
 
-    ghost invariant = { λ g. IsSound g.key g.filter g.volume g.waiting.entries g.shelf };
+    ghost invariant = { λ g. IsSound g.key g.mounted.table g.mounted.volume g.waiting.entries g.shelf };
 }
 
 impl Guard {
@@ -87,14 +84,13 @@ impl Guard {
         if settings.boot < 1 || settings.boot > BOOTS {
             return Err(Refusal::Fault(SettingsFault::Boot));
         }
-        let mut volume = volume_before(alloc, limits, settings.boot);
-        let filter = match Filter::mount(alloc, &mut volume, settings.mode, limits) {
-            Ok(filter) => filter,
+        let volume = volume_before(alloc, limits, settings.boot);
+        let mounted = match Mounted::mount(alloc, volume, settings.mode, limits) {
+            Ok(mounted) => mounted,
             Err(_) => return Err(Refusal::NoMemory),
         };
         Ok(Guard {
-            filter,
-            volume,
+            mounted,
             key: settings.key,
             keep: settings.keep,
             clients: BTreeSet::new(alloc),
@@ -133,8 +129,8 @@ impl Guard {
         ensures value { result ≡ class_of self.now content.now }
         ensures asked { result ≡ Asked → HasQuestion self.now content.now }
     {
-        let _coherent = self.filter.question_count();
-        self.class_at(&find_place(self.key, &self.volume, content))
+        let _coherent = self.mounted.filter();
+        self.class_at(&find_place(self.key, self.mounted.volume(), content))
     }
 
     /// An ask about a content: NoClient, TooLarge above 1,048,576 bytes, Busy, OpensSpent, Full, NoMemory, the content handed
@@ -162,8 +158,8 @@ impl Guard {
         if content.len() > 1_048_576 {
             return refuse(content, Refusal::Fault(AskFault::TooLarge));
         }
-        let _coherent = self.filter.question_count();
-        let place = find_place(self.key, &self.volume, content.as_slice());
+        let _coherent = self.mounted.filter();
+        let place = find_place(self.key, self.mounted.volume(), content.as_slice());
         if self.is_busy(self.class_at(&place)) {
             return refuse(content, Refusal::Fault(AskFault::Busy));
         }
@@ -178,9 +174,9 @@ impl Guard {
     pub fn may_ask(&self) -> bool
         ensures { result ≡ may_ask self.now }
     {
-        let limits = self.filter.limits().values();
-        let asking = (self.filter.question_count() as u64) < limits.questions;
-        let streams = self.volume.limits().values().streams;
+        let limits = self.mounted.filter().limits().values();
+        let asking = (self.mounted.filter().question_count() as u64) < limits.questions;
+        let streams = self.mounted.volume().limits().values().streams;
         asking && self.has_room() && self.shelf.count() < streams
     }
 
@@ -203,8 +199,7 @@ impl Guard {
     /// Ends it: opens that wait are denied, and nobody hears of it.
     pub fn abandon(self) {
         let Guard {
-            filter,
-            volume: _,
+            mounted,
             key: _,
             keep: _,
             clients: _,
@@ -212,14 +207,14 @@ impl Guard {
             waiting: _,
             shelf: _,
         } = self;
-        filter.abandon();
+        let _volume = mounted.abandon();
     }
 
     /// The floor: no version below it grants an ask.
     pub fn floor(&self) -> Version
         ensures { result ≡ self.now.table.floor }
     {
-        self.filter.floor()
+        self.mounted.filter().floor()
     }
 
     /// Whether a service is connected, at the one port that a guard has.
@@ -227,14 +222,14 @@ impl Guard {
         ensures value { result ≡ is_open One self.now.table.connected }
         ensures alone { HasOnePort self.now.table }
     {
-        self.filter.connected(Port::One)
+        self.mounted.filter().connected(Port::One)
     }
 
     /// How many questions run.
     pub fn question_count(&self) -> usize
         ensures { result ≡ length self.now.table.questions }
     {
-        self.filter.question_count()
+        self.mounted.filter().question_count()
     }
 
     /// How many asks wait for a verdict, those of clients that have left among them: for each open that the filter holds one.
@@ -269,10 +264,17 @@ impl Guard {
             Port::One => {}
             Port::Two => return Ok(Given::nothing(alloc)),
         }
-        let told = room_for_answers(alloc, &self.filter)?;
-        let out = receive(alloc, &self.volume, &mut self.filter, message)?;
+        let told = room_for_answers(alloc, self.mounted.filter())?;
+        let out = receive(alloc, &mut self.mounted, message)?;
         let (clients, waiting) = (&self.clients, &mut self.waiting);
-        Ok(settle(&self.filter, clients, waiting, &mut self.shelf, told, out))
+        Ok(settle(
+            self.mounted.filter(),
+            clients,
+            waiting,
+            &mut self.shelf,
+            told,
+            out,
+        ))
     }
 
     /// The service is lost, and a guard has no other: every question ends, and every open is answered by the mode. It costs a logarithm for each.
@@ -282,10 +284,17 @@ impl Guard {
         ensures all { filter_step self.old.table self.old.volume (Disconnects One)
             ≡ loses_all (record self.old.table { connected = none_open }) self.old.volume }
     {
-        let told = room_for_answers(alloc, &self.filter)?;
-        let out = disconnect(alloc, &self.volume, &mut self.filter)?;
+        let told = room_for_answers(alloc, self.mounted.filter())?;
+        let out = disconnect(alloc, &mut self.mounted)?;
         let (clients, waiting) = (&self.clients, &mut self.waiting);
-        Ok(settle(&self.filter, clients, waiting, &mut self.shelf, told, out))
+        Ok(settle(
+            self.mounted.filter(),
+            clients,
+            waiting,
+            &mut self.shelf,
+            told,
+            out,
+        ))
     }
 
     /// The time of the question of this number is up: its opens are answered by the mode, and the service is told to let it
@@ -293,10 +302,17 @@ impl Guard {
     pub fn time_up(&mut self, alloc: Global, seq: u64) -> Result<Given, AllocError>
         ensures event { Turns self.old self.new result (happens self.old (TimesOut seq)) }
     {
-        let told = room_for_answers(alloc, &self.filter)?;
-        let out = time_out(alloc, &self.volume, &mut self.filter, seq)?;
+        let told = room_for_answers(alloc, self.mounted.filter())?;
+        let out = time_out(alloc, &mut self.mounted, seq)?;
         let (clients, waiting) = (&self.clients, &mut self.waiting);
-        Ok(settle(&self.filter, clients, waiting, &mut self.shelf, told, out))
+        Ok(settle(
+            self.mounted.filter(),
+            clients,
+            waiting,
+            &mut self.shelf,
+            told,
+            out,
+        ))
     }
 
     // A content comes to be kept under this name, which is free.
@@ -310,17 +326,17 @@ impl Guard {
         requires place { place_of self.old content.now ≡ Unused name.now }
         ensures kept { IsKeptBy self.old self.new name.now content.now result }
     {
-        match self.volume.create_refusal(name) {
+        match self.mounted.volume().create_refusal(name) {
             Some(_) => return Err(Refusal::Fault(AskFault::Full)),
             None => {}
         }
         let bytes = content.len() as u64;
-        let stream = StreamId::new(self.volume.last_created().get() + 1);
+        let stream = StreamId::new(self.mounted.volume().last_created().get() + 1);
         match self.shelf.add(stream, bytes) {
             Ok(()) => {}
             Err(_) => return Err(Refusal::NoMemory),
         }
-        match store(alloc, &mut self.filter, &mut self.volume, name, content) {
+        match self.mounted.store(alloc, name, content) {
             Ok(stream) => Ok(stream),
             Err(_) => {
                 self.shelf.remove(stream, bytes);
@@ -340,11 +356,11 @@ impl Guard {
         requires left { self.old.volume.opens < greatest }
         ensures { Turns self.old self.new result (opens self.old stream client tag) }
     {
-        let told = match room_for_answers(alloc, &self.filter) {
+        let told = match room_for_answers(alloc, self.mounted.filter()) {
             Ok(told) => told,
             Err(refused) => return Err(refused),
         };
-        let number = self.volume.opens() + 1;
+        let number = self.mounted.volume().opens() + 1;
         let waiter = Waiter {
             client,
             tag,
@@ -354,11 +370,18 @@ impl Guard {
             Ok(()) => {}
             Err(refused) => return Err(refused),
         }
-        match open(alloc, &mut self.volume, &mut self.filter, stream) {
+        match open(alloc, &mut self.mounted, stream) {
             Ok(out) => {
                 self.shelf.touch(stream);
                 let (clients, waiting) = (&self.clients, &mut self.waiting);
-                Ok(settle(&self.filter, clients, waiting, &mut self.shelf, told, out))
+                Ok(settle(
+                    self.mounted.filter(),
+                    clients,
+                    waiting,
+                    &mut self.shelf,
+                    told,
+                    out,
+                ))
             }
             Err(refused) => {
                 let _ = leave(&mut self.waiting, &mut self.shelf, number);
@@ -404,7 +427,7 @@ impl Guard {
         requires place { IsPlace place (place_of self.old content.now) }
         ensures { AskedNow self.old self.new client tag content.now result }
     {
-        if self.volume.opens_left() == 0 {
+        if self.mounted.volume().opens_left() == 0 {
             return Err(Refusal::Fault(AskFault::OpensSpent));
         }
         match place {
@@ -444,8 +467,8 @@ impl Guard {
     fn has_verdict(&self, stream: StreamId) -> bool
         ensures { result ≡ has_verdict self.now.table stream }
     {
-        match self.filter.verdict_at(stream) {
-            Some((version, _)) => version == self.filter.floor(),
+        match self.mounted.filter().verdict_at(stream) {
+            Some((version, _)) => version == self.mounted.filter().floor(),
             None => false,
         }
     }
@@ -465,7 +488,8 @@ impl Guard {
     fn has_room(&self) -> bool
         ensures { result ≡ has_room self.now.table }
     {
-        (self.filter.pended_count() as u64) < self.filter.limits().values().pended
+        (self.mounted.filter().pended_count() as u64)
+            < self.mounted.filter().limits().values().pended
     }
 
     // Whether more is kept than is to be, or the volume takes no stream more.
@@ -473,7 +497,7 @@ impl Guard {
         ensures { result ≡ is_crowded self.now }
     {
         self.keep < self.shelf.bytes()
-            || self.volume.limits().values().streams <= self.shelf.count()
+            || self.mounted.volume().limits().values().streams <= self.shelf.count()
     }
 
     // A content is let go that nobody waits for.
@@ -481,19 +505,19 @@ impl Guard {
         requires idle { times stream (map (λ e. e.1.stream) self.old.waiting) ≡ 0 }
         ensures { LetsGo self.old self.new stream result }
     {
-        let told = match room_for_answers(alloc, &self.filter) {
+        let told = match room_for_answers(alloc, self.mounted.filter()) {
             Ok(told) => told,
             Err(refused) => return Err(refused),
         };
-        let Some(bytes) = self.volume.length(stream) else {
+        let Some(bytes) = self.mounted.volume().length(stream) else {
             return Ok(None);
         };
-        match remove(alloc, &mut self.volume, &mut self.filter, stream) {
+        match remove(alloc, &mut self.mounted, stream) {
             Ok(out) => {
                 self.shelf.remove(stream, bytes);
                 let (clients, waiting) = (&self.clients, &mut self.waiting);
                 let shelf = &mut self.shelf;
-                Ok(Some(settle(&self.filter, clients, waiting, shelf, told, out)))
+                Ok(Some(settle(self.mounted.filter(), clients, waiting, shelf, told, out)))
             }
             Err(refused) => Err(refused),
         }

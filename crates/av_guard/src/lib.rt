@@ -16,7 +16,6 @@ mod events;
 pub mod fault;
 pub mod given;
 pub mod guard;
-mod keeping;
 pub mod laws;
 mod naming;
 mod place;

@@ -10,9 +10,10 @@ use Rattle.av_base.specs.declared.port.Port.{Port}
 use Rattle.av_base.specs.declared.port.Port.TheVariants.{One, Two}
 use Rattle.av_filter.proofs.EachLemmas.{each_weaker, each-append, each-map}
 use Rattle.av_filter.proofs.FitLemmas.{keeps_fit}
-use Rattle.av_filter.specs.Audit.{IsFilterAudit, Kept, filter_end, sent_down}
+use Rattle.av_filter.specs.Audit.{IsFilterAudit, filter_end, sent_down}
 use Rattle.av_filter.specs.Conduct.{FilterEvent, Changes, filter_refusal, filter_step}
 use Rattle.av_filter.specs.Conduct as filter_events
+use Rattle.av_filter.specs.Mount.{Mount}
 use Rattle.av_filter_table.specs.Orderly.{Rises}
 use Rattle.av_filter.specs.Reaction.{Reaction}
 use Rattle.av_filter_table.specs.Table.{mounted}
@@ -555,7 +556,7 @@ module _ (mode : Mode) (limits : LimitValues) (told : Port → Started) (fs : Li
       let up : Each (UpFits p w.down) (all_up es) =
       up_of (UpFits p w.down) es first Two (sent_up [] (service_side One es)) (up_of (UpFits p w.down) es first One [] tt l.up one_responds) l.up two_responds in
       let held = held_right p (record w { up = all_up es }) l.filter l.keeps (l.desks One).cache (l.desks Two).cache up in
-      subst (λ (k : Kept). All (IsRightEntry p) (held_among k.table k.volume.streams (desk_end first.one (service_side One es)) (desk_end first.two (service_side Two es)) (sent_down [] (filter_side es)) (all_up es))) (sym (end_table es first))
+      subst (λ (k : Mount). All (IsRightEntry p) (held_among k.table k.volume.streams (desk_end first.one (service_side One es)) (desk_end first.two (service_side Two es)) (sent_down [] (filter_side es)) (all_up es))) (sym (end_table es first))
       (subst (λ d. All (IsRightEntry p) (held_among w.table w.volume.streams d (desk_end first.two (service_side Two es)) (sent_down [] (filter_side es)) (all_up es))) (sym (end_desk es first One))
       (subst (λ d. All (IsRightEntry p) (held_among w.table w.volume.streams w.one d (sent_down [] (filter_side es)) (all_up es))) (sym (end_desk es first Two))
       (subst (λ ms. All (IsRightEntry p) (held_among w.table w.volume.streams w.one w.two ms (all_up es))) (sym (end_down es first legal.filter)) held)))

@@ -1,6 +1,7 @@
-ghost use Rattle.std.specs.Prelude.{◌≡◌, [], IfErr, IfOk, IfSome, IsOkAnd, None};
+ghost use Rattle.std.specs.Prelude.{◌≡◌, [], map, IfErr, IfOk, IfSome, IsOkAnd, None};
+ghost use Rattle.av_files.specs.declared.listed.Failing.TheVariants.{Ends};
 ghost use Rattle.av_status.specs.Status.{IsFault};
-ghost use Rattle.av_program.specs.List.{failing_of};
+ghost use Rattle.av_program.specs.List.{AreNamed, failing_of};
 
 use crate::reading::{Source, say_why};
 use av_base::ReadFault;
@@ -23,7 +24,11 @@ pub fn names_of<'a, 'b: 'a, E: Write>(
     tally: &mut Tally,
     err: &mut E,
 ) -> Result<Vec<&'a str>, Status>
-    ensures { IfErr result (λ status. IsFault status) }
+    ensures names { IfOk result (λ names. AreNamed named.now (map (λ n. n.now) names.items) tally.old tally.new) }
+    ensures alone { named.now.list ≡ None → IfOk result (λ names.
+        (map (λ n. n.now) names.items ≡ map (λ n. n.now) named.now.files.items) × (tally.new ≡ tally.old)) }
+    ensures ends { failing ≡ Ends → IfOk result (λ names. tally.new ≡ tally.old) }
+    ensures fault { IfErr result (λ status. IsFault status) }
 {
     *room = list_text(rt, alloc, named.list, err)?;
     let (path, end) = match named.list {

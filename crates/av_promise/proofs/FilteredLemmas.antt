@@ -18,6 +18,7 @@ use Rattle.av_files.specs.declared.streams.TheConstants.{VOLUME}
 use Rattle.av_filter.proofs.EachLemmas.{each_both, each_weaker}
 use Rattle.av_filter.specs.Audit.{FilterEntry, IsFilterAudit, answers_given}
 use Rattle.av_filter.specs.Conduct.{FilterEvent, filter_step}
+use Rattle.av_filter.specs.Mount.{Mount}
 use Rattle.av_frame.specs.Message.{Letter}
 use Rattle.av_guard.proofs.PastLemmas.{Past, held_stays, past_more, present}
 use Rattle.av_guard.specs.Run.{all_held, held_after}
@@ -29,7 +30,7 @@ use Rattle.av_promise.specs.Filtered.{AreRight, AreRightInPart, IsRightOf, entri
 use Rattle.av_promise.specs.Promise.{IsServed, at_first, published_by}
 use Rattle.av_sigset.specs.Publication.{Publication}
 use Rattle.av_sockets.specs.Filter.{AreFiltered, AreInOrder, AreOpened, AreTold, AreToldSoFar, IsToldInPart, begun, more, nothing, opened_as, unwritten}
-use Rattle.av_sockets.specs.Run.{AreAccepted, AreOfTheirStreams, IsOfItsStream, Leads, Mounted, first}
+use Rattle.av_sockets.specs.Run.{AreAccepted, AreOfTheirStreams, IsOfItsStream, Leads, first}
 use Rattle.av_status.specs.Tally.{no_files}
 use Rattle.av_status.specs.declared.status.Status.{Status}
 use Rattle.av_status.specs.declared.tally.Tally.{Tally}
@@ -49,7 +50,7 @@ starts_empty : Keeps first.volume []
 starts_empty = record { streams = (follows.starts VOLUME greatest_values).streams; last = (follows.starts VOLUME greatest_values).last }
 
 -- a history led here
-record Reaches (m : Mounted) (history : List FilterEntry) : Type 0 where
+record Reaches (m : Mount) (history : List FilterEntry) : Type 0 where
   pub sent : List Letter
   pub past : Past first.table first.volume m.table m.volume sent history
 
@@ -63,14 +64,14 @@ events_reach w (e ∷ es) sent history accepted past =
     let on = events_reach (happened w e) es _ (history ++ x ∷ []) accepted.1 (past_more first.table first.volume w.table w.volume sent history e past accepted.0) in
     subst (Reaches (record { table = (all_happened w (e ∷ es)).table; volume = (all_happened w (e ∷ es)).volume })) (append_assoc history (x ∷ []) rest) on
 
-led_reaches : (m m' : Mounted) (answers : List Answer) (l : Leads m m' answers) (history : List FilterEntry) → Reaches m history → Reaches m' (history ++ entries_of m.table m.volume l.events)
+led_reaches : (m m' : Mount) (answers : List Answer) (l : Leads m m' answers) (history : List FilterEntry) → Reaches m history → Reaches m' (history ++ entries_of m.table m.volume l.events)
 led_reaches m m' answers l history reached =
     let xs = history ++ entries_of m.table m.volume l.events in
     let on = events_reach (unled m.table m.volume []) l.events reached.sent history l.accepted reached.past in
     subst (λ v. Reaches (record { table = m'.table; volume = v }) xs) (sym l.at.volume)
     (subst (λ t. Reaches (record { table = t; volume = (all_happened (unled m.table m.volume []) l.events).volume }) xs) (sym l.at.table) on)
 
-group_reaches : (has : List ℕ → List ℕ → Type 0) (wishes : Wishes) (names : List (Bor (List ℕ))) (before after : Tally) (old new : Option (List ℕ)) (m m' : Mounted) (o : AreOpened has wishes names before after old new m m') (history : List FilterEntry)
+group_reaches : (has : List ℕ → List ℕ → Type 0) (wishes : Wishes) (names : List (Bor (List ℕ))) (before after : Tally) (old new : Option (List ℕ)) (m m' : Mount) (o : AreOpened has wishes names before after old new m m') (history : List FilterEntry)
     → Reaches m history → Reaches m' (history ++ history_of_group o)
 group_reaches has wishes names before after old new m m' o history reached =
     let here = entries_of m.table m.volume o.led.events in
@@ -78,7 +79,7 @@ group_reaches has wishes names before after old new m m' o history reached =
     subst (Reaches m') (append_assoc history here clearing)
     (led_reaches o.amid m' o.cleared.late o.cleared.leads (history ++ here) (led_reaches m o.amid o.answers o.led history reached))
 
-told_reaches : (has : List ℕ → List ℕ → Type 0) (wishes : Wishes) (before : Tally) (old : Option (List ℕ)) (names : List (Bor (List ℕ))) (after : Tally) (new : Option (List ℕ)) (m : Mounted) (t : AreTold has wishes before old first names after new m)
+told_reaches : (has : List ℕ → List ℕ → Type 0) (wishes : Wishes) (before : Tally) (old : Option (List ℕ)) (names : List (Bor (List ℕ))) (after : Tally) (new : Option (List ℕ)) (m : Mount) (t : AreTold has wishes before old first names after new m)
     → Reaches m (history_of t)
 told_reaches has wishes before old _ after new m nothing =
     record { sent = []; past = record { legal = tt; leads = refl; sends = refl; keeps = starts_empty } }
@@ -96,7 +97,7 @@ entries_answers : (w : Led) (es : List FilterEvent) → w.answers ++ answers_giv
 entries_answers w [] = append-nil w.answers
 entries_answers w (e ∷ es) = sym (append_assoc w.answers (filter_step w.table w.volume e).answers _) ∙ entries_answers (happened w e) es
 
-led_answers : (m m' : Mounted) (answers : List Answer) (l : Leads m m' answers) → answers_given (entries_of m.table m.volume l.events) ≡ answers
+led_answers : (m m' : Mount) (answers : List Answer) (l : Leads m m' answers) → answers_given (entries_of m.table m.volume l.events) ≡ answers
 led_answers m m' answers l = entries_answers (unled m.table m.volume []) l.events ∙ sym l.at.answered
 
 answers_then : (xs ys : List FilterEntry) → answers_given (xs ++ ys) ≡ answers_given xs ++ answers_given ys
@@ -135,7 +136,7 @@ files_among names answers opened p =
 
 module _ (has : List ℕ → List ℕ → Type 0) (history : List FilterEntry) (audit : IsFilterAudit first.table first.volume history) (number : ℕ) (limits : LimitValues) (sets : List Publication) (es : List SideEntry) (served : IsServed history number limits sets es) (clean : AuditsGrantOnlyClean FailClosed [] (at_first sets) es) where
   -- an answer of the history, told of a stream in the volume that a front of the history led to
-  answer_right : (amid : Mounted) (front back : List FilterEntry) → history ≡ front ++ back → Reaches amid front → (name : List ℕ) (a : Answer) → Among a (answers_given history)
+  answer_right : (amid : Mount) (front back : List FilterEntry) → history ≡ front ++ back → Reaches amid front → (name : List ℕ) (a : Answer) → Among a (answers_given history)
       → IsOfItsStream has amid.volume name a → IsRightOf has (published_by sets es) amid.volume name a
   answer_right amid front back is led name (Granted n least s g version) there own =
       let then = answer_just FailClosed greatest_values first.volume history starts_empty audit number limits sets es served clean (Granted n least s g version) there in
@@ -162,7 +163,7 @@ module _ (has : List ℕ → List ℕ → Type 0) (history : List FilterEntry) (
   answer_right amid front back is led name (Denied n cause) there own = tt
 
   -- lines of answers of the history, under their names
-  lines_right : (m amid : Mounted) (answers : List Answer) (l : Leads m amid answers) (front later : List FilterEntry) → history ≡ (front ++ entries_of m.table m.volume l.events) ++ later → Reaches m front
+  lines_right : (m amid : Mount) (answers : List Answer) (l : Leads m amid answers) (front later : List FilterEntry) → history ≡ (front ++ entries_of m.table m.volume l.events) ++ later → Reaches m front
       → (names : List (Bor (List ℕ))) (opened : List Opened) → AreInOrder names answers opened → AreOfTheirStreams has amid.volume opened
       → Each (λ (k : Opened). IsRightOf has (published_by sets es) amid.volume k.name.now k.answer) opened
   lines_right m amid answers l front later parts reached names opened files own =
@@ -176,7 +177,7 @@ module _ (has : List ℕ → List ℕ → Type 0) (history : List FilterEntry) (
       each_both (λ (k : Opened). Among k.answer answers) (λ (k : Opened). IsOfItsStream has amid.volume k.name.now k.answer) (λ (k : Opened). IsRightOf has (published_by sets es) amid.volume k.name.now k.answer)
       (λ k given its. answer_right amid (front ++ here) later parts led k.name.now k.answer (among k.answer given) its) opened (files_among names answers opened files) own
 
-  told_right : (wishes : Wishes) (before : Tally) (old : Option (List ℕ)) (names : List (Bor (List ℕ))) (after : Tally) (new : Option (List ℕ)) (m : Mounted) (t : AreTold has wishes before old first names after new m) (later : List FilterEntry)
+  told_right : (wishes : Wishes) (before : Tally) (old : Option (List ℕ)) (names : List (Bor (List ℕ))) (after : Tally) (new : Option (List ℕ)) (m : Mount) (t : AreTold has wishes before old first names after new m) (later : List FilterEntry)
       → history ≡ history_of t ++ later → AreRight (published_by sets es) t
   told_right wishes before old _ after new m nothing later is = tt
   told_right wishes before old _ after new m (more names group counted _ held _ mid _ told o) later is =
@@ -191,7 +192,7 @@ module _ (has : List ℕ → List ℕ → Type 0) (history : List FilterEntry) (
       )
 
   -- and those of which a front was written
-  part_right : (wishes : Wishes) (names : List (Bor (List ℕ))) (old new : Option (List ℕ)) (m amid : Mounted) (answers : List Answer) (l : Leads m amid answers) (front : List FilterEntry)
+  part_right : (wishes : Wishes) (names : List (Bor (List ℕ))) (old new : Option (List ℕ)) (m amid : Mount) (answers : List Answer) (l : Leads m amid answers) (front : List FilterEntry)
       → history ≡ front ++ entries_of m.table m.volume l.events → Reaches m front → (t : IsToldInPart has wishes names answers amid.volume old new) → AreRightInPart (published_by sets es) t
   part_right wishes names old new m amid answers l front is reached (unwritten same) = tt
   part_right wishes names old new m amid answers l front is reached (begun opened files named lines) =

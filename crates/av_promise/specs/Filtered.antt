@@ -7,6 +7,7 @@ use Rattle.av_base.specs.declared.verdict.Verdict.TheVariants.{Clean}
 use Rattle.av_files.specs.declared.opened.Opened.{Opened}
 use Rattle.av_filter.specs.Audit.{FilterEntry}
 use Rattle.av_filter.specs.Conduct.{FilterEvent, filter_step}
+use Rattle.av_filter.specs.Mount.{Mount}
 use Rattle.av_filter_table.specs.Table.{Table}
 use Rattle.av_match.specs.Match.{verdict}
 use Rattle.av_pend.specs.declared.answer.Answer.{Answer}
@@ -15,7 +16,7 @@ use Rattle.av_promise.specs.Promise.{IsServed, published_by}
 use Rattle.av_sigset.specs.Publication.{Publication, published_as}
 use Rattle.av_sigset.specs.declared.signature.Pattern.{Pattern}
 use Rattle.av_sockets.specs.Filter.{AreFiltered, AreOpened, AreOpenedInPart, AreTold, AreToldSoFar, IsToldInPart, begun, more, nothing, unwritten}
-use Rattle.av_sockets.specs.Run.{Mounted, first}
+use Rattle.av_sockets.specs.Run.{first}
 use Rattle.av_status.specs.Tally.{no_files}
 use Rattle.av_status.specs.declared.status.Status.{Status}
 use Rattle.av_status.specs.declared.tally.Tally.{Tally}
@@ -36,24 +37,24 @@ entries_of t v [] = []
 entries_of t v (e ∷ es) = entry_of t v e ∷ entries_of (filter_step t v e).table (filter_step t v e).volume es
 
 -- what happened while a group of files was opened, and while their streams were taken away
-abbrev pub history_of_group : {has_content : List ℕ → List ℕ → Type 0} {wishes : Wishes} {names : List (Bor (List ℕ))} {before after : Tally} {old new : Option (List ℕ)} {m m' : Mounted}
+abbrev pub history_of_group : {has_content : List ℕ → List ℕ → Type 0} {wishes : Wishes} {names : List (Bor (List ℕ))} {before after : Tally} {old new : Option (List ℕ)} {m m' : Mount}
     → AreOpened has_content wishes names before after old new m m' → List FilterEntry
 history_of_group {m = m} group =
     entries_of m.table m.volume group.led.events ++ entries_of group.amid.table group.amid.volume group.cleared.leads.events
 
 -- and all groups
-abbrev pub history_of : {has_content : List ℕ → List ℕ → Type 0} {wishes : Wishes} {before : Tally} {old : Option (List ℕ)} {from : Mounted} {names : List (Bor (List ℕ))} {after : Tally} {new : Option (List ℕ)} {m : Mounted}
+abbrev pub history_of : {has_content : List ℕ → List ℕ → Type 0} {wishes : Wishes} {before : Tally} {old : Option (List ℕ)} {from : Mount} {names : List (Bor (List ℕ))} {after : Tally} {new : Option (List ℕ)} {m : Mount}
     → AreTold has_content wishes before old from names after new m → List FilterEntry
 history_of nothing = []
 history_of (more names group counted after held new m m' told opened) = history_of told ++ history_of_group opened
 
 -- what happened before a front of the lines of a group was written
-abbrev pub history_of_part : {has_content : List ℕ → List ℕ → Type 0} {wishes : Wishes} {names : List (Bor (List ℕ))} {old new : Option (List ℕ)} {m : Mounted}
+abbrev pub history_of_part : {has_content : List ℕ → List ℕ → Type 0} {wishes : Wishes} {names : List (Bor (List ℕ))} {old new : Option (List ℕ)} {m : Mount}
     → AreOpenedInPart has_content wishes names old new m → List FilterEntry
 history_of_part {m = m} part = entries_of m.table m.volume part.led.events
 
 -- what happened before the last line of a run was written, whatever followed
-abbrev pub history_so_far : {has_content : List ℕ → List ℕ → Type 0} {wishes : Wishes} {before : Tally} {old : Option (List ℕ)} {from : Mounted} {names : List (Bor (List ℕ))} {new : Option (List ℕ)}
+abbrev pub history_so_far : {has_content : List ℕ → List ℕ → Type 0} {wishes : Wishes} {before : Tally} {old : Option (List ℕ)} {from : Mount} {names : List (Bor (List ℕ))} {new : Option (List ℕ)}
     → AreToldSoFar has_content wishes before old from names new → List FilterEntry
 history_so_far run = history_of run.told ++ history_of_part run.last
 
@@ -76,7 +77,7 @@ IsRightOf has_content sets v name (Unscanned n s g cause) = ⊥
 IsRightOf has_content sets v name (Denied n cause) = Unit {0}
 
 -- each line of each group, by the volume as it was when the line was written
-abbrev pub AreRight : {has_content : List ℕ → List ℕ → Type 0} {wishes : Wishes} {before : Tally} {old : Option (List ℕ)} {from : Mounted} {names : List (Bor (List ℕ))} {after : Tally} {new : Option (List ℕ)} {m : Mounted}
+abbrev pub AreRight : {has_content : List ℕ → List ℕ → Type 0} {wishes : Wishes} {before : Tally} {old : Option (List ℕ)} {from : Mount} {names : List (Bor (List ℕ))} {after : Tally} {new : Option (List ℕ)} {m : Mount}
     → List Publication → AreTold has_content wishes before old from names after new m → Type 0
 AreRight sets nothing = Unit {0}
 AreRight {has_content = has_content} sets (more names group counted after held new m m' told opened) =

@@ -25,6 +25,7 @@ pub use av_base::{Cause, Generation, Limits, Mode, OpenId, Port, StreamId, Versi
 pub use av_desk::{Desk, Lent, Taken};
 pub use av_ends::{Receipt, Ticket, TicketNote};
 pub use av_engines::{End, Exchange, Watched, serve_filter, serve_further, serve_service};
+pub use av_filter::{Filter, Mounted};
 pub use av_frame::Message;
 pub use av_gate::{Gate, Seat, Unclosed};
 pub use av_loops::{desk_done, desk_in, desk_out, gate_in, gate_out};

@@ -12,11 +12,12 @@ use Rattle.av_base.specs.Among.{Among}
 use Rattle.av_files.proofs.EachLemmas.{each_push}
 use Rattle.av_files.specs.Volume.{stream_of_file}
 use Rattle.av_files.specs.declared.opened.Opened.{Opened}
+use Rattle.av_filter.specs.Mount.{Mount}
 use Rattle.av_filter.proofs.EachLemmas.{each_weaker}
 use Rattle.av_pend.specs.declared.answer.Answer.{Answer}
 use Rattle.av_pend.specs.declared.answer.Answer.TheVariants.{Denied, Granted, Unscanned}
 use Rattle.av_sockets.specs.Filter.{AreOpened, AreOpenedInPart, IsToldInPart, begun, unwritten}
-use Rattle.av_sockets.specs.Run.{AddsRead, AreOfContents, AreOfTheirStreams, IsContentIn, IsItsStream, IsOfItsStream, Leads, Mounted}
+use Rattle.av_sockets.specs.Run.{AddsRead, AreOfContents, AreOfTheirStreams, IsContentIn, IsItsStream, IsOfItsStream, Leads}
 use Rattle.av_status.specs.declared.tally.Tally.{Tally}
 use Rattle.av_status.specs.declared.tally.Wishes.{Wishes}
 use Rattle.av_store.proofs.IndexLemmas.{same_path}
@@ -108,7 +109,7 @@ pub was_read : (has : List ℕ → List ℕ → Type 0) (ss : Streams) → AreOf
 was_read has ss all name content (n, s, at, named, is) = subst (λ c. has name c) is (subst (λ m. has m s.bytes) named (read_at has ss n s all at))
 
 -- a file more was read
-pub contents_next : (has : List ℕ → List ℕ → Type 0) (m m' : Mounted) (name : List ℕ) (content : Option (List ℕ)) → IfSome content (λ bytes. has name bytes) → AreOfContents has m.volume.streams
+pub contents_next : (has : List ℕ → List ℕ → Type 0) (m m' : Mount) (name : List ℕ) (content : Option (List ℕ)) → IfSome content (λ bytes. has name bytes) → AreOfContents has m.volume.streams
     → AddsRead m m' name content → Leads m m' [] × AreOfContents has m'.volume.streams
 contents_next has m m' name None read all adds = absurd adds
 contents_next has m m' name (Some bytes) read all adds = (
@@ -140,7 +141,7 @@ module _ (has read : List ℕ → List ℕ → Type 0) (then : (name content : L
   all_as : (v : Store) (os : List Opened) → AreOfTheirStreams has v os → AreOfTheirStreams read v os
   all_as v os all = each_weaker (λ (o : Opened). IsOfItsStream has v o.name.now o.answer) (λ (o : Opened). IsOfItsStream read v o.name.now o.answer) (λ o own. own_as v o.name.now o.answer own) os all
 
-  pub opened_as_read : (wishes : Wishes) (names : List (Bor (List ℕ))) (before after : Tally) (old new : Option (List ℕ)) (m m' : Mounted)
+  pub opened_as_read : (wishes : Wishes) (names : List (Bor (List ℕ))) (before after : Tally) (old new : Option (List ℕ)) (m m' : Mount)
       → AreOpened has wishes names before after old new m m' → AreOpened read wishes names before after old new m m'
   opened_as_read wishes names before after old new m m' o = record {
     answers = o.answers;
@@ -154,5 +155,5 @@ module _ (has read : List ℕ → List ℕ → Type 0) (then : (name content : L
   told_as wishes names answers v old new (unwritten same) = unwritten same
   told_as wishes names answers v old new (begun opened files named lines) = begun opened files (all_as v opened named) lines
 
-  pub part_as_read : (wishes : Wishes) (names : List (Bor (List ℕ))) (old new : Option (List ℕ)) (m : Mounted) → AreOpenedInPart has wishes names old new m → AreOpenedInPart read wishes names old new m
+  pub part_as_read : (wishes : Wishes) (names : List (Bor (List ℕ))) (old new : Option (List ℕ)) (m : Mount) → AreOpenedInPart has wishes names old new m → AreOpenedInPart read wishes names old new m
   part_as_read wishes names old new m p = record { answers = p.answers; amid = p.amid; led = p.led; told = told_as wishes names p.answers p.amid.volume old new p.told }

@@ -9,11 +9,12 @@ use Rattle.av_base.proofs.DeviceLemmas.{prefix_whole}
 use Rattle.av_base.specs.Among.{Among}
 use Rattle.av_base.specs.Device.{AppendsPrefix}
 use Rattle.av_files.specs.Opened.{opened_lines}
+use Rattle.av_filter.specs.Mount.{Mount}
 use Rattle.av_pend.specs.declared.answer.Answer.{Answer}
 use Rattle.av_sockets.proofs.ContentLemmas.{contents_left, contents_next, opened_as_read, part_as_read, was_read}
 use Rattle.av_sockets.proofs.RunLemmas.{leads_nowhere, leads_then}
 use Rattle.av_sockets.specs.Filter.{AreOpened, AreOpenedInPart, AreSoFar, AreTold, AreToldSoFar, GoesOn, GoesOnInPart, IsTold, IsToldInPart, OpensStreams, begun, fails, joins, more, nothing, opens, stops, unwritten}
-use Rattle.av_sockets.specs.Run.{AddsRead, AreOfContents, IsContentIn, Leads, LeadsLate, Mounted}
+use Rattle.av_sockets.specs.Run.{AddsRead, AreOfContents, IsContentIn, Leads, LeadsLate}
 use Rattle.av_status.specs.declared.status.Status.{Status}
 use Rattle.av_status.specs.declared.tally.Tally.{Tally}
 use Rattle.av_status.specs.declared.tally.Wishes.{Wishes}
@@ -38,7 +39,7 @@ sure (Ok v) well p = p
 sure (Err e) well p = absurd cc
 
 -- the streams did not change while they were opened
-pub opens_streams : (wishes : Wishes) (names group : List (Bor (List ℕ))) (answers : List Answer) (before after : Tally) (old new : Option (List ℕ)) (m from amid m' : Mounted) → from ≡ m → group ≡ names
+pub opens_streams : (wishes : Wishes) (names group : List (Bor (List ℕ))) (answers : List Answer) (before after : Tally) (old new : Option (List ℕ)) (m from amid m' : Mount) → from ≡ m → group ≡ names
     → Leads from amid answers → amid.volume.streams ≡ from.volume.streams → IsTold (IsContentIn amid.volume.streams) wishes group answers amid.volume before after old new → LeadsLate amid m'
     → OpensStreams wishes names before after old new m m'
 opens_streams wishes names group answers before after old new m from amid m' first all led still told cleared =
@@ -55,11 +56,11 @@ opens_streams wishes names group answers before after old new m from amid m' fir
       fewer = subst (λ ss. Each (λ s. Among s ss) m'.volume.streams) still cleared.fewer;
     }))
 
-pub opens_in_part : (wishes : Wishes) (names group : List (Bor (List ℕ))) (answers : List Answer) (old new : Option (List ℕ)) (m from amid : Mounted) → from ≡ m → group ≡ names
+pub opens_in_part : (wishes : Wishes) (names group : List (Bor (List ℕ))) (answers : List Answer) (old new : Option (List ℕ)) (m from amid : Mount) → from ≡ m → group ≡ names
     → Leads from amid answers → amid.volume.streams ≡ from.volume.streams → IsToldInPart (IsContentIn amid.volume.streams) wishes group answers amid.volume old new
     → AreOpenedInPart (IsContentIn m.volume.streams) wishes names old new m
 opens_in_part wishes names group answers old new m from amid first all led still told =
-    subst (λ (k : Mounted). AreOpenedInPart (IsContentIn k.volume.streams) wishes names old new k) first
+    subst (λ (k : Mount). AreOpenedInPart (IsContentIn k.volume.streams) wishes names old new k) first
     (subst (λ ns. AreOpenedInPart (IsContentIn from.volume.streams) wishes ns old new from) all
     (record {
       answers = answers;
@@ -69,11 +70,11 @@ opens_in_part wishes names group answers old new m from amid first all led still
     }))
 
 -- nothing was written
-pub none_opened : (has : List ℕ → List ℕ → Type 0) (wishes : Wishes) (names : List (Bor (List ℕ))) (old new : Option (List ℕ)) (m : Mounted) → new ≡ old → AreOpenedInPart has wishes names old new m
+pub none_opened : (has : List ℕ → List ℕ → Type 0) (wishes : Wishes) (names : List (Bor (List ℕ))) (old new : Option (List ℕ)) (m : Mount) → new ≡ old → AreOpenedInPart has wishes names old new m
 none_opened has wishes names old new m same = record { answers = []; amid = m; led = leads_nowhere m; told = unwritten same }
 
 -- streams were added before the group was opened
-opened_behind : (has : List ℕ → List ℕ → Type 0) (wishes : Wishes) (names : List (Bor (List ℕ))) (before after : Tally) (old new : Option (List ℕ)) (m full m' : Mounted)
+opened_behind : (has : List ℕ → List ℕ → Type 0) (wishes : Wishes) (names : List (Bor (List ℕ))) (before after : Tally) (old new : Option (List ℕ)) (m full m' : Mount)
     → Leads m full [] → AreOpened has wishes names before after old new full m' → AreOpened has wishes names before after old new m m'
 opened_behind has wishes names before after old new m full m' added o = record {
   answers = o.answers;
@@ -83,35 +84,35 @@ opened_behind has wishes names before after old new m full m' added o = record {
   cleared = o.cleared;
 }
 
-part_behind : (has : List ℕ → List ℕ → Type 0) (wishes : Wishes) (names : List (Bor (List ℕ))) (old new : Option (List ℕ)) (m full : Mounted)
+part_behind : (has : List ℕ → List ℕ → Type 0) (wishes : Wishes) (names : List (Bor (List ℕ))) (old new : Option (List ℕ)) (m full : Mount)
     → Leads m full [] → AreOpenedInPart has wishes names old new full → AreOpenedInPart has wishes names old new m
 part_behind has wishes names old new m full added p = record { answers = p.answers; amid = p.amid; led = leads_then m full p.amid [] p.answers added p.led; told = p.told }
 
 -- ---- one file more
 
 -- a file more filled its group, which was opened
-pub opened_full : (result : Result Unit Status) (wishes : Wishes) (name : Bor (List ℕ)) (content : Option (List ℕ)) (waited joined waits : List (Bor (List ℕ))) (before after : Tally) (old new : Option (List ℕ)) (m full m' : Mounted)
+pub opened_full : (result : Result Unit Status) (wishes : Wishes) (name : Bor (List ℕ)) (content : Option (List ℕ)) (waited joined waits : List (Bor (List ℕ))) (before after : Tally) (old new : Option (List ℕ)) (m full m' : Mount)
     → AddsRead m full name.now content → joined ≡ waited ++ name ∷ [] → OnOk result (OpensStreams wishes joined before after old new full m') → OnOk result (waits ≡ [])
     → OnOk result (GoesOn wishes name content waited waits before after old new m m')
 opened_full (Ok u) wishes name content waited joined waits before after old new m full m' added is opened none =
     opens none full added (subst (λ ns. OpensStreams wishes ns before after old new full m') is opened)
 opened_full (Err e) wishes name content waited joined waits before after old new m full m' added is opened none = opened
 
-pub failed_full : (result : Result Unit Status) (wishes : Wishes) (name : Bor (List ℕ)) (content : Option (List ℕ)) (waited joined : List (Bor (List ℕ))) (old new : Option (List ℕ)) (m full : Mounted)
+pub failed_full : (result : Result Unit Status) (wishes : Wishes) (name : Bor (List ℕ)) (content : Option (List ℕ)) (waited joined : List (Bor (List ℕ))) (old new : Option (List ℕ)) (m full : Mount)
     → AddsRead m full name.now content → joined ≡ waited ++ name ∷ [] → OnErr result (AreOpenedInPart (IsContentIn full.volume.streams) wishes joined old new full)
     → OnErr result (GoesOnInPart wishes name content waited old new m)
 failed_full (Ok u) wishes name content waited joined old new m full added is part = tt
 failed_full (Err e) wishes name content waited joined old new m full added is part =
     fails full added (subst (λ ns. AreOpenedInPart (IsContentIn full.volume.streams) wishes ns old new full) is part)
 
-module _ (has : List ℕ → List ℕ → Type 0) (wishes : Wishes) (before : Tally) (old : Option (List ℕ)) (from : Mounted) where
+module _ (has : List ℕ → List ℕ → Type 0) (wishes : Wishes) (before : Tally) (old : Option (List ℕ)) (from : Mount) where
   -- no file was read
   pub at_start : (waits : List (Bor (List ℕ))) → waits ≡ [] → from.volume.streams ≡ [] → AreSoFar has wishes before old from [] waits before old from
   at_start waits none empty =
       record { front = []; all = none; behind = from; told = nothing; added = leads_nowhere from; contents = subst (AreOfContents has) (sym empty) tt }
 
   -- a group was opened, of streams whose contents were read
-  as_read : (names : List (Bor (List ℕ))) (tally after : Tally) (held new : Option (List ℕ)) (m m' : Mounted) → AreOfContents has m.volume.streams → OpensStreams wishes names tally after held new m m'
+  as_read : (names : List (Bor (List ℕ))) (tally after : Tally) (held new : Option (List ℕ)) (m m' : Mount) → AreOfContents has m.volume.streams → OpensStreams wishes names tally after held new m m'
       → AreOpened has wishes names tally after held new m m'
   as_read names tally after held new m m' all o =
       opened_as_read (IsContentIn m.volume.streams) has (was_read has m.volume.streams all) wishes names tally after held new m m' o.opened
@@ -121,7 +122,7 @@ module _ (has : List ℕ → List ℕ → Type 0) (wishes : Wishes) (before : Ta
   joined_all front waited read next name all then = sym (append_assoc front waited (name ∷ [])) ∙ ap (λ ns. ns ++ name ∷ []) all ∙ sym then
 
   -- one more was read
-  pub one_more : (read waited waits next : List (Bor (List ℕ))) (name : Bor (List ℕ)) (content : Option (List ℕ)) (tally after : Tally) (held new : Option (List ℕ)) (m m' : Mounted)
+  pub one_more : (read waited waits next : List (Bor (List ℕ))) (name : Bor (List ℕ)) (content : Option (List ℕ)) (tally after : Tally) (held new : Option (List ℕ)) (m m' : Mount)
       → IfSome content (λ bytes. has name.now bytes) → AreSoFar has wishes before old from read waited tally held m → GoesOn wishes name content waited waits tally after held new m m' → next ≡ read ++ name ∷ []
       → AreSoFar has wishes before old from next waits after new m'
   one_more read waited waits next name content tally after held new m m' was s (joins is same kept added) then =
@@ -148,7 +149,7 @@ module _ (has : List ℕ → List ℕ → Type 0) (wishes : Wishes) (before : Ta
       }
 
   -- all were read, and those that waited were to be opened
-  pub at_end : (result : Result Unit Status) (read waited names : List (Bor (List ℕ))) (tally after : Tally) (held new : Option (List ℕ)) (m m' : Mounted)
+  pub at_end : (result : Result Unit Status) (read waited names : List (Bor (List ℕ))) (tally after : Tally) (held new : Option (List ℕ)) (m m' : Mount)
       → AreSoFar has wishes before old from read waited tally held m → OnOk result (OpensStreams wishes waited tally after held new m m') → read ≡ names
       → OnOk result (AreTold has wishes before old from names after new m')
   at_end (Ok u) read waited names tally after held new m m' s opened all =
@@ -159,7 +160,7 @@ module _ (has : List ℕ → List ℕ → Type 0) (wishes : Wishes) (before : Ta
   -- ---- what was written by then
 
   -- the lines of the groups that were opened, and no others
-  pub groups_told : (names : List (Bor (List ℕ))) (after : Tally) (new : Option (List ℕ)) (m : Mounted) → AreTold has wishes before old from names after new m → AreToldSoFar has wishes before old from names new
+  pub groups_told : (names : List (Bor (List ℕ))) (after : Tally) (new : Option (List ℕ)) (m : Mount) → AreTold has wishes before old from names after new m → AreToldSoFar has wishes before old from names new
   groups_told names after new m told = record {
     opened = names;
     group = [];
@@ -187,7 +188,7 @@ module _ (has : List ℕ → List ℕ → Type 0) (wishes : Wishes) (before : Ta
   }
 
   -- a group more was opened in part, of the files behind those that were opened
-  part_told : (read group left names : List (Bor (List ℕ))) (waited : List (Bor (List ℕ))) (tally : Tally) (held new : Option (List ℕ)) (m full : Mounted) (s : AreSoFar has wishes before old from read waited tally held m)
+  part_told : (read group left names : List (Bor (List ℕ))) (waited : List (Bor (List ℕ))) (tally : Tally) (held new : Option (List ℕ)) (m full : Mount) (s : AreSoFar has wishes before old from read waited tally held m)
       → s.front ++ (group ++ left) ≡ names → Leads m full [] → AreOpenedInPart has wishes group held new full → AreToldSoFar has wishes before old from names new
   part_told read group left names waited tally held new m full s all added part = record {
     opened = s.front;
@@ -202,7 +203,7 @@ module _ (has : List ℕ → List ℕ → Type 0) (wishes : Wishes) (before : Ta
   }
 
   -- a file more could not be read, or its group not be opened
-  pub fault_at : (names waited : List (Bor (List ℕ))) (i : ℕ) (name : Bor (List ℕ)) (content : Option (List ℕ)) (tally : Tally) (held new : Option (List ℕ)) (m : Mounted)
+  pub fault_at : (names waited : List (Bor (List ℕ))) (i : ℕ) (name : Bor (List ℕ)) (content : Option (List ℕ)) (tally : Tally) (held new : Option (List ℕ)) (m : Mount)
       → take (i + 1) names ≡ take i names ++ name ∷ [] → IfSome content (λ bytes. has name.now bytes) → AreSoFar has wishes before old from (take i names) waited tally held m
       → GoesOnInPart wishes name content waited held new m → AreToldSoFar has wishes before old from names new
   fault_at names waited i name content tally held new m next was s (stops same) =
@@ -217,7 +218,7 @@ module _ (has : List ℕ → List ℕ → Type 0) (wishes : Wishes) (before : Ta
       adds.0 (part_as_read (IsContentIn full.volume.streams) has (was_read has full.volume.streams adds.1) wishes group held new full part)
 
   -- all were read, and the last group could not be opened
-  pub fault_at_end : (result : Result Unit Status) (read waited names : List (Bor (List ℕ))) (tally : Tally) (held new : Option (List ℕ)) (m : Mounted) → AreSoFar has wishes before old from read waited tally held m
+  pub fault_at_end : (result : Result Unit Status) (read waited names : List (Bor (List ℕ))) (tally : Tally) (held new : Option (List ℕ)) (m : Mount) → AreSoFar has wishes before old from read waited tally held m
       → OnErr result (AreOpenedInPart (IsContentIn m.volume.streams) wishes waited held new m) → read ≡ names → OnErr result (AreToldSoFar has wishes before old from names new)
   fault_at_end (Ok u) read waited names tally held new m s part all = tt
   fault_at_end (Err e) read waited names tally held new m s part all =

@@ -1,4 +1,3 @@
-pub mod AddLemmas
 pub mod RunLemmas
 pub mod GroupLemmas
 pub mod PlaceLemmas

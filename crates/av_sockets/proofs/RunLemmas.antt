@@ -2,48 +2,39 @@
 use Rattle.std.proofs.Common.{ℕ, ◌≡◌, ◌≢◌, ◌+◌, ◌≤◌, ◌&&◌, not, Bool, true, false, cond, List, [], ◌∷◌, ◌++◌, length, refl, sym, ap, subst, ◌∙◌, append_assoc, append-nil, arith, ne_eqb}
 use Rattle.std.specs.Prelude.{Option, Some, None, Result, Ok, Err, OnOk, is_some, if◌then◌else◌}
 use Rattle.std.specs.Result.{is_err, is_ok}
-use Rattle.std.specs.List.{AllByRecursion, AllByRecursion as Each}
+use Rattle.std.specs.List.{AllByRecursion as Each}
 use Rattle.av_base.proofs.AmongLemmas.{among_each, each_self}
 use Rattle.av_base.specs.Among.{Among}
 use Rattle.av_base.specs.Port.{same_port}
-use Rattle.av_base.specs.declared.refusal.Refusal.{Refusal}
-use Rattle.av_base.specs.declared.refusal.Refusal.TheVariants.{Fault, NoMemory}
 use Rattle.av_base.specs.declared.port.Port.TheVariants.{One}
 use Rattle.av_engines.specs.FilterEnd.{IsAt, WatchesOver}
 use Rattle.av_engines.specs.Incoming.{Received}
 use Rattle.av_engines.specs.Watching.{Led, Standing, all_happened, due, happened, heard, heard_all, is_done, joined, opens_of, run_from, unled}
 use Rattle.av_frame.specs.declared.end.End.{End}
 use Rattle.av_frame.specs.declared.end.End.TheVariants.{Done, ReadFault, WriteFault, Frame, Closed, Memory, AuditFull}
-use Rattle.av_files.proofs.VolumeLemmas.{file_added}
 use Rattle.av_filter.proofs.BoundLemmas.{leads_to}
 use Rattle.av_filter.proofs.EachLemmas.{each_weaker}
-use Rattle.av_filter.proofs.FitLemmas.{accepted as is_made}
 use Rattle.av_filter.proofs.MapLemmas.{each-without}
-use Rattle.av_filter.specs.Audit.{Kept}
-use Rattle.av_filter.specs.Call.{Meets, Reacts}
-use Rattle.av_filter.specs.Changing.{changed_volume, changes, rewritten}
+use Rattle.av_filter.specs.Call.{Reacts}
+use Rattle.av_filter.specs.Changing.{changed_volume, changes}
 use Rattle.av_filter.specs.Conduct.{FilterEvent, Changes, Disconnects, Opens, Receives, filter_refusal, filter_step}
-use Rattle.av_filter.specs.Fit.{Fits, IsPresent}
+use Rattle.av_filter.specs.Mount.{Mount}
 use Rattle.av_filter.specs.Opening.{opened}
-use Rattle.av_filter.specs.Reaction.{Reaction}
+use Rattle.av_filter.specs.Storing.{IsStored}
 use Rattle.av_filter.specs.declared.out.Out.{Out}
 use Rattle.av_filter_table.specs.Ports.{is_open}
-use Rattle.av_filter_table.specs.Table.{Table, question_of}
-use Rattle.av_filter_table.specs.declared.question.Question.{Question}
+use Rattle.av_filter_table.specs.Table.{Table}
 use Rattle.av_frame.specs.Message.{Letter}
 use Rattle.av_pend.specs.declared.answer.Answer.{Answer}
-use Rattle.av_store.proofs.SeenLemmas.{next_free}
 use Rattle.av_store.specs.Files.{Create, Remove, Write}
-use Rattle.av_store.specs.Rows.{Streams, stream_at, without}
+use Rattle.av_store.specs.Rows.{stream_at, without}
 use Rattle.av_store.specs.Seen.{change_of, kept_or}
-use Rattle.av_store.specs.Sound.{IsOfFiles}
-use Rattle.av_store.specs.Store.{Store, create_of, greatest, with_streams, write_of}
+use Rattle.av_store.specs.Store.{Store, greatest, with_streams}
 use Rattle.av_store.specs.declared.fault.StoreFault.TheVariants.{NoStream}
-use Rattle.av_sockets.proofs.AddLemmas.{created, next_given}
-use Rattle.av_sockets.specs.Run.{Adds, AreAccepted, Leads, LeadsLate, LeadsOn, Mounted}
+use Rattle.av_sockets.specs.Run.{Adds, AreAccepted, Leads, LeadsLate, LeadsOn}
 
 -- where events lead, whatever was sent and answered before
-abbrev final : Table → Store → List FilterEvent → Kept
+abbrev final : Table → Store → List FilterEvent → Mount
 final t v [] = record { table = t; volume = v }
 final t v (e ∷ es) = final (filter_step t v e).table (filter_step t v e).volume es
 
@@ -74,11 +65,11 @@ answers_behind t v sent sent' front back (e ∷ es) =
     ∙ answers_behind r.table r.volume (sent ++ r.messages) (sent' ++ r.messages) front (back ++ r.answers) es
 
 -- nothing happened
-pub leads_nowhere : (m : Mounted) → Leads m m []
+pub leads_nowhere : (m : Mount) → Leads m m []
 leads_nowhere m = record { events = []; accepted = tt; at = record { table = refl; volume = refl; answered = refl } }
 
 -- one event did
-pub leads_by : (m m' : Mounted) (e : FilterEvent) (out : Out) → filter_refusal m.table m.volume e ≡ None → Reacts out m'.table m'.volume (filter_step m.table m.volume e)
+pub leads_by : (m m' : Mount) (e : FilterEvent) (out : Out) → filter_refusal m.table m.volume e ≡ None → Reacts out m'.table m'.volume (filter_step m.table m.volume e)
     → Leads m m' out.answers.items
 leads_by m m' e out accepted reacts = record {
   events = e ∷ [];
@@ -87,7 +78,7 @@ leads_by m m' e out accepted reacts = record {
 }
 
 -- and then others
-pub leads_then : (m mid m' : Mounted) (xs ys : List Answer) → Leads m mid xs → Leads mid m' ys → Leads m m' (xs ++ ys)
+pub leads_then : (m mid m' : Mount) (xs ys : List Answer) → Leads m mid xs → Leads mid m' ys → Leads m m' (xs ++ ys)
 leads_then m mid m' xs ys first second =
     let t = m.table in
     let v = m.volume in
@@ -253,12 +244,12 @@ run_events t v opens ms left =
     (all_events opens v.opens s ms (joined_ready_by (is_open One t.connected && true) opens w (opens_of opens) left))
 
 -- opens were submitted and messages came, which led there, and no stream was changed
-pub record LeadsStill (m m' : Mounted) (answers : List Answer) : Type 0 where
+pub record LeadsStill (m m' : Mount) (answers : List Answer) : Type 0 where
   pub leads : Leads m m' answers
   pub still : m'.volume.streams ≡ m.volume.streams
 
 -- where it ended
-left_there : (t : Table) (v : Store) (m' : Mounted) (opens : List ℕ) (ms : List Letter) (answers : List Answer) → v.opens + length opens ≤ greatest
+left_there : (t : Table) (v : Store) (m' : Mount) (opens : List ℕ) (ms : List Letter) (answers : List Answer) → v.opens + length opens ≤ greatest
     → IsAt (run_from true t v opens ms).led m'.table m'.volume answers → LeadsStill (record { table = t; volume = v }) m' answers
 left_there t v m' opens ms answers left at =
     let h = run_events t v opens ms left in
@@ -279,7 +270,7 @@ disconnected_accepted : (t : Table) (v : Store) → filter_refusal t v (Disconne
 unfolding filter_refusal
 disconnected_accepted t v = refl
 
-left_behind : (t : Table) (v : Store) (m' : Mounted) (opens : List ℕ) (ms : List Letter) (answers : List Answer) → v.opens + length opens ≤ greatest
+left_behind : (t : Table) (v : Store) (m' : Mount) (opens : List ℕ) (ms : List Letter) (answers : List Answer) → v.opens + length opens ≤ greatest
     → IsAt (happened (run_from true t v opens ms).led (Disconnects One)) m'.table m'.volume answers → LeadsStill (record { table = t; volume = v }) m' answers
 left_behind t v m' opens ms answers left at =
     let h = run_events t v opens ms left in
@@ -300,7 +291,7 @@ left_behind t v m' opens ms answers left at =
     }
 
 -- an engine that memory did not end
-pub watched_leads : (opens : List ℕ) (m m' : Mounted) (answers : List Answer) (from now : Received) (a b w u : Option (List ℕ)) (end : End)
+pub watched_leads : (opens : List ℕ) (m m' : Mount) (answers : List Answer) (from now : Received) (a b w u : Option (List ℕ)) (end : End)
     → m.volume.opens + length opens ≤ greatest → end ≢ Memory → WatchesOver true opens m.table m.volume m'.table m'.volume answers from now a b w u end → LeadsStill m m' answers
 watched_leads opens m m' answers from now a b w u Done left there h = left_there m.table m.volume m' opens h.messages answers left h.left.1
 watched_leads opens m m' answers from now a b w u ReadFault left there h = left_behind m.table m.volume m' opens h.messages answers left h.left.1
@@ -312,10 +303,10 @@ watched_leads opens m m' answers from now a b w u AuditFull left there h = absur
 
 -- ---- answers that are kept
 
-pub kept_none : (m : Mounted) (kept : List Answer) → LeadsOn m kept m kept
+pub kept_none : (m : Mount) (kept : List Answer) → LeadsOn m kept m kept
 kept_none m kept = record { given = []; leads = leads_nowhere m; behind = sym (append-nil kept); still = refl }
 
-pub kept_then : (m mid m' : Mounted) (xs ys zs given : List Answer) → LeadsOn m xs mid ys → Leads mid m' given → m'.volume.streams ≡ mid.volume.streams → zs ≡ ys ++ given → LeadsOn m xs m' zs
+pub kept_then : (m mid m' : Mount) (xs ys zs given : List Answer) → LeadsOn m xs mid ys → Leads mid m' given → m'.volume.streams ≡ mid.volume.streams → zs ≡ ys ++ given → LeadsOn m xs m' zs
 kept_then m mid m' xs ys zs given first second still is = record {
   given = first.given ++ given;
   leads = leads_then m mid m' first.given given first.leads second;
@@ -323,13 +314,13 @@ kept_then m mid m' xs ys zs given first second still is = record {
   still = still ∙ first.still;
 }
 
-pub kept_more : (m mid m' : Mounted) (xs ys zs : List Answer) → LeadsOn m xs mid ys → LeadsOn mid ys m' zs → LeadsOn m xs m' zs
+pub kept_more : (m mid m' : Mount) (xs ys zs : List Answer) → LeadsOn m xs mid ys → LeadsOn mid ys m' zs → LeadsOn m xs m' zs
 kept_more m mid m' xs ys zs first second = kept_then m mid m' xs ys zs second.given first second.leads second.still second.behind
 
-pub kept_all : (m m' : Mounted) (xs zs : List Answer) → xs ≡ [] → LeadsOn m xs m' zs → Leads m m' zs
+pub kept_all : (m m' : Mount) (xs zs : List Answer) → xs ≡ [] → LeadsOn m xs m' zs → Leads m m' zs
 kept_all m m' xs zs none on = subst (Leads m m') (sym (on.behind ∙ ap (λ l. l ++ on.given) none)) on.leads
 
-pub late_then : (m mid m' : Mounted) → LeadsLate m mid → LeadsLate mid m' → LeadsLate m m'
+pub late_then : (m mid m' : Mount) → LeadsLate m mid → LeadsLate mid m' → LeadsLate m m'
 late_then m mid m' first second = record {
   late = first.late ++ second.late;
   leads = leads_then m mid m' first.late second.late first.leads second.leads;
@@ -337,7 +328,7 @@ late_then m mid m' first second = record {
       (λ s there. among_each (λ x. Among x m.volume.streams) mid.volume.streams s first.fewer there) m'.volume.streams second.fewer;
 }
 
-pub late_none : (m : Mounted) → LeadsLate m m
+pub late_none : (m : Mount) → LeadsLate m m
 late_none m = record { late = []; leads = leads_nowhere m; fewer = each_self m.volume.streams }
 
 -- items that were added where there was memory
@@ -359,7 +350,7 @@ not_memory e done same = apart (sym done ∙ same)
     apart same = cc
 
 -- a stream was opened
-pub open_kept : (m m' : Mounted) (s least : ℕ) (out : Out) (kept keeps : List Answer)
+pub open_kept : (m m' : Mount) (s least : ℕ) (out : Out) (kept keeps : List Answer)
     → filter_refusal m.table m.volume (Opens s least) ≡ None → Reacts out m'.table m'.volume (opened m.table m.volume s least) → keeps ≡ kept ++ out.answers.items → LeadsOn m kept m' keeps
 unfolding filter_step
 open_kept m m' s least out kept keeps accepted reacts is = record {
@@ -379,7 +370,7 @@ removed_fewer v s =
     ]
 
 -- or taken away
-pub removed_late : (m m' : Mounted) (s : ℕ) (out : Out)
+pub removed_late : (m m' : Mount) (s : ℕ) (out : Out)
     → filter_refusal m.table m.volume (Changes (Remove s)) ≡ None → Reacts out m'.table m'.volume (changes m.table m.volume (Remove s)) → LeadsLate m m'
 unfolding filter_step
 removed_late m m' s out accepted reacts = record {
@@ -388,44 +379,15 @@ removed_late m m' s out accepted reacts = record {
   fewer = subst (λ (w : Store). Each (λ x. Among x m.volume.streams) w.streams) (sym (reacts.volume ∙ leads_to m.table m.volume (Changes (Remove s)))) (removed_fewer m.volume s);
 }
 
--- ---- a mounted filter stays fit
-
--- a call that was refused changed nothing
-pub fits_anyway : {F : Type 0} (r : Result Out (Refusal F)) (t t' : Table) (v v' : Store) (fault : Option F) (reaction : Reaction)
-    → Meets t v t' v' r fault reaction → Fits t v → OnOk r (Fits t' v') → Fits t' v'
-fits_anyway (Ok out) t t' v v' fault reaction meets fits ok = ok
-fits_anyway (Err (Fault f)) t t' v v' fault reaction meets fits ok = subst (λ k. Fits k v') (sym meets.1) (subst (Fits t) (sym meets.2) fits)
-fits_anyway (Err NoMemory) t t' v v' fault reaction meets fits ok = subst (λ k. Fits k v') (sym meets.1) (subst (Fits t) (sym meets.2) fits)
-
--- no question is of a stream that is not there
-no_question : (ss : Streams) (s : ℕ) (qs : List Question) → stream_at s ss ≡ None → AllByRecursion (IsPresent ss) qs → question_of s qs ≡ None
-no_question ss s [] none all = refl
-no_question ss s (q ∷ qs) none (here, rest) =
-    let other : q.stream ≢ s = λ e. absurd (some_none (sym here.1 ∙ ap (λ n. stream_at n ss) e ∙ none)) in
-    rw (ne_eqb q.stream s other) (no_question ss s qs none rest)
-  where
-    some_none : {A : Type 0} {x : A} → Some x ≡ None → ⊥
-    some_none e = cc
-
--- a content was written to a stream that was just created
-pub added : (t t' : Table) (v w v' : Store) (name : List ℕ) (id : ℕ) (bytes : List ℕ) (out : Out) → IsOfFiles v → Fits t v → create_of v name ≡ Ok (id, w)
-    → filter_refusal t w (Changes (Write id 0 bytes)) ≡ None → Reacts out t' v' (changes t w (Write id 0 bytes))
-    → Adds (record { table = t; volume = v }) (record { table = t'; volume = v' }) name bytes
-unfolding filter_refusal filter_step changes rewritten change_of
-added t t' v w v' name id bytes out files fits ok accepted reacts =
-    let is : change_of v (Create name) ≡ Ok w = created v w name id ok in
-    let next : stream_at (v.last + 1) v.streams ≡ None = next_free v files in
-    let free : stream_at id v.streams ≡ None = ap (λ n. stream_at n v.streams) (next_given v w name id ok) ∙ next in
-    let none : question_of id t.questions ≡ None = no_question v.streams id t.questions free fits.present in
-    let quiet : out.answers.items ≡ [] = reacts.answers ∙ rw none refl in
-    let first : Leads (record { table = t; volume = v }) (record { table = t; volume = w }) [] =
-    record { events = Changes (Create name) ∷ []; accepted = (rw is refl, tt); at = record { table = refl; volume = rw is refl; answered = refl } } in
-    let second : Leads (record { table = t; volume = w }) (record { table = t'; volume = v' }) out.answers.items =
-    leads_by (record { table = t; volume = w }) (record { table = t'; volume = v' }) (Changes (Write id 0 bytes)) out accepted reacts in
-    let wrote : write_of w id 0 bytes ≡ Ok (changed_volume w (Write id 0 bytes)) = is_made w (Write id 0 bytes) accepted in
-    record {
-      leads = leads_then (record { table = t; volume = v }) (record { table = t; volume = w }) (record { table = t'; volume = v' }) [] [] first
-          (subst (λ l. Leads (record { table = t; volume = w }) (record { table = t'; volume = v' }) l) quiet second);
-      number = v.last + 1;
-      added = ap (λ (u : Store). u.streams) (reacts.volume ∙ leads_to t w (Changes (Write id 0 bytes)) ∙ file_added v w (changed_volume w (Write id 0 bytes)) name bytes id next ok wrote);
-    }
+-- a content became a stream, which was created and written once
+pub stored_adds : (m m' : Mount) (name c : List ℕ) → IsStored m.table m.volume name c m'.table m'.volume → Adds m m' name c
+unfolding filter_step changes
+stored_adds m m' name c is = record {
+  leads = record {
+    events = Changes (Create name) ∷ Changes (Write (m.volume.last + 1) 0 c) ∷ [];
+    accepted = (is.creates, (is.writes, tt));
+    at = record { table = is.table; volume = is.volume; answered = sym is.answers };
+  };
+  number = m.volume.last + 1;
+  added = is.streams;
+}

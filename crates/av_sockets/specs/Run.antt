@@ -10,6 +10,7 @@ use Rattle.av_files.specs.Volume.{stream_of_file}
 use Rattle.av_files.specs.declared.opened.Opened.{Opened}
 use Rattle.av_files.specs.declared.streams.TheConstants.{VOLUME}
 use Rattle.av_filter.specs.Conduct.{FilterEvent, booted, filter_refusal, filter_step}
+use Rattle.av_filter.specs.Mount.{Mount}
 use Rattle.av_filter_table.specs.Table.{Table, mounted}
 use Rattle.av_pend.specs.declared.answer.Answer.{Answer}
 use Rattle.av_pend.specs.declared.answer.Answer.TheVariants.{Granted}
@@ -23,43 +24,38 @@ AreAccepted t v [] = Unit {0}
 AreAccepted t v (e ∷ es) =
     (filter_refusal t v e ≡ None) × AreAccepted (filter_step t v e).table (filter_step t v e).volume es
 
--- a filter's table, and the volume that it is mounted on
-pub record Mounted : Type 0 where
-  pub table : Table
-  pub volume : Store
-
 -- Events led a mounted filter from one state to another, by the filter's conduct, and these are the answers of all of them.
-pub record Leads (m m' : Mounted) (answers : List Answer) : Type 0 where
+pub record Leads (m m' : Mount) (answers : List Answer) : Type 0 where
   pub events : List FilterEvent
   pub accepted : AreAccepted m.table m.volume events
   pub at : IsAt (all_happened (unled m.table m.volume []) events) m'.table m'.volume answers
 
 -- the same of opens, which change no stream, where these answers were kept behind others
-pub record LeadsOn (m : Mounted) (kept : List Answer) (m' : Mounted) (keeps : List Answer) : Type 0 where
+pub record LeadsOn (m : Mount) (kept : List Answer) (m' : Mount) (keeps : List Answer) : Type 0 where
   pub given : List Answer
   pub leads : Leads m m' given
   pub behind : keeps ≡ kept ++ given
   pub still : m'.volume.streams ≡ m.volume.streams
 
 -- the same of removals, where it does not matter which answers were given: each stream that is there was there
-pub record LeadsLate (m m' : Mounted) : Type 0 where
+pub record LeadsLate (m m' : Mount) : Type 0 where
   pub late : List Answer
   pub leads : Leads m m' late
   pub fewer : Each (λ s. Among s m.volume.streams) m'.volume.streams
 
 -- the same of a file that became a stream, whose content was written once
-pub record Adds (m m' : Mounted) (name content : List ℕ) : Type 0 where
+pub record Adds (m m' : Mount) (name content : List ℕ) : Type 0 where
   pub leads : Leads m m' []
   pub number : ℕ
   pub added : m'.volume.streams ≡ m.volume.streams ++ (number, stream_of_file (record { name = name; content = content })) ∷ []
 
 -- a file of this content, which was read, became a stream
-abbrev pub AddsRead : Mounted → Mounted → List ℕ → Option (List ℕ) → Type 0
+abbrev pub AddsRead : Mount → Mount → List ℕ → Option (List ℕ) → Type 0
 AddsRead m m' name None = ⊥
 AddsRead m m' name (Some content) = Adds m m' name content
 
 -- where a run begins: a fail-closed filter on a volume of no stream, which it was mounted on first
-abbrev pub first : Mounted
+abbrev pub first : Mount
 first = record { table = mounted FailClosed greatest_values 1; volume = booted (empty_store VOLUME greatest_values) }
 
 -- each of these streams has a content that was read for its name

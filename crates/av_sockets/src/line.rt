@@ -4,12 +4,13 @@ ghost use Rattle.av_sockets.specs.Run.{LeadsOn};
 
 use crate::duplex::Duplex;
 use crate::fault::{SocketFault, socket_failed};
-use crate::mount::Mount;
+use crate::mount::serve;
 use crate::sockets::{Meeting, meet_service};
 use av_base::StreamId;
 use av_base::limits::MAX_JOBS;
 use av_engines::{End, Exchange};
 use av_files::streams::TURNS;
+use av_filter::Mounted;
 use av_pend::Answer;
 use av_status::end_told;
 use av_status::status::Status;
@@ -69,7 +70,7 @@ impl<'a, R: Files + Net + Clock> Line<'a, R> {
     // next ones once they have their answers.
     pub(crate) fn open(
         &mut self,
-        mount: &mut Mount,
+        mount: &mut Mounted,
         streams: &[StreamId],
         answers: &mut Vec<Answer>,
     ) -> Result<(), AllocError>
@@ -113,7 +114,7 @@ impl<'a, R: Files + Net + Clock> Line<'a, R> {
 // Opens streams over the connection, so many at one time.
 fn open_streams<C: Clock>(
     alloc: Global,
-    mount: &mut Mount,
+    mount: &mut Mounted,
     streams: &[StreamId],
     exchange: &mut Exchange,
     duplex: &Duplex<'_, C>,
@@ -126,7 +127,7 @@ fn open_streams<C: Clock>(
 {
     'parts: for part in streams.chunks(OPENS) {
         exchange.incoming.allow(TURNS);
-        let mut watched = mount.serve(alloc, part, exchange, duplex);
+        let mut watched = serve(alloc, mount, part, exchange, duplex);
         if answers.append(&mut watched.answers).is_err() {
             return End::Memory;
         }

@@ -5,11 +5,12 @@ ghost use Rattle.av_status.specs.Status.{IsFault};
 
 use crate::group::Group;
 use crate::line::Line;
-use crate::mount::Mount;
+use crate::mount::{add, mount_empty, open, remove};
 use crate::sockets::Meeting;
 use av_base::{Refusal, StreamId};
 use av_files::scanner::Input;
 use av_files::streams::say_refused;
+use av_filter::Mounted;
 use av_pend::Answer;
 use av_status::faults::out_of_memory;
 use av_status::status::Status;
@@ -23,7 +24,7 @@ use std::time::Clock;
 // A filter on its volume, the line on which one service may join it, and the files that are to be opened next.
 pub(crate) struct Opener<'a, R> {
     pub alloc: Global,
-    mount: Mount,
+    mount: Mounted,
     line: Line<'a, R>,
     pub group: Group<'a>,
 }
@@ -42,7 +43,7 @@ impl<'a, R: Files + Net + Clock> Opener<'a, R> {
         let line = Line::new(rt, alloc, meeting, mode)?;
         Ok(Opener {
             alloc,
-            mount: Mount::new(alloc)?,
+            mount: mount_empty(alloc)?,
             line,
             group: Group::new(alloc),
         })
@@ -68,7 +69,7 @@ impl<'a, R: Files + Net + Clock> Opener<'a, R> {
         ensures failed { IfErr result (λ status. IsFault status) }
     {
         let bytes = Input { name, content }.readable(err)?;
-        match self.mount.add(self.alloc, name.as_bytes(), bytes) {
+        match add(self.alloc, &mut self.mount, name.as_bytes(), bytes) {
             Ok(stream) => self.group.add(name, stream, content, err),
             Err(Refusal::Fault(fault)) => Err(say_refused(self.alloc, err, name, fault)),
             Err(Refusal::NoMemory) => Err(out_of_memory(err)),
@@ -121,14 +122,14 @@ impl<'a, R: Files + Net + Clock> Opener<'a, R> {
             line: _,
             group: _,
         } = self;
-        mount.abandon();
+        let _volume = mount.abandon();
     }
 }
 
 // Opens what was not opened, with no service there.
 fn open_rest(
     alloc: Global,
-    mount: &mut Mount,
+    mount: &mut Mounted,
     streams: &[StreamId],
     answers: &mut Vec<Answer>,
 ) -> Result<(), AllocError>
@@ -136,17 +137,17 @@ fn open_rest(
         (LeadsOn mount.old answers.old.items mount.new answers.new.items) }
 {
     'streams: for stream in streams.iter().skip(answers.len()) {
-        mount.open(alloc, *stream, answers)?;
+        open(alloc, mount, *stream, answers)?;
     }
     Ok(())
 }
 
 // Takes streams away, with what is known of them.
-fn remove_all(alloc: Global, mount: &mut Mount, streams: &[StreamId]) -> Result<(), AllocError>
+fn remove_all(alloc: Global, mount: &mut Mounted, streams: &[StreamId]) -> Result<(), AllocError>
     ensures { OnOk result (LeadsLate mount.old mount.new) }
 {
     'streams: for stream in streams {
-        mount.remove(alloc, *stream)?;
+        remove(alloc, mount, *stream)?;
     }
     Ok(())
 }

@@ -100,7 +100,7 @@ impl World {
         ensures exact { result ≡ judged_of self.now name.now }
         ensures right { IfOk result (IsRight (past self.now.history)) }
     {
-        let volume = &self.stage.volume;
+        let volume = self.stage.volume();
         let Some(stream) = volume.find(name) else {
             return Err(JudgeFault::NoSuchName);
         };
@@ -219,7 +219,7 @@ impl World {
     pub fn question_count(&self) -> usize
         ensures { result ≡ length self.now.table.questions }
     {
-        self.stage.filter.question_count()
+        self.stage.filter().question_count()
     }
 
     /// Whether the service of a port is connected.
@@ -240,21 +240,21 @@ impl World {
     pub fn find(&self, name: &[u8]) -> Option<StreamId>
         ensures { result ≡ number_named name.now self.now.volume.streams }
     {
-        self.stage.volume.find(name)
+        self.stage.volume().find(name)
     }
 
     /// Whether what can't be judged is denied or let through.
     pub fn mode(&self) -> Mode
         ensures { result ≡ self.now.table.mode }
     {
-        self.stage.filter.mode()
+        self.stage.filter().mode()
     }
 
     /// The limits that the filter keeps to.
     pub fn limits(&self) -> Limits
         ensures { result ≡ self.now.table.limits }
     {
-        self.stage.filter.limits()
+        self.stage.filter().limits()
     }
 
     /// Ends the world. Opens that wait are let go, and nobody hears of it.

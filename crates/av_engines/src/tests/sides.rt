@@ -6,7 +6,7 @@ use crate::tests::frames::{DOWN, UP};
 use crate::watching::{Watched, serve_filter, serve_further};
 use av_base::{LimitField, LimitValues, Limits, Mode, Port, StreamId, Version};
 use av_fakes::{FakeReader, FakeWriter, may_refuse, refuse_no_more};
-use av_filter::Filter;
+use av_filter::Mounted;
 use av_frame::End;
 use av_service::Service;
 use av_sigset::{Catalogue, SignatureSet};
@@ -80,27 +80,15 @@ pub fn watched_within<R: Read, W: Write>(
     writer: &mut W,
     turns: u64,
 ) -> Result<Watched, Unmade> {
-    let mut volume = volume_of_two(alloc)?;
-    let mode = Mode::FailClosed;
-    let Ok(mut filter) = Filter::mount(alloc, &mut volume, mode, limits) else {
-        return Err(Unmade);
-    };
-    if volume.opens_left() < opens.len() as u64 {
-        filter.abandon();
+    let mut mounted = mounted(alloc, limits)?;
+    if mounted.volume().opens_left() < opens.len() as u64 {
+        let _volume = mounted.abandon();
         return Err(Unmade);
     }
     may_refuse(alloc);
-    let watched = serve_filter(
-        alloc,
-        &mut volume,
-        &mut filter,
-        opens,
-        reader,
-        writer,
-        turns,
-    );
+    let watched = serve_filter(alloc, &mut mounted, opens, reader, writer, turns);
     refuse_no_more(alloc);
-    filter.abandon();
+    let _volume = mounted.abandon();
     Ok(watched)
 }
 
@@ -111,13 +99,13 @@ pub fn watched_again<R: Read, W: Write>(
     reader: &mut R,
     writer: &mut W,
 ) -> Result<Watched, Unmade> {
-    let (mut volume, mut filter) = mounted(alloc)?;
+    let mut mounted = mounted(alloc, Limits::greatest())?;
     let one = [StreamId::new(1)];
     let greeting = &mut FakeReader::new(&UP);
     let unheard = &mut FakeWriter::new(alloc);
-    let first = watched_over(alloc, &mut volume, &mut filter, &one, greeting, unheard);
-    let watched = watched_over(alloc, &mut volume, &mut filter, opens, reader, writer);
-    filter.abandon();
+    let first = watched_over(alloc, &mut mounted, &one, greeting, unheard);
+    let watched = watched_over(alloc, &mut mounted, opens, reader, writer);
+    let _volume = mounted.abandon();
     match first?.end {
         End::Done => watched,
         _ => Err(Unmade),
@@ -126,23 +114,22 @@ pub fn watched_again<R: Read, W: Write>(
 
 fn watched_over<R: Read, W: Write>(
     alloc: Global,
-    volume: &mut Volume,
-    filter: &mut Filter,
+    mounted: &mut Mounted,
     opens: &[StreamId],
     reader: &mut R,
     writer: &mut W,
 ) -> Result<Watched, Unmade> {
-    if filter.connected(Port::Two) || volume.opens_left() < opens.len() as u64 {
+    if mounted.filter().connected(Port::Two) || mounted.volume().opens_left() < opens.len() as u64 {
         return Err(Unmade);
     }
-    Ok(serve_filter(alloc, volume, filter, opens, reader, writer, 1_000))
+    Ok(serve_filter(alloc, mounted, opens, reader, writer, 1_000))
 }
 
 // A filter just mounted.
-fn mounted(alloc: Global) -> Result<(Volume, Filter), Unmade> {
-    let mut volume = volume_of_two(alloc)?;
-    match Filter::mount(alloc, &mut volume, Mode::FailClosed, Limits::greatest()) {
-        Ok(filter) => Ok((volume, filter)),
+fn mounted(alloc: Global, limits: Limits) -> Result<Mounted, Unmade> {
+    let volume = volume_of_two(alloc)?;
+    match Mounted::mount(alloc, volume, Mode::FailClosed, limits) {
+        Ok(mounted) => Ok(mounted),
         Err(_) => Err(Unmade),
     }
 }
@@ -154,16 +141,15 @@ pub fn watched_further<R: Read, W: Write>(
     reader: &mut R,
     writer: &mut W,
 ) -> Result<(Watched, Watched), Unmade> {
-    let (mut volume, mut filter) = mounted(alloc)?;
-    let watched = further_over(alloc, &mut volume, &mut filter, opens, reader, writer);
-    filter.abandon();
+    let mut mounted = mounted(alloc, Limits::greatest())?;
+    let watched = further_over(alloc, &mut mounted, opens, reader, writer);
+    let _volume = mounted.abandon();
     watched
 }
 
 fn further_over<R: Read, W: Write>(
     alloc: Global,
-    volume: &mut Volume,
-    filter: &mut Filter,
+    mounted: &mut Mounted,
     opens: &[StreamId],
     reader: &mut R,
     writer: &mut W,
@@ -171,17 +157,17 @@ fn further_over<R: Read, W: Write>(
     let Ok(mut exchange) = Exchange::new(alloc, 1_000) else {
         return Err(Unmade);
     };
-    if filter.connected(Port::Two) || volume.opens_left() < 1 {
+    if mounted.filter().connected(Port::Two) || mounted.volume().opens_left() < 1 {
         return Err(Unmade);
     }
     let one = [StreamId::new(1)];
-    let first = serve_further(alloc, volume, filter, &one, &mut exchange, reader, writer);
-    let is_over = first.end != End::Done || filter.connected(Port::Two);
-    if is_over || volume.opens_left() < opens.len() as u64 {
+    let first = serve_further(alloc, mounted, &one, &mut exchange, reader, writer);
+    let is_over = first.end != End::Done || mounted.filter().connected(Port::Two);
+    if is_over || mounted.volume().opens_left() < opens.len() as u64 {
         return Err(Unmade);
     }
     exchange.incoming.allow(1_000);
-    let second = serve_further(alloc, volume, filter, opens, &mut exchange, reader, writer);
+    let second = serve_further(alloc, mounted, opens, &mut exchange, reader, writer);
     Ok((first, second))
 }
 

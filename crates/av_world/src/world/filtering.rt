@@ -1,7 +1,6 @@
 ghost use Rattle.std.specs.Prelude.{◌≡◌, ◌≤◌, ◌+◌, ◌++◌, map, length, reverse, vec_len, IfSome};
 ghost use Rattle.std.specs.Vec.{vec_capacity};
 ghost use Rattle.av_filter.specs.Asking.{Calls, event_called};
-ghost use Rattle.av_filter.specs.Fit.{Fits};
 ghost use Rattle.av_filter.specs.Room.{most_messages};
 ghost use Rattle.av_store.specs.Rows.{stream_at};
 ghost use Rattle.av_world.specs.Stage.{IsSmallOut, Takes, at_history, line_after};
@@ -10,7 +9,7 @@ ghost use Rattle.av_history.specs.declared.event.Event.{Event};
 
 use super::stage::Stage;
 use av_base::{Generation, StreamId};
-use av_filter::{Filter, FilterCall, Out};
+use av_filter::{Filter, FilterCall, Mounted, Out};
 use av_history::event::Event;
 use av_history::given::Given;
 use av_history::report::{Line, Note, Report};
@@ -20,17 +19,12 @@ use std::alloc::Global;
 
 // Asks it; none where it is refused.
 #[tactic(auto, using(crate::proofs::RoomLemmas::small_if))]
-fn ask(
-    filter: &mut Filter,
-    volume: &mut Volume,
-    alloc: Global,
-    call: &FilterCall<'_>,
-) -> Option<Out>
-    requires fits { Fits filter.old volume.old }
-    ensures reacts { Calls filter.old volume.old filter.new volume.new (event_called call.now) result }
-    ensures few { IfSome result (IsSmallOut (most_messages filter.old (event_called call.now)) (length filter.old.pended)) }
+fn ask(mounted: &mut Mounted, alloc: Global, call: &FilterCall<'_>) -> Option<Out>
+    ensures reacts { Calls mounted.old.table mounted.old.volume mounted.new.table mounted.new.volume (event_called call.now) result }
+    ensures few { IfSome result
+        (IsSmallOut (most_messages mounted.old.table (event_called call.now)) (length mounted.old.table.pended)) }
 {
-    filter.ask(alloc, volume, call)
+    mounted.ask(alloc, call)
 }
 
 // How many messages it gives out at most.
@@ -64,21 +58,22 @@ impl Stage {
         history: &[Event],
         call: &FilterCall<'_>,
     ) -> Option<Report>
-        requires fits { Fits self.old.table self.old.volume }
         ensures { (e : Event)
             → Takes self.old self.new (reverse history.now) e
             (filter_event (at_history (reverse history.now) self.old) e (line_after call.now) (event_called call.now)) result }
     {
         let before = self.places();
         let event = (history.len() as u64).checked_add(1)?;
-        let most = self.filter.pended_count().checked_add(1)?;
+        let most = self.mounted.filter().pended_count().checked_add(1)?;
         self.answers.reserve(most).ok()?;
-        self.down.reserve(most_messages(&self.filter, call)).ok()?;
-        let mut out = ask(&mut self.filter, &mut self.volume, alloc, call)?;
+        self.down
+            .reserve(most_messages(self.mounted.filter(), call))
+            .ok()?;
+        let mut out = ask(&mut self.mounted, alloc, call)?;
         give(&mut self.answers, event, out.answers.as_slice());
         self.down.append(&mut out.messages).unwrap();
         Some(Report {
-            line: line(&self.volume, call),
+            line: line(self.mounted.volume(), call),
             before,
             after: self.places(),
             note: Note::Filter(out.note),

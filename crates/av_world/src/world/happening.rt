@@ -1,6 +1,5 @@
 ghost use Rattle.std.specs.Prelude.{◌≤◌, List, reverse};
 ghost use Rattle.av_base.specs.declared.port.Port.{Port};
-ghost use Rattle.av_filter.specs.Fit.{Fits};
 ghost use Rattle.av_sigset.specs.Catalogue.{latest};
 ghost use Rattle.av_world.specs.Request.{outcome_of, served};
 ghost use Rattle.av_world.specs.Serving.{event_called};
@@ -36,8 +35,7 @@ impl Stage {
 
     // Does what an event asks for.
     fn answer(&mut self, alloc: Global, history: &[Event], request: &Request<'_>) -> Option<Report>
-        requires fits { Fits self.old.table self.old.volume }
-        requires versions { (port : Port) → (desk_of self.old port).version ≤ latest self.old.sets }
+        requires { (port : Port) → (desk_of self.old port).version ≤ latest self.old.sets }
         ensures { (e : Event)
             → Takes self.old self.new (reverse history.now) e
             (outcome_of (at_history (reverse history.now) self.old) e request.now) result }
@@ -72,7 +70,6 @@ impl Stage {
 
     // Delivers a message to the filter.
     fn deliver_up(&mut self, alloc: Global, history: &[Event], place: u64) -> Option<Report>
-        requires fits { Fits self.old.table self.old.volume }
         ensures { (e : Event)
             → Takes self.old self.new (reverse history.now) e
             (up_frame (at_history (reverse history.now) self.old) e (member self.old.up place)) result }

@@ -19,8 +19,8 @@ impl World {
     pub fn held(&self, alloc: Global) -> Result<Vec<Entry>, AllocError>
         ensures { IfOk result (λ es. es.items ≡ held self.now) }
     {
-        let filter = &self.stage.filter;
-        let mut entries = in_contexts(alloc, filter, &self.stage.volume)?;
+        let filter = self.stage.filter();
+        let mut entries = in_contexts(alloc, filter, self.stage.volume())?;
         let cached = filter.cache().entries(alloc)?;
         entries.extend_from_slice(cached.as_slice())?;
         let cached = self.stage.one.cache().entries(alloc)?;

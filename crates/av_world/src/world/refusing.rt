@@ -82,26 +82,27 @@ impl Stage {
     fn filter_refusal(&self, call: &FilterCall<'_>) -> Option<StepFault>
         ensures { result ≡ option_map step_fault (filter_refusal self.now.table self.now.volume (event_called call.now)) }
     {
+        let volume = self.volume();
         match *call {
-            FilterCall::Create { name } => store_fault(self.volume.create_refusal(name)),
+            FilterCall::Create { name } => store_fault(volume.create_refusal(name)),
             FilterCall::Write {
                 stream,
                 offset,
                 bytes,
-            } => store_fault(self.volume.write_refusal(stream, offset, bytes)),
+            } => store_fault(volume.write_refusal(stream, offset, bytes)),
             FilterCall::Cut { stream, length } => {
-                store_fault(self.volume.cut_refusal(stream, length))
+                store_fault(volume.cut_refusal(stream, length))
             }
-            FilterCall::Remove { stream } => store_fault(self.volume.remove_refusal(stream)),
+            FilterCall::Remove { stream } => store_fault(volume.remove_refusal(stream)),
             FilterCall::Open { .. } => {
-                if self.volume.opens_left() == 0 {
+                if volume.opens_left() == 0 {
                     Some(StepFault::OpensSpent)
                 } else {
                     None
                 }
             }
             FilterCall::Restart => {
-                if self.volume.boot() == u64::MAX {
+                if volume.boot() == u64::MAX {
                     Some(StepFault::BootSpent)
                 } else {
                     None

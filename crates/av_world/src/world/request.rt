@@ -41,7 +41,7 @@ impl Stage {
     fn named(&self, name: &[u8]) -> Result<StreamId, StepFault>
         ensures { Names self.now.volume.streams name.now result }
     {
-        match self.volume.find(name) {
+        match self.volume().find(name) {
             Some(stream) => Ok(stream),
             None => Err(StepFault::NoSuchName),
         }
@@ -95,7 +95,7 @@ impl Stage {
             },
             Event::Open { name, least } => FilterCall::Open {
                 stream: self
-                    .volume
+                    .volume()
                     .find(name.as_slice())
                     .unwrap_or(StreamId::new(0)),
                 least: *least,

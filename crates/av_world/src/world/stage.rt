@@ -2,7 +2,7 @@ ghost use Rattle.std.specs.Prelude.{◌≡◌, IfOk};
 ghost use Rattle.av_history.specs.World.{desk_of, places_of, start};
 
 use av_base::{Limits, Mode, Port};
-use av_filter::Filter;
+use av_filter::{Filter, Mounted};
 use av_frame::Message;
 use av_history::given::Given;
 use av_history::report::Places;
@@ -13,11 +13,10 @@ use av_store::Volume;
 use std::alloc::{AllocError, Global};
 use std::marker::Model;
 
-/// All of a world but its history: the volume, the published sets, the cores, and what they ever sent, lent and answered.
+/// All of a world but its history: the filter on its volume, the published sets, the services, and what they ever sent, lent and answered.
 pub struct Stage {
-    pub(super) volume: Volume,
+    pub(super) mounted: Mounted,
     pub(super) catalogue: Catalogue,
-    pub(super) filter: Filter,
     // The service of port One, and that of port Two.
     pub(super) one: Service,
     pub(super) two: Service,
@@ -39,9 +38,9 @@ impl Model for Stage {
 
     ghost view = { λ s. record {
       history = [];
-      volume = s.volume;
+      volume = s.mounted.volume;
       sets = s.catalogue.sets;
-      table = s.filter;
+      table = s.mounted.table;
       one = s.one.desk;
       two = s.two.desk;
       down = s.down.items;
@@ -58,17 +57,16 @@ impl Stage {
     pub fn new(alloc: Global, number: u64, mode: Mode, limits: Limits) -> Result<Stage, AllocError>
         ensures { IfOk result (λ s. s ≡ start number mode limits) }
     {
-        let mut volume = Volume::new(alloc, number, limits);
+        let volume = Volume::new(alloc, number, limits);
         let catalogue = Catalogue::new(alloc);
         let one = Service::start(alloc, number, Port::One, &catalogue, limits)?;
         let two = Service::start(alloc, number, Port::Two, &catalogue, limits)?;
-        let Ok(filter) = Filter::mount(alloc, &mut volume, mode, limits) else {
+        let Ok(mounted) = Mounted::mount(alloc, volume, mode, limits) else {
             return Err(AllocError);
         };
         Ok(Stage {
-            volume,
+            mounted,
             catalogue,
-            filter,
             one,
             two,
             automaton: None,
@@ -77,6 +75,20 @@ impl Stage {
             works: Vec::new(alloc),
             answers: Vec::new(alloc),
         })
+    }
+
+    /// The filter.
+    pub(super) fn filter(&self) -> &Filter
+        ensures { result.now ≡ self.now.table }
+    {
+        self.mounted.filter()
+    }
+
+    /// The volume that it is mounted on.
+    pub(super) fn volume(&self) -> &Volume
+        ensures { result.now ≡ self.now.volume }
+    {
+        self.mounted.volume()
     }
 
     /// The service of a port.
@@ -104,9 +116,8 @@ impl Stage {
     /// Ends it.
     pub(super) fn close(self) {
         let Stage {
-            volume: _,
+            mounted,
             catalogue: _,
-            filter,
             one: _,
             two: _,
             automaton: _,
@@ -115,7 +126,7 @@ impl Stage {
             works,
             answers: _,
         } = self;
-        filter.abandon();
+        let _volume = mounted.abandon();
         discard(works);
     }
 }

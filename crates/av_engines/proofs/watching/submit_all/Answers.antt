@@ -20,7 +20,6 @@ opens-preserved c =
     record {
       puts = submitted_more _ _ _ _ _ _ _ _ _ _ (take i all) _ s more c.opens.invariant.puts c.in_ok-submit.ensures.ok;
       taken = omega (arith, c.opens.invariant.taken, c.in_ok-submit.ensures.taken);
-      fits = c.submit.ensures.fits;
       first = c.submit.ensures.rest.0 ∙ c.opens.invariant.first;
       submitted = c.submit.ensures.rest.1 ∙ c.opens.invariant.submitted;
     }

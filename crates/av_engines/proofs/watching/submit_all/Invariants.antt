@@ -1,5 +1,4 @@
 use Rattle.std.proofs.Common.{◌≡◌, ◌+◌, take}
-use Rattle.av_filter.specs.Fit.{Fits}
 use Rattle.av_engines.specs.FilterEnd.{Puts}
 use Rattle.av_engines.specs.Watching.{all_happened, opens_of, unled}
 use Rattle.av_engines.proofs.watching.submit_all.Given as goal
@@ -7,9 +6,8 @@ use Rattle.av_engines.proofs.watching.submit_all.Given as goal
 -- the opens so far were submitted
 abbrev pub invariant-opens : goal.invariant-opens
 invariant-opens l = record {
-  puts : Puts (all_happened (unled l.initial.filter l.initial.volume l.initial.tally.answers.items) (opens_of (take l.stream-index l.opens))) l.filter l.volume l.tally.answers.items l.initial.outgoing l.outgoing;
-  taken : l.volume.opens ≡ l.initial.volume.opens + l.stream-index;
-  fits : Fits l.filter l.volume;
+  puts : Puts (all_happened (unled l.initial.mounted.table l.initial.mounted.volume l.initial.tally.answers.items) (opens_of (take l.stream-index l.opens))) l.mounted.table l.mounted.volume l.tally.answers.items l.initial.outgoing l.outgoing;
+  taken : l.mounted.volume.opens ≡ l.initial.mounted.volume.opens + l.stream-index;
   first : l.tally.first ≡ l.initial.tally.first;
   submitted : l.tally.submitted ≡ l.initial.tally.submitted;
 }

@@ -12,7 +12,6 @@ pub messages-init : goal.messages-init
 messages-init g c = record {
   watching = watching_begins _ _ _ _ _ _ _ _ _ _ _ _ _ c.requires.nothing c.in-Ok.ensures.ok;
   left = λ before. subst (λ n. n + length c.args.opens.now ≤ greatest) (sym (c.in-Ok.ensures.left before)) c.requires.left;
-  fits = c.begin.ensures.fits;
   first = c.begin.ensures.first ∙ c.requires.none.1;
 }
 
@@ -41,7 +40,6 @@ messages-preserved-in-Ok-hear g c =
     record {
       watching = watching_goes_on _ _ _ _ _ c.messages.exchange c.next.new.self _ _ _ _ _ _ _ _ _ _ _ _ _ _ _ _ h open_still c.in-Ok-next.ensures.message c.in-Ok-hear.ensures.ok;
       left = λ before. let kept = c.in-Ok-hear.ensures.left before in subst (λ n. n + length c.args.opens.now ≤ greatest) (sym kept.1) (c.messages.invariant.left kept.0);
-      fits = c.hear.ensures.fits;
       first = c.hear.ensures.first ∙ c.messages.invariant.first;
     }
 
@@ -52,7 +50,6 @@ messages-preserved g c =
     record {
       watching = watching_goes_on _ _ _ _ _ c.messages.exchange c.next.new.self _ _ _ _ _ _ _ _ _ _ _ _ _ _ _ _ h open_still c.in-Ok-next.ensures.message c.in-Ok-hear.ensures.ok;
       left = λ before. let kept = c.in-Ok-hear.ensures.left before in subst (λ n. n + length c.args.opens.now ≤ greatest) (sym kept.1) (c.messages.invariant.left kept.0);
-      fits = c.hear.ensures.fits;
       first = c.hear.ensures.first ∙ c.messages.invariant.first;
     }
 

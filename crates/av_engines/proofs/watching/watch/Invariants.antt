@@ -1,5 +1,4 @@
 use Rattle.std.proofs.Common.{◌≡◌, ◌+◌, ◌≤◌, false, length}
-use Rattle.av_filter.specs.Fit.{Fits}
 use Rattle.av_store.specs.Store.{greatest}
 use Rattle.av_engines.specs.Incoming.{budget}
 use Rattle.av_engines.proofs.WatchingLemmas.{IsWatching}
@@ -9,11 +8,10 @@ use Rattle.av_engines.proofs.watching.watch.Given as goal
 abbrev pub invariant-messages : goal.invariant-messages
 invariant-messages g l = record {
   watching :
-      IsWatching l.fn.tally.at_once l.initial.opens l.fn.filter l.fn.volume l.initial.exchange.incoming l.exchange.incoming l.exchange.outgoing
-      (g.R.Read.remaining l.initial.reader) (g.R.Read.remaining l.reader) (g.W.Write.contents l.initial.writer) (g.W.Write.contents l.writer) l.filter l.volume l.tally.answers.items l.tally.submitted;
-  left : l.tally.submitted ≡ false → l.volume.opens + length l.opens ≤ greatest;
-  fits : Fits l.filter l.volume;
-  first : l.tally.first ≡ l.fn.volume.opens;
+      IsWatching l.fn.tally.at_once l.initial.opens l.fn.mounted.table l.fn.mounted.volume l.initial.exchange.incoming l.exchange.incoming l.exchange.outgoing
+      (g.R.Read.remaining l.initial.reader) (g.R.Read.remaining l.reader) (g.W.Write.contents l.initial.writer) (g.W.Write.contents l.writer) l.mounted.table l.mounted.volume l.tally.answers.items l.tally.submitted;
+  left : l.tally.submitted ≡ false → l.mounted.volume.opens + length l.opens ≤ greatest;
+  first : l.tally.first ≡ l.fn.mounted.volume.opens;
 }
 
 abbrev pub decreases-messages : goal.decreases-messages

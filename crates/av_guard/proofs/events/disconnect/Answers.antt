@@ -6,8 +6,8 @@ use Rattle.av_guard.proofs.RoomLemmas.{few_disconnected}
 use Rattle.av_guard.proofs.events.disconnect.Goals as goal
 
 pub returns-clause-few : goal.returns-clause-few
-returns-clause-few c = few_disconnected c.disconnect.result c.args.filter.now c.disconnect.new.self c.args.volume.now c.args.volume.now One c.disconnect.ensures.event
+returns-clause-few c = few_disconnected c.disconnect.result c.args.mounted.now.table c.disconnect.new.self.table c.args.mounted.now.volume c.disconnect.new.self.volume One c.disconnect.ensures.event
 
 pub returns-clause-alone : goal.returns-clause-alone
 unfolding filter_step
-returns-clause-alone c = alone_after c.disconnect.result c.args.filter.now c.disconnect.new.self c.args.volume.now c.args.volume.now (Disconnects One) c.requires.alone refl c.disconnect.ensures.event
+returns-clause-alone c = alone_after c.disconnect.result c.args.mounted.now.table c.disconnect.new.self.table c.args.mounted.now.volume c.disconnect.new.self.volume (Disconnects One) c.requires.alone refl c.disconnect.ensures.event

@@ -8,4 +8,4 @@ returns-in-Ok-clause-few c = few_opened _ _ _ _ _ c.args.stream _ c.in-Ok.ensure
 
 pub returns-in-Ok-clause-alone : goal.returns-in-Ok-clause-alone
 unfolding filter_step
-returns-in-Ok-clause-alone c = alone_given c.in-Ok.out c.args.filter.now c.open.new.self c.args.volume.now c.open.new.volume (Opens c.args.stream c.new.result) c.requires.alone tt c.in-Ok.ensures.event.1
+returns-in-Ok-clause-alone c = alone_given c.in-Ok.out c.args.mounted.now.table c.open.new.self.table c.args.mounted.now.volume c.open.new.self.volume (Opens c.args.stream c.new.result) c.requires.alone tt c.in-Ok.ensures.event.1

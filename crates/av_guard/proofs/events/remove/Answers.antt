@@ -9,4 +9,4 @@ returns-in-Ok-clause-few c = few_changed _ _ _ _ _ (Remove c.args.stream) c.in-O
 
 pub returns-in-Ok-clause-alone : goal.returns-in-Ok-clause-alone
 unfolding filter_step
-returns-in-Ok-clause-alone c = alone_given c.in-Ok.out c.args.filter.now c.remove.new.self c.args.volume.now c.remove.new.volume (Changes (Remove c.args.stream)) c.requires.alone tt c.in-Ok.ensures.event.1
+returns-in-Ok-clause-alone c = alone_given c.in-Ok.out c.args.mounted.now.table c.remove.new.self.table c.args.mounted.now.volume c.remove.new.self.volume (Changes (Remove c.args.stream)) c.requires.alone tt c.in-Ok.ensures.event.1

@@ -4,7 +4,7 @@ use Rattle.av_guard.proofs.RoomLemmas.{few_given}
 use Rattle.av_guard.proofs.events.time_out.Goals as goal
 
 pub returns-clause-few : goal.returns-clause-few
-returns-clause-few c = few_given c.timeout.result c.args.filter.now c.timeout.new.self c.args.volume.now c.args.volume.now (TimesOut c.args.seq) c.timeout.ensures.event
+returns-clause-few c = few_given c.timeout.result c.args.mounted.now.table c.timeout.new.self.table c.args.mounted.now.volume c.timeout.new.self.volume (TimesOut c.args.seq) c.timeout.ensures.event
 
 pub returns-clause-alone : goal.returns-clause-alone
-returns-clause-alone c = alone_after c.timeout.result c.args.filter.now c.timeout.new.self c.args.volume.now c.args.volume.now (TimesOut c.args.seq) c.requires.alone tt c.timeout.ensures.event
+returns-clause-alone c = alone_after c.timeout.result c.args.mounted.now.table c.timeout.new.self.table c.args.mounted.now.volume c.timeout.new.self.volume (TimesOut c.args.seq) c.requires.alone tt c.timeout.ensures.event

@@ -11,6 +11,6 @@ invariant_of-self-2 c =
     let e = event_of c.args.event in
     let b : Book = record { start = s.start; mode = s.mode; limits = s.limits; events = s.events.items; sent = s.sent } in
     let did = c.in-Some.ensures in
-    let grown : c.push_reserved.new.self.items ≡ b.events ++ replied e (filter_step s.filter s.volume e) ∷ [] = cc (c.push_reserved.ensures.items, c.reserve.ensures.items, c.new.ensures, did.1.answers, did.1.messages, did.1.note) in
-    kept_with_event c.events_keep_fit.ensures b s.filter _ s.volume _ e c.push_reserved.new.self.items c.question_count-coherent.ensures.coherent c.self.invariant
+    let grown : c.push_reserved.new.self.items ≡ b.events ++ replied e (filter_step s.mounted.table s.mounted.volume e) ∷ [] = cc (c.push_reserved.ensures.items, c.reserve.ensures.items, c.new.ensures, did.1.answers, did.1.messages, did.1.note) in
+    kept_with_event b s.mounted.table _ s.mounted.volume _ e c.push_reserved.new.self.items c.self.invariant
     (room_left b e (subst (λ w. IsOk (happens w e)) (sym c.self.view_is) c.requires)) did.0 did.1.table did.1.volume grown

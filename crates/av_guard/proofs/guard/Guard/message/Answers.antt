@@ -1,15 +1,16 @@
-use Rattle.std.proofs.Common.{refl, ◌∙◌}
+use Rattle.std.proofs.Common.{refl, sym, ap, ◌∙◌, length}
 use Rattle.av_filter.specs.Conduct.{Receives}
-use Rattle.av_guard.proofs.SoundLemmas.{paired_after}
+use Rattle.av_guard.proofs.SoundLemmas.{paired_after, written_same}
+use Rattle.av_guard.specs.Asking.{bytes_kept}
+use Rattle.av_store.specs.Store.{Store}
 use Rattle.av_guard.proofs.guard.Guard.message.Goals as goal
 
 pub invariant_of-self-2 : goal.invariant_of-self-2
 invariant_of-self-2 c = record {
-  fits = c.receive.ensures.fits;
   alone = c.receive.ensures.alone;
-  written = c.self.invariant.written;
-  paired = paired_after _ _ _ _ _ _ _ (Receives c.args.message.now) _ c.self.invariant.fits c.self.invariant.written c.self.invariant.paired refl tt c.in_ok-out.ensures.event c.settle.ensures.waiting;
+  written = written_same _ _ _ (ap (λ (v : Store). v.streams) c.receive.ensures.still) c.self.invariant.written;
+  paired = paired_after _ _ _ _ _ _ _ (Receives c.args.message.now) _ c.filter.ensures.fits c.self.invariant.written c.self.invariant.paired refl tt c.in_ok-out.ensures.event c.settle.ensures.waiting;
   counted = c.settle.ensures.counted;
-  count = c.settle.ensures.shelf.0 ∙ c.self.invariant.count;
-  bytes = c.settle.ensures.shelf.1 ∙ c.self.invariant.bytes;
+  count = c.settle.ensures.shelf.0 ∙ c.self.invariant.count ∙ sym (ap (λ (v : Store). length v.streams) c.receive.ensures.still);
+  bytes = c.settle.ensures.shelf.1 ∙ c.self.invariant.bytes ∙ sym (ap bytes_kept c.receive.ensures.still);
 }

@@ -5,8 +5,8 @@ use Rattle.av_world.specs.Stage.{at_history}
 use Rattle.av_history.specs.World.{WorldState}
 use Rattle.av_world.proofs.world.stage.Stage.happen.Goals as goal
 
-pub answer-requires-clause-versions : goal.answer-requires-clause-versions
-answer-requires-clause-versions c port =
+pub answer-requires : goal.answer-requires
+answer-requires c port =
     let falling : IsFalling c.args.self.now.sets = subst (λ (w : WorldState). IsFalling w.sets) c.self.view_is c.latest.ensures.falling in
     not_above (at_history (reverse c.args.history.now) c.args.self.now) c.requires falling port
 
