@@ -1,5 +1,5 @@
 mod FileLemmas
 mod GroupLemmas
 mod LineLemmas
-mod PartLemmas
+pub mod PartLemmas
 mod ReceiptLemmas

@@ -10,7 +10,7 @@ ghost use Rattle.av_status.specs.Status.{IsFault, status_of_end};
 
 use crate::carrying::{Way, back_to_desk, carry, into_desk};
 use crate::ends::{PortEnds, end_of_both, with_lack};
-use crate::host::Hosting;
+use crate::host::{Host, Hosting};
 use crate::opener::{Brought, Openings, Part, open_files};
 use crate::service::{Service, Services};
 use crate::staffed::{Staffed, start_pools};
@@ -63,19 +63,18 @@ pub struct Met {
 
 /// The gate and its services, each with so many workers. Gives what came back; else why nothing was opened.
 pub fn meet<R: Hosting, C: Clock, E: Write>(
-    rt: &R,
-    alloc: Global,
+    host: &Host<'_, R>,
     gate: &Gate,
     seat: Seat,
     services: &Services,
     openings: &Openings<'_>,
-    workers: usize,
     err: &mut Progress<'_, C, E>,
 ) -> Result<Met, End>
     requires { IsSeatOf gate.now seat }
     ensures brought { IfOk result (λ met. vec_len met.brought ≡ openings.now.openers) }
     ensures failed { IfErr result (λ end. IsFault (status_of_end end)) }
 {
+    let (rt, alloc, workers) = (host.rt, host.alloc, host.crew.workers);
     thread::scope(
         thread::scope_env(),
         rt,

@@ -6,9 +6,8 @@ ghost use Rattle.av_host.specs.Groups.{AreHostedInGroups, AreOpened, AreTrueSoFa
 ghost use Rattle.av_status.specs.Status.{EndsWell, IsFault};
 ghost use Rattle.av_status.specs.Tally.{no_files};
 
-use crate::host::{Crew, Hosting, host_group};
+use crate::host::{Host, Hosting, host_group};
 use crate::opener::Group;
-use crate::signatures::Signatures;
 use av_files::contents::{Contents, GROUP_BYTES, content_of, counted_bytes};
 use av_files::opened::conclude_opened;
 use av_files::scanner::{Input, MAX_FILE};
@@ -16,7 +15,7 @@ use av_files::streams::{add_file, empty_volume};
 use av_status::faults::out_of_memory;
 use av_status::progress::Progress;
 use av_status::status::Status;
-use av_status::tally::{Tally, Wishes};
+use av_status::tally::Tally;
 use av_store::Volume;
 use std::alloc::Global;
 use std::io::Write;
@@ -26,24 +25,18 @@ use std::time::Clock;
 /// that can't be read ends it behind the lines of the groups before. Each line that was written is true, also of a run that ends with a
 /// fault.
 pub fn host_groups<R: Hosting, F: Contents, C: Clock, W: Write, E: Write>(
-    rt: &R,
-    alloc: Global,
-    signatures: &Signatures,
+    host: &Host<'_, R>,
     files: &F,
     names: &[&str],
-    crew: Crew,
-    wishes: Wishes,
     out: &mut W,
     err: &mut Progress<'_, C, E>,
 ) -> Status
-    ensures so_far { AreTrueSoFar (F.has_content files.now) signatures.now crew.openers names.now wishes no_files (W.contents out.old) (W.contents out.new) }
-    ensures hosted { EndsWell result → AreHostedInGroups (F.has_content files.now) signatures.now crew.openers names.now wishes (W.contents out.old) (W.contents out.new) result }
+    ensures so_far { AreTrueSoFar (F.has_content files.now) host.now.signatures.now host.now.crew.openers names.now host.now.wishes no_files (W.contents out.old) (W.contents out.new) }
+    ensures hosted { EndsWell result → AreHostedInGroups (F.has_content files.now) host.now.signatures.now host.now.crew.openers names.now host.now.wishes (W.contents out.old) (W.contents out.new) result }
 {
     let mut tally = Tally::new();
-    match open_groups(
-        rt, alloc, signatures, files, names, crew, wishes, &mut tally, out, err,
-    ) {
-        Ok(ended) => conclude_opened(tally, names.len(), ended, wishes, err),
+    match open_groups(host, files, names, &mut tally, out, err) {
+        Ok(ended) => conclude_opened(tally, names.len(), ended, host.wishes, err),
         Err(failed) => failed,
     }
 }
@@ -51,22 +44,18 @@ pub fn host_groups<R: Hosting, F: Contents, C: Clock, W: Write, E: Write>(
 // Reads and opens the files, a group after the other, as long as all goes well. Ok says how the last group ended; Err where a group
 // could not be read or opened, or a line not be written.
 fn open_groups<R: Hosting, F: Contents, C: Clock, W: Write, E: Write>(
-    rt: &R,
-    alloc: Global,
-    signatures: &Signatures,
+    host: &Host<'_, R>,
     files: &F,
     names: &[&str],
-    crew: Crew,
-    wishes: Wishes,
     tally: &mut Tally,
     out: &mut W,
     err: &mut Progress<'_, C, E>,
 ) -> Result<Status, Status>
-    ensures told { IfOk result (λ ended. AreOpened (F.has_content files.now) signatures.now crew.openers names.now wishes tally.old tally.new (W.contents out.old) (W.contents out.new) ended) }
-    ensures so_far { OnErr result (AreTrueSoFar (F.has_content files.now) signatures.now crew.openers names.now wishes tally.old (W.contents out.old) (W.contents out.new)) }
+    ensures told { IfOk result (λ ended. AreOpened (F.has_content files.now) host.now.signatures.now host.now.crew.openers names.now host.now.wishes tally.old tally.new (W.contents out.old) (W.contents out.new) ended) }
+    ensures so_far { OnErr result (AreTrueSoFar (F.has_content files.now) host.now.signatures.now host.now.crew.openers names.now host.now.wishes tally.old (W.contents out.old) (W.contents out.new)) }
     ensures failed { IfErr result (λ status. IsFault status) }
 {
-    let Ok(mut buffer) = vec![in alloc; 0u8; MAX_FILE + 2] else {
+    let Ok(mut buffer) = vec![in host.alloc; 0u8; MAX_FILE + 2] else {
         return Err(out_of_memory(err));
     };
     let mut done = 0usize;
@@ -76,14 +65,12 @@ fn open_groups<R: Hosting, F: Contents, C: Clock, W: Write, E: Write>(
             before: done,
             all: names.len(),
         };
-        let (volume, count) = read_group(alloc, files, rest, &mut buffer, err)?;
+        let (volume, count) = read_group(host.alloc, files, rest, &mut buffer, err)?;
         let group = Group {
             names: &rest.names[..count],
             ..rest
         };
-        let ended = host_group(
-            rt, alloc, signatures, volume, group, crew, wishes, tally, out, err,
-        )?;
+        let ended = host_group(host, volume, group, tally, out, err)?;
         if ended != Status::Done {
             return Ok(ended);
         }

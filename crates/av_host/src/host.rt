@@ -68,6 +68,16 @@ pub struct Crew {
     pub has_spare: bool,
 }
 
+/// What a host runs on, and how: the system and its memory, the signatures that it judges by, its threads, and what it writes of files.
+#[derive(Drop)]
+pub struct Host<'a, R> {
+    pub rt: &'a R,
+    pub alloc: Global,
+    pub signatures: &'a Signatures,
+    pub crew: Crew,
+    pub wishes: Wishes,
+}
+
 /// Opens files through a filter and its scanning service, in threads of this process, and writes a line for each, in the
 /// order given, as far as it is to be shown. The set and then each file is judged before any is opened; the first fault ends it,
 /// with one line to `err`.
@@ -99,20 +109,16 @@ pub fn host_files<R: Hosting, W: Write, E: Write>(
         before: 0,
         all: names.len(),
     };
-    let mut tally = Tally::new();
-    let mut quiet = Progress::new(rt, Prefixed::plain(err), false);
-    match host_group(
+    let host = Host {
         rt,
         alloc,
-        &signatures,
-        volume,
-        group,
+        signatures: &signatures,
         crew,
         wishes,
-        &mut tally,
-        out,
-        &mut quiet,
-    ) {
+    };
+    let mut tally = Tally::new();
+    let mut quiet = Progress::new(rt, Prefixed::plain(err), false);
+    match host_group(&host, volume, group, &mut tally, out, &mut quiet) {
         Ok(ended) => conclude_opened(tally, files.len(), ended, wishes, &mut quiet),
         Err(failed) => failed,
     }
@@ -142,62 +148,79 @@ fn read_inputs<'a, E: Write>(
 /// Opens the streams of a volume by their names, as `host_files` does, and counts those that were opened: Ok says how that ended.
 /// Err where none was, or a line could not be written: what was written then is a front of lines that are as true.
 pub fn host_group<R: Hosting, C: Clock, W: Write, E: Write>(
-    rt: &R,
-    alloc: Global,
-    signatures: &Signatures,
+    host: &Host<'_, R>,
     volume: Volume,
     group: Group<'_>,
-    crew: Crew,
-    wishes: Wishes,
     tally: &mut Tally,
     out: &mut W,
     err: &mut Progress<'_, C, E>,
 ) -> Result<Status, Status>
-    ensures told { IfOk result (λ status. AreTold volume signatures.now crew.openers group.entry.names.now wishes tally.old tally.new (W.contents out.old) (W.contents out.new) status) }
-    ensures part { OnErr result (IsToldInPart volume signatures.now wishes (W.contents out.old) (W.contents out.new)) }
+    ensures told { IfOk result (λ status. AreTold volume host.now.signatures.now host.now.crew.openers group.entry.names.now host.now.wishes tally.old tally.new (W.contents out.old) (W.contents out.new) status) }
+    ensures part { OnErr result (IsToldInPart volume host.now.signatures.now host.now.wishes (W.contents out.old) (W.contents out.new)) }
+    ensures failed { IfErr result (λ status. IsFault status) }
+{
+    let certified = open_group(host, volume, group, err)?;
+    tell(host, &certified, tally, out, err)
+}
+
+// What the files of a group were told, as their run shows it to be true, and the gravest end of a loop or an opener.
+#[derive(Drop)]
+struct Certified<'a> {
+    opened: Vec<Opened<'a>>,
+    end: End,
+}
+
+// Opens the files of a group between a gate and services of their own, and certifies what they were told. Else nothing may be written.
+fn open_group<'a, R: Hosting, C: Clock, E: Write>(
+    host: &Host<'_, R>,
+    volume: Volume,
+    group: Group<'a>,
+    err: &mut Progress<'_, C, E>,
+) -> Result<Certified<'a>, Status>
+    ensures certified { IfOk result (λ c. AreTrueLines volume host.now.signatures.now c.opened.items) }
+    ensures brought { IfOk result (λ c. AreBrought host.now.crew.openers group.entry.names.now c.opened.items c.end) }
     ensures failed { IfErr result (λ status. IsFault status) }
 {
     let Ok(before) = volume.copy() else {
         return Err(out_of_memory(err));
     };
-    let Ok(desks) = Desks::connected(rt, alloc, signatures, crew) else {
+    let Ok(desks) = Desks::connected(host.rt, host.alloc, host.signatures, host.crew) else {
         return Err(out_of_memory(err));
     };
-    match Gate::new(alloc, volume, Mode::FailClosed, Limits::greatest()) {
-        Ok((gate, seat)) => host_over(
-            rt, alloc, signatures, &before, gate, seat, desks, group, crew, wishes, tally, out, err,
-        ),
+    match Gate::new(host.alloc, volume, Mode::FailClosed, Limits::greatest()) {
+        Ok((gate, seat)) => {
+            let sides = Sides { gate, seat, desks };
+            open_between(host, &before, sides, group, err)
+        }
         Err(_) => Err(out_of_memory(err)),
     }
 }
 
-// The same over this gate and these desks. The volume is as it was handed to the gate.
-fn host_over<R: Hosting, C: Clock, W: Write, E: Write>(
-    rt: &R,
-    alloc: Global,
-    signatures: &Signatures,
-    volume: &Volume,
+// A gate with the seat that it came with, and the desks of the services that will be connected to it.
+struct Sides {
     gate: Gate,
     seat: Seat,
     desks: Desks,
-    group: Group<'_>,
-    crew: Crew,
-    wishes: Wishes,
-    tally: &mut Tally,
-    out: &mut W,
+    ghost own: { IsSeatOf gate seat },
+}
+
+// The same between these sides. The volume is as it was handed to the gate.
+fn open_between<'a, R: Hosting, C: Clock, E: Write>(
+    host: &Host<'_, R>,
+    volume: &Volume,
+    sides: Sides,
+    group: Group<'a>,
     err: &mut Progress<'_, C, E>,
-) -> Result<Status, Status>
-    requires { IsSeatOf gate seat }
-    ensures told { IfOk result (λ status. AreTold volume.now signatures.now crew.openers group.entry.names.now wishes tally.old tally.new (W.contents out.old) (W.contents out.new) status) }
-    ensures part { OnErr result (IsToldInPart volume.now signatures.now wishes (W.contents out.old) (W.contents out.new)) }
+) -> Result<Certified<'a>, Status>
+    ensures certified { IfOk result (λ c. AreTrueLines volume.now host.now.signatures.now c.opened.items) }
+    ensures brought { IfOk result (λ c. AreBrought host.now.crew.openers group.entry.names.now c.opened.items c.end) }
     ensures failed { IfErr result (λ status. IsFault status) }
 {
-    let opened = open_at(rt, alloc, &gate, seat, desks, group, crew, err);
+    let Sides { gate, seat, desks } = sides;
+    let opened = open_at(host, &gate, seat, desks, group, err);
     err.wipe();
     match opened {
-        Ok(opening) => close_and_tell(
-            alloc, signatures, volume, gate, opening, wishes, tally, out, err,
-        ),
+        Ok(opening) => certify(host, volume, gate, opening, err),
         Err(end) => {
             gate.abandon();
             Err(end_told(err, end))
@@ -205,24 +228,17 @@ fn host_over<R: Hosting, C: Clock, W: Write, E: Write>(
     }
 }
 
-// Closes a gate and its desks, looks whether their run shows what the files were told, and tells it. Else no line is written.
-fn close_and_tell<W: Write, E: Write>(
-    alloc: Global,
-    signatures: &Signatures,
+// Closes a gate and its desks, and looks whether their run shows what the files were told.
+fn certify<'a, R, E: Write>(
+    host: &Host<'_, R>,
     volume: &Volume,
     gate: Gate,
-    opening: Opening<'_>,
-    wishes: Wishes,
-    tally: &mut Tally,
-    out: &mut W,
+    opening: Opening<'a>,
     err: &mut E,
-) -> Result<Status, Status>
+) -> Result<Certified<'a>, Status>
     requires { HaveReceipts opening.opened.items opening.receipts.items }
-    ensures shown { IfOk result (λ _. AreTrueLines volume.now signatures.now opening.entry.opened.items) }
-    ensures counted { OnOk result (tally.new ≡ tally_from tally.old opening.entry.opened.items) }
-    ensures lines { OnOk result (Appends (W.contents out.old) (W.contents out.new) (opened_lines wishes opening.entry.opened.items)) }
-    ensures ended { IfOk result (λ status. status ≡ status_of_end opening.entry.end) }
-    ensures part { OnErr result (IsToldInPart volume.now signatures.now wishes (W.contents out.old) (W.contents out.new)) }
+    ensures certified { IfOk result (λ c. AreTrueLines volume.now host.now.signatures.now c.opened.items) }
+    ensures same { IfOk result (λ c. (c.opened.items ≡ opening.entry.opened.items) × (c.end ≡ opening.entry.end)) }
     ensures failed { IfErr result (λ status. IsFault status) }
 {
     let Opening {
@@ -240,12 +256,17 @@ fn close_and_tell<W: Write, E: Write>(
             return Err(uncertified(end, err));
         }
     };
-    match are_shown(alloc, &closed, signatures, volume, opened.as_slice()) {
-        Ok(true) => {}
-        Ok(false) => return Err(uncertified(end, err)),
-        Err(_) => return Err(out_of_memory(err)),
+    match are_shown(
+        host.alloc,
+        &closed,
+        host.signatures,
+        volume,
+        opened.as_slice(),
+    ) {
+        Ok(true) => Ok(Certified { opened, end }),
+        Ok(false) => Err(uncertified(end, err)),
+        Err(_) => Err(out_of_memory(err)),
     }
-    tell(alloc, opened.as_slice(), end, wishes, tally, out, err)
 }
 
 // A run that its audits don't certify is told by how it ended, if that is a fault.
@@ -319,25 +340,24 @@ fn is_shown(alloc: Global, closed: &Closed, signatures: &Signatures) -> Result<b
 }
 
 // Writes the lines of files that were opened, counts them, and says how that ended, where it is a fault.
-fn tell<W: Write, E: Write>(
-    alloc: Global,
-    opened: &[Opened<'_>],
-    end: End,
-    wishes: Wishes,
+fn tell<R, W: Write, E: Write>(
+    host: &Host<'_, R>,
+    certified: &Certified<'_>,
     tally: &mut Tally,
     out: &mut W,
     err: &mut E,
 ) -> Result<Status, Status>
-    ensures counted { OnOk result (tally.new ≡ tally_from tally.old opened.now) }
-    ensures lines { OnOk result (Appends (W.contents out.old) (W.contents out.new) (opened_lines wishes opened.now)) }
-    ensures ended { IfOk result (λ status. status ≡ status_of_end end) }
-    ensures front { OnErr result (AppendsPrefix (W.contents out.old) (W.contents out.new) (opened_lines wishes opened.now)) }
+    ensures counted { OnOk result (tally.new ≡ tally_from tally.old certified.now.opened.items) }
+    ensures lines { OnOk result (Appends (W.contents out.old) (W.contents out.new) (opened_lines host.now.wishes certified.now.opened.items)) }
+    ensures ended { IfOk result (λ status. status ≡ status_of_end certified.now.end) }
+    ensures front { OnErr result (AppendsPrefix (W.contents out.old) (W.contents out.new) (opened_lines host.now.wishes certified.now.opened.items)) }
     ensures failed { IfErr result (λ status. IsFault status) }
 {
-    match print_opened(alloc, opened, wishes, out, err) {
+    let opened = certified.opened.as_slice();
+    match print_opened(host.alloc, opened, host.wishes, out, err) {
         Status::Done => {
             count_opened(tally, opened);
-            Ok(end_told(err, end))
+            Ok(end_told(err, certified.end))
         }
         failed => Err(failed),
     }
@@ -356,22 +376,20 @@ struct Opening<'a> {
 
 // Opens the files between this gate and services at these desks: what came of it. Else why none was opened.
 fn open_at<'a, R: Hosting, C: Clock, E: Write>(
-    rt: &R,
-    alloc: Global,
+    host: &Host<'_, R>,
     gate: &Gate,
     seat: Seat,
     desks: Desks,
     group: Group<'a>,
-    crew: Crew,
     err: &mut Progress<'_, C, E>,
 ) -> Result<Opening<'a>, End>
     requires { IsSeatOf gate.now seat }
-    ensures brought { IfOk result (λ o. AreBrought crew.openers group.entry.names.now o.opened.items o.end) }
+    ensures brought { IfOk result (λ o. AreBrought host.now.crew.openers group.entry.names.now o.opened.items o.end) }
     ensures receipts { IfOk result (λ o. HaveReceipts o.opened.items o.receipts.items) }
     ensures failed { IfErr result (λ end. IsFault (status_of_end end)) }
 {
-    let services = Services::connect(rt, alloc, desks)?;
-    let met = open_over(rt, alloc, gate, seat, &services, group, crew, err);
+    let services = Services::connect(host.rt, host.alloc, desks)?;
+    let met = open_over(host, gate, seat, &services, group, err);
     let Services {
         first,
         spare,
@@ -380,7 +398,7 @@ fn open_at<'a, R: Hosting, C: Clock, E: Write>(
     let first = desk_in(first);
     let spare = spare.map(desk_in);
     match met {
-        Ok(met) => told_by(alloc, group, crew.openers, met, first, spare),
+        Ok(met) => told_by(host.alloc, group, host.crew.openers, met, first, spare),
         Err(end) => Err(end),
     }
 }
@@ -393,30 +411,19 @@ fn desk_in(service: Service) -> Desk {
 
 // The same over the connections of these services.
 fn open_over<R: Hosting, C: Clock, E: Write>(
-    rt: &R,
-    alloc: Global,
+    host: &Host<'_, R>,
     gate: &Gate,
     seat: Seat,
     services: &Services,
     group: Group<'_>,
-    crew: Crew,
     err: &mut Progress<'_, C, E>,
 ) -> Result<Met, End>
     requires { IsSeatOf gate.now seat }
-    ensures brought { IfOk result (λ met. vec_len met.brought ≡ crew.openers) }
+    ensures brought { IfOk result (λ met. vec_len met.brought ≡ host.now.crew.openers) }
     ensures failed { IfErr result (λ end. IsFault (status_of_end end)) }
 {
-    let openings = Openings::new(group, crew.openers, &services.wires);
-    meet(
-        rt,
-        alloc,
-        gate,
-        seat,
-        services,
-        &openings,
-        crew.workers,
-        err,
-    )
+    let openings = Openings::new(group, host.crew.openers, &services.wires);
+    meet(host, gate, seat, services, &openings, err)
 }
 
 // What came of what so many openers brought back, and the gravest of this end and theirs.

@@ -23,6 +23,6 @@ mod tests;
 mod wire;
 
 pub use groups::host_groups;
-pub use host::{Crew, Hosting, host_files, host_group};
+pub use host::{Crew, Host, Hosting, host_files, host_group};
 pub use opener::Group;
 pub use signatures::Signatures;

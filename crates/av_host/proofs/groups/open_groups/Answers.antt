@@ -24,13 +24,13 @@ returns-clause-told g c = at_end _ _ _ _ _ _ _ _ _ _ (omega (arith, c.groups-tes
 
 pub returns-in_default-clause-so_far : goal.returns-in_default-clause-so_far
 returns-in_default-clause-so_far g c =
-    none_more (g.F.Contents.has_content c.args.files.now) c.args.signatures.now c.args.crew.openers c.args.names.now c.args.wishes c.args.tally.now (g.W.Write.contents c.args.out.now) 0 c.args.tally.now (g.W.Write.contents c.args.out.now) nothing
+    none_more (g.F.Contents.has_content c.args.files.now) c.args.host.now.signatures.now c.args.host.now.crew.openers c.args.names.now c.args.host.now.wishes c.args.tally.now (g.W.Write.contents c.args.out.now) 0 c.args.tally.now (g.W.Write.contents c.args.out.now) nothing
 
 pub returns-in_err-volume-clause-so_far : goal.returns-in_err-volume-clause-so_far
 returns-in_err-volume-clause-so_far g c = on_err c.from_residual.result
-    (none_more (g.F.Contents.has_content c.args.files.now) c.args.signatures.now c.args.crew.openers c.args.names.now c.args.wishes c.args.tally.now (g.W.Write.contents c.args.out.now) c.groups.done c.groups.tally (g.W.Write.contents c.groups.out) c.groups.invariant.told)
+    (none_more (g.F.Contents.has_content c.args.files.now) c.args.host.now.signatures.now c.args.host.now.crew.openers c.args.names.now c.args.host.now.wishes c.args.tally.now (g.W.Write.contents c.args.out.now) c.groups.done c.groups.tally (g.W.Write.contents c.groups.out) c.groups.invariant.told)
 
 pub returns-in_err-ended-clause-so_far : goal.returns-in_err-ended-clause-so_far
 returns-in_err-ended-clause-so_far g c = on_err c.from_residual-in_err-ended.result
-    (part_of_rest (g.F.Contents.has_content c.args.files.now) c.args.signatures.now c.args.crew.openers c.args.names.now c.args.wishes c.args.tally.now (g.W.Write.contents c.args.out.now) c.groups.done c.in_ok-volume.count c.groups.tally (g.W.Write.contents c.groups.out) (g.W.Write.contents c.host_group.new.out) c.in_ok-volume.volume
+    (part_of_rest (g.F.Contents.has_content c.args.files.now) c.args.host.now.signatures.now c.args.host.now.crew.openers c.args.names.now c.args.host.now.wishes c.args.tally.now (g.W.Write.contents c.args.out.now) c.groups.done c.in_ok-volume.count c.groups.tally (g.W.Write.contents c.groups.out) (g.W.Write.contents c.host_group.new.out) c.in_ok-volume.volume
     c.groups.invariant.told c.in_ok-volume.ensures.files c.in_err-ended.ensures.part)

@@ -7,7 +7,7 @@ use Rattle.av_host.proofs.groups.open_groups.Given as goal
 abbrev pub invariant-groups : goal.invariant-groups
 invariant-groups g l = record {
   within : l.done ≤ length l.names;
-  told : AreInGroups (g.F.Contents.has_content l.files) l.signatures l.crew.openers l.wishes l.fn.tally (g.W.Write.contents l.fn.out) (take l.done l.names) l.tally (g.W.Write.contents l.out) Done;
+  told : AreInGroups (g.F.Contents.has_content l.files) l.host.signatures.now l.host.crew.openers l.host.wishes l.fn.tally (g.W.Write.contents l.fn.out) (take l.done l.names) l.tally (g.W.Write.contents l.out) Done;
 }
 
 abbrev pub decreases-groups : goal.decreases-groups

@@ -2,7 +2,7 @@ use Rattle.std.proofs.Common.{List, subst, sym}
 use Rattle.av_files.specs.declared.opened.Opened.{Opened}
 use Rattle.av_host.proofs.ReceiptLemmas.{given}
 use Rattle.av_host.specs.Lines.{AreGiven}
-use Rattle.av_host.proofs.host.close_and_tell.Goals as goal
+use Rattle.av_host.proofs.host.certify.Goals as goal
 
 pub are_shown-requires-clause-given : goal.are_shown-requires-clause-given
 are_shown-requires-clause-given g c =
