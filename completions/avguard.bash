@@ -2,7 +2,7 @@
 _avguard() {
     local word=${COMP_WORDS[COMP_CWORD]} before=${COMP_WORDS[COMP_CWORD - 1]} command=${COMP_WORDS[1]-} options
     if [ "$COMP_CWORD" = 1 ]; then
-        COMPREPLY=($(compgen -W "run ask help --help --version" -- "$word"))
+        COMPREPLY=($(compgen -W "run ask check-config help --help --version" -- "$word"))
         return
     fi
     case $before in
@@ -24,9 +24,9 @@ _avguard() {
         ;;
     esac
     case $command in
-    run) options="--open --wait --keep --questions --clamd --names --mode --service-mode --least --most-version --state --help" ;;
+    run) options="--config --open --closed --wait --keep --questions --clamd --names --mode --service-mode --least --most-version --state --log --log-grants --log-json --help" ;;
     ask) options="--recursive --keep-going --infected --json --print0 --files-from --null --found-status --summary --wait --quiet --help" ;;
-    help) options="run ask" ;;
+    help) options="run ask check-config" ;;
     *) options="--help" ;;
     esac
     case $command:$word in

@@ -1,8 +1,9 @@
 # Completion of avguard for fish.
-set -l commands run ask help
+set -l commands run ask check-config help
 complete -c avguard -n "not __fish_seen_subcommand_from $commands" -f
 complete -c avguard -n "not __fish_seen_subcommand_from $commands" -a run -d "Answer opens that other programs ask about"
 complete -c avguard -n "not __fish_seen_subcommand_from $commands" -a ask -d "Ask a guard whether files may be opened"
+complete -c avguard -n "not __fish_seen_subcommand_from $commands" -a check-config -d "Look at a configuration file of avguard run"
 complete -c avguard -n "not __fish_seen_subcommand_from $commands" -a help -d "Print a help text"
 complete -c avguard -n "not __fish_seen_subcommand_from $commands" -s V -l version -d "Print the version"
 complete -c avguard -n "__fish_seen_subcommand_from ask" -l json -d "Print JSON objects, one a line"
@@ -22,6 +23,11 @@ complete -c avguard -n "__fish_seen_subcommand_from run" -l service-mode -x -a "
 complete -c avguard -n "__fish_seen_subcommand_from run" -l least -x -d "The least version that is believed"
 complete -c avguard -n "__fish_seen_subcommand_from run" -l most-version -x -d "The greatest version that a service may begin with"
 complete -c avguard -n "__fish_seen_subcommand_from run" -l state -r -d "A file that keeps the greatest version"
+complete -c avguard -n "__fish_seen_subcommand_from run" -l log -r -d "The file that decisions are logged to, - for standard error"
+complete -c avguard -n "__fish_seen_subcommand_from run" -l log-grants -d "Log grants too"
+complete -c avguard -n "__fish_seen_subcommand_from run" -l log-json -d "Log JSON lines"
+complete -c avguard -n "__fish_seen_subcommand_from run" -l config -r -d "A file with what the words leave out"
+complete -c avguard -n "__fish_seen_subcommand_from run" -l closed -d "Deny opens that can not be judged, whatever the file says"
 complete -c avguard -n "__fish_seen_subcommand_from run" -l open -d "Let opens through that can not be judged"
 complete -c avguard -n "__fish_seen_subcommand_from run" -l keep -x -a "0 67108864 1073741824" -d "Bytes of contents that are kept"
 complete -c avguard -n "__fish_seen_subcommand_from run" -l questions -x -a "1 64 256" -d "Contents that are scanned at a time"

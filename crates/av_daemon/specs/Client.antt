@@ -33,7 +33,7 @@ use Rattle.av_daemon.specs.declared.line.Line.{Line}
 -- one that came, and speaks so
 abbrev pub came : Line → Speech → Vec ℕ Global → Client
 came line speech kept =
-    record { line = line; speech = speech; kept = kept; owed = 0; has_asked = false; is_done = false; is_sending = false }
+    record { line = line; speech = speech; kept = kept; owed = 0; has_asked = false; is_done = false; notes = []; is_sending = false }
 
 -- which protocol it speaks
 abbrev pub kind_of : Speech → Kind
@@ -79,8 +79,8 @@ left_of (Clamd door) kept = if nat_lt 0 kept then left.Whole kept else words_lef
 abbrev pub GivesAsk : Option Thing → List ℕ → List ℕ → Type 0
 GivesAsk None bytes rest = (rest ≡ bytes) × (ask_front bytes ≡ Ok None)
 GivesAsk (Some (thing.Said count)) bytes rest = ⊥
-GivesAsk (Some (thing.Asked tag content)) bytes rest =
-    (a : ask.Asked) × (bytes ≡ ask_frame a ++ rest) × (tag ≡ a.tag) × (content.items ≡ a.content)
+GivesAsk (Some (thing.Asked tag label content)) bytes rest =
+    (a : ask.Asked) × (bytes ≡ ask_frame a ++ rest) × (tag ≡ a.tag) × (label ≡ Some a.label) × (content.items ≡ a.content)
 
 -- the tag of a stream that came as the command of this number, which ended so; and back
 abbrev pub tag_of : ℕ → ℕ → ℕ
@@ -97,9 +97,9 @@ SaysOne None taken piece door after waiting told =
 SaysOne (Some (thing.Said count)) taken piece door after waiting told =
     (line : List ℕ) × (heard_of piece door ≡ onto (Some (Said line)) (heard_of (drop taken piece) after)) × (told ≡ waiting ++ line)
     × (count ≡ length line)
-SaysOne (Some (thing.Asked tag content)) taken piece door after waiting told =
+SaysOne (Some (thing.Asked tag label content)) taken piece door after waiting told =
     (number : ℕ) × (end : ℕ) × (heard_of piece door ≡ onto (Some (Asked number end content.items)) (heard_of (drop taken piece) after))
-    × (tag ≡ tag_of number end) × (told ≡ waiting)
+    × (tag ≡ tag_of number end) × (label ≡ None) × (told ≡ waiting)
 
 -- an answer as the open protocol has it: an infection is a denial
 abbrev pub open_answer_of : ℕ → Answered → OpenAnswer

@@ -6,5 +6,6 @@ pub mod Guarding
 pub mod Late
 pub mod Line
 pub mod Names
+pub mod Recorder
 pub mod Service
 pub mod Told

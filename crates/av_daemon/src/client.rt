@@ -5,9 +5,10 @@ ghost use Rattle.av_daemon.specs.declared.client.Speech.TheVariants.{Opens, Clam
 
 use crate::line::{Came, Line};
 use av_asks::{Ask, AskFeed, OpenAnswer, put_answer};
-use av_base::Cause;
+use av_base::{ByteList, Cause};
 use av_clamd::{Door, Heard, Spoken, put_reply, put_timed_out};
 use av_guard::{Answered, Told};
+use av_log::Notes;
 use av_sockets::{TurnedAway, put_refusal};
 use av_turns::{Kind, Left};
 use std::alloc::{AllocError, Global};
@@ -25,6 +26,8 @@ pub struct Client {
     has_asked: bool,
     // No more is heard of it.
     is_done: bool,
+    /// What it asked about and was not answered yet, where there is a log.
+    pub notes: Notes,
     /// It is among those to which something is sent next.
     pub is_sending: bool,
 }
@@ -41,8 +44,12 @@ enum Speech {
 pub enum Thing {
     /// It needs no verdict: so many bytes were put behind those that wait for the client.
     Said(usize),
-    /// It asks about a content. Its tag is handed back with the answer.
-    Asked { tag: u64, content: Vec<u8> },
+    /// It asks about a content, with its name for it, where it says one. Its tag is handed back with the answer.
+    Asked {
+        tag: u64,
+        label: Option<ByteList>,
+        content: Vec<u8>,
+    },
 }
 
 /// Why a client is let go.
@@ -83,6 +90,7 @@ impl Client {
             owed: 0,
             has_asked: false,
             is_done: false,
+            notes: Notes::new(alloc),
             is_sending: false,
         }
     }
@@ -260,8 +268,18 @@ fn next_ask(feed: &mut AskFeed, piece: &[u8]) -> Result<(usize, Option<Thing>), 
     }
     match feed.next() {
         Ok(Some(ask)) => {
-            let Ask { tag, content, .. } = ask;
-            Ok((piece.len(), Some(Thing::Asked { tag, content })))
+            let Ask {
+                tag,
+                label,
+                content,
+            } = ask;
+            let label = Some(label);
+            let thing = Thing::Asked {
+                tag,
+                label,
+                content,
+            };
+            Ok((piece.len(), Some(thing)))
         }
         Ok(None) => Ok((piece.len(), None)),
         Err(_) => Err(Lost),
@@ -291,7 +309,13 @@ fn next_words(
             },
         ) => {
             let tag = numbered(number, end);
-            Ok((taken, Some(Thing::Asked { tag, content })))
+            let label = None;
+            let thing = Thing::Asked {
+                tag,
+                label,
+                content,
+            };
+            Ok((taken, Some(thing)))
         }
     }
 }

@@ -1,6 +1,7 @@
 mod accepting;
 mod asking;
 mod reading;
+mod recording;
 mod sending;
 mod telling;
 
@@ -9,11 +10,13 @@ use crate::client::Client;
 use crate::door::Door;
 use crate::guarding::Begun;
 use crate::keeping::Keeping;
-use crate::log::{Log, send_lines};
+use crate::log::Log;
 use crate::names::Names;
+use crate::recorder::{MOST_WAITING, Recorder};
 use crate::service::Service;
 use av_base::{Mode, Version};
 use av_guard::Guard;
+use av_log::Entry;
 use av_status::Prefixed;
 use av_turns::Turns;
 use mio::event::Event;
@@ -52,6 +55,9 @@ const TURNS: u64 = 8;
 
 const ASKS: usize = 16;
 
+// The most bytes of lines that wait for standard error, where the log doesn't go there.
+const MOST_LINES: usize = 65_536;
+
 // How many changes the system tells at a time, and how many bytes are read at a time.
 const CHANGES: usize = 256;
 
@@ -89,7 +95,7 @@ pub struct Entrance {
 
 /// Who came to the guard's sockets. It does what the turns say: who is read, whose time is up, who is let in.
 #[derive(Drop)]
-pub struct Daemon<'a, R> {
+pub struct Daemon<'a, R: Files> {
     rt: &'a R,
     alloc: Global,
     wait: Duration,
@@ -108,6 +114,8 @@ pub struct Daemon<'a, R> {
     keeping: Keeping<'a>,
     names: Names<'a>,
     log: Prefixed<Log>,
+    // What writes the log of decisions, where there is one.
+    recorder: Option<Recorder<'a, R::File>>,
     buffer: Vec<u8>,
 }
 
@@ -119,11 +127,16 @@ impl<'a, R: Files + Net + Clock> Daemon<'a, R> {
         begun: Begun<'a>,
         doors: Entrance,
         kept: Version,
+        recorder: Option<Recorder<'a, R::File>>,
     ) -> Result<Daemon<'a, R>, Stop> {
         let buffer = vec![in alloc; 0u8; PIECE]?;
         let asked = begun.asked;
         let belief = asked.belief(kept);
-        let mut log = Log::new(alloc);
+        let most = match &recorder {
+            Some(recorder) if recorder.is_on_error() => MOST_WAITING,
+            _ => MOST_LINES,
+        };
+        let mut log = Log::new(alloc, most)?;
         log.register(doors.poll.registry(), LOG);
         Ok(Daemon {
             rt,
@@ -141,6 +154,7 @@ impl<'a, R: Files + Net + Clock> Daemon<'a, R> {
             keeping: Keeping::new(asked.state, kept),
             names: Names::new(asked.doors.names),
             log: Prefixed::new(begun.program, log),
+            recorder,
             buffer,
         })
     }
@@ -181,9 +195,13 @@ impl<'a, R: Files + Net + Clock> Daemon<'a, R> {
         self.ask_line(guard, now)?;
         self.make_room(guard, now)?;
         self.send(guard, now)?;
-        self.keeping
-            .keep(self.rt, self.alloc, guard.floor(), &mut self.log);
-        send_lines(&mut self.log, self.doors.poll.registry(), LOG, err);
+        if let Some(version) = self
+            .keeping
+            .keep(self.rt, self.alloc, guard.floor(), &mut self.log)
+        {
+            self.record(&Entry::Unkept(version));
+        }
+        self.write_lines(now, err);
         Ok(())
     }
 
@@ -206,6 +224,7 @@ impl<'a, R: Files + Net + Clock> Daemon<'a, R> {
         let dues = [
             self.turns_due(),
             self.service_due(),
+            self.lines_due(),
             self.doors.opens.next_try(now),
             self.doors.service.next_try(now),
             clamd,

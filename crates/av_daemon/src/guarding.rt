@@ -7,6 +7,7 @@ use crate::daemon::{CLAMD, Daemon, Entrance, OPENS, SERVICE, Stop};
 use crate::descriptors::{clients_of, descriptors};
 use crate::door::Door;
 use crate::keeping::{BadKeeping, kept_version};
+use crate::recorder::{BadLog, Logging, Recorder, open_log};
 use av_base::{Mode, Version};
 use av_guard::{Guard, Settings};
 use av_sockets::fault::socket_failed;
@@ -63,6 +64,8 @@ pub struct Guarding<'a> {
     pub most_version: u64,
     /// The file that keeps the greatest version that was believed.
     pub state: Option<&'a str>,
+    /// How decisions are logged, where they are.
+    pub log: Option<Logging<'a>>,
 }
 
 impl<'a> Guarding<'a> {
@@ -264,7 +267,11 @@ fn guard_through<'a, R: Files + Net + Clock, E: Write>(
         Ok(kept) => kept,
         Err(BadKeeping) => return bad_state(err, asked.state.unwrap_or("")),
     };
-    let stop = match Daemon::new(rt, alloc, begun, doors, kept) {
+    let recorder = match recorder_of(rt, alloc, asked.log, err) {
+        Ok(recorder) => recorder,
+        Err(status) => return status,
+    };
+    let stop = match Daemon::new(rt, alloc, begun, doors, kept, recorder) {
         Ok(mut daemon) => daemon.run(guard, &mut err.writer),
         Err(stop) => stop,
     };
@@ -272,6 +279,42 @@ fn guard_through<'a, R: Files + Net + Clock, E: Write>(
         Stop::Memory => out_of_memory(err),
         Stop::Device => device_failed(err),
     }
+}
+
+// What writes the log, where there is one.
+fn recorder_of<'a, R: Files, E: Write>(
+    rt: &R,
+    alloc: Global,
+    log: Option<Logging<'a>>,
+    err: &mut E,
+) -> Result<Option<Recorder<'a, R::File>>, Status>
+    ensures { IfErr result IsFailed }
+{
+    let Some(logging) = log else {
+        return Ok(None);
+    };
+    let file = match logging.file {
+        None => None,
+        Some(path) => match open_log(rt, path) {
+            Ok(file) => Some(file),
+            Err(BadLog) => return Err(bad_log(err, path)),
+        },
+    };
+    match Recorder::new(alloc, logging, file) {
+        Ok(recorder) => Ok(Some(recorder)),
+        Err(_) => Err(out_of_memory(err)),
+    }
+}
+
+fn bad_log<E: Write>(err: &mut E, path: &str) -> Status
+    ensures { result ≡ Device }
+{
+    say_of(
+        err,
+        path,
+        &[text(": cannot be opened as a file that a guard logs to")],
+    );
+    Status::Device
 }
 
 // The doors at these sockets, whose changes the system tells.

@@ -29,32 +29,32 @@ impl<'a> Keeping<'a> {
     }
 
     /// Keeps a version, where it is above the one that is kept. Where the file can't be written a line says so, and the next version
-    /// is tried again.
+    /// is tried again, and it is given back.
     pub fn keep<R: Files, E: Write>(
         &mut self,
         rt: &R,
         alloc: Global,
         version: Version,
         err: &mut E,
-    ) {
-        let Some(path) = self.path else {
-            return;
-        };
+    ) -> Option<Version> {
+        let path = self.path?;
         if version <= self.kept {
-            return;
+            return None;
         }
         self.kept = version;
-        if !is_written(rt, alloc, path, version) {
-            say_of(
-                err,
-                path,
-                &[
-                    text(": cannot write that version "),
-                    Part::Number(version.get()),
-                    text(" was believed"),
-                ],
-            );
+        if is_written(rt, alloc, path, version) {
+            return None;
         }
+        say_of(
+            err,
+            path,
+            &[
+                text(": cannot write that version "),
+                Part::Number(version.get()),
+                text(" was believed"),
+            ],
+        );
+        Some(version)
     }
 }
 

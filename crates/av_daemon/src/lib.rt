@@ -20,8 +20,10 @@ mod keeping;
 mod line;
 mod log;
 mod names;
+mod recorder;
 mod service;
 mod told;
 
 pub use asking::{Asker, AskingFault};
 pub use guarding::{Doors, Guarding, guard_at};
+pub use recorder::Logging;

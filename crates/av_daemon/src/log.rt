@@ -1,17 +1,16 @@
+use av_log::Queue;
 use av_status::Prefixed;
 use mio::unix::SourceFd;
 use mio::{Interest, Registry, Token};
-use std::alloc::Global;
-use std::io::Write;
+use std::alloc::{AllocError, Global};
+use std::io;
+use std::io::{ErrorKind, Write};
 use std::os::fd::RawFd;
-use std::{io, mem};
 
 // The descriptor of standard error.
 const STANDARD_ERROR: RawFd = 2;
 
-// The most bytes of lines that wait, and of one line.
-const MOST_WAITING: usize = 65_536;
-
+// The most bytes of one line.
 const MOST_LINE: usize = 8_192;
 
 // So many bytes a pipe takes at once where it takes any.
@@ -21,26 +20,27 @@ const PIECE: usize = 4_096;
 /// waiting. Where too many wait, lines are dropped, and how many is said later.
 #[derive(Drop)]
 pub struct Log {
-    waiting: Vec<u8>,
+    pub queue: Queue,
     // The line that is being written.
     line: Vec<u8>,
-    dropped: u64,
     // Standard error takes a piece now.
     may_write: bool,
     // The system tells when it does. It tells nothing of a file, which always does.
     is_told: bool,
+    // It took nothing the last time.
+    is_failing: bool,
 }
 
 impl Log {
-    /// Nothing was said.
-    pub fn new(alloc: Global) -> Log {
-        Log {
-            waiting: Vec::new(alloc),
+    /// Nothing was said. At most so many bytes of lines wait.
+    pub fn new(alloc: Global, most: usize) -> Result<Log, AllocError> {
+        Ok(Log {
+            queue: Queue::new(alloc, most)?,
             line: Vec::new(alloc),
-            dropped: 0,
             may_write: true,
             is_told: false,
-        }
+            is_failing: false,
+        })
     }
 
     /// Has the system tell under this number when standard error takes more.
@@ -58,20 +58,26 @@ impl Log {
         self.may_write = true;
     }
 
-    // Something waits, and is taken without a wait.
-    fn may_send(&self) -> bool {
-        !self.waiting.is_empty() && self.may_write
+    /// Something waits, and is taken without a wait.
+    pub fn may_send(&self) -> bool {
+        !self.queue.is_empty() && self.may_write
     }
 
-    // Writes a piece of what waits.
+    // Writes a piece of what waits. What can't be written is dropped.
     fn send<E: Write>(&mut self, registry: &Registry, number: u64, err: &mut E) {
-        let count = self.waiting.len().min(PIECE);
-        let piece = self.waiting.get(..count).unwrap_or(b"".as_slice());
-        let taken = match err.write(piece) {
-            Ok(taken) => taken.min(count),
-            Err(_) => self.waiting.len(),
-        };
-        self.take(taken);
+        match err.write(self.queue.piece(PIECE)) {
+            Ok(taken) => {
+                self.queue.gone(taken);
+                self.is_failing = false;
+            }
+            Err(error) => match error.kind() {
+                ErrorKind::Interrupted | ErrorKind::WouldBlock => {}
+                _ => {
+                    self.queue.drop_all();
+                    self.is_failing = true;
+                }
+            },
+        }
         if self.is_told {
             self.may_write = false;
             let mut source = SourceFd(&STANDARD_ERROR);
@@ -80,52 +86,32 @@ impl Log {
         }
     }
 
-    // So many bytes have gone out.
-    fn take(&mut self, count: usize) {
-        let rest = self.waiting.len().saturating_sub(count);
-        self.waiting.rotate_left(count.min(self.waiting.len()));
-        self.waiting.truncate(rest);
-    }
-
-    // How many lines were dropped and have not been told of, once nothing waits. They are told of now.
-    fn take_dropped(&mut self) -> u64 {
-        if self.waiting.is_empty() {
-            mem::take(&mut self.dropped)
-        } else {
-            0
-        }
-    }
-
-    // The line is whole.
+    // The line is whole. One that is too long ends early.
     fn end_line(&mut self) {
-        let length = self.waiting.len().saturating_add(self.line.len());
-        if length > MOST_WAITING
-            || self
-                .waiting
-                .extend_from_slice(self.line.as_slice())
-                .is_err()
-        {
-            self.dropped = self.dropped.saturating_add(1);
+        if self.line.last() != Some(&b'\n') {
+            let _ = self.line.pop();
+            let _ = self.line.push(b'\n');
         }
+        self.queue.put(self.line.as_slice());
         self.line.clear();
     }
 }
 
-/// Writes a piece of what waits, where that is taken without a wait. Once nothing waits it says how many lines were dropped.
+/// Writes a piece of what waits, where that is taken without a wait. Once nothing waits it gives how many lines were dropped.
 pub fn send_lines<E: Write>(
     log: &mut Prefixed<Log>,
     registry: &Registry,
     number: u64,
     err: &mut E,
-) {
+) -> u64 {
     if !log.writer.may_send() {
-        return;
+        return 0;
     }
     log.writer.send(registry, number, err);
-    let dropped = log.writer.take_dropped();
-    if dropped > 0 {
-        let _ = write!(log, "{dropped} lines were dropped\n");
+    if log.writer.is_failing {
+        return 0;
     }
+    log.writer.queue.take_dropped()
 }
 
 impl Write for Log {

@@ -1,11 +1,18 @@
 -- A status that tells of no fault is of files that were all judged; and what was written by then.
-use Rattle.std.proofs.Common.{ℕ, ◌≡◌, ◌||◌, Bool, false, true, if◌then◌else◌, List, [], ◌∷◌, Option, refl, rules}
+use Rattle.std.proofs.Common.{arith, ℕ, ◌≡◌, ◌<◌, ◌+◌, ◌++◌, ◌||◌, Bool, false, true, if◌then◌else◌, List, [], ◌∷◌, Option, None, Some, length, map, take, refl, rules, ap, sym, subst, ◌∙◌, inl, inr}
 use Rattle.std.proofs.KnownBytes.{Appends-nil}
-use Rattle.std.specs.List.{AllByRecursion}
+use Rattle.std.specs.Io.KnownBytes.{Appends}
+use Rattle.std.proofs.lemmas.Bool.{cases_Bool, ltb-false, ltb-true}
+use Rattle.std.proofs.lemmas.List.{map-append, take_more}
+use Rattle.std.proofs.lemmas.List.Elements.{recursion_from_All}
+use Rattle.std.specs.Borrow.{Bor}
+use Rattle.std.specs.List.{All, AllByRecursion}
+use Rattle.std.specs.Prelude.{IsSome, nat_lt, slice_index_or}
+use Rattle.std.specs.String.{string_bytes}
 use Rattle.av_base.specs.Device.{AppendsPrefix}
 use Rattle.av_files.specs.Opened.{is_granted, is_infected, opened_lines, tally_from, with_opened, worst_of}
 use Rattle.av_files.specs.declared.opened.Opened.{Opened}
-use Rattle.av_status.specs.Status.{graver_status}
+use Rattle.av_status.specs.Status.{graver_status, number_of, IsFault}
 use Rattle.av_status.specs.Tally.{concluded, ending_of, has_found, no_files, with_missed, with_scanned}
 use Rattle.av_status.specs.declared.status.Status.{Status}
 use Rattle.av_status.specs.declared.status.Status.TheVariants.{Done, Refused, Usage, Memory, Device, Found, FoundInPart}
@@ -13,7 +20,8 @@ use Rattle.av_status.specs.declared.tally.Tally.{Tally}
 use Rattle.av_status.specs.declared.tally.Wishes.{Wishes}
 use Rattle.av_pend.specs.declared.answer.Answer.{Answer}
 use Rattle.av_daemon.specs.Asking.{AreAtTheirTags}
-use Rattle.avguard.specs.Ask.{AreJudged, AreToldSoFar, IsJudged, IsToldSoFar, answered, asked_tally}
+use Rattle.avguard.specs.Ask.{AreAsked, AreJudged, AreJudgedIfDone, AreToldSoFar, IsAsGrave, IsJudged, IsToldSoFar, answered, asked_tally, names_found}
+use Rattle.avguard.specs.declared.ask.Found.{Found as FoundFile}
 
 -- a device fault is never none
 device_stays : (s : Status) → graver_status s Device ≡ Done → ⊥
@@ -50,26 +58,98 @@ none_counted Device counted e = absurd (search rules)
 none_counted Found counted e = absurd (search rules)
 none_counted FoundInPart counted e = absurd (search rules)
 
--- whatever was found, the status is none only where each file was judged
-found_or : (b : Bool) (opened : List Opened) → AllByRecursion IsJudged opened → AreJudged (if b then Found else Done) opened
-found_or true opened all = tt
-found_or false opened all = all
+-- whatever was found, the status of a run is none only where its greatest fault is
+none_ended : (w : Wishes) (t : Tally) (worst : Status) → ending_of w t worst ≡ Done → worst ≡ Done
+none_ended w t Done e = refl
+none_ended w t Refused e = absurd (elim (has_found w t) as (λ b. (if b then FoundInPart else Refused) ≡ Done → ⊥) [ true ↦ search rules | false ↦ search rules ] e)
+none_ended w t Usage e = absurd (elim (has_found w t) as (λ b. (if b then FoundInPart else Usage) ≡ Done → ⊥) [ true ↦ search rules | false ↦ search rules ] e)
+none_ended w t Memory e = absurd (elim (has_found w t) as (λ b. (if b then FoundInPart else Memory) ≡ Done → ⊥) [ true ↦ search rules | false ↦ search rules ] e)
+none_ended w t Device e = absurd (elim (has_found w t) as (λ b. (if b then FoundInPart else Device) ≡ Done → ⊥) [ true ↦ search rules | false ↦ search rules ] e)
+none_ended w t Found e = absurd (elim (has_found w t) as (λ b. (if b then FoundInPart else Found) ≡ Done → ⊥) [ true ↦ search rules | false ↦ search rules ] e)
+none_ended w t FoundInPart e = absurd (elim (has_found w t) as (λ b. (if b then FoundInPart else FoundInPart) ≡ Done → ⊥) [ true ↦ search rules | false ↦ search rules ] e)
 
-by_worst : (w : Wishes) (t : Tally) (opened : List Opened) (worst : Status) → (worst ≡ Done → AllByRecursion IsJudged opened) → AreJudged (ending_of w t worst) opened
-by_worst w t opened Done all = found_or (has_found w t) opened (all refl)
-by_worst w t opened Refused all = elim (has_found w t) as (λ b. AreJudged (if b then FoundInPart else Refused) opened) [ true ↦ tt | false ↦ tt ]
-by_worst w t opened Usage all = elim (has_found w t) as (λ b. AreJudged (if b then FoundInPart else Usage) opened) [ true ↦ tt | false ↦ tt ]
-by_worst w t opened Memory all = elim (has_found w t) as (λ b. AreJudged (if b then FoundInPart else Memory) opened) [ true ↦ tt | false ↦ tt ]
-by_worst w t opened Device all = elim (has_found w t) as (λ b. AreJudged (if b then FoundInPart else Device) opened) [ true ↦ tt | false ↦ tt ]
-by_worst w t opened Found all = elim (has_found w t) as (λ b. AreJudged (if b then FoundInPart else Found) opened) [ true ↦ tt | false ↦ tt ]
-by_worst w t opened FoundInPart all = elim (has_found w t) as (λ b. AreJudged (if b then FoundInPart else FoundInPart) opened) [ true ↦ tt | false ↦ tt ]
+-- what went wrong is as grave as itself, and the graver of two as each
+pub as_grave : (s : Status) → IsAsGrave s s
+as_grave s = omega arith
+
+pub graver_than_one : (one other : Status) → IsAsGrave one (graver_status one other)
+graver_than_one one other = elim (cases_Bool (nat_lt (number_of one) (number_of other))) [
+  | inl less ↦ rw less (omega (arith, ltb-true _ _ less))
+  | inr not ↦ rw not (omega arith)
+]
+
+pub graver_than_other : (one other : Status) → IsAsGrave other (graver_status one other)
+graver_than_other one other = elim (cases_Bool (nat_lt (number_of one) (number_of other))) [
+  | inl less ↦ rw less (omega arith)
+  | inr not ↦ rw not (omega (arith, ltb-false _ _ not))
+]
+
+pub grave_then : (least one other : Status) → IsAsGrave least one → IsAsGrave least (graver_status one other)
+grave_then least one other grave = omega (arith, grave, graver_than_one one other)
+
+pub grave_more : (least one other : Status) → IsAsGrave least one → IsAsGrave one other → IsAsGrave least other
+grave_more least one other grave more = omega (arith, grave, more)
+
+-- only where all was done nothing is as grave as that
+pub none_as_grave : (least ended : Status) → IsAsGrave least ended → ended ≡ Done → least ≡ Done
+none_as_grave Done ended grave e = refl
+none_as_grave Refused ended grave e = absurd (omega (arith, grave, ap number_of e))
+none_as_grave Usage ended grave e = absurd (omega (arith, grave, ap number_of e))
+none_as_grave Memory ended grave e = absurd (omega (arith, grave, ap number_of e))
+none_as_grave Device ended grave e = absurd (omega (arith, grave, ap number_of e))
+none_as_grave Found ended grave e = absurd (omega (arith, grave, ap number_of e))
+none_as_grave FoundInPart ended grave e = absurd (omega (arith, grave, ap number_of e))
+
+-- a fault is never none
+pub fault_stays : (one fault : Status) → IsFault fault → graver_status one fault ≡ Done → ⊥
+fault_stays one fault is e = no_fault fault (none_as_grave fault _ (graver_than_other one fault) e) is
+  where
+    no_fault : (s : Status) → s ≡ Done → IsFault s → ⊥
+    no_fault s e is = subst IsFault e is
+
+-- the opens ended well, and each was judged, where that is what decides
+ended_none : (ended counted : Status) → worst_of (graver_status ended counted) counted ≡ Done → ended ≡ Done
+ended_none ended counted e =
+    let all = none_counted (graver_status ended counted) counted e in
+    none_as_grave ended (graver_status ended counted) (graver_than_one ended counted) (first_none (graver_status ended counted) counted e)
+  where
+    first_none : (one counted : Status) → worst_of one counted ≡ Done → one ≡ Done
+    first_none Done counted e = refl
+    first_none Refused counted e = absurd (search rules)
+    first_none Usage counted e = absurd (search rules)
+    first_none Memory counted e = absurd (search rules)
+    first_none Device counted e = absurd (search rules)
+    first_none Found counted e = absurd (search rules)
+    first_none FoundInPart counted e = absurd (search rules)
 
 -- a run that asked about files, and ends with Done
-pub judged_all : (w : Wishes) (opened : List Opened) (files : ℕ) (missed : Status) → AreJudged (concluded w (asked_tally opened files missed)) opened
-judged_all w opened files missed =
+pub all_judged : (w : Wishes) (opened : List Opened) (files : ℕ) (ended : Status) → concluded w (asked_tally opened files ended) ≡ Done
+    → (ended ≡ Done) × AllByRecursion IsJudged opened
+all_judged w opened files ended e =
     let t = tally_from no_files opened in
-    by_worst w (asked_tally opened files missed) opened (worst_of (graver_status missed t.worst) t.worst)
-    (λ e. (counted_judged no_files opened (none_counted (graver_status missed t.worst) t.worst e)).1)
+    let worst = none_ended w (asked_tally opened files ended) (worst_of (graver_status ended t.worst) t.worst) e in
+    (ended_none ended t.worst worst, (counted_judged no_files opened (none_counted (graver_status ended t.worst) t.worst worst)).1)
+
+-- where each file has its answer, the files that are answered have the names of all
+each_answered : (names : List (Bor (List ℕ))) (answers : List (Option Answer)) → length answers ≡ length names → AllByRecursion IsSome answers
+    → map (λ o. o.name.now) (answered names answers) ≡ map (λ n. n.now) names
+each_answered [] answers long all = refl
+each_answered (n ∷ names) [] long all = absurd (omega (arith, long))
+each_answered (n ∷ names) (Some a ∷ answers) long all = ap (λ l. n.now ∷ l) (each_answered names answers (omega (arith, long)) all.1)
+each_answered (n ∷ names) (None ∷ answers) long all = let no : false ≡ true = all.0 in absurd (search rules)
+
+pub all_answered : (names : List (Bor (List ℕ))) (answers : List (Option Answer)) → length answers ≡ length names → All IsSome answers
+    → map (λ o. o.name.now) (answered names answers) ≡ map (λ n. n.now) names
+all_answered names answers long all = each_answered names answers long (recursion_from_All IsSome answers all)
+
+pub judged_if_done : (status : Status) (names : List (List ℕ)) (opened : List Opened) → (status ≡ Done → AreJudged names opened) → AreJudgedIfDone status names opened
+judged_if_done Done names opened are = are refl
+judged_if_done Refused names opened are = tt
+judged_if_done Usage names opened are = tt
+judged_if_done Memory names opened are = tt
+judged_if_done Device names opened are = tt
+judged_if_done Found names opened are = tt
+judged_if_done FoundInPart names opened are = tt
 
 -- nothing was written
 pub none_written : (old : Option (List ℕ)) (text : List ℕ) → AppendsPrefix old old text
@@ -83,3 +163,40 @@ no_tags place a at = cc
 
 pub none_asked : (wishes : Wishes) (old : Option (List ℕ)) → IsToldSoFar wishes old old
 none_asked wishes old = record { answers = []; tags = no_tags; told = none_told [] wishes old }
+
+-- A run that asked about these files, of which so many were to be asked about: what was written of those that are answered, and the status,
+-- tell what is asked of it.
+pub told_asked : (names : List (Bor (List ℕ))) (files : List (List ℕ)) (answers : List (Option Answer)) (before asked finished ended status : Status) (count : ℕ) (wishes : Wishes) (old new : Option (List ℕ))
+    → IsAsGrave before asked → ended ≡ graver_status asked finished → count ≡ length files
+    → Appends old new (opened_lines wishes (answered names answers)) → status ≡ concluded wishes (asked_tally (answered names answers) count ended)
+    → (asked ≡ Done → (map (λ n. n.now) names ≡ files) × (length answers ≡ length names)) → (finished ≡ Done → All IsSome answers)
+    → AreAsked files before wishes old new status
+told_asked names files answers before asked finished ended status count wishes old new since is counted lines ends each all =
+    let opened = answered names answers in
+    let by_count : status ≡ concluded wishes (asked_tally opened (length files) ended) = ends ∙ ap (λ n. concluded wishes (asked_tally opened n ended)) counted in
+    let grave : IsAsGrave asked ended = subst (λ e. IsAsGrave asked e) (sym is) (graver_than_one asked finished) in
+    record {
+      opened = opened;
+      ended = ended;
+      since = omega (arith, since, grave);
+      lines = lines;
+      concluded = by_count;
+      judged = judged_if_done status files opened (λ done. judged (all_judged wishes opened (length files) ended (sym by_count ∙ done)));
+    }
+  where
+    judged : (ended ≡ Done) × AllByRecursion IsJudged (answered names answers) → AreJudged files (answered names answers)
+    judged done =
+        let none = sym is ∙ done.0 in
+        let both = each (none_as_grave asked (graver_status asked finished) (graver_than_one asked finished) none) in
+        record {
+          each = all_answered names answers both.1 (all (none_as_grave finished (graver_status asked finished) (graver_than_other asked finished) none)) ∙ both.0;
+          judged = done.1;
+        }
+
+-- one file more was asked about
+pub found_more : (names more : List (Bor (List ℕ))) (name : Bor (List ℕ)) (found : List FoundFile) (i : ℕ) (d : FoundFile) → i < length found → more ≡ names ++ name ∷ [] → name.now ≡ string_bytes (slice_index_or found i d).name
+    → map (λ n. n.now) names ≡ names_found (take i found) → map (λ n. n.now) more ≡ names_found (take (i + 1) found)
+found_more names more name found i d within pushed same so =
+    let file = slice_index_or found i d in
+    ap (λ ns. map (λ n. n.now) ns) pushed ∙ map-append (λ n. n.now) names (name ∷ []) ∙ ap (λ l. l ++ name.now ∷ []) so ∙ ap (λ n. names_found (take i found) ++ n ∷ []) same
+    ∙ sym (map-append (λ f. string_bytes f.name) (take i found) (file ∷ [])) ∙ ap names_found (sym (take_more found i d within))

@@ -1,1 +1,2 @@
 pub mod Ask
+pub mod Logging

@@ -1,12 +1,13 @@
-ghost use Rattle.std.specs.Prelude.{◌≡◌, IfErr, IfOk};
+ghost use Rattle.std.specs.Prelude.{◌≡◌, ◌+◌, ◌++◌, [], ◌∷◌, false, length, map, IfErr, IfOk, IsSome, OnOk};
 ghost use Rattle.std.specs.Io.KnownBytes.{Appends};
+ghost use Rattle.std.specs.List.{All};
 ghost use Rattle.av_base.specs.Device.{AppendsPrefix};
-ghost use Rattle.av_daemon.specs.Asking.{AreAtTheirTags};
+ghost use Rattle.av_daemon.specs.Asking.{AreAtTheirTags, IsOwedEach};
 ghost use Rattle.av_files.specs.Opened.{IsDoneOrFault, opened_lines};
 ghost use Rattle.av_status.specs.Status.{EndsWell, IsFault};
 ghost use Rattle.av_status.specs.Tally.{concluded};
-ghost use Rattle.av_status.specs.declared.status.Status.TheVariants.{Device};
-ghost use Rattle.avguard.specs.Ask.{AreAsked, AreJudged, AreToldSoFar, IsToldSoFar, answered, asked_tally, failed_of};
+ghost use Rattle.av_status.specs.declared.status.Status.TheVariants.{Device, Done};
+ghost use Rattle.avguard.specs.Ask.{AreAsked, AreFoundAndAsked, AreNamedAndAsked, AreToldSoFar, IsAsGrave, IsToldSoFar, answered, asked_tally, failed_of, names_found};
 
 use crate::guarding::Guards;
 use av_daemon::{Asker, AskingFault};
@@ -17,7 +18,6 @@ use av_sockets::fault::socket_failed;
 use av_sockets::{Meeting, SocketFault};
 use av_status::faults::{bad_entry, out_of_memory, say_of, text, too_large, unreadable};
 use av_status::{Progress, Status, Tally, Wishes};
-use av_words::Finding;
 use avguard_words::Ask;
 use std::alloc::{AllocError, Global};
 use std::io::Write;
@@ -33,7 +33,7 @@ pub fn ask_named<R: Guards, W: Write, E: Write>(
     err: &mut Progress<'_, HostRuntime, E>,
 ) -> Status
     ensures so_far { IsToldSoFar asked.now.named.wishes (W.contents out.old) (W.contents out.new) }
-    ensures asked { EndsWell result → AreAsked asked.now.named.wishes (W.contents out.old) (W.contents out.new) result }
+    ensures asked { EndsWell result → AreNamedAndAsked asked.now (W.contents out.old) (W.contents out.new) result }
 {
     let mut text = Vec::new(alloc);
     let mut tally = Tally::new();
@@ -46,53 +46,33 @@ pub fn ask_named<R: Guards, W: Write, E: Write>(
         &mut tally,
         err,
     ) {
-        Ok(names) => ask_names(rt, system, alloc, asked, names.as_slice(), tally, out, err),
+        Ok(names) => {
+            let asking = &Asking {
+                rt,
+                system,
+                alloc,
+                asked,
+            };
+            ask_names(asking, names.as_slice(), tally.worst, out, err)
+        }
         Err(status) => status,
     }
 }
 
-// Asks about the files of these names, and about those below each that is a folder, where folders stand for files.
-fn ask_names<R: Guards, W: Write, E: Write>(
-    rt: &HostRuntime,
-    system: &R,
+// What is asked, and the system that it is asked on.
+#[derive(Drop)]
+struct Asking<'a, R> {
+    rt: &'a HostRuntime,
+    system: &'a R,
     alloc: Global,
-    asked: &Ask<'_>,
-    names: &[&str],
-    mut tally: Tally,
-    out: &mut W,
-    err: &mut Progress<'_, HostRuntime, E>,
-) -> Status
-    ensures so_far { IsToldSoFar asked.now.named.wishes (W.contents out.old) (W.contents out.new) }
-    ensures asked { EndsWell result → AreAsked asked.now.named.wishes (W.contents out.old) (W.contents out.new) result }
-{
-    let mut found = Vec::new(alloc);
-    match add_files(rt, alloc, asked.finding, names, &mut found, &mut tally, err) {
-        Ok(()) => {
-            let found = found.as_slice();
-            ask_found(rt, system, alloc, asked, found, tally.worst, out, err)
-        }
-        Err(_) => out_of_memory(err),
-    }
+    asked: &'a Ask<'a>,
 }
 
-fn add_files<E: Write>(
-    rt: &HostRuntime,
-    alloc: Global,
-    finding: Finding,
-    names: &[&str],
-    found: &mut Vec<Found>,
-    tally: &mut Tally,
-    err: &mut E,
-) -> Result<(), AllocError> {
-    'names: for name in names {
-        if finding.is_recursive && is_folder(rt, name) {
-            let mut walk = Walk::new(rt, alloc, name)?;
-            add_entries(rt, alloc, &mut walk, found, tally, err)?;
-        } else {
-            add_name(alloc, name, found)?;
-        }
-    }
-    Ok(())
+// The files that are asked about, and what went wrong while they were found.
+#[derive(Drop)]
+struct Finds {
+    files: Vec<Found>,
+    missed: Status,
 }
 
 // A file that is asked about.
@@ -102,144 +82,178 @@ struct Found {
     source: Source,
 }
 
-fn add_name(alloc: Global, name: &str, found: &mut Vec<Found>) -> Result<(), AllocError> {
+// Asks about the files of these names, and about those below each that is a folder, where folders stand for files.
+fn ask_names<R: Guards, W: Write, E: Write>(
+    asking: &Asking<'_, R>,
+    names: &[&str],
+    missed: Status,
+    out: &mut W,
+    err: &mut Progress<'_, HostRuntime, E>,
+) -> Status
+    ensures so_far { IsToldSoFar asking.now.asked.now.named.wishes (W.contents out.old) (W.contents out.new) }
+    ensures asked { EndsWell result → AreFoundAndAsked asking.now.asked.now.finding.is_recursive (map (λ n. n.now) names.now) missed asking.now.asked.now.named.wishes (W.contents out.old) (W.contents out.new) result }
+{
+    let mut finds = Finds {
+        files: Vec::new(asking.alloc),
+        missed,
+    };
+    match add_files(asking, names, &mut finds, err) {
+        Ok(()) => ask_found(asking, &finds, out, err),
+        Err(_) => out_of_memory(err),
+    }
+}
+
+// Adds the files of these names, and those below each that is a folder, where folders stand for files.
+#[tactic(auto, using(crate::proofs::AskLemmas::as_grave, crate::proofs::AskLemmas::grave_more))]
+fn add_files<R: Guards, E: Write>(
+    asking: &Asking<'_, R>,
+    names: &[&str],
+    finds: &mut Finds,
+    err: &mut E,
+) -> Result<(), AllocError>
+    ensures since { IsAsGrave finds.old.missed finds.new.missed }
+    ensures themselves { asking.now.asked.now.finding.is_recursive ≡ false → OnOk result
+        ((names_found finds.new.files.items ≡ names_found finds.old.files.items ++ map (λ n. n.now) names.now)
+        × (finds.new.missed ≡ finds.old.missed)) }
+{
+    'names: for name in names {
+        if asking.asked.finding.is_recursive && is_folder(asking.rt, name) {
+            let mut walk = Walk::new(asking.rt, asking.alloc, name)?;
+            add_entries(asking, &mut walk, finds, err)?;
+        } else {
+            add_name(asking.alloc, name, &mut finds.files)?;
+        }
+    }
+    Ok(())
+}
+
+fn add_name(alloc: Global, name: &str, files: &mut Vec<Found>) -> Result<(), AllocError>
+    ensures { OnOk result (names_found files.new.items ≡ names_found files.old.items ++ name.now ∷ []) }
+{
     let name = String::from_str(alloc, name)?;
     let source = Source::Named;
-    found.push(Found { name, source })?;
+    files.push(Found { name, source })?;
     Ok(())
 }
 
 // Adds what a walk meets from here on.
-fn add_entries<E: Write>(
-    rt: &HostRuntime,
-    alloc: Global,
+#[tactic(auto, using(crate::proofs::AskLemmas::as_grave, crate::proofs::AskLemmas::grave_then))]
+fn add_entries<R: Guards, E: Write>(
+    asking: &Asking<'_, R>,
     walk: &mut Walk<'_, HostRuntime>,
-    found: &mut Vec<Found>,
-    tally: &mut Tally,
+    finds: &mut Finds,
     err: &mut E,
-) -> Result<(), AllocError> {
+) -> Result<(), AllocError>
+    ensures since { IsAsGrave finds.old.missed finds.new.missed }
+{
     'entries: for _ in 0..u64::MAX {
         match walk.next()? {
-            Some(Met::File(name)) => found.push(Found {
+            Some(Met::File(name)) => finds.files.push(Found {
                 name,
                 source: Source::Met,
             })?,
             Some(Met::Unreadable(path)) => {
-                tally.add_missed(unreadable(err, path.as_str()));
-                say_why(rt, alloc, path.as_str(), Source::Met, err);
+                let path = path.as_str();
+                finds.missed = finds.missed.or_graver(unreadable(err, path));
+                say_why(asking.rt, asking.alloc, path, Source::Met, err);
             }
-            Some(Met::NotText(path)) => tally.add_missed(bad_entry(err, path.as_slice())),
+            Some(Met::NotText(path)) => {
+                finds.missed = finds.missed.or_graver(bad_entry(err, path.as_slice()));
+            }
             None => break,
         }
     }
     Ok(())
 }
 
-// Asks about files that were found, of which so much went wrong already.
+// Asks about files that were found.
 fn ask_found<R: Guards, W: Write, E: Write>(
-    rt: &HostRuntime,
-    system: &R,
-    alloc: Global,
-    asked: &Ask<'_>,
-    found: &[Found],
-    missed: Status,
+    asking: &Asking<'_, R>,
+    finds: &Finds,
     out: &mut W,
     err: &mut Progress<'_, HostRuntime, E>,
 ) -> Status
-    ensures so_far { IsToldSoFar asked.now.named.wishes (W.contents out.old) (W.contents out.new) }
-    ensures asked { EndsWell result → AreAsked asked.now.named.wishes (W.contents out.old) (W.contents out.new) result }
+    ensures so_far { IsToldSoFar asking.now.asked.now.named.wishes (W.contents out.old) (W.contents out.new) }
+    ensures asked { EndsWell result → AreAsked (names_found finds.now.files.items) finds.now.missed asking.now.asked.now.named.wishes (W.contents out.old) (W.contents out.new) result }
 {
-    let Ok(mut buffer) = vec![in alloc; 0u8; MAX_FILE + 2] else {
+    let asked = asking.asked;
+    let Ok(mut buffer) = vec![in asking.alloc; 0u8; MAX_FILE + 2] else {
         return out_of_memory(err);
     };
-    match Asker::connect(system, alloc, Meeting::within(asked.opens, asked.wait)) {
-        Ok(mut asker) => {
-            let asker = &mut asker;
-            ask_all(
-                rt,
-                alloc,
-                asker,
-                asked,
-                found,
-                missed,
-                &mut buffer,
-                out,
-                err,
-            )
-        }
+    let meeting = Meeting::within(asked.opens, asked.wait);
+    match Asker::connect(asking.system, asking.alloc, meeting) {
+        Ok(mut asker) => ask_all(asking, &mut asker, finds, &mut buffer, out, err),
         Err(fault) => socket_failed(err, asked.opens, fault),
     }
 }
 
-// The same, over a connection.
+// The same, over a connection by which nothing was asked before.
 fn ask_all<R: Guards, W: Write, E: Write>(
-    rt: &HostRuntime,
-    alloc: Global,
+    asking: &Asking<'_, R>,
     asker: &mut Asker<'_, R>,
-    asked: &Ask<'_>,
-    found: &[Found],
-    missed: Status,
+    finds: &Finds,
     buffer: &mut [u8],
     out: &mut W,
     err: &mut Progress<'_, HostRuntime, E>,
 ) -> Status
-    ensures so_far { AreToldSoFar asker.new.answers.items asked.now.named.wishes (W.contents out.old) (W.contents out.new) }
+    requires { (asker.old.answers.items ≡ []) × (asker.old.owed ≡ 0) }
+    ensures so_far { AreToldSoFar asker.new.answers.items asking.now.asked.now.named.wishes (W.contents out.old) (W.contents out.new) }
     ensures tags { AreAtTheirTags asker.old.answers.items → AreAtTheirTags asker.new.answers.items }
-    ensures asked { EndsWell result → AreAsked asked.now.named.wishes (W.contents out.old) (W.contents out.new) result }
+    ensures asked { EndsWell result → AreAsked (names_found finds.now.files.items) finds.now.missed asking.now.asked.now.named.wishes (W.contents out.old) (W.contents out.new) result }
 {
-    let mut names = Vec::new(alloc);
-    match ask_each(
-        rt, alloc, asker, asked, found, &mut names, missed, buffer, err,
-    ) {
+    let mut names = Vec::new(asking.alloc);
+    match ask_each(asking, asker, finds, &mut names, buffer, err) {
         Ok(ended) => {
-            let ended = ended.or_graver(finished(asker, asked.opens, err));
+            let ending = Ending {
+                files: finds.files.as_slice().len(),
+                ended: ended.or_graver(finished(asker, asking.asked.opens, err)),
+                wishes: asking.asked.named.wishes,
+            };
             let names = names.as_slice();
-            let wishes = asked.named.wishes;
-            print_answers(
-                alloc,
-                names,
-                asker.answers(),
-                found.len(),
-                ended,
-                wishes,
-                out,
-                err,
-            )
+            print_answers(asking.alloc, names, asker.answers(), ending, out, err)
         }
         Err(status) => status,
     }
 }
 
-// Asks about each file in turn, and gives what went wrong of it, or of what ends it all.
+// Asks about each file in turn, and gives what went wrong of it, or of what ends it all. The names are of those that were asked about.
+#[tactic(auto, using(crate::proofs::AskLemmas::as_grave, crate::proofs::AskLemmas::fault_stays, crate::proofs::AskLemmas::grave_then))]
 fn ask_each<'b, R: Guards, E: Write>(
-    rt: &HostRuntime,
-    alloc: Global,
+    asking: &Asking<'_, R>,
     asker: &mut Asker<'_, R>,
-    asked: &Ask<'_>,
-    found: &'b [Found],
+    finds: &'b Finds,
     names: &mut Vec<&'b str>,
-    missed: Status,
     buffer: &mut [u8],
     err: &mut Progress<'_, HostRuntime, E>,
 ) -> Result<Status, Status>
+    requires { (names.old.items ≡ []) × (asker.old.answers.items ≡ []) }
     ensures failed { IfErr result (λ status. IsFault status) }
     ensures tags { AreAtTheirTags asker.old.answers.items → AreAtTheirTags asker.new.answers.items }
+    ensures owed { IsOwedEach asker.old.owed asker.old.answers.items → IsOwedEach asker.new.owed asker.new.answers.items }
+    ensures since { IfOk result (λ ended. IsAsGrave finds.now.missed ended) }
+    ensures all { IfOk result (λ ended. ended ≡ Done
+        → (map (λ n. n.now) names.new.items ≡ names_found finds.now.files.items)
+        × (length asker.new.answers.items ≡ length names.new.items)) }
 {
-    let mut ended = missed;
-    'files: for (done, file) in found.iter().enumerate() {
-        err.step("asked", done, found.len());
-        match ask_one(rt, alloc, asker, asked.opens, file, buffer, err) {
+    let files = finds.files.as_slice();
+    let mut ended = finds.missed;
+    'files: for (done, file) in files.iter().enumerate() {
+        err.step("asked", done, files.len());
+        let failed = match ask_one(asking, asker, file, buffer, err) {
             Ok(()) => {
                 if names.push(file.name.as_str()).is_err() {
                     return Err(out_of_memory(err));
                 }
+                continue;
             }
-            Err(failed) if failed.is_last => {
-                ended = ended.or_graver(failed.status);
-                break;
-            }
-            Err(failed) if asked.finding.keeps_going => ended = ended.or_graver(failed.status),
-            Err(failed) => return Err(failed.status),
+            Err(failed) => failed,
+        };
+        ended = ended.or_graver(failed.status);
+        if failed.is_last {
+            break;
+        }
+        if !asking.asked.finding.keeps_going {
+            return Err(failed.status);
         }
     }
     Ok(ended)
@@ -253,6 +267,8 @@ fn finished<R: Guards, E: Write>(
 ) -> Status
     ensures failed { IsDoneOrFault result }
     ensures tags { AreAtTheirTags asker.old.answers.items → AreAtTheirTags asker.new.answers.items }
+    ensures places { length asker.new.answers.items ≡ length asker.old.answers.items }
+    ensures all { IsOwedEach asker.old.owed asker.old.answers.items → result ≡ Done → All IsSome asker.new.answers.items }
 {
     let heard = asker.finish();
     err.wipe();
@@ -270,26 +286,26 @@ struct Failed {
 }
 
 fn ask_one<R: Guards, E: Write>(
-    rt: &HostRuntime,
-    alloc: Global,
+    asking: &Asking<'_, R>,
     asker: &mut Asker<'_, R>,
-    socket: &str,
     file: &Found,
     buffer: &mut [u8],
     err: &mut Progress<'_, HostRuntime, E>,
 ) -> Result<(), Failed>
+    ensures asked { OnOk result (length asker.new.answers.items ≡ length asker.old.answers.items + 1) }
     ensures failed { IfErr result (λ failed. IsFault failed.status) }
     ensures tags { AreAtTheirTags asker.old.answers.items → AreAtTheirTags asker.new.answers.items }
+    ensures owed { IsOwedEach asker.old.owed asker.old.answers.items → IsOwedEach asker.new.owed asker.new.answers.items }
 {
     let name = file.name.as_str();
     let input = match file.source {
-        Source::Met => read_met(rt, name, buffer),
-        _ => read_file(rt, name, buffer),
+        Source::Met => read_met(asking.rt, name, buffer),
+        _ => read_file(asking.rt, name, buffer),
     };
     let content = match input.readable(err) {
         Ok(content) => content,
         Err(status) => {
-            say_why(rt, alloc, name, file.source, err);
+            say_why(asking.rt, asking.alloc, name, file.source, err);
             return Err(Failed {
                 status,
                 is_last: false,
@@ -298,7 +314,7 @@ fn ask_one<R: Guards, E: Write>(
     };
     match asker.ask(name, content) {
         Ok(()) => Ok(()),
-        Err(fault) => Err(asking_failed(err, socket, name, fault, asker.answers())),
+        Err(fault) => Err(asking_failed(err, asking.asked.opens, name, fault, asker.answers())),
     }
 }
 
@@ -340,32 +356,37 @@ fn guard_lost<E: Write>(err: &mut E, socket: &str, answers: &[Option<Answer>]) -
     Status::Device
 }
 
+// How a run ends that had so many files to ask about.
+#[derive(Clone, Copy)]
+struct Ending {
+    files: usize,
+    ended: Status,
+    wishes: Wishes,
+}
+
 // Writes the lines of what was answered. A file that nobody judged is a fault as any other is, and the greatest counts.
-#[tactic(auto, using(crate::proofs::AskLemmas::judged_all, crate::proofs::AskLemmas::none_written))]
+#[tactic(auto, using(crate::proofs::AskLemmas::none_written))]
 fn print_answers<W: Write, E: Write>(
     alloc: Global,
     names: &[&str],
     answers: &[Option<Answer>],
-    files: usize,
-    ended: Status,
-    wishes: Wishes,
+    ending: Ending,
     out: &mut W,
     err: &mut E,
 ) -> Status
-    ensures lines { EndsWell result → Appends (W.contents out.old) (W.contents out.new) (opened_lines wishes (answered names.now answers.now)) }
-    ensures ended { EndsWell result → result ≡ concluded wishes (asked_tally (answered names.now answers.now) files ended) }
-    ensures judged { AreJudged result (answered names.now answers.now) }
-    ensures front { AppendsPrefix (W.contents out.old) (W.contents out.new) (opened_lines wishes (answered names.now answers.now)) }
+    ensures lines { EndsWell result → Appends (W.contents out.old) (W.contents out.new) (opened_lines ending.wishes (answered names.now answers.now)) }
+    ensures ended { EndsWell result → result ≡ concluded ending.wishes (asked_tally (answered names.now answers.now) ending.files ending.ended) }
+    ensures front { AppendsPrefix (W.contents out.old) (W.contents out.new) (opened_lines ending.wishes (answered names.now answers.now)) }
 {
     let Ok(opened) = opened_of(alloc, names, answers) else {
         return out_of_memory(err);
     };
-    match print_opened(alloc, opened.as_slice(), wishes, out, err) {
+    match print_opened(alloc, opened.as_slice(), ending.wishes, out, err) {
         Status::Done => {
             let mut tally = Tally::new();
             count_opened(&mut tally, opened.as_slice());
-            let ended = ended.or_graver(tally.worst);
-            conclude_opened(tally, files, ended, wishes, err)
+            let ended = ending.ended.or_graver(tally.worst);
+            conclude_opened(tally, ending.files, ended, ending.wishes, err)
         }
         failed => failed,
     }

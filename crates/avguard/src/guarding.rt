@@ -2,9 +2,11 @@ ghost use Rattle.std.specs.Prelude.{◌≡◌, ◌*◌, IfErr, if◌then◌else�
 ghost use Rattle.std.specs.Duration.{as_nanos};
 ghost use Rattle.av_base.specs.declared.mode.Mode.TheVariants.{FailClosed, FailOpen};
 ghost use Rattle.av_status.specs.Status.{IsFault};
+ghost use Rattle.avguard.specs.Logging.{IsLogged, IsLogging, form_of, is_dash};
 
 use av_base::Mode;
-use av_daemon::{Doors, Guarding, guard_at};
+use av_daemon::{Doors, Guarding, Logging, guard_at};
+use av_log::Form;
 use av_program::set_named;
 use av_status::faults::EmptySets;
 use av_status::{Prefixed, Status};
@@ -64,6 +66,7 @@ fn guarding(asked: Guard<'_>) -> Guarding<'_>
     ensures rights { (result.rights ≡ asked.entry.mode) × (result.service_rights ≡ asked.entry.service_mode) }
     ensures versions { (result.least ≡ asked.entry.least) × (result.most_version ≡ asked.entry.most_version) }
     ensures state { result.state ≡ asked.entry.state }
+    ensures log { IsLogging asked.entry result.log }
 {
     let doors = Doors {
         opens: asked.opens,
@@ -86,5 +89,30 @@ fn guarding(asked: Guard<'_>) -> Guarding<'_>
         least: asked.least,
         most_version: asked.most_version,
         state: asked.state,
+        log: logging(asked.log, asked.log_grants, asked.log_json),
     }
+}
+
+// How decisions are logged, where they are: `-` is standard error.
+fn logging(file: Option<&str>, has_grants: bool, is_json: bool) -> Option<Logging<'_>>
+    ensures { IsLogged file.entry has_grants is_json result }
+{
+    let file = file?;
+    Some(Logging {
+        file: if is_dash(file) { None } else { Some(file) },
+        has_grants,
+        form: form_of(is_json),
+    })
+}
+
+fn is_dash(file: &str) -> bool
+    ensures { result ≡ is_dash file.now }
+{
+    file == "-"
+}
+
+fn form_of(is_json: bool) -> Form
+    ensures { result ≡ form_of is_json }
+{
+    if is_json { Form::Json } else { Form::Words }
 }

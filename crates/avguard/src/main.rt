@@ -1,7 +1,8 @@
-//! The program that guards opens of other programs, and asks a guard about files.
+//! The program that guards opens of other programs, asks a guard about files, and looks at a guard's configuration file.
 #![tactic(auto)]
 
 mod ask;
+mod configuring;
 mod guarding;
 
 use ask::ask_named;
@@ -9,6 +10,7 @@ use av_program::{Errors, Output, command_line, held, progress, say_output_fault}
 use av_status::faults::out_of_memory;
 use av_status::{Prefixed, Status};
 use avguard_words::{PROGRAM, Request, read_words};
+use configuring::{check_config, guard_configured};
 use guarding::{Guards, guard_named};
 use std::alloc::Global;
 use std::cell::Cell;
@@ -66,6 +68,8 @@ fn done<R: Guards, W: Write>(
     let mut err = Prefixed::new(PROGRAM, Errors::new(rt.stderr(), fault));
     let status = match request {
         Request::Guard(guard) => guard_named(rt, system, alloc, *guard, &mut err),
+        Request::Configured(asked) => guard_configured(rt, system, alloc, *asked, &mut err),
+        Request::CheckConfig(file) => check_config(rt, alloc, file, out, &mut err),
         Request::Ask(ask) => {
             let err = &mut progress(rt, PROGRAM, fault, &ask.named);
             ask_named(rt, system, alloc, ask, out, err)

@@ -1,17 +1,20 @@
 //! The commands of avguard, their words and their help.
 
+use crate::bounds::{KEEP, QUESTIONS, VERSIONS, WAIT};
 use crate::words::PROGRAM;
 use av_words::rows::{
     DENIED, FILES_FROM, JSON, KEEP_GOING, NOT_GRANTED, NULL, PRINT0, QUIET, RECURSIVE, SUMMARY,
 };
+use av_words::word::add_args;
 use av_words::{Absent, Kind, Word, command_of, with};
-use clap::Command;
+use clap::{Arg, Command};
 use std::alloc::{AllocError, Global};
 
-/// The command line: a command that guards, and one that asks a guard.
+/// The command line: a command that guards, one that asks a guard, and one that looks at a configuration file.
 pub fn avguard_command<'a>(alloc: Global) -> Result<Command<'a>, AllocError> {
     let command = with(program(alloc), run_command(alloc))?;
-    with(command, ask_command(alloc))
+    let command = with(command, ask_command(alloc))?;
+    with(command, check_config_command(alloc))
 }
 
 // The program without its commands.
@@ -34,11 +37,31 @@ fn program<'a>(alloc: Global) -> Command<'a> {
 }
 
 fn run_command<'a>(alloc: Global) -> Result<Command<'a>, AllocError> {
-    command_of(
-        alloc,
-        "run",
-        "Answers opens that other programs ask about, until it is ended",
-        "Any number of programs ask at OPENS whether a content may be opened; one `avscan service` at a time scans for them, at \
+    let mut args = Vec::new(alloc);
+    args.push(unless_config(alloc, "opens", "OPENS", OPENS_MADE)?)?;
+    args.push(unless_config(alloc, "service", "SERVICE", SERVICE)?)?;
+    add_args(alloc, &OPTIONS, &mut args)?;
+    Command::new(alloc, "run")
+        .about("Answers opens that other programs ask about, until it is ended")
+        .after_help(RUN_HELP)
+        .args(args)
+}
+
+// A socket of a guard, which a configuration file may name.
+fn unless_config<'a>(
+    alloc: Global,
+    name: &'a str,
+    shown: &'a str,
+    help: &'a str,
+) -> Result<Arg<'a>, AllocError> {
+    Arg::new(alloc, name)
+        .help(help)
+        .value_name(shown)
+        .required_unless_present("config")
+}
+
+const RUN_HELP: &str =
+    "Any number of programs ask at OPENS whether a content may be opened; one `avscan service` at a time scans for them, at \
          SERVICE.\
          \nA grant is of exactly the bytes that were asked about, under the newest signatures. What was scanned once is answered \
          at once.\
@@ -48,22 +71,38 @@ fn run_command<'a>(alloc: Global) -> Result<Command<'a>, AllocError> {
          \n\nExample, in three terminals:\
          \n  avguard run opens.socket service.socket\
          \n  avscan service service.socket examples/test.avsig\
-         \n  avguard ask opens.socket examples/letter.txt examples/eicar.com.txt",
-        &[
-            OPENS_MADE,
-            SERVICE,
-            OPEN,
-            WAIT_FOR_ALL,
-            KEEP,
-            QUESTIONS,
-            CLAMD,
-            NAMES,
-            MODE_OF_OPENS,
-            MODE_OF_SERVICE,
-            LEAST,
-            MOST_VERSION,
-            STATE,
-        ],
+         \n  avguard ask opens.socket examples/letter.txt examples/eicar.com.txt";
+
+const OPTIONS: [Word; 16] = [
+    CONFIG,
+    OPEN,
+    CLOSED,
+    WAIT_FOR_ALL,
+    KEEP_BYTES,
+    ASKED_AT_ONCE,
+    CLAMD,
+    NAMES,
+    MODE_OF_OPENS,
+    MODE_OF_SERVICE,
+    LEAST,
+    MOST_VERSION,
+    STATE,
+    LOG,
+    LOG_GRANTS,
+    LOG_JSON,
+];
+
+fn check_config_command<'a>(alloc: Global) -> Result<Command<'a>, AllocError> {
+    command_of(
+        alloc,
+        "check-config",
+        "Looks at a configuration file of `avguard run`",
+        "It prints how a guard would run with the file alone, a setting a line, as a configuration file has them. Or a line says what is \
+         wrong with\
+         \nthe file, and where, and the status is that of `avguard run --config FILE`. It makes no socket.\
+         \n\nExample:\
+         \n  avguard check-config /etc/avscan/avguard.conf",
+        &[CHECKED],
     )
 }
 
@@ -96,11 +135,7 @@ fn ask_command<'a>(alloc: Global) -> Result<Command<'a>, AllocError> {
     )
 }
 
-const OPENS_MADE: Word = Word {
-    name: "opens",
-    kind: Kind::Required { shown: "OPENS" },
-    help: "Where to make the socket for opens: a path of 1 to 107 bytes",
-};
+const OPENS_MADE: &str = "Where to make the socket for opens: a path of 1 to 107 bytes";
 
 const OPENS_OF_GUARD: Word = Word {
     name: "opens",
@@ -108,10 +143,18 @@ const OPENS_OF_GUARD: Word = Word {
     help: "The guard's socket for opens: a path of 1 to 107 bytes",
 };
 
-const SERVICE: Word = Word {
-    name: "service",
-    kind: Kind::Required { shown: "SERVICE" },
-    help: "Where to make the socket for the scanning service",
+const SERVICE: &str = "Where to make the socket for the scanning service";
+
+const CONFIG: Word = Word {
+    name: "config",
+    kind: Kind::Value { shown: "FILE" },
+    help: "Takes from FILE what these words don't say: lines like `wait = 30`, in TOML. OPENS and SERVICE may then be left out",
+};
+
+const CHECKED: Word = Word {
+    name: "file",
+    kind: Kind::Required { shown: "FILE" },
+    help: "The configuration file",
 };
 
 const ASKED_FILES: Word = Word {
@@ -124,8 +167,8 @@ const WAIT_FOR_ALL: Word = Word {
     name: "wait",
     kind: Kind::Number {
         shown: "SECONDS",
-        least: 1,
-        greatest: 86_400,
+        least: WAIT.least,
+        greatest: WAIT.greatest,
         absent: Absent::Means("30"),
     },
     help: "How long a question may take, and a client or the service may take nothing that it is sent",
@@ -166,8 +209,8 @@ const LEAST: Word = Word {
     name: "least",
     kind: Kind::Number {
         shown: "V",
-        least: 0,
-        greatest: 18_446_744_073_709_551_615,
+        least: VERSIONS.least,
+        greatest: VERSIONS.greatest,
         absent: Absent::Means("0"),
     },
     help: "No signature set of a version below V is believed, and none grants",
@@ -177,8 +220,8 @@ const MOST_VERSION: Word = Word {
     name: "most-version",
     kind: Kind::Number {
         shown: "V",
-        least: 0,
-        greatest: 18_446_744_073_709_551_615,
+        least: VERSIONS.least,
+        greatest: VERSIONS.greatest,
         absent: Absent::Means("18446744073709551615"),
     },
     help: "A service that begins with a version above V is turned away",
@@ -190,29 +233,53 @@ const STATE: Word = Word {
     help: "Keeps the greatest version that was believed in FILE, below which none is believed after a restart",
 };
 
+const LOG: Word = Word {
+    name: "log",
+    kind: Kind::Value { shown: "FILE" },
+    help: "Puts a line at the end of FILE for each denial and for what becomes of the service; - is standard error",
+};
+
+const LOG_GRANTS: Word = Word {
+    name: "log-grants",
+    kind: Kind::Flag,
+    help: "With --log: a line for each grant too",
+};
+
+const LOG_JSON: Word = Word {
+    name: "log-json",
+    kind: Kind::Flag,
+    help: "With --log: a JSON object a line",
+};
+
 const OPEN: Word = Word {
     name: "open",
     kind: Kind::Flag,
     help: "Lets opens through that can't be judged, in place of denying them",
 };
 
-const KEEP: Word = Word {
+const CLOSED: Word = Word {
+    name: "closed",
+    kind: Kind::FlagWithout { other: "open" },
+    help: "Denies opens that can't be judged, as without --open, whatever FILE says",
+};
+
+const KEEP_BYTES: Word = Word {
     name: "keep",
     kind: Kind::Number {
         shown: "BYTES",
-        least: 0,
-        greatest: 1_099_511_627_776,
+        least: KEEP.least,
+        greatest: KEEP.greatest,
         absent: Absent::Means("67108864"),
     },
     help: "How many bytes of contents are kept for later asks, up to 2^40",
 };
 
-const QUESTIONS: Word = Word {
+const ASKED_AT_ONCE: Word = Word {
     name: "questions",
     kind: Kind::Number {
         shown: "N",
-        least: 1,
-        greatest: 256,
+        least: QUESTIONS.least,
+        greatest: QUESTIONS.greatest,
         absent: Absent::Means("256"),
     },
     help: "How many contents are scanned at a time, 1 to 256; further asks stand in line",
@@ -226,9 +293,6 @@ const CLAMD: Word = Word {
 
 const NAMES: Word = Word {
     name: "names",
-    kind: Kind::ValueWith {
-        shown: "SET",
-        other: "clamd",
-    },
+    kind: Kind::Value { shown: "SET" },
     help: "The service's signature file, whose names clients of clamd are told",
 };

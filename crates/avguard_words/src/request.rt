@@ -1,5 +1,6 @@
 //! What the words of avguard's command line may ask for.
 
+use crate::settings::Settings;
 use av_words::{Finding, Named};
 
 /// What the words of the command line ask for.
@@ -7,6 +8,10 @@ use av_words::{Finding, Named};
 pub enum Request<'a> {
     /// Answer opens that are asked about at a socket, by what the service at another one says, until the program is ended.
     Guard(Guard<'a>),
+    /// The same, as a configuration file says where the words don't.
+    Configured(Configured<'a>),
+    /// Look at a configuration file.
+    CheckConfig(&'a str),
     /// Ask a guard about files.
     Ask(Ask<'a>),
 }
@@ -40,6 +45,19 @@ pub struct Guard<'a> {
     pub most_version: u64,
     /// The file that keeps the greatest version that was believed.
     pub state: Option<&'a str>,
+    /// The file that decisions are logged to, `-` for standard error.
+    pub log: Option<&'a str>,
+    /// Grants are logged too.
+    pub log_grants: bool,
+    /// The log is lines of JSON.
+    pub log_json: bool,
+}
+
+/// The path of a configuration file, and what the words say, which counts before what the file says.
+#[derive(Clone, Copy)]
+pub struct Configured<'a> {
+    pub config: &'a str,
+    pub words: Settings<'a>,
 }
 
 /// Which files the guard at a socket is asked about. It may take `wait` seconds to be there, and each answer so long.

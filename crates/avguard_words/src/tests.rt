@@ -1,4 +1,8 @@
-use crate::request::{Ask, Guard, Request};
+use crate::config::config_table;
+use crate::request::{Ask, Configured, Guard, Request};
+use crate::settings::{NOTHING_SAID, Settings};
+use crate::shown::config_lines;
+use crate::sockets::configured;
 use crate::words::{PROGRAM, read_words};
 use av_fakes::{FakeWriter, Fault};
 use av_status::{Form, Shown, Status, Wishes};
@@ -93,6 +97,27 @@ fn a_socket_has_a_path_and_a_time_to_wait(rt: HostRuntime) -> Result<(), Fail> {
         ("ask  f", "", None),
     ] {
         assert!(&rt; wait_of(alloc, line, path) == wait, "{line}");
+    }
+    Ok(())
+}
+
+#[test]
+fn a_log_is_asked_for_with_its_file(rt: HostRuntime) -> Result<(), Fail> {
+    let alloc = rt.alloc();
+    for (line, wanted) in [
+        ("run o s", (None, false, false)),
+        ("run o s --log f", (Some("f"), false, false)),
+        ("run --log - o s --log-grants", (Some("-"), true, false)),
+        ("run o s --log f --log-json", (Some("f"), false, true)),
+    ] {
+        let Some(words) = words_of(alloc, line) else {
+            continue;
+        };
+        let is_wanted = match request_of(alloc, words.as_slice()) {
+            Some(Request::Guard(it)) => (it.log, it.log_grants, it.log_json) == wanted,
+            _ => false,
+        };
+        assert!(&rt; is_wanted, "{line}");
     }
     Ok(())
 }
@@ -291,5 +316,310 @@ fn names_of_signatures_are_for_clients_of_clamd(rt: HostRuntime) -> Result<(), F
     );
     let with_clamd = "run o s --clamd c --names n";
     assert_eq!(rt; refusal_of(alloc, with_clamd, &mut err), None);
+    Ok(())
+}
+
+// What becomes of the text of a configuration file `f`, beside these words: how the guard is run, as a file has it, or the fault line.
+fn read_config(
+    alloc: Global,
+    words: Settings<'_>,
+    text: &[u8],
+    err: &mut FakeWriter,
+) -> Result<String, Status> {
+    let asked = Configured { config: "f", words };
+    let table = config_table(alloc, "f", text, err)?;
+    match configured(alloc, asked, text, &table, err) {
+        Ok(guard) => match config_lines(alloc, guard) {
+            Ok(lines) => Ok(lines),
+            Err(_) => Err(Status::Memory),
+        },
+        Err(status) => Err(status),
+    }
+}
+
+const ABSENT: &str =
+    "opens = \"o\"\nservice = \"s\"\nopen = false\nwait = 30\nkeep = 67108864\nquestions = 256\nmode = \"600\"\nservice-mode = \"600\"\nleast = 0\nlog-grants = false\nlog-json = false\n";
+
+const ALL: &str =
+    "opens = \"a/o\"\nservice = \"s\"\nclamd = \"c \\u0009\"\nnames = \"n\"\nopen = true\nwait = 86400\nkeep = 1099511627776\nquestions = 1\nmode = \"660\"\nservice-mode = \"666\"\nleast = 7\nmost-version = 9223372036854775807\nstate = \"v\"\nlog = \"-\"\nlog-grants = true\nlog-json = true\n";
+
+#[test]
+fn a_configuration_file_says_what_words_say(rt: HostRuntime) -> Result<(), Fail> {
+    let alloc = rt.alloc();
+    for (text, lines) in [
+        ("opens = 'o'\nservice = \"s\"", ABSENT),
+        (ABSENT, ABSENT),
+        (ALL, ALL),
+        (
+            "\"opens\" = 'o'  # a remark\r\nservice=\"\\u0073\"\nwait = 0x1e\n",
+            ABSENT,
+        ),
+    ] {
+        let mut err = FakeWriter::new(alloc);
+        let read = read_config(alloc, NOTHING_SAID, text.as_bytes(), &mut err);
+        assert!(&rt;
+            matches!(&read, Ok(shown) if shown.as_str() == lines),
+            "{text}"
+        );
+        assert!(&rt; err.taken().is_empty());
+    }
+    Ok(())
+}
+
+#[test]
+fn the_words_win_over_the_file(rt: HostRuntime) -> Result<(), Fail> {
+    let alloc = rt.alloc();
+    let said = Settings {
+        opens: Some("o"),
+        service: Some("s"),
+        clamd: Some("c"),
+        names: Some("n"),
+        is_open: Some(false),
+        wait: Some(1),
+        keep: Some(2),
+        questions: Some(3),
+        mode: Some(0o600),
+        service_mode: Some(0o660),
+        least: Some(4),
+        most_version: Some(5),
+        state: Some("v"),
+        log: Some("l"),
+        log_grants: Some(true),
+        log_json: Some(true),
+    };
+    let lines =
+        "opens = \"o\"\nservice = \"s\"\nclamd = \"c\"\nnames = \"n\"\nopen = false\nwait = 1\nkeep = 2\nquestions = 3\nmode = \"600\"\nservice-mode = \"660\"\nleast = 4\nmost-version = 5\nstate = \"v\"\nlog = \"l\"\nlog-grants = true\nlog-json = true\n";
+    for (words, text, wanted) in [
+        (said, ALL, lines),
+        (said, "", lines),
+        (NOTHING_SAID, ALL, ALL),
+    ] {
+        let mut err = FakeWriter::new(alloc);
+        let read = read_config(alloc, words, text.as_bytes(), &mut err);
+        assert!(&rt;
+            matches!(&read, Ok(shown) if shown.as_str() == wanted),
+            "{text}"
+        );
+    }
+    Ok(())
+}
+
+// How a configuration file of this text alone is refused.
+fn config_fault(alloc: Global, text: &[u8], err: &mut FakeWriter) -> bool {
+    matches!(
+        read_config(alloc, NOTHING_SAID, text, err),
+        Err(Status::Usage)
+    )
+}
+
+#[test]
+fn a_bad_value_is_told_with_its_place(rt: HostRuntime) -> Result<(), Fail> {
+    let alloc = rt.alloc();
+    for (text, line) in [
+        (
+            "wait = 0\n",
+            "f:1:8: wait: expected a number from 1 to 86400\n",
+        ),
+        (
+            "# one\n\n  wait =\t86401",
+            "f:3:10: wait: expected a number from 1 to 86400\n",
+        ),
+        (
+            "wait = -1",
+            "f:1:8: wait: expected a number from 1 to 86400\n",
+        ),
+        (
+            "wait = 1.5",
+            "f:1:8: wait: expected a number from 1 to 86400\n",
+        ),
+        (
+            "wait = \"30\"",
+            "f:1:8: wait: expected a number from 1 to 86400\n",
+        ),
+        (
+            "wait = [30]",
+            "f:1:8: wait: expected a number from 1 to 86400\n",
+        ),
+        (
+            "wait = true",
+            "f:1:8: wait: expected a number from 1 to 86400\n",
+        ),
+        (
+            "wait.x = 1",
+            "f:1:10: wait: expected a number from 1 to 86400\n",
+        ),
+        (
+            "[wait]\nx = 1",
+            "f:1:1: wait: expected a number from 1 to 86400\n",
+        ),
+        (
+            "keep = 1099511627777",
+            "f:1:8: keep: expected a number from 0 to 1099511627776\n",
+        ),
+        (
+            "questions = 257",
+            "f:1:13: questions: expected a number from 1 to 256\n",
+        ),
+        (
+            "questions = 0",
+            "f:1:13: questions: expected a number from 1 to 256\n",
+        ),
+        (
+            "least = -1",
+            "f:1:9: least: expected a number from 0 to 18446744073709551615\n",
+        ),
+        (
+            "most-version = \"1\"",
+            "f:1:16: most-version: expected a number from 0 to 18446744073709551615\n",
+        ),
+    ] {
+        let mut err = FakeWriter::new(alloc);
+        assert!(&rt; config_fault(alloc, text.as_bytes(), &mut err), "{text}");
+        let told = str::from_utf8(err.taken()).unwrap_or("");
+        assert!(&rt; told == line, "{text}: {told}");
+    }
+    Ok(())
+}
+
+#[test]
+fn a_bad_key_is_told_with_its_place(rt: HostRuntime) -> Result<(), Fail> {
+    let alloc = rt.alloc();
+    for (text, line) in [
+        ("open = 1", "f:1:8: open: expected true or false\n"),
+        ("open = \"yes\"", "f:1:8: open: expected true or false\n"),
+        (
+            "mode = 660",
+            "f:1:8: mode: expected \"600\", \"660\" or \"666\"\n",
+        ),
+        (
+            "service-mode = \"777\"",
+            "f:1:16: service-mode: expected \"600\", \"660\" or \"666\"\n",
+        ),
+        (
+            "opens = \"\"",
+            "f:1:9: opens: expected the path of a socket, 1 to 107 bytes in quotes\n",
+        ),
+        (
+            "service = 3",
+            "f:1:11: service: expected the path of a socket, 1 to 107 bytes in quotes\n",
+        ),
+        (
+            "clamd = false",
+            "f:1:9: clamd: expected the path of a socket, 1 to 107 bytes in quotes\n",
+        ),
+        (
+            "names = \"\"",
+            "f:1:9: names: expected the path of a file in quotes\n",
+        ),
+        (
+            "state = 1",
+            "f:1:9: state: expected the path of a file in quotes\n",
+        ),
+        ("wait = 30\ncolour = 1", "f:2:1: colour: no such key\n"),
+        ("a = 1\nopens = '''\na = '''", "f:1:1: a: no such key\n"),
+        ("opens = '''\na = '''\na = 1", "f:3:1: a: no such key\n"),
+        ("wait = 1\n\"a\\tb\" = 1", "f:2:1: no such key\n"),
+        ("", "f: opens is missing\n"),
+        ("opens = 'o'", "f: service is missing\n"),
+        (
+            "opens = 'o'\nservice = 's'\nnames = 'n'",
+            "f: clamd is missing\n",
+        ),
+        (
+            "opens = 'o'\nservice = 'o'",
+            "o: two sockets have one path\n",
+        ),
+    ] {
+        let mut err = FakeWriter::new(alloc);
+        assert!(&rt; config_fault(alloc, text.as_bytes(), &mut err), "{text}");
+        let told = str::from_utf8(err.taken()).unwrap_or("");
+        assert!(&rt; told == line, "{text}: {told}");
+    }
+    Ok(())
+}
+
+#[test]
+fn a_text_that_is_no_document_is_told_with_its_place(rt: HostRuntime) -> Result<(), Fail> {
+    let alloc = rt.alloc();
+    let rows: [(&[u8], &str); 6] = [
+        (b"wait", "f:1:5: "),
+        (b"wait = 1\nwait = 2\n", "f:2:1: "),
+        (b"wait = 1 keep = 2", "f:1:10: "),
+        (b"opens = \"o", "f:1:11: "),
+        (b"\n\nleast = 9223372036854775808", "f:3:9: "),
+        (b"opens = 'o'\nservice = '\xff'", "f:2:12: "),
+    ];
+    for (text, front) in rows {
+        let mut err = FakeWriter::new(alloc);
+        assert!(&rt; config_fault(alloc, text, &mut err), "{front}");
+        let told = str::from_utf8(err.taken()).unwrap_or("");
+        assert!(&rt; told.starts_with(front), "{front}: {told}");
+        assert!(&rt; told.ends_with('\n'));
+    }
+    Ok(())
+}
+
+#[test]
+fn a_configuration_file_has_at_most_65536_bytes(rt: HostRuntime) -> Result<(), Fail> {
+    let alloc = rt.alloc();
+    let spaces = vec![in alloc; b' '; 65_537]?;
+    let spaces = spaces.as_slice();
+    let mut err = FakeWriter::new(alloc);
+    let most = spaces.get(..65_536).unwrap_or(b"".as_slice());
+    assert!(&rt; config_table(alloc, "f", most, &mut err).is_ok());
+    assert!(&rt; err.taken().is_empty());
+    assert!(&rt; config_fault(alloc, spaces, &mut err));
+    assert_eq!(rt; err.taken(), b"f: more than 65536 bytes\n".as_slice());
+    Ok(())
+}
+
+// What a line says of a guard beside the file `f`.
+fn said_of(alloc: Global, line: &str) -> Option<(Option<u64>, Option<bool>, Option<u32>, bool)> {
+    match request_of(alloc, words_of(alloc, line)?.as_slice()) {
+        Some(Request::Configured(asked)) if asked.config == "f" => {
+            let said = asked.words;
+            Some((said.wait, said.is_open, said.mode, said.opens == Some("o")))
+        }
+        _ => None,
+    }
+}
+
+#[test]
+fn words_beside_a_file_say_what_they_say(rt: HostRuntime) -> Result<(), Fail> {
+    let alloc = rt.alloc();
+    for (line, said) in [
+        ("run --config f", Some((None, None, None, false))),
+        ("run --config f o", Some((None, None, None, true))),
+        (
+            "run --config f --wait 30",
+            Some((Some(30), None, None, false)),
+        ),
+        (
+            "run --config f --open",
+            Some((None, Some(true), None, false)),
+        ),
+        (
+            "run --config f --closed",
+            Some((None, Some(false), None, false)),
+        ),
+        ("run --config f --closed --open", None),
+        (
+            "run --config f --mode 600 o s",
+            Some((None, None, Some(0o600), true)),
+        ),
+        ("run --config f --names n", Some((None, None, None, false))),
+        ("run --config f --wait 0", None),
+        ("run --config f o s more", None),
+    ] {
+        assert!(&rt; said_of(alloc, line) == said, "{line}");
+    }
+    let words = [PROGRAM, "check-config", "f"];
+    assert!(&rt;
+        matches!(
+            request_of(alloc, words.as_slice()),
+            Some(Request::CheckConfig("f"))
+        )
+    );
+    assert!(&rt; request_of(alloc, [PROGRAM, "check-config"].as_slice()).is_none());
     Ok(())
 }

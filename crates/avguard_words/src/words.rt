@@ -1,15 +1,18 @@
-ghost use Rattle.std.specs.Prelude.{◌≡◌, IfErr, IfNone, IfOk};
+ghost use Rattle.std.specs.Prelude.{◌≡◌, IfErr, IfOk};
 ghost use Rattle.av_status.specs.declared.status.Status.TheVariants.{Usage};
 ghost use Rattle.av_words.specs.Words.{IsOfWords};
-ghost use Rattle.avguard_words.specs.Words.{AreApart, AsksForApart, AsksForSockets, HasSockets};
+ghost use Rattle.avguard_words.specs.Words.{AsksForApart, AsksForSockets, AsksForUseOfNames};
 
 use crate::commands::avguard_command;
-use crate::request::{Ask, Guard, Request};
-use av_status::faults::{bad_socket, out_of_memory, same_socket};
+use crate::request::{Ask, Configured, Request};
+use crate::settings::Settings;
+use crate::sockets::with_sockets;
+use av_status::faults::{bad_socket, out_of_memory};
 use av_status::status::Status;
 use av_words::matched::{finding_of, mode_of, named_of, number_of, text_of};
-use av_words::{bad_socket_of, matches_of};
+use av_words::{bad_socket_of, matches_of, say_usage};
 use clap::ArgMatches;
+use clap::parser::ValueSource;
 use std::alloc::{AllocError, Global};
 use std::convert::AsStr;
 use std::io::Write;
@@ -30,11 +33,12 @@ pub fn read_words<'a, S: AsStr, W: Write, E: Write>(
 ) -> Result<Request<'a>, Status>
     ensures sockets { IfOk result AsksForSockets }
     ensures apart { IfOk result AsksForApart }
+    ensures names { IfOk result AsksForUseOfNames }
     ensures status { IfErr result (IsOfWords (W.contents out.old) (W.contents out.new)) }
 {
     let matches = matches_of(alloc, PROGRAM, avguard_command(alloc), words, out, err)?;
     match request_of(alloc, &matches) {
-        Ok(request) => with_sockets(request, err),
+        Ok(request) => in_order(request, err),
         Err(_) => Err(out_of_memory(err)),
     }
 }
@@ -43,27 +47,83 @@ pub fn read_words<'a, S: AsStr, W: Write, E: Write>(
 fn request_of<'a>(alloc: Global, matches: &ArgMatches<'a>) -> Result<Request<'a>, AllocError> {
     match matches.subcommand() {
         Some(("ask", ask)) => ask_of(alloc, ask),
-        Some((_, run)) => Ok(guard_of(run)),
-        None => Ok(guard_of(matches)),
+        Some(("check-config", check)) => Ok(Request::CheckConfig(text_of(check, "file"))),
+        Some((_, run)) => Ok(run_of(run)),
+        None => Ok(run_of(matches)),
     }
 }
 
-fn guard_of<'a>(matches: &ArgMatches<'a>) -> Request<'a> {
-    Request::Guard(Guard {
-        opens: text_of(matches, "opens"),
-        service: text_of(matches, "service"),
+fn run_of<'a>(matches: &ArgMatches<'a>) -> Request<'a> {
+    let words = settings_of(matches);
+    match matches.get_str("config") {
+        Some(config) => Request::Configured(Configured { config, words }),
+        None => {
+            let opens = text_of(matches, "opens");
+            Request::Guard(words.guard_at(opens, text_of(matches, "service")))
+        }
+    }
+}
+
+// What the words say of a guard.
+fn settings_of<'a>(matches: &ArgMatches<'a>) -> Settings<'a> {
+    Settings {
+        opens: matches.get_str("opens"),
+        service: matches.get_str("service"),
         clamd: matches.get_str("clamd"),
         names: matches.get_str("names"),
-        is_open: matches.get_flag("open"),
-        wait: number_of(matches, "wait"),
-        keep: number_of(matches, "keep"),
-        questions: number_of(matches, "questions"),
-        mode: mode_of(matches, "mode"),
-        service_mode: mode_of(matches, "service-mode"),
-        least: number_of(matches, "least"),
-        most_version: number_of(matches, "most-version"),
+        is_open: openness_of(matches),
+        wait: number_said(matches, "wait"),
+        keep: number_said(matches, "keep"),
+        questions: number_said(matches, "questions"),
+        mode: mode_said(matches, "mode"),
+        service_mode: mode_said(matches, "service-mode"),
+        least: number_said(matches, "least"),
+        most_version: number_said(matches, "most-version"),
         state: matches.get_str("state"),
-    })
+        log: matches.get_str("log"),
+        log_grants: flag_said(matches, "log-grants"),
+        log_json: flag_said(matches, "log-json"),
+    }
+}
+
+fn openness_of(matches: &ArgMatches<'_>) -> Option<bool> {
+    if matches.get_flag("open") {
+        Some(true)
+    } else if matches.get_flag("closed") {
+        Some(false)
+    } else {
+        None
+    }
+}
+
+// The words have an option, which has a default.
+fn is_said(matches: &ArgMatches<'_>, name: &str) -> bool {
+    matches!(matches.value_source(name), Some(ValueSource::CommandLine))
+}
+
+fn number_said(matches: &ArgMatches<'_>, name: &str) -> Option<u64> {
+    if is_said(matches, name) {
+        Some(number_of(matches, name))
+    } else {
+        None
+    }
+}
+
+// A flag says something where it is there.
+fn flag_said(matches: &ArgMatches<'_>, name: &str) -> Option<bool> {
+    if matches.get_flag(name) {
+        Some(true)
+    } else {
+        None
+    }
+}
+
+fn mode_said(matches: &ArgMatches<'_>, name: &str) -> Option<u32> {
+    if is_said(matches, name) {
+        Some(mode_of(matches, name))
+    } else {
+        None
+    }
 }
 
 fn ask_of<'a>(alloc: Global, matches: &ArgMatches<'a>) -> Result<Request<'a>, AllocError> {
@@ -75,63 +135,35 @@ fn ask_of<'a>(alloc: Global, matches: &ArgMatches<'a>) -> Result<Request<'a>, Al
     }))
 }
 
-// The request, where the paths of its sockets can be ones, and no two are the same.
-fn with_sockets<'a, E: Write>(request: Request<'a>, err: &mut E) -> Result<Request<'a>, Status>
+// The request, where a guard of it can be one, and the socket of a question can too.
+fn in_order<'a, E: Write>(request: Request<'a>, err: &mut E) -> Result<Request<'a>, Status>
     ensures sockets { IfOk result AsksForSockets }
     ensures apart { IfOk result AsksForApart }
+    ensures names { IfOk result AsksForUseOfNames }
     ensures fault { IfErr result (λ status. status ≡ Usage) }
 {
-    if let Some(socket) = first_bad_socket(&request) {
-        return Err(bad_socket(err, socket));
-    }
-    match first_twice(&request) {
-        Some(socket) => Err(same_socket(err, socket)),
-        None => Ok(request),
-    }
-}
-
-// A path that two sockets of the request have.
-fn first_twice<'a>(request: &Request<'a>) -> Option<&'a str>
-    ensures { IfNone result (AsksForApart request.now) }
-{
     match request {
-        Request::Guard(guard) => twice_of(*guard),
-        Request::Ask(_) => None,
+        Request::Guard(guard) if guard.names.is_some() && guard.clamd.is_none() => {
+            Err(clamd_missing(err))
+        }
+        Request::Guard(guard) => match with_sockets(guard, err) {
+            Ok(guard) => Ok(Request::Guard(guard)),
+            Err(status) => Err(status),
+        },
+        Request::Ask(ask) => match bad_socket_of(ask.opens) {
+            Some(socket) => Err(bad_socket(err, socket)),
+            None => Ok(Request::Ask(ask)),
+        },
+        Request::Configured(asked) => Ok(Request::Configured(asked)),
+        Request::CheckConfig(file) => Ok(Request::CheckConfig(file)),
     }
 }
 
-fn twice_of<'a>(guard: Guard<'a>) -> Option<&'a str>
-    ensures { IfNone result (AreApart guard.entry) }
+// Names are for clients of clamd: clap's own words for an option that another one requires.
+fn clamd_missing<E: Write>(err: &mut E) -> Status
+    ensures { result ≡ Usage }
 {
-    if guard.opens == guard.service {
-        return Some(guard.opens);
-    }
-    match guard.clamd {
-        Some(clamd) if clamd == guard.opens || clamd == guard.service => Some(clamd),
-        _ => None,
-    }
-}
-
-fn first_bad_socket<'a>(request: &Request<'a>) -> Option<&'a str>
-    ensures { IfNone result (AsksForSockets request.now) }
-{
-    match request {
-        Request::Guard(guard) => first_bad_of(*guard),
-        Request::Ask(ask) => bad_socket_of(ask.opens),
-    }
-}
-
-fn first_bad_of<'a>(guard: Guard<'a>) -> Option<&'a str>
-    ensures { IfNone result (HasSockets guard.entry) }
-{
-    if let Some(opens) = bad_socket_of(guard.opens) {
-        return Some(opens);
-    }
-    if let Some(service) = bad_socket_of(guard.service) {
-        return Some(service);
-    }
-    match guard.clamd {
-        Some(clamd) => bad_socket_of(clamd),
-        None => None,
-    }
+    let fault = "error: the following required arguments were not provided:\n  --clamd <CLAMD>\n";
+    say_usage(err, PROGRAM, fault);
+    Status::Usage
 }

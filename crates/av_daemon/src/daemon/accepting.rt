@@ -5,8 +5,8 @@ use crate::client::Client;
 use crate::line::Line;
 use crate::service::Service;
 use av_guard::Guard;
+use av_log::Entry;
 use av_sockets::{TurnedAway, put_refusal};
-use av_status::faults::{say, text};
 use av_turns::{Admitted, Arrived};
 use mio::net::UnixStream;
 use std::fs::Files;
@@ -51,10 +51,7 @@ impl<'a, R: Files + Net + Clock> Daemon<'a, R> {
         match self.turns.accepted(number, client.kind(), millis(now))? {
             Admitted::Admit => {}
             Admitted::Instead(idle) => {
-                say(
-                    &mut self.log,
-                    &[text("the longest idle client was closed: all places are taken")],
-                );
+                self.happened(&Entry::Crowded);
                 self.remove(guard, idle);
             }
             Admitted::Away => {

@@ -3,8 +3,9 @@
 use super::{ASKS, Daemon, FIRST, Stop, TURNS, millis};
 use crate::client::{Lost, Thing};
 use crate::told::unjudged;
-use av_base::{Cause, Refusal};
+use av_base::{ByteList, Cause, Refusal};
 use av_guard::{AskFault, Class, Guard, Told};
+use av_log::Note;
 use av_turns as turns;
 use av_turns::{Next, Parsed, Standing};
 use std::alloc::AllocError;
@@ -189,7 +190,14 @@ impl<'a, R: Files + Net + Clock> Daemon<'a, R> {
             Thing::Said(bytes) => {
                 return self.count(client, turns::Thing::Said(bytes as u64), now);
             }
-            Thing::Asked { tag, content } => (tag, content),
+            Thing::Asked {
+                tag,
+                label,
+                content,
+            } => {
+                self.keep_note(client, tag, label, content.len());
+                (tag, content)
+            }
         };
         if guard.class(&content) == Class::New {
             return self.stand(client, tag, content, now);
@@ -205,6 +213,17 @@ impl<'a, R: Files + Net + Clock> Daemon<'a, R> {
                 Refusal::Fault(AskFault::Busy) => self.stand(client, tag, refused.value, now),
                 _ => Err(Broken::Client),
             },
+        }
+    }
+
+    // What a client asks about is kept for the line of the answer, where there is a log.
+    fn keep_note(&mut self, client: u64, tag: u64, label: Option<ByteList>, bytes: usize) {
+        if self.recorder.is_none() {
+            return;
+        }
+        if let Some(who) = self.clients.get_mut(&client.saturating_add(FIRST)) {
+            let bytes = bytes as u64;
+            let _ = who.notes.put(Note { tag, bytes, label });
         }
     }
 

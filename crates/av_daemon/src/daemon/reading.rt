@@ -3,13 +3,11 @@
 use super::{Daemon, Stop, millis};
 use crate::client::Lost;
 use crate::service::{Claim, claim_of};
-use av_base::{Part, Version};
 use av_frame::{Body, Message};
 use av_guard::Guard;
+use av_log::Entry;
 use av_sockets::{TurnedAway, put_refusal};
-use av_status::faults::{say, text};
 use std::fs::Files;
-use std::io::Write;
 use std::net::Net;
 use std::time::{Clock, Duration};
 
@@ -75,10 +73,13 @@ impl<'a, R: Files + Net + Clock> Daemon<'a, R> {
         if !guard.connected() {
             return self.lose_service(guard, now);
         }
+        if let Some(Claim::Newer(version)) = &claim {
+            self.happened(&Entry::Newer(*version));
+        }
         if !was_connected {
             self.turns.service_greeted();
             if let Some(Claim::Greeting(version)) = &claim {
-                tell_connected(*version, &mut self.log);
+                self.happened(&Entry::Connected(*version));
             }
         }
         Ok(())
@@ -92,7 +93,9 @@ impl<'a, R: Files + Net + Clock> Daemon<'a, R> {
         why: TurnedAway,
         now: Duration,
     ) -> Result<(), Stop> {
-        tell_turned_away(claim, &why, &mut self.log);
+        if let Some(entry) = refused(claim, &why) {
+            self.happened(&entry);
+        }
         if let Some(service) = &mut self.service {
             put_refusal(&mut service.line.waiting, why)?;
             let _ = service.line.send(now);
@@ -105,7 +108,7 @@ impl<'a, R: Files + Net + Clock> Daemon<'a, R> {
         self.service = None;
         let has_successor = self.turns.service_lost(millis(now));
         if guard.connected() {
-            say(&mut self.log, &[text("service lost")]);
+            self.happened(&Entry::Lost);
             let given = guard.service_lost(self.alloc)?;
             self.settle(guard, given, millis(now))?;
         }
@@ -116,37 +119,20 @@ impl<'a, R: Files + Net + Clock> Daemon<'a, R> {
     }
 }
 
-// Says that a service of this version is there.
-fn tell_connected<E: Write>(version: Version, err: &mut E) {
-    let number = Part::Number(version.get());
-    say(
-        err,
-        &[text("service of version "), number, text(" connected")],
-    );
-    if version.get() == u64::MAX {
-        say(
-            err,
-            &[text("no newer set than that can follow: see --most-version")],
-        );
-    }
-}
-
-// Says why a service was turned away.
-fn tell_turned_away<E: Write>(claim: &Claim, why: &TurnedAway, err: &mut E) {
+// Why a service was turned away, for the log.
+fn refused(claim: &Claim, why: &TurnedAway) -> Option<Entry<'static>> {
     let version = match claim {
-        Claim::Greeting(version) => Part::Number(version.get()),
-        Claim::Newer(version) => Part::Number(version.get()),
+        Claim::Greeting(version) | Claim::Newer(version) => *version,
     };
-    let front = text("service of version ");
     match why {
-        TurnedAway::Older(least) => {
-            let least = Part::Number(least.get());
-            say(err, &[front, version, text(" is older than "), least]);
-        }
-        TurnedAway::Above(most) => {
-            let most = Part::Number(most.get());
-            say(err, &[front, version, text(" is above "), most]);
-        }
-        TurnedAway::Full | TurnedAway::OtherSocket => {}
+        TurnedAway::Older(least) => Some(Entry::Older {
+            version,
+            least: *least,
+        }),
+        TurnedAway::Above(most) => Some(Entry::Above {
+            version,
+            most: *most,
+        }),
+        TurnedAway::Full | TurnedAway::OtherSocket => None,
     }
 }

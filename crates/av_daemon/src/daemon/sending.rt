@@ -7,7 +7,7 @@ use super::{Daemon, FIRST, SERVING, Stop, millis};
 use crate::told::unjudged;
 use av_base::Cause;
 use av_guard::{Guard, Told};
-use av_status::faults::{say, text};
+use av_log::Entry;
 use av_turns::{Late, Why};
 use std::fs::Files;
 use std::net::Net;
@@ -100,11 +100,11 @@ impl<'a, R: Files + Net + Clock> Daemon<'a, R> {
     // The service did not greet, or answered none of many questions in a row.
     fn end_service(&mut self, guard: &mut Guard, now: Duration) -> Result<(), Stop> {
         let why = if guard.connected() {
-            "the service answered none of 8 questions in a row"
+            Entry::Stuck
         } else {
-            "the service did not greet"
+            Entry::Silent
         };
-        say(&mut self.log, &[text(why)]);
+        self.happened(&why);
         self.lose_service(guard, now)
     }
 

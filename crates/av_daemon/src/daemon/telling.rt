@@ -1,9 +1,11 @@
 //! What the guard gives out: messages for the service, and answers for clients.
 
 use super::{Daemon, FIRST, SERVING, Stop, millis};
+use crate::client::Lost;
 use av_frame::encode::encode_into;
 use av_frame::{Body, Message};
 use av_guard::{Given, Guard, Told};
+use av_log::{Note, Way};
 use std::fs::Files;
 use std::net::Net;
 use std::time::{Clock, Duration};
@@ -50,23 +52,45 @@ impl<'a, R: Files + Net + Clock> Daemon<'a, R> {
     ) -> Result<(), Stop> {
         let who = told.client;
         let connection = who.saturating_add(FIRST);
-        let Some(client) = self.clients.get_mut(&connection) else {
+        let note = self.take_note(connection, told.tag);
+        let way = self.way_of(connection);
+        let Some((done, bytes)) = self.put_told(connection, &told) else {
             return Ok(());
         };
-        let before = client.line.waiting();
-        let done = if client.is_of_clamd() {
-            self.names.look(self.rt, self.alloc, told.answer);
-            let name = self.names.name_in(told.answer);
-            client.tell(told, name)
-        } else {
-            client.tell(told, None)
-        };
-        let bytes = client.line.waiting().saturating_sub(before);
         if done.is_err() {
             self.lose(guard, who);
             return Ok(());
         }
+        self.record_told(told, way, note);
         self.turns.answered(who, bytes as u64, millis(now))?;
         self.wants_to_send(connection)
+    }
+
+    // What a client asked about under a tag, where that was kept.
+    fn take_note(&mut self, connection: u64, tag: u64) -> Option<Note> {
+        self.clients.get_mut(&connection)?.notes.take(tag)
+    }
+
+    // At which socket a client came.
+    fn way_of(&self, connection: u64) -> Way {
+        match self.clients.get(&connection) {
+            Some(client) if client.is_of_clamd() => Way::Clamd,
+            _ => Way::Opens,
+        }
+    }
+
+    // Puts an answer to what a client is sent, and says how many bytes that took.
+    fn put_told(&mut self, connection: u64, told: &Told) -> Option<(Result<(), Lost>, usize)> {
+        let client = self.clients.get_mut(&connection)?;
+        let before = client.line.waiting();
+        let done = if client.is_of_clamd() {
+            self.names.look(self.rt, self.alloc, told.answer);
+            let name = self.names.name_in(told.answer);
+            client.tell(*told, name)
+        } else {
+            client.tell(*told, None)
+        };
+        let bytes = client.line.waiting().saturating_sub(before);
+        Some((done, bytes))
     }
 }

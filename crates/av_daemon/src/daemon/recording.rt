@@ -1,0 +1,165 @@
+//! What is said on standard error, and in the log of decisions.
+
+use super::{Daemon, LOG, Stop, millis};
+use crate::log::{Log, send_lines};
+use crate::recorder::judged_of;
+use av_base::{Part, Version};
+use av_guard::Told;
+use av_log::{Asked, Entry, Note, Way, is_logged};
+use av_status::Prefixed;
+use av_status::faults::{say, text};
+use std::fs::Files;
+use std::io::Write;
+use std::net::Net;
+use std::time::{Clock, Duration};
+
+// So many commands of a client of clamd end in each way; a tag has both.
+const ENDS: u64 = 256;
+
+impl<'a, R: Files + Net + Clock> Daemon<'a, R> {
+    // Something happened: standard error says so, unless it is the log, and the log does.
+    pub(super) fn happened(&mut self, entry: &Entry<'_>) {
+        let is_on_error = match &self.recorder {
+            Some(recorder) => recorder.is_on_error(),
+            None => false,
+        };
+        if !is_on_error {
+            say_entry(&mut self.log, entry);
+        }
+        self.record(entry);
+    }
+
+    // The log has a line of an entry, where there is a log.
+    pub(super) fn record(&mut self, entry: &Entry<'_>) {
+        let time = match self.rt.since_1970() {
+            Ok(time) => millis(time),
+            Err(_) => 0,
+        };
+        if let Some(recorder) = &mut self.recorder {
+            recorder.record(entry, time, &mut self.log.writer.queue);
+        }
+    }
+
+    // The log has a line of an answer, where there is a log and it has lines of such answers.
+    pub(super) fn record_told(&mut self, told: Told, way: Way, note: Option<Note>) {
+        let judged = judged_of(told.answer);
+        let is_logged = match &self.recorder {
+            Some(recorder) => is_logged(recorder.logging.has_grants, judged),
+            None => false,
+        };
+        if !is_logged {
+            return;
+        }
+        let time = match self.rt.since_1970() {
+            Ok(time) => millis(time),
+            Err(_) => 0,
+        };
+        self.names.look(self.rt, self.alloc, told.answer);
+        let entry = Entry::Told(av_log::Told {
+            judged,
+            name: self.names.name_in(told.answer),
+            way,
+            client: told.client,
+            tag: match way {
+                Way::Opens => told.tag,
+                Way::Clamd => told.tag / ENDS,
+            },
+            asked: match &note {
+                Some(note) => Some(Asked {
+                    bytes: note.bytes,
+                    label: match &note.label {
+                        Some(label) => Some(label.as_slice()),
+                        None => None,
+                    },
+                }),
+                None => None,
+            },
+        });
+        if let Some(recorder) = &mut self.recorder {
+            recorder.record(&entry, time, &mut self.log.writer.queue);
+        }
+    }
+
+    // Writes what waits of both, as far as that is taken without a wait, and tells how many lines were dropped.
+    pub(super) fn write_lines<E: Write>(&mut self, now: Duration, err: &mut E) {
+        let registry = self.doors.poll.registry();
+        let dropped = send_lines(&mut self.log, registry, LOG, err);
+        if dropped > 0 {
+            self.tell_dropped(dropped);
+        }
+        let lost = match &mut self.recorder {
+            Some(recorder) => recorder.send(self.rt, millis(now)),
+            None => 0,
+        };
+        if lost > 0 {
+            self.record(&Entry::Dropped(lost));
+        }
+        self.goes_on = self.goes_on || self.log.writer.may_send();
+    }
+
+    // Lines for standard error were dropped.
+    fn tell_dropped(&mut self, dropped: u64) {
+        match &self.recorder {
+            Some(recorder) if recorder.is_on_error() => self.record(&Entry::Dropped(dropped)),
+            _ => {
+                let _ = write!(self.log, "{dropped} lines were dropped\n");
+            }
+        }
+    }
+
+    // When a line that waits is written.
+    pub(super) fn lines_due(&self) -> Option<Duration> {
+        let due = self.recorder.as_ref()?.due()?;
+        Some(Duration::from_millis(due))
+    }
+}
+
+// Says in words what happened. An answer and a newer set are for the log alone.
+fn say_entry<E: Write>(err: &mut E, entry: &Entry<'_>) {
+    match entry {
+        Entry::Told(_) | Entry::Newer(_) | Entry::Unkept(_) | Entry::Dropped(_) => {}
+        Entry::Connected(version) => say_connected(err, *version),
+        Entry::Lost => say(err, &[text("service lost")]),
+        Entry::Older { version, least } => {
+            say_refused(err, *version, " is older than ", *least);
+        }
+        Entry::Above { version, most } => say_refused(err, *version, " is above ", *most),
+        Entry::Silent => say(err, &[text("the service did not greet")]),
+        Entry::Stuck => say(
+            err,
+            &[text("the service answered none of 8 questions in a row")],
+        ),
+        Entry::Crowded => say(
+            err,
+            &[text("the longest idle client was closed: all places are taken")],
+        ),
+    }
+}
+
+// Says that a service of this version is there.
+fn say_connected<E: Write>(err: &mut E, version: Version) {
+    let number = Part::Number(version.get());
+    say(
+        err,
+        &[text("service of version "), number, text(" connected")],
+    );
+    if version.get() == u64::MAX {
+        say(
+            err,
+            &[text("no newer set than that can follow: see --most-version")],
+        );
+    }
+}
+
+// Says why a service was turned away.
+fn say_refused<E: Write>(err: &mut E, version: Version, why: &str, bound: Version) {
+    say(
+        err,
+        &[
+            text("service of version "),
+            Part::Number(version.get()),
+            Part::Text(why.as_bytes()),
+            Part::Number(bound.get()),
+        ],
+    );
+}
