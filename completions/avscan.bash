@@ -14,6 +14,10 @@ _avscan() {
         COMPREPLY=($(compgen -W "5 10 30 60 300" -- "$word"))
         return
         ;;
+    --jobs | -j)
+        COMPREPLY=($(compgen -W "1 2 4 8 16" -- "$word"))
+        return
+        ;;
     --max-size)
         COMPREPLY=($(compgen -W "1048576 10000000 100000000 1000000000" -- "$word"))
         return
@@ -25,7 +29,7 @@ _avscan() {
     esac
     case $command in
     run) options="--json --help" ;;
-    scan) options="--recursive --keep-going --max-size --allow-empty --infected --json --print0 --files-from --null --found-status --summary --quiet --help" ;;
+    scan) options="--recursive --keep-going --jobs --max-size --allow-empty --infected --json --print0 --files-from --null --found-status --summary --quiet --help" ;;
     host) options="--openers --workers --spare --allow-empty --infected --json --print0 --files-from --null --found-status --summary --quiet --help" ;;
     filter) options="--wait --mode --infected --json --print0 --files-from --null --found-status --summary --quiet --help" ;;
     service) options="--wait --watch --allow-empty --help" ;;

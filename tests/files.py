@@ -5,7 +5,7 @@ tests/files/expected.txt has commands over a tree that is made here, with what e
 bytes, what is passed over and what is told, lists with either end, a content that comes in pieces with a signature over each cut,
 trees that change while they are walked, many files in little memory, and the statuses. The last line says how many passed and
 how many failed."""
-import contextlib, os, select, shutil, socket, subprocess, sys, tempfile, threading, time
+import contextlib, os, random, select, shutil, socket, subprocess, sys, tempfile, threading, time
 
 from cases import Cases
 from programs import program_beside
@@ -147,7 +147,7 @@ def forged(cases, program):
 
 
 def at_once(cases, program):
-    """What is found is on a pipe before the next file is read, so that it is not lost with a run that is killed."""
+    """What is found is on a pipe as soon as it is written, so that it is not lost with a run that is killed at a later file."""
     with tempfile.TemporaryDirectory() as work:
         signatures, tree = os.path.join(DATA, "set.avsig"), os.path.join(work, "tree")
         os.mkdir(tree)
@@ -350,9 +350,14 @@ def pieces(cases, program):
             got = run([program, "scan", "--max-size", str(most), signatures, path])
             wanted = (0, os.fsencode(path) + b" clean\n", b"") if fits else (1, b"", b"avscan: " + os.fsencode(path) + b": TooLarge\n")
             cases.check(f"{size} bytes of {most}", got == wanted, f"{got}")
-        for most in ("0", "-1", "9223372036854775808", "1M", ""):
+        for most in ("0", "-1", "9223372036854775808", "1m", "M", "8589934592G", "1 M", ""):
             got = run([program, "scan", f"--max-size={most}", signatures, path])
             cases.check(f"--max-size={most}", got[:2] == (2, b""), f"{got}")
+        for most, size in (("2K", 2048), ("1M", 1048576), ("2M", 2097152)):
+            for more in (0, 1):
+                write(path, b"a" * (size + more))
+                status = run([program, "scan", "--max-size", most, signatures, path])[0]
+                cases.check(f"{size + more} bytes of {most}", status == more, f"{status}")
         large = write(path, b"a" * 40000000)
         done = run(["sh", "-c", 'ulimit -v 65536; "$@"', "sh", program, "scan", "--max-size", "50000000", signatures, large])
         cases.check("40 MB in 64 MiB of memory", done == (0, os.fsencode(path) + b" clean\n", b""), f"{done}")
@@ -368,7 +373,7 @@ def changes(cases, program):
         for name in ("a/slow", "b/c/file", "c", "d"):
             write(os.path.join(tree, name), b"abc")
         environment = dict(os.environ, LD_PRELOAD=built(work, "slow_open"), SLOW_NAME="/slow", SLOW_MS="700")
-        process = subprocess.Popen([program, "scan", "-r", "--summary", signatures, tree], stdout=subprocess.PIPE, stderr=subprocess.PIPE, env=environment)
+        process = subprocess.Popen([program, "scan", "-j", "1", "-r", "--summary", signatures, tree], stdout=subprocess.PIPE, stderr=subprocess.PIPE, env=environment)
         time.sleep(0.3)
         shutil.rmtree(os.path.join(tree, "b"))
         os.remove(os.path.join(tree, "c"))
@@ -510,11 +515,109 @@ def devices(cases, program):
         cases.check("-r without memory", refused > 0, "no request was refused")
 
 
+def jobs(cases, program):
+    """However many threads scan, the lines, the faults and the status are those of one: over thousands of files that are clean, infected,
+    empty, large, gone or unreadable, on a full device, with little memory, and where a FIFO stands."""
+    with tempfile.TemporaryDirectory() as work:
+        os.chmod(work, 0o755)
+        chance = random.Random(11)
+        signatures, tree, names = shutil.copy(os.path.join(DATA, "set.avsig"), work), os.path.join(work, "tree"), []
+        for number in range(4000):
+            folder = os.path.join(tree, "%02d" % (number % 37), "x" * (number % 3))
+            os.makedirs(folder, exist_ok=True)
+            content = chance.choice([b"", b"abc", chance.randbytes(chance.randrange(9000)), EICAR, bytes(chance.randrange(200000)) + EICAR])
+            names.append(write(os.path.join(folder, "%d" % number), content))
+        for number in (5, 1500, 3999):
+            write(names[number], bytes(1500000) + EICAR)
+        os.mkfifo(os.path.join(tree, "00", "pipe"))
+        for number in range(0, 4000, 411):
+            os.chmod(names[number], 0)
+        os.mkdir(os.path.join(tree, "00", "locked"), 0)
+        gone = os.path.join(work, "gone")
+        some = write(os.path.join(work, "some"), b"".join(os.fsencode(name) + b"\n" for name in chance.sample(names, 1500) + [gone, os.path.join(tree, "00", "pipe"), tree]))
+        fine = write(os.path.join(work, "fine"), b"".join(os.fsencode(name) + b"\0" for number, name in enumerate(names) if number % 411 and number not in (5, 1500, 3999)))
+        own = shutil.copy(program, work)
+        nobody = ["setpriv", "--reuid=65534", "--regid=65534", "--clear-groups"] if os.geteuid() == 0 else []
+        commands = [["-r", tree], ["-r", "-i", "--summary", "--found-status", tree], ["-r", "--json", "--max-size", "2000000", tree], ["-r", "--print0", tree, tree],
+                    ["-k", "--summary", "--files-from", some], ["--files-from", some], ["--summary", "--found-status", "-0", "--files-from", fine], [names[1], gone, names[2]], [names[1]]]
+        for words in commands:
+            wanted = run([*nobody, own, "scan", "-j", "1", signatures, *words])
+            cases.check(f"scan -j 1 {words[:-1]}", wanted[1] != b"" or b"cannot read" in wanted[2], f"{wanted[0]} {len(wanted[1])} {wanted[2][:300]}")
+            for threads in ([], ["-j", "2"], ["-j", "4"], ["--jobs", "16"], ["-j64"]):
+                got = run([*nobody, own, "scan", *threads, signatures, *words])
+                cases.check(f"scan {threads} {words[:-1]}", got == wanted, f"{got[0]} {len(got[1])} {got[2][:300]}, wanted {wanted[0]} {len(wanted[1])} {wanted[2][:300]}")
+        wanted = run([own, "scan", "-j", "1", "-r", signatures, tree])
+        for memory in (20000, 24000, 32768, 65536):
+            got = run(["sh", "-c", f'ulimit -v {memory}; "$@"', "sh", own, "scan", "-j", "16", "-r", signatures, tree])
+            cases.check(f"scan -j 16 in {memory} KiB", got == wanted, f"{got[0]} {len(got[1])} {got[2][:300]}")
+        for threads in ("1", "4", "16"):
+            with open("/dev/full", "wb") as full:
+                done = subprocess.run([own, "scan", "-i", "-r", "-j", threads, signatures, tree], stdout=full, stderr=subprocess.PIPE, timeout=SECONDS)
+            cases.check(f"scan -j {threads} on a full device", done.returncode == 4 and done.stderr.endswith(b"avscan: device\n"), f"{done}")
+            done = run(["sh", "-c", '"$@" | head -1', "sh", own, "scan", "-r", "-j", threads, signatures, tree])
+            cases.check(f"scan -j {threads} that nobody reads", done[1] == wanted[1][: len(done[1])] and done[1].count(b"\n") == 1, f"{done}")
+        shutil.rmtree(os.path.join(tree, "00"))
+        library, whole, in_a_row, number = built(work, "fail_nth"), run([own, "scan", "-j", "3", "-r", signatures, os.path.join(tree, "36")]), 0, 0
+        while in_a_row < 20 and number < 400:
+            number += 1
+            done = run([own, "scan", "-j", "3", "-r", signatures, os.path.join(tree, "36")], env=dict(os.environ, LD_PRELOAD=library, FAIL_NTH=str(number)))
+            told = done[0] == 3 and done[2] == b"avscan: no memory\n" and whole[1].startswith(done[1])
+            in_a_row = in_a_row + 1 if done == whole else 0
+            if not told and done != whole:
+                cases.check("scan -j 3 without memory", False, f"request {number} refused: {done[0]} {len(done[1])} {done[2]}")
+                break
+        cases.check("scan -j 3 without memory", number > 20, f"{number}")
+        for given in ("0", "65", "x", ""):
+            got = run([own, "scan", "-j", given, signatures, tree])
+            cases.check(f"scan -j {given!r}", got[:2] == (2, b""), f"{got[0]} {got[2]}")
+
+
+def taken(cases, program):
+    """Files go while several threads scan: each line and each fault is of one file, in the order of the walk."""
+    with tempfile.TemporaryDirectory() as work:
+        signatures, tree = os.path.join(DATA, "set.avsig"), os.path.join(work, "tree")
+        os.mkdir(tree)
+        names = [write(os.path.join(tree, "%05d" % number), b"abc") for number in range(3000)]
+        remover = threading.Thread(target=lambda: [os.remove(name) for name in names[::7]])
+        remover.start()
+        status, out, err = run([program, "scan", "-r", "-j", "4", signatures, tree])
+        remover.join()
+        lines, faults = out.decode().splitlines(), err.decode().splitlines()
+        scanned, missed = [line[: -len(" clean")] for line in lines], [line[len("avscan: ") : -len(": cannot read")] for line in faults]
+        fine = scanned == sorted(scanned) and missed == sorted(missed) and not set(scanned) & set(missed) and set(names) - set(scanned) <= set(names[::7]) and set(missed) <= set(names[::7])
+        cases.check("files that go while they are scanned", fine and status == (4 if faults else 0), f"{status} {len(lines)} {faults[:3]}")
+
+
+def standard_input(cases, program):
+    """The file `-` is standard input, one content under that name."""
+    signatures = os.path.join(DATA, "set.avsig")
+    with tempfile.TemporaryDirectory() as work:
+        path = write(os.path.join(work, "file"), EICAR)
+        for content, line in ((b"", b"- clean\n"), (b"abc", b"- clean\n"), (b"a" * 700000 + EICAR, b"- infected 0 eicar.test end 700064\n")):
+            for threads in ("1", "4"):
+                got = run([program, "scan", "-j", threads, signatures, "-"], content)
+                cases.check(f"scan - of {len(content)} bytes, -j {threads}", got == (0, line, b""), f"{got}")
+        with open(path, "rb") as given:
+            done = subprocess.run([program, "scan", signatures, "-"], stdin=given, stdout=subprocess.PIPE, stderr=subprocess.PIPE, timeout=SECONDS)
+        cases.check("scan - of a file", (done.returncode, done.stdout, done.stderr) == (0, b"- infected 0 eicar.test end 64\n", b""), f"{done}")
+        got = run([program, "scan", signatures, "-"], bytes(1048577))
+        cases.check("scan - that is too large", got == (1, b"", b"avscan: -: TooLarge\n"), f"{got}")
+        at_end = b"- infected 0 eicar.test end 3000064\n/dev/stdin clean\n- clean\n/dev/fd/0 clean\n"
+        for words in ([], ["-k"], ["-r"]):
+            for threads in ("1", "4", "16", "16", "16"):
+                row = [*words, "-j", threads, "--max-size", "1G", signatures, "-", "/dev/stdin", "-", "/dev/fd/0"]
+                got = run([program, "scan", *row], b"a" * 3000000 + EICAR)
+                cases.check(f"one pipe under several names, {words} -j {threads}", got == (0, at_end, b""), f"{got}")
+        write(os.path.join(work, "-"), b"abc")
+        got = run([program, "scan", signatures, "./-", "-"], EICAR, cwd=work)
+        cases.check("a file of that name", got == (0, b"./- clean\n- infected 0 eicar.test end 64\n", b""), f"{got}")
+
+
 def main():
     if len(sys.argv) != 2:
         sys.exit("usage: tests/files.py PROGRAM")
     cases = Cases()
-    for part in (tables, links, names, forged, at_once, swapped, sets, lists, pieces, changes, closed, many, statuses, devices):
+    for part in (tables, links, names, forged, at_once, swapped, sets, lists, pieces, changes, closed, many, statuses, devices, jobs, taken, standard_input):
         try:
             part(cases, os.path.abspath(sys.argv[1]))
         except Exception as fault:

@@ -270,11 +270,11 @@ def order(cases, program):
 def helps(cases, program):
     texts = [(["--help"], [b"avscan run examples/late_reply.avs", b"avscan scan examples/test.avsig", b"Exit status: 0 all done, 1 input refused, 2 usage, 3 memory, 4 device; with --found-status 5 something is infected,", b"6 something is infected and some files were not scanned."]),
              (["run", "--help"], [b"SCRIPT", b"volume 1 closed", b"open NAME [LEAST]", b"restart filter|service", b"man avscript"]),
-             (["scan", "--help"], [b"SET", b"FILE", b"avsig 1", b"1,048,576 bytes", b"man avsig", b"--recursive", b"--files-from <LIST>", b"--max-size <BYTES>", b"--allow-empty", b"--print0", b"Without -k one file that can't be read"]),
+             (["scan", "--help"], [b"SET", b"FILE", b"avsig 1", b"1,048,576 bytes", b"man avsig", b"--recursive", b"--files-from <LIST>", b"--max-size <BYTES>", b"--jobs <N>", b"--allow-empty", b"--print0", b"Without -k one file that can't be read"]),
              (["host", "--help"], [b"There is no -k here", b"`avscan scan -k`"]), (["filter", "--help"], [b"There is no -k here", b"`avscan scan -k`"]),
              (["check", "--help"], [b"<SET>...", b"SET: version V, N signatures"])]
     of_guard = [(["--help"], [b"avguard run opens.socket service.socket", b"avscan service service.socket", b"avguard ask opens.socket", b"Exit status: 0 all done, 1 input refused, 2 usage, 3 memory, 4 device"]),
-                (["run", "--help"], [b"--service-mode <MODE>", b"--least <V>", b"--most-version <V>", b"--state <FILE>", b"--clamd <CLAMD>"]), (["ask", "--help"], [b"OPENS", b"--keep-going", b"--wait <SECONDS>"])]
+                (["run", "--help"], [b"--service-mode <MODE>", b"--least <V>", b"--most-version <V>", b"--state <FILE>", b"--log <FILE>", b"--log-grants", b"--log-json", b"--clamd <CLAMD>"]), (["ask", "--help"], [b"OPENS", b"--keep-going", b"--wait <SECONDS>"])]
     of_tool = [(["--help"], [b"avtool chart examples/late_reply.avs", b"avtool generate --seed 1", b"avtool import --set-version 7", b"Exit status: 0 all done, 1 input refused, 2 usage, 3 memory, 4 device."]),
                (["chart", "--help"], [b"--from <LINE>", b"--to <LINE>"]), (["generate", "--help"], [b"--seed <N>", b"--commands <M>"]), (["import", "--help"], [b"--set-version <N>", b"--any-target"])]
     bad = [["scan"], ["scan", SET], ["run"], ["run", "a", "b"], ["judge"], ["--nothing"]]
@@ -380,8 +380,10 @@ def progress(cases, program):
                 file.write(b"a letter")
         files = [LETTER, slow, third, SCRIPT]
         late = rb"(%s)?" % lines_of(b"opened", b"0-4")
-        for words, shape in (([program, "scan", SET], lines_of(b"scanned", b"123")), ([program, "host", SET], lines_of(b"read", b"123") + late)):
-            command = words[1]
+        rows = [(["scan", "-j", "1", SET], lines_of(b"scanned", b"123")), (["scan", "-j", "4", SET], lines_of(b"scanned", b"123")),
+                (["host", SET], lines_of(b"read", b"123") + late)]
+        for row, shape in rows:
+            words, command = [program, *row], row[0]
             status, out, shown = on_terminal([*words, *files], environment)
             fine = status == 0 and out.count(b"\n") == 4 and re.fullmatch(shape, shown) and b" 2 of 4 files" in shown
             cases.check(f"{command} on a terminal", fine, f"{status} {out!r} {shown!r}")

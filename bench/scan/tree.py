@@ -1,6 +1,6 @@
 #!/usr/bin/env python3
-"""Times a scan of a tree: `avscan scan -r -i` beside `cat` of the same files, `grep -rF` for the same strings, and `yara -r` and
-`clamscan -r` where they are installed, all in one run over the same tree.
+"""Times a scan of a tree: `avscan scan -r -i` with 1, 2 and 4 threads beside `cat` of the same files, `grep -rF` for the same strings,
+and `rg -uuu -a -F` with as many threads, `yara -r` and `clamscan -r` where they are installed, all in one run over the same tree.
 
 usage: tree.py PROGRAM [FOLDER]
 
@@ -11,6 +11,7 @@ process alone. The exit status is 1 where avscan did not scan or name each regul
 import os, random, shutil, stat, subprocess, sys, tempfile
 
 ROUNDS = 3
+THREADS = (1, 2, 4)
 MOST = 1 << 40
 HERE = os.path.dirname(os.path.abspath(__file__))
 
@@ -41,9 +42,13 @@ def jobs(folder, tree, program, files):
     signatures = put(folder, "set.avsig", b"avsig 1\nversion 1\n" + b"".join(b"s%d %s\n" % (i, p.hex().encode()) for i, p in enumerate(patterns)))
     words = put(folder, "words", b"".join(p.hex().encode() + b"\n" for p in patterns))
     listed = put(folder, "list", b"\0".join(path for path, _ in files))
-    yield "avscan scan -r -i", [program, "scan", "-r", "-i", "--max-size", str(MOST), signatures, tree], (0,)
+    for threads in THREADS:
+        yield f"avscan scan -j {threads}", [program, "scan", "-r", "-i", "-j", str(threads), "--max-size", str(MOST), signatures, tree], (0,)
     yield "cat", ["xargs", "-0", "-a", listed, "cat", "--"], (0,)
     yield "grep -rF", ["grep", "-rF", "-f", words, "--", tree], (0, 1, 2)
+    if shutil.which("rg"):
+        for threads in THREADS:
+            yield f"rg -uuu -a -F -j {threads}", ["rg", "-uuu", "-a", "-F", "-j", str(threads), "-f", words, "--", tree], (0, 1, 2)
     if shutil.which("yara"):
         rules = put(folder, "rules.yar", b"".join(b"rule s%d { strings: $a = { %s } condition: $a }\n" % (i, p.hex().encode()) for i, p in enumerate(patterns)))
         yield "yara -r", ["yara", "-r", "-p", "1", rules, tree], (0,)
@@ -59,7 +64,7 @@ def main():
     files = files_of(tree)
     count, size = len(files), sum(length for _, length in files)
     print(f"load {os.getloadavg()[0]:.2f} on {os.cpu_count()} processors; {tree}: {count:,} files, {size:,} bytes; the least of {ROUNDS} rounds")
-    for name in ("yara", "clamscan"):
+    for name in ("rg", "yara", "clamscan"):
         if not shutil.which(name):
             print(f"{name} is not installed")
     with tempfile.TemporaryDirectory() as folder:
@@ -75,7 +80,7 @@ def main():
                     print(f"{name}: status {int(status)}")
                 costs.append((float(gone) * 1e-9, float(used) * 1e-9, int(peak)))
             gone, used, peak = min(costs[1:])
-            print(f"{name:18} {gone:7.2f} s, {used:7.2f} s of processor, {count / gone:9,.0f} files a second, {size / gone * 1e-9:6.2f} GB/s, peak {peak:9,} KiB")
+            print(f"{name:22} {gone:7.2f} s, {used:7.2f} s of processor, {count / gone:9,.0f} files a second, {size / gone * 1e-9:6.2f} GB/s, peak {peak:9,} KiB")
         words = [program, "scan", "-r", "-i", "--summary", "--max-size", str(MOST), os.path.join(folder, "set.avsig"), tree]
         told = subprocess.run(words, stdout=subprocess.DEVNULL, stderr=subprocess.PIPE).stderr.splitlines()[-1].decode()
         print(told)

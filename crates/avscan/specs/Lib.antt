@@ -1,2 +1,4 @@
 pub mod Run
 pub mod Check
+pub mod Opening
+pub mod Scanning

@@ -3,6 +3,7 @@
 #![tactic(auto)]
 
 mod check;
+mod disk;
 mod opening;
 mod run;
 mod scan;
@@ -79,31 +80,26 @@ fn done<R: Hosting, W: Write>(
     fault: &Cell<Option<Error>>,
     out: &mut W,
 ) -> Status {
+    let status = done_with(rt, system, alloc, request, fault, out);
     let mut err = Prefixed::new(PROGRAM, Errors::new(rt.stderr(), fault));
-    let status = done_with(rt, system, alloc, request, fault, out, &mut err);
     say_output_fault(rt, alloc, fault, &mut err);
     status
 }
 
-fn done_with<R: Hosting, W: Write, E: Write>(
+fn done_with<R: Hosting, W: Write>(
     rt: &HostRuntime,
     system: &R,
     alloc: Global,
     request: &Request<'_>,
     fault: &Cell<Option<Error>>,
     out: &mut W,
-    err: &mut E,
 ) -> Status {
+    let mut err = Prefixed::new(PROGRAM, Errors::new(rt.stderr(), fault));
     match request {
-        Request::Run(script) => run_named(rt, alloc, *script, out, err),
+        Request::Run(script) => run_named(rt, alloc, *script, out, &mut err),
         Request::Scan(scan) => {
-            scan_named(
-                rt,
-                alloc,
-                scan,
-                out,
-                &mut progress(rt, PROGRAM, fault, &scan.named),
-            )
+            let err = &mut progress(rt, PROGRAM, fault, &scan.named);
+            scan_named(rt, system, alloc, scan, out, err)
         }
         Request::Host(host) => {
             let err = &mut progress(rt, PROGRAM, fault, &host.named);
@@ -113,7 +109,7 @@ fn done_with<R: Hosting, W: Write, E: Write>(
             let err = &mut progress(rt, PROGRAM, fault, &filter.named);
             filter_named(rt, system, alloc, filter, out, err)
         }
-        Request::Service(service) => serve_named(rt, system, alloc, *service, out, err),
-        Request::Check(check) => check_named(rt, alloc, check, out, err),
+        Request::Service(service) => serve_named(rt, system, alloc, *service, out, &mut err),
+        Request::Check(check) => check_named(rt, alloc, check, out, &mut err),
     }
 }

@@ -1,10 +1,11 @@
-ghost use Rattle.std.specs.Prelude.{IfErr};
+ghost use Rattle.std.specs.Prelude.{IfErr, IfOk};
 ghost use Rattle.av_host.specs.Groups.{AreHostedInGroups};
 ghost use Rattle.av_sockets.specs.Filter.{AreFiltered};
 ghost use Rattle.av_status.specs.Status.{EndsWell, IsFault};
+ghost use Rattle.avscan.specs.Opening.{AreAllNames, AreFilteredAsNamed, AreFilteredSoFar, AreHostedAsNamed, AreHostedSoFar, HostsAll, HostsSoFar, Read};
 
 use av_files::{Contents, Failing, look_at};
-use av_host::{Crew, Hosting, Signatures, host_groups};
+use av_host::{Crew, Hosting, Signatures, host, host_groups};
 use av_program::{Source, names_of, read_file, say_why, set_named, size_of};
 use av_sockets::{Meeting, filter_files};
 use av_status::faults::out_of_memory;
@@ -16,7 +17,9 @@ use std::collections::BTreeSet;
 use std::io::Write;
 
 /// Opens files by their names, as `host_files` does by their contents, and holds one group of them at a time. What can be seen of a
-/// file without reading it is told before the first one is opened.
+/// file without reading it is told before the first one is opened. Whatever the status, nothing was written but lines that are true of
+/// the contents that were read.
+#[tactic(auto, using(crate::proofs::OpeningLemmas::no_set, crate::proofs::OpeningLemmas::of_set, crate::proofs::OpeningLemmas::all_of_set))]
 pub fn host_named<R: Hosting, W: Write, E: Write>(
     rt: &HostRuntime,
     system: &R,
@@ -24,74 +27,67 @@ pub fn host_named<R: Hosting, W: Write, E: Write>(
     asked: &Host<'_>,
     out: &mut W,
     err: &mut Progress<'_, HostRuntime, E>,
-) -> Status {
-    match set_named(rt, alloc, asked.set, asked.empty_sets, err) {
-        Ok(set) => match Signatures::build(alloc, set) {
-            Ok(signatures) => host_under(rt, system, alloc, asked, &signatures, out, err),
-            Err(_) => out_of_memory(err),
-        },
-        Err(status) => status,
-    }
-}
-
-// The same, under a set.
-fn host_under<R: Hosting, W: Write, E: Write>(
-    rt: &HostRuntime,
-    system: &R,
-    alloc: Global,
-    asked: &Host<'_>,
-    signatures: &Signatures,
-    out: &mut W,
-    err: &mut Progress<'_, HostRuntime, E>,
-) -> Status {
-    let mut text = Vec::new(alloc);
-    match all_names(rt, alloc, &asked.named, &mut text, err) {
-        Ok(names) => host_all(
-            rt,
-            system,
-            alloc,
-            asked,
-            signatures,
-            names.as_slice(),
-            out,
-            err,
-        ),
-        Err(status) => status,
-    }
-}
-
-// The same, with all names: each file is looked at before the first one is opened.
-fn host_all<R: Hosting, W: Write, E: Write>(
-    rt: &HostRuntime,
-    system: &R,
-    alloc: Global,
-    asked: &Host<'_>,
-    signatures: &Signatures,
-    names: &[&str],
-    out: &mut W,
-    err: &mut Progress<'_, HostRuntime, E>,
 ) -> Status
-    ensures { EndsWell result → AreHostedInGroups (λ _ _. Unit {0}) signatures.now asked.now.openers names.now asked.now.named.wishes (W.contents out.old) (W.contents out.new) result }
+    ensures so_far { AreHostedSoFar asked.now (W.contents out.old) (W.contents out.new) }
+    ensures hosted { EndsWell result → AreHostedAsNamed asked.now (W.contents out.old) (W.contents out.new) result }
 {
-    if let Err(status) = look_over(rt, alloc, names, err) {
-        return status;
-    }
+    let set = match set_named(rt, alloc, asked.set, asked.empty_sets, err) {
+        Ok(set) => set,
+        Err(status) => return status,
+    };
+    let Ok(signatures) = Signatures::build(alloc, set) else {
+        return out_of_memory(err);
+    };
     let crew = Crew {
         openers: asked.openers,
         workers: asked.workers,
         has_spare: asked.has_spare,
     };
-    host_groups(
-        system,
+    let host = host::Host {
+        rt: system,
         alloc,
-        signatures,
-        &Disk { rt },
-        names,
+        signatures: &signatures,
         crew,
-        asked.named.wishes,
-        out,
-        err,
-    )
+        wishes: asked.named.wishes,
+    };
+    host_over(rt, &host, &asked.named, out, err)
+}
+
+// The same, by this host.
+#[tactic(auto, using(crate::proofs::OpeningLemmas::none_hosted, crate::proofs::OpeningLemmas::hosts_all))]
+fn host_over<R: Hosting, W: Write, E: Write>(
+    rt: &HostRuntime,
+    host: &host::Host<'_, R>,
+    named: &Named<'_>,
+    out: &mut W,
+    err: &mut Progress<'_, HostRuntime, E>,
+) -> Status
+    ensures so_far { HostsSoFar host.now.signatures.now host.now.crew.openers host.now.wishes (W.contents out.old) (W.contents out.new) }
+    ensures hosted { EndsWell result → HostsAll named.now host.now.signatures.now host.now.crew.openers host.now.wishes (W.contents out.old) (W.contents out.new) result }
+{
+    let mut text = Vec::new(host.alloc);
+    match all_names(rt, host.alloc, named, &mut text, err) {
+        Ok(names) => host_all(rt, host, names.as_slice(), out, err),
+        Err(status) => status,
+    }
+}
+
+// The same, with all names: each file is looked at before the first one is opened.
+#[tactic(auto, using(crate::proofs::OpeningLemmas::none_hosted, crate::proofs::OpeningLemmas::so_far))]
+fn host_all<R: Hosting, W: Write, E: Write>(
+    rt: &HostRuntime,
+    host: &host::Host<'_, R>,
+    names: &[&str],
+    out: &mut W,
+    err: &mut Progress<'_, HostRuntime, E>,
+) -> Status
+    ensures so_far { HostsSoFar host.now.signatures.now host.now.crew.openers host.now.wishes (W.contents out.old) (W.contents out.new) }
+    ensures hosted { EndsWell result → AreHostedInGroups Read host.now.signatures.now host.now.crew.openers names.now host.now.wishes (W.contents out.old) (W.contents out.new) result }
+{
+    match look_over(rt, host.alloc, names, err) {
+        Ok(()) => host_groups(host, &Disk { rt }, names, out, err),
+        Err(status) => status,
+    }
 }
 
 // Says what can be seen of the files before one is read.
@@ -117,7 +113,9 @@ fn look_over<E: Write>(
 }
 
 /// Opens files by their names, through a filter that a service may join at a socket, and holds one group of them at a time. What
-/// can be seen of a file without reading it is told before the socket is made.
+/// can be seen of a file without reading it is told before the socket is made. Whatever the status, nothing was written but lines of the
+/// filter's answers.
+#[tactic(auto, using(crate::proofs::OpeningLemmas::none_filtered, crate::proofs::OpeningLemmas::filters_all))]
 pub fn filter_named<R: Hosting, W: Write, E: Write>(
     rt: &HostRuntime,
     system: &R,
@@ -125,7 +123,10 @@ pub fn filter_named<R: Hosting, W: Write, E: Write>(
     asked: &Filter<'_>,
     out: &mut W,
     err: &mut Progress<'_, HostRuntime, E>,
-) -> Status {
+) -> Status
+    ensures so_far { AreFilteredSoFar asked.now (W.contents out.old) (W.contents out.new) }
+    ensures filtered { EndsWell result → AreFilteredAsNamed asked.now (W.contents out.old) (W.contents out.new) result }
+{
     let mut text = Vec::new(alloc);
     match all_names(rt, alloc, &asked.named, &mut text, err) {
         Ok(names) => filter_all(rt, system, alloc, asked, names.as_slice(), out, err),
@@ -134,6 +135,7 @@ pub fn filter_named<R: Hosting, W: Write, E: Write>(
 }
 
 // The same, with all names: each file is looked at before the first one is read.
+#[tactic(auto, using(crate::proofs::OpeningLemmas::none_filtered, crate::proofs::OpeningLemmas::filters_so_far))]
 fn filter_all<R: Hosting, W: Write, E: Write>(
     rt: &HostRuntime,
     system: &R,
@@ -143,7 +145,8 @@ fn filter_all<R: Hosting, W: Write, E: Write>(
     out: &mut W,
     err: &mut Progress<'_, HostRuntime, E>,
 ) -> Status
-    ensures { EndsWell result → AreFiltered (λ _ _. Unit {0}) names.now asked.now.named.wishes (W.contents out.old) (W.contents out.new) result }
+    ensures so_far { AreFilteredSoFar asked.now (W.contents out.old) (W.contents out.new) }
+    ensures filtered { EndsWell result → AreFiltered Read names.now asked.now.named.wishes (W.contents out.old) (W.contents out.new) result }
 {
     match look_over(rt, alloc, names, err) {
         Ok(()) => filter_files(
@@ -169,7 +172,7 @@ struct Disk<'a> {
 
 impl<'a> Contents for Disk<'a> {
     // What a disk holds no clause can say.
-    ghost has_content = { λ _ _ _. Unit {0} };
+    ghost has_content = { λ _ name content. Read name content };
 
     fn read(&self, name: &str, buffer: &mut [u8]) -> Option<usize> {
         match read_file(self.rt, name, buffer).content {
@@ -179,7 +182,7 @@ impl<'a> Contents for Disk<'a> {
     }
 }
 
-// The names of all files: a line of a list that is no name ends it.
+// The names of all files: a name of a list that is no text ends it.
 fn all_names<'a, 'b: 'a, E: Write>(
     rt: &HostRuntime,
     alloc: Global,
@@ -187,7 +190,8 @@ fn all_names<'a, 'b: 'a, E: Write>(
     text: &'a mut Vec<u8>,
     err: &mut E,
 ) -> Result<Vec<&'a str>, Status>
-    ensures { IfErr result (λ status. IsFault status) }
+    ensures all { IfOk result (λ names. AreAllNames named.now names.items) }
+    ensures fault { IfErr result (λ status. IsFault status) }
 {
     names_of(
         rt,

@@ -6,7 +6,8 @@ use av_words::rows::{
     SUMMARY,
 };
 use av_words::{Absent, Kind, Word, command_of, with};
-use clap::Command;
+use clap::builder::ValueParser;
+use clap::{Arg, Command};
 use std::alloc::{AllocError, Global};
 
 /// The command line: one command each for a script, for files that are scanned or opened, for the two programs that hold opens
@@ -73,7 +74,7 @@ fn run_command<'a>(alloc: Global) -> Result<Command<'a>, AllocError> {
 }
 
 fn scan_command<'a>(alloc: Global) -> Result<Command<'a>, AllocError> {
-    command_of(
+    let command = command_of(
         alloc,
         "scan",
         "Scans files for signatures and prints a line for each",
@@ -108,7 +109,18 @@ fn scan_command<'a>(alloc: Global) -> Result<Command<'a>, AllocError> {
             SUMMARY,
             QUIET,
         ],
-    )
+    )?;
+    command.arg(jobs(alloc))
+}
+
+// How many threads scan. It has a letter too, and a value.
+fn jobs<'a>(alloc: Global) -> Arg<'a> {
+    Arg::new(alloc, "jobs")
+        .long("jobs")
+        .short('j')
+        .value_name("N")
+        .value_parser(ValueParser::unsigned(1, 64))
+        .help("How many threads scan files, 1 to 64; without it one for each processor")
 }
 
 fn host_command<'a>(alloc: Global) -> Result<Command<'a>, AllocError> {
@@ -256,13 +268,8 @@ const ALLOW_EMPTY: Word = Word {
 
 const MAX_SIZE: Word = Word {
     name: "max-size",
-    kind: Kind::Number {
-        shown: "BYTES",
-        least: 1,
-        greatest: 9_223_372_036_854_775_807,
-        absent: Absent::Means("1048576"),
-    },
-    help: "The most bytes of a file, up to 2^63 - 1; a larger one is too large",
+    kind: Kind::Value { shown: "BYTES" },
+    help: "The most bytes of a file, up to 2^63 - 1, with K, M or G for 1024 bytes, 1024 K, 1024 M; by default 1M",
 };
 
 const INFECTED: Word = Word {

@@ -10,6 +10,7 @@
 
 mod commands;
 pub mod request;
+mod size;
 #[cfg(test)]
 mod tests;
 pub mod words;

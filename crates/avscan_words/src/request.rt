@@ -28,13 +28,14 @@ pub struct Script<'a> {
     pub form: Form,
 }
 
-/// Which files are scanned, under the signature file `set`.
+/// Which files are scanned, under the signature file `set`, and by how many threads, 1 to 64, where that is said.
 #[derive(Drop)]
 pub struct Scan<'a> {
     pub set: &'a str,
     pub empty_sets: EmptySets,
     pub named: Named<'a>,
     pub finding: Finding,
+    pub jobs: Option<usize>,
 }
 
 /// Which files are opened, under the signature file `set`, by 1 to 16 threads that open and as many that scan. With a spare a

@@ -51,9 +51,11 @@ fn words_ask_for_a_request_or_end_with_a_status(rt: HostRuntime) -> Result<(), F
                     empty_sets,
                     named,
                     finding,
+                    jobs,
                 },
             ),
         ) => {
+            assert!(rt; jobs.is_none());
             assert_eq!(rt; set, "s");
             assert_eq!(rt; empty_sets, EmptySets::Refused);
             assert_eq!(rt; finding, FILES_ALONE);
@@ -257,6 +259,30 @@ fn folders_stand_for_files_and_mean_to_keep_going(rt: HostRuntime) -> Result<(),
 }
 
 #[test]
+fn a_scan_has_one_to_sixty_four_threads(rt: HostRuntime) -> Result<(), Fail> {
+    let alloc = rt.alloc();
+    for (line, jobs) in [
+        ("scan -j 1 s f", Some(1)),
+        ("scan -j4 s f", Some(4)),
+        ("scan s --jobs 64 f", Some(64)),
+        ("scan -j 0 s f", None),
+        ("scan -j 65 s f", None),
+        ("scan -j x s f", None),
+    ] {
+        let words = words_of(alloc, line);
+        let found = match words
+            .as_ref()
+            .and_then(|it| request_of(alloc, it.as_slice()))
+        {
+            Some(Request::Scan(scan)) => scan.jobs,
+            _ => None,
+        };
+        assert!(&rt; found == jobs, "{line}");
+    }
+    Ok(())
+}
+
+#[test]
 fn a_file_has_up_to_as_many_bytes_as_are_asked_for(rt: HostRuntime) -> Result<(), Fail> {
     for (line, size) in [
         ("scan --max-size 1 s f", Some(1)),
@@ -268,6 +294,17 @@ fn a_file_has_up_to_as_many_bytes_as_are_asked_for(rt: HostRuntime) -> Result<()
         ("scan --max-size 9223372036854775808 s f", None),
         ("scan --max-size -1 s f", None),
         ("scan --max-size 1k s f", None),
+        ("scan --max-size K s f", None),
+        ("scan --max-size 1KK s f", None),
+        ("scan --max-size 0M s f", None),
+        ("scan --max-size 9007199254740992K s f", None),
+        ("scan --max-size 1K s f", Some(1_024)),
+        ("scan --max-size 30M s f", Some(31_457_280)),
+        ("scan --max-size 2G s f", Some(2_147_483_648)),
+        (
+            "scan --max-size 8589934591G s f",
+            Some(9_223_372_035_781_033_984),
+        ),
     ] {
         let finding = finding_of(rt.alloc(), line);
         assert!(&rt; finding.map(|it| it.max_size) == size, "{line}");

@@ -5,6 +5,7 @@ ghost use Rattle.avscan_words.specs.Words.{AsksForSockets, IsMoved, IsStandardIn
 
 use crate::commands::avscan_command;
 use crate::request::{Check, Filter, Host, Request, Scan, Script, Service};
+use crate::size::{MAX_SIZE, size_of};
 use av_status::faults::{bad_socket, out_of_memory};
 use av_status::status::Status;
 use av_status::tally::Form;
@@ -41,6 +42,14 @@ pub fn read_words<'a, S: AsStr, W: Write, E: Write>(
         return Err(Status::Usage);
     }
     let matches = matches_of(alloc, PROGRAM, avscan_command(alloc), words, out, err)?;
+    if has_bad_size(&matches) {
+        say_usage(
+            err,
+            PROGRAM,
+            "--max-size takes 1 to 2^63 - 1, with K, M or G for 1024 bytes, 1024 K or 1024 M",
+        );
+        return Err(Status::Usage);
+    }
     match request_of(alloc, &matches) {
         Ok(request) => with_sockets(request, err),
         Err(_) => Err(out_of_memory(err)),
@@ -99,8 +108,25 @@ fn scan_of<'a>(alloc: Global, matches: &ArgMatches<'a>) -> Result<Request<'a>, A
         set: text_of(matches, "set"),
         empty_sets: empty_sets_of(matches),
         named: named_of(alloc, matches)?,
-        finding: finding_of(matches, number_of(matches, "max-size")),
+        finding: finding_of(matches, max_size_of(matches).unwrap_or(MAX_SIZE)),
+        jobs: matches.get_one::<usize>("jobs"),
     }))
+}
+
+// Whether the size that is asked for is none.
+fn has_bad_size(matches: &ArgMatches<'_>) -> bool {
+    match matches.subcommand() {
+        Some(("scan", scan)) => max_size_of(scan).is_none(),
+        _ => false,
+    }
+}
+
+// The most bytes of a file.
+fn max_size_of(matches: &ArgMatches<'_>) -> Option<u64> {
+    match matches.get_str("max-size") {
+        Some(text) => size_of(text),
+        None => Some(MAX_SIZE),
+    }
 }
 
 fn host_of<'a>(alloc: Global, matches: &ArgMatches<'a>) -> Result<Request<'a>, AllocError> {

@@ -1,0 +1,4 @@
+pub mod NameLemmas
+pub mod WayLemmas
+pub mod LineLemmas
+pub mod EndLemmas

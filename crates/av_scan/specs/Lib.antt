@@ -1,0 +1,4 @@
+pub mod Told
+pub mod Outcome
+pub mod Feed
+pub mod Coming

@@ -1,0 +1,176 @@
+// The threads that scan files. Where one can't be started there are fewer, and without any the files are scanned in the thread that
+// wanted to start them.
+
+ghost use Rattle.std.specs.Prelude.{◌≡◌, ◌<◌, ℕ, IfSome, List, length};
+ghost use Rattle.std.specs.Arc.{arc_value};
+ghost use Rattle.av_base.specs.declared.verdict.Verdict.{Verdict};
+ghost use Rattle.av_scan.specs.Told.{IsVerdict};
+
+use crate::judging::{Means, judge};
+use crate::opening::Opening;
+use crate::scanning::Scanning;
+use crate::told::Entry;
+use crate::truth::{Judged, Truth};
+use av_files::{MAX_FILE, Scanner};
+use crossbeam_channel::{Receiver, Sender, bounded};
+use std::alloc::Global;
+use std::io::Read;
+use std::sync::{Arc, Wait};
+use std::thread;
+use std::thread::{JoinHandle, Threads};
+
+/// The bytes of a file that one read gives at most.
+pub(crate) const PIECE: usize = MAX_FILE + 2;
+
+/// As many files are under way at most.
+pub(crate) const ROOM: usize = 1_024;
+
+/// A file to scan, and its place in the line-up.
+#[derive(Drop)]
+pub(crate) struct Work {
+    pub(crate) place: u64,
+    pub(crate) entry: Entry,
+}
+
+/// What became of it.
+#[derive(Drop)]
+pub(crate) struct Done<T: Truth> {
+    pub(crate) place: u64,
+    pub(crate) judged: Judged<T>,
+}
+
+/// Threads that scan, and the end at which files go to them.
+#[derive(Drop)]
+pub(crate) struct Crew {
+    works: Sender<Work>,
+    // Takes back what no thread has begun.
+    left: Receiver<Work>,
+    threads: Vec<JoinHandle<()>>,
+}
+
+impl Crew {
+    /// Starts as many threads as were asked for, where that is more than one, and gives them with the end at which what became of files
+    /// comes back.
+    pub(crate) fn start<
+        T: Truth + Send + 'static,
+        F: Read + Drop + Send + 'static,
+        O: Opening<F>,
+        R: Threads + Wait + Copy + Send + 'static,
+    >(
+        scanning: &Scanning<R, O>,
+        scanner: &Arc<Scanner, Global>,
+    ) -> Option<(Crew, Receiver<Done<T>>)>
+        requires { (name : List ℕ) (v : Verdict) → IsVerdict (O.is_of scanning.now.files) F.remaining (arc_value scanner.now) name v → T.is_true name v }
+    {
+        if scanning.jobs < 2 {
+            return None;
+        }
+        let alloc = scanning.alloc;
+        let (works, left) = bounded::<Work, Global>(alloc, ROOM).ok()?;
+        let (done, dones) = bounded::<Done<T>, Global>(alloc, ROOM).ok()?;
+        let mut threads = Vec::with_capacity(alloc, scanning.jobs).ok()?;
+        'threads: for _ in 0..scanning.jobs {
+            let Some(thread) = start_worker::<T, F, O, R>(scanning, scanner, &left, &done) else {
+                break;
+            };
+            if threads.push(thread).is_err() {
+                break;
+            }
+        }
+        if threads.is_empty() {
+            return None;
+        }
+        let crew = Crew {
+            works,
+            left,
+            threads,
+        };
+        Some((crew, dones))
+    }
+
+    /// Gives a file to the threads. Says whether it is with them.
+    pub(crate) fn give<R: Wait>(&self, rt: &R, work: Work) -> bool {
+        self.works.send(rt, work).is_ok()
+    }
+
+    /// Takes back what no thread has begun, and waits until each has done what it began.
+    pub(crate) fn stop<R: Threads + Wait>(self, rt: &R) {
+        let Crew {
+            works,
+            left,
+            threads,
+        } = self;
+        drop(works);
+        'works: for _ in left.iter(rt) {}
+        'threads: for thread in threads {
+            thread.join(rt);
+        }
+    }
+}
+
+fn start_worker<
+    T: Truth + Send + 'static,
+    F: Read + Drop + Send + 'static,
+    O: Opening<F>,
+    R: Threads + Wait + Copy + Send + 'static,
+>(
+    scanning: &Scanning<R, O>,
+    scanner: &Arc<Scanner, Global>,
+    works: &Receiver<Work>,
+    dones: &Sender<Done<T>>,
+) -> Option<JoinHandle<()>>
+    requires { (name : List ℕ) (v : Verdict) → IsVerdict (O.is_of scanning.now.files) F.remaining (arc_value scanner.now) name v → T.is_true name v }
+{
+    let mut buffer = vec![in scanning.alloc; 0u8; PIECE].ok()?;
+    let scanner = shared(scanner)?;
+    let works = works.clone().ok()?;
+    let dones = dones.clone().ok()?;
+    let (rt, files, max_size) = (scanning.rt, scanning.files, scanning.max_size);
+    thread::spawn(
+        &rt,
+        move ||
+            requires room { 0 < length buffer.items }
+            requires truth { (name : List ℕ) (v : Verdict) → IsVerdict (O.is_of files) F.remaining (arc_value scanner) name v → T.is_true name v }
+        {
+            let means = Means {
+                files: &files,
+                scanner: &*scanner,
+                max_size,
+            };
+            serve::<T, F, O, R>(&rt, means, &works, &dones, &mut buffer);
+        },
+    )
+    .ok()
+}
+
+// The scanner, for one thread more.
+fn shared(scanner: &Arc<Scanner, Global>) -> Option<Arc<Scanner, Global>>
+    ensures { IfSome result (λ shared. arc_value shared ≡ arc_value scanner.now) }
+{
+    scanner.clone().ok()
+}
+
+// Scans what comes, until nothing more comes or nobody takes what is done.
+fn serve<T: Truth, F: Read + Drop, O: Opening<F>, R: Wait>(
+    rt: &R,
+    means: Means<'_, O>,
+    works: &Receiver<Work>,
+    dones: &Sender<Done<T>>,
+    buffer: &mut [u8],
+)
+    requires room { 0 < length buffer.old }
+    requires truth { (name : List ℕ) (v : Verdict) → IsVerdict (O.is_of means.files.now) F.remaining means.scanner.now name v → T.is_true name v }
+{
+    'works: for _ in rt.forever() {
+        let Ok(work) = works.recv(rt) else {
+            return;
+        };
+        let done = Done {
+            place: work.place,
+            judged: judge::<T, F, O>(means, work.entry, buffer),
+        };
+        if dones.send(rt, done).is_err() {
+            return;
+        }
+    }
+}

@@ -1,0 +1,29 @@
+//! A scan of many files by several threads, which reads as a scan by one: names go into a line-up at one end, and come out at the
+//! other in the same order, each with the verdict of its file.
+//!
+//! ```text
+//! let mut feed = Feed::new(&rt, alloc, names, Folders::Entered);
+//! let status = scan_on(&scanning, &scanner, &mut feed, Tally::new(), &mut out, &mut err);
+//! ```
+#![tactic(auto)]
+
+mod arrivals;
+mod coming;
+mod crew;
+mod ended;
+pub mod feed;
+mod judging;
+mod line_up;
+mod on;
+pub mod opening;
+mod report;
+pub mod scanning;
+pub mod told;
+mod truth;
+
+pub use ended::scan_all;
+pub use feed::{Feed, Folders};
+pub use on::scan_on;
+pub use opening::{Opening, Origin};
+pub use scanning::{MAX_JOBS, Scanning, jobs_of};
+pub use told::{Entry, Told};

@@ -1,0 +1,188 @@
+// A scan that goes on where a file can't be scanned: lines are written as they come.
+
+ghost use Rattle.std.specs.Prelude.{◌≡◌, [], ℕ, List, IfErr, IfSome, OnErr, OnOk};
+ghost use Rattle.std.specs.Arc.{arc_value};
+ghost use Rattle.av_base.specs.declared.verdict.Verdict.{Verdict};
+ghost use Rattle.av_scan.specs.Outcome.{AreScanned, AreScannedSoFar, Ends, IsEndOf};
+ghost use Rattle.av_scan.specs.Told.{IsVerdict};
+ghost use Rattle.av_status.specs.Status.{IsFault};
+
+use crate::coming::{Coming, come, is_due, over};
+use crate::crew::{Crew, PIECE};
+use crate::feed::Feed;
+use crate::judging::Means;
+use crate::line_up::LineUp;
+use crate::opening::Opening;
+use crate::report::{Reporting, report};
+use crate::scanning::Scanning;
+use crate::truth::Truth;
+use av_files::Scanner;
+use av_status::faults::{device_failed, out_of_memory};
+use av_status::{Progress, Status, Tally, Wishes, conclude};
+use std::alloc::Global;
+use std::fs::Files;
+use std::io::{Read, Write};
+use std::marker::Brand;
+use std::sync::{Arc, Wait};
+use std::thread::Threads;
+use std::time::Clock;
+
+// The bytes that one read gives at most to the thread that writes lines, which scans what no other thread can.
+const STAND_IN: usize = 65_536;
+
+/// Scans files and writes their lines as they come, in the order of the feed. What can't be scanned is reported and passed over.
+pub fn scan_on<
+    F: Read + Drop + Send + 'static,
+    O: Opening<F>,
+    R: Files + Threads + Wait + Copy + Send + 'static,
+    C: Clock,
+    W: Write,
+    E: Write,
+>(
+    scanning: &Scanning<R, O>,
+    scanner: Scanner,
+    feed: &mut Feed<'_, R>,
+    tally: Tally,
+    out: &mut W,
+    err: &mut Progress<'_, C, E>,
+) -> Status
+    ensures { Ends (IsVerdict (O.is_of scanning.now.files) F.remaining scanner) scanning.now.wishes scanner tally (W.contents out.old) (W.contents out.new) feed.old result }
+{
+    match Arc::new(scanning.alloc, scanner) {
+        Ok(scanner) => {
+            scan_truly::<Brand, F, O, R, C, W, E>(scanning, &scanner, feed, tally, out, err)
+        }
+        Err(_) => out_of_memory(err),
+    }
+}
+
+// The same, where something is true of each verdict.
+fn scan_truly<
+    T: Truth + Send + 'static,
+    F: Read + Drop + Send + 'static,
+    O: Opening<F>,
+    R: Files + Threads + Wait + Copy + Send + 'static,
+    C: Clock,
+    W: Write,
+    E: Write,
+>(
+    scanning: &Scanning<R, O>,
+    scanner: &Arc<Scanner, Global>,
+    feed: &mut Feed<'_, R>,
+    mut tally: Tally,
+    out: &mut W,
+    err: &mut Progress<'_, C, E>,
+) -> Status
+    requires { (name : List ℕ) (v : Verdict) → IsVerdict (O.is_of scanning.now.files) F.remaining (arc_value scanner.now) name v → T.is_true name v }
+    ensures { Ends T.is_true scanning.now.wishes (arc_value scanner.now) tally (W.contents out.old) (W.contents out.new) feed.old result }
+{
+    let Some(mut line) = line_up::<T, F, O, R>(scanning, scanner) else {
+        return out_of_memory(err);
+    };
+    let by = By {
+        scanning,
+        scanner: &**scanner,
+    };
+    let done = scan_line::<T, F, O, R, C, W, E>(by, &mut line, feed, &mut tally, out, err);
+    line.end(&scanning.rt);
+    match done {
+        Ok(()) => end_well(tally, scanning.wishes, out, err),
+        Err(status) => tally.worst.or_graver(status),
+    }
+}
+
+/// Leaves no line in a buffer, and ends the run.
+pub(crate) fn end_well<C: Clock, W: Write, E: Write>(
+    tally: Tally,
+    wishes: Wishes,
+    out: &mut W,
+    err: &mut Progress<'_, C, E>,
+) -> Status
+    ensures { IsEndOf wishes tally (W.contents out.old) (W.contents out.new) result }
+{
+    err.wipe();
+    if out.flush().is_err() {
+        return tally.worst.or_graver(device_failed(err));
+    }
+    conclude(err, tally, wishes)
+}
+
+/// A line-up with its threads, where there is memory for it.
+pub(crate) fn line_up<
+    T: Truth + Send + 'static,
+    F: Read + Drop + Send + 'static,
+    O: Opening<F>,
+    R: Threads + Wait + Copy + Send + 'static,
+>(scanning: &Scanning<R, O>, scanner: &Arc<Scanner, Global>) -> Option<LineUp<T>>
+    requires { (name : List ℕ) (v : Verdict) → IsVerdict (O.is_of scanning.now.files) F.remaining (arc_value scanner.now) name v → T.is_true name v }
+    ensures { IfSome result (λ line. line ≡ []) }
+{
+    let piece = if scanning.jobs < 2 { PIECE } else { STAND_IN };
+    let Ok(buffer) = vec![in scanning.alloc; 0u8; piece] else {
+        return None;
+    };
+    let crew = Crew::start::<T, F, O, R>(scanning, scanner);
+    match LineUp::new(scanning.alloc, crew, buffer) {
+        Ok(line) => Some(line),
+        Err(_) => None,
+    }
+}
+
+/// By what files are scanned and reported.
+#[derive(Clone, Copy)]
+pub(crate) struct By<'a, R, O> {
+    pub(crate) scanning: &'a Scanning<R, O>,
+    pub(crate) scanner: &'a Scanner,
+}
+
+// Scans what comes, until nothing more comes, and reports each file once it is the first.
+fn scan_line<
+    T: Truth,
+    F: Read + Drop,
+    O: Opening<F>,
+    R: Files + Wait,
+    C: Clock,
+    W: Write,
+    E: Write,
+>(
+    by: By<'_, R, O>,
+    line: &mut LineUp<T>,
+    feed: &mut Feed<'_, R>,
+    tally: &mut Tally,
+    out: &mut W,
+    err: &mut Progress<'_, C, E>,
+) -> Result<(), Status>
+    requires truth { (name : List ℕ) (v : Verdict) → IsVerdict (O.is_of by.scanning.now.files) F.remaining by.scanner.now name v → T.is_true name v }
+    requires empty { line.old ≡ [] }
+    ensures scanned { OnOk result (AreScanned T.is_true by.entry.scanning.now.wishes by.entry.scanner.now tally.old tally.new (W.contents out.old) (W.contents out.new) feed.old) }
+    ensures so_far { OnErr result (AreScannedSoFar T.is_true by.entry.scanning.now.wishes by.entry.scanner.now (W.contents out.old) (W.contents out.new)) }
+    ensures fault { IfErr result (λ status. IsFault status) }
+{
+    let rt = &by.scanning.rt;
+    let means = Means {
+        files: &by.scanning.files,
+        scanner: by.scanner,
+        max_size: by.scanning.max_size,
+    };
+    let reporting = Reporting {
+        alloc: by.scanning.alloc,
+        files: &by.scanning.files,
+        scanner: by.scanner,
+        wishes: by.scanning.wishes,
+        is_live: by.scanning.is_live,
+    };
+    let mut room = Vec::new(by.scanning.alloc);
+    let mut coming = Coming::More;
+    'files: for _ in 0..u64::MAX {
+        coming = come(rt, line, feed, coming);
+        if !is_due(rt, line, coming) {
+            continue;
+        }
+        let Some(judged) = line.take::<F, O, R>(rt, means) else {
+            return over(coming, err);
+        };
+        report::<F, O, W, Progress<'_, C, E>>(reporting, &judged.told, tally, &mut room, out, err)?;
+        err.step_on("scanned", tally.scanned);
+    }
+    Err(device_failed(err))
+}
