@@ -1,0 +1,13 @@
+use Rattle.std.proofs.Common.{◌≡◌, ◌≤◌, ◌-◌, length, drop, None}
+use Rattle.av_parts.specs.declared.order_reader.Place.TheVariants as place
+use Rattle.av_parts.specs.Heard.{heard_of}
+use Rattle.av_parts.proofs.order_reader.hear_front.Given as goal
+
+-- nothing was told so far, so what the rest does is what all does
+abbrev pub invariant-bytes : goal.invariant-bytes
+invariant-bytes l =
+    (l.taken ≤ length l.piece) × (heard_of (drop l.taken l.piece) l.reader ≡ heard_of l.piece l.fn.reader)
+    × (l.reader.place ≡ place.Front) × (l.reader.fault ≡ None)
+
+abbrev pub decreases-bytes : goal.decreases-bytes
+decreases-bytes l = length l.piece - l.taken

@@ -1,0 +1,6 @@
+use Rattle.av_parts.proofs.HearLemmas.{words_end}
+use Rattle.av_parts.proofs.word_reader.hear_frame.Goals as goal
+
+pub returns-in-Err-clause-fault : goal.returns-in-Err-clause-fault
+returns-in-Err-clause-fault c =
+    words_end c.args.piece.now c.bytes.taken c.bytes.reader c.args.reader.now c.byte.new.self c.in-Err.fault c.bytes-test.true c.bytes.invariant.1 c.in-Err.ensures.fault.0 c.in-Err.ensures.fault.1

@@ -1,0 +1,9 @@
+mod judging;
+mod order_rows;
+mod orders;
+mod refused;
+mod service;
+mod service_rows;
+mod set;
+mod word_rows;
+mod words;
