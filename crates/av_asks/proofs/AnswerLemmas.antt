@@ -89,7 +89,7 @@ sized bytes x size e = sized_by Answers fault.Length fault.Kind answer_of bytes 
 
 -- ---- what is spelled is read back
 
-body_again : (a : OpenAnswer) → IsAnswer a → answer_of (answer_body a) ≡ Ok a
+pub body_again : (a : OpenAnswer) → IsAnswer a → answer_of (answer_body a) ≡ Ok a
 unfolding answer_of granted_of denied_of unscanned_of field8
 body_again (Granted tag generation version) fits =
     let body = answer_body (Granted tag generation version) in
@@ -112,13 +112,13 @@ body_again (Unscanned tag generation cause) fits =
     ∙ ap (λ n. with_cause (Unscanned tag n) (cause_of (number_of cause))) second
     ∙ ap (with_cause (Unscanned tag generation)) (cause_again cause)
 
-size_fits : (a : OpenAnswer) → (1 ≤ length (answer_body a)) × (length (answer_body a) ≤ GRANTED_SIZE) × (fits_size Answers (length (answer_body a)) ≡ true)
+pub size_fits : (a : OpenAnswer) → (1 ≤ length (answer_body a)) × (length (answer_body a) ≤ GRANTED_SIZE) × (fits_size Answers (length (answer_body a)) ≡ true)
 unfolding field8
 size_fits (Granted tag generation version) = (omega arith, omega arith, refl)
 size_fits (Denied tag cause) = (omega arith, omega arith, refl)
 size_fits (Unscanned tag generation cause) = (omega arith, omega arith, refl)
 
-kind_fits : (a : OpenAnswer) → fits_kind Answers (slice_index (answer_body a) 0) ≡ true
+pub kind_fits : (a : OpenAnswer) → fits_kind Answers (slice_index (answer_body a) 0) ≡ true
 kind_fits (Granted tag generation version) = refl
 kind_fits (Denied tag cause) = refl
 kind_fits (Unscanned tag generation cause) = refl
@@ -136,7 +136,7 @@ read_back a more fits =
 -- ---- what is read is spelled so
 
 -- a length that had to be
-has : {A F : Type 0} (size k : ℕ) (f : F) (r : Result A F) (x : A) → cond (nat_eq size k) r (Err f) ≡ Ok x → (size ≡ k) × (r ≡ Ok x)
+pub has : {A F : Type 0} (size k : ℕ) (f : F) (r : Result A F) (x : A) → cond (nat_eq size k) r (Err f) ≡ Ok x → (size ≡ k) × (r ≡ Ok x)
 has {A} {F} size k f r x e =
     (elim (nat_eq size k) as (λ b. nat_eq size k ≡ b → cond b r (Err f) ≡ Ok x → (size ≡ k) × (r ≡ Ok x)) [
       | true ↦ λ is ok. (eqb-true size k is, ok)
@@ -151,7 +151,7 @@ caused told n x e =
       | Some cause ↦ λ is ok. (cause, cause_numbered n cause is, cc)
     ]) refl e
 
-ends_at : (bytes : List ℕ) (at : ℕ) → length bytes ≡ at → drop at bytes ≡ []
+pub ends_at : (bytes : List ℕ) (at : ℕ) → length bytes ≡ at → drop at bytes ≡ []
 ends_at bytes at len = drop_of_length-le bytes {i = at} (omega (arith, len))
 
 -- numbers one behind another, however they are grouped
@@ -159,7 +159,7 @@ flat_three : (a b c : ℕ) → ◌≡◌ {A = List ℕ} (2 ∷ (field8 a ++ (fie
 unfolding field8
 flat_three a b c = refl
 
-flat_two : (a b : ℕ) (more : List ℕ) → ◌≡◌ {A = List ℕ} (4 ∷ (field8 a ++ (field8 b ++ more))) (4 ∷ (field8 a ++ field8 b ++ more))
+pub flat_two : (a b : ℕ) (more : List ℕ) → ◌≡◌ {A = List ℕ} (4 ∷ (field8 a ++ (field8 b ++ more))) (4 ∷ (field8 a ++ field8 b ++ more))
 unfolding field8
 flat_two a b more = refl
 
@@ -208,7 +208,7 @@ unscanned_is body fits kind a e =
 above_3 : (kind : ℕ) → fits_kind Answers kind ≡ true → nat_eq kind 2 ≡ false → nat_eq kind 3 ≡ false → kind ≡ 4
 above_3 kind fits a b = grind (arith, nat_tests)
 
-spelled : (body : List ℕ) → AreBytes body → fits_kind Answers (slice_index body 0) ≡ true → (a : OpenAnswer) → answer_of body ≡ Ok a → IsAnswer a × (body ≡ answer_body a)
+pub spelled : (body : List ℕ) → AreBytes body → fits_kind Answers (slice_index body 0) ≡ true → (a : OpenAnswer) → answer_of body ≡ Ok a → IsAnswer a × (body ≡ answer_body a)
 unfolding answer_of
 spelled body fits known a e =
     let kind = slice_index body 0 in
@@ -221,7 +221,7 @@ spelled body fits known a e =
           ]) refl
     ]) refl e
 
-low : (n : ℕ) → fits_size Answers n ≡ true → 1 ≤ n
+pub low : (n : ℕ) → fits_size Answers n ≡ true → 1 ≤ n
 low n e = grind (arith, nat_tests)
 
 pub exactly : ReadsSpellings answer_front answer_frame IsAnswer

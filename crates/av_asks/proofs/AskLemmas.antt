@@ -46,7 +46,7 @@ labelled_ok body count long short =
     let b : nat_lt MAX_CONTENT (length body - (ASK_HEAD + count)) ≡ false = le-ltb _ _ short in
     rw (a, b) refl
 
-body_again : (a : Asked) → IsAsk a → ask_of (ask_body a) ≡ Ok a
+pub body_again : (a : Asked) → IsAsk a → ask_of (ask_body a) ≡ Ok a
 unfolding ask_of field8
 body_again a fits =
     let body = ask_body a in

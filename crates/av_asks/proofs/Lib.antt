@@ -4,3 +4,7 @@ pub mod FrontLemmas
 pub mod AskLemmas
 pub mod AnswerLemmas
 pub mod StreamLemmas
+pub mod ContentLemmas
+pub mod ContentSpelling
+pub mod ContentReadLemmas
+pub mod ContentAnswerLemmas

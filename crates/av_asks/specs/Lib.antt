@@ -3,3 +3,8 @@ pub mod Head
 pub mod Reading
 pub mod Feed
 pub mod Laws
+pub mod Contents
+pub mod Speaking
+pub mod LargeAnswers
+pub mod ContentLaws
+pub mod ContentAnswers

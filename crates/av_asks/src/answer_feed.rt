@@ -95,7 +95,7 @@ fn front(rest: &[u8]) -> Result<Option<(OpenAnswer, usize)>, AnswerFault>
 
 // The answer of a body that has an answer's kind.
 #[tactic(auto, unfolding(crate::specs::Reading::answer_of))]
-fn body(body: &[u8]) -> Result<OpenAnswer, AnswerFault>
+pub(crate) fn body(body: &[u8]) -> Result<OpenAnswer, AnswerFault>
     requires { 1 ≤ length body.now }
     ensures { result ≡ answer_of body.now }
 {

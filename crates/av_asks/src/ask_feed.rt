@@ -144,7 +144,7 @@ fn front(alloc: Global, rest: &[u8]) -> Result<Option<(Ask, usize)>, Refusal<Ask
 
 // The ask of a body that has an ask's length and kind. What is wrong with it is found before anything is copied.
 #[tactic(auto, unfolding(crate::specs::Reading::ask_of))]
-fn body(alloc: Global, body: &[u8]) -> Result<Ask, Refusal<AskFault>>
+pub(crate) fn body(alloc: Global, body: &[u8]) -> Result<Ask, Refusal<AskFault>>
     requires { ASK_HEAD ≤ length body.now }
     ensures { IsBody result (ask_of body.now) }
 {

@@ -22,3 +22,24 @@ pub const DENIED_SIZE: usize = 10;
 
 /// The same of an answer that lets through.
 pub const UNSCANNED_SIZE: usize = 18;
+
+/// Bytes of the body that begins a content, before its label: its kind, its tag, and how many bytes the label has.
+pub const BEGIN_HEAD: usize = 10;
+
+/// The most bytes of the body that begins a content.
+pub const MAX_BEGIN: usize = BEGIN_HEAD + MAX_LABEL;
+
+/// Bytes of a part's body before the part: its kind and its tag.
+pub const PART_HEAD: usize = 9;
+
+/// The most bytes of a part.
+pub const MAX_PART: usize = 1_048_576;
+
+/// The most bytes of a part's body.
+pub const MAX_PART_BODY: usize = PART_HEAD + MAX_PART;
+
+/// Bytes of the body that ends a content: its kind, its tag, how, and a count.
+pub const END_SIZE: usize = 18;
+
+/// The most bytes of a content in parts.
+pub const MAX_COUNT: u64 = u64::MAX;

@@ -1,3 +1,6 @@
+mod client_rows;
+mod clients;
+
 use crate::answer::{OpenAnswer, put_answer};
 use crate::answer_feed::AnswerFeed;
 use crate::ask::put_ask;
