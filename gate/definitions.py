@@ -19,8 +19,8 @@ BEGIN, END = "<!-- definitions of {} -->\n", "<!-- as far as here -->\n"
 # The name of a claim in docs/CHECK.md, and where its clause stands.
 CLAIMS = {
     "a world": ("av_world", "src/world.rt", "step", ["promise"]),
-    "a host": ("av_host", "src/groups.rt", "host_groups", ["so_far", "hosted"]),
-    "a filter": ("av_sockets", "src/filter.rt", "filter_files", []),
+    "a host": ("avscan", "src/opening.rt", "host_named", ["so_far", "hosted"]),
+    "a filter": ("avscan", "src/opening.rt", "filter_named", []),
 }
 HEAD = re.compile(r"^(?:abbrev |unfoldable |foldable )?(?:pub )?(?:record |data )?(?:pub )?([A-Za-z_][\w'-]*)\b.*[:=]")
 KINDS = ("abbrev ", "unfoldable ", "pub record ", "pub data ", "record ", "data ")

@@ -64,8 +64,12 @@ class Edit:
                     old = text
                 elif key == "new":
                     self.pairs.append((old, text))
-        text = source(self)
-        self.functions = {function_at(text, text.index(old)) for old, _ in self.pairs if text.count(old) == 1}
+        # (a pair that changes spaces alone is there so that the text of a later one stands once)
+        text, self.functions = source(self), set()
+        for old, new in self.pairs:
+            if text.count(old) == 1 and old.split() != new.split():
+                self.functions.add(function_at(text, text.index(old)))
+            text = text.replace(old, new)
 
     def apply(self, text):
         """The text with the edit made, or None where a text of it doesn't stand there once."""
@@ -379,4 +383,5 @@ def main(words):
     return 1 if failed or never and not refused else 0
 
 
-sys.exit(main(sys.argv[1:]))
+if __name__ == "__main__":
+    sys.exit(main(sys.argv[1:]))

@@ -19,7 +19,7 @@ SPENT = {
     "av_pend": [("pended_open", "PendedOpen")],
     "av_context": [("context_ref", "ContextRef")],
     "av_filter_table": [("filter_table", "FilterTable")],
-    "av_filter": [("filter", "Filter")],
+    "av_filter": [("filter", "Filter"), ("mounted", "Mounted")],
     "av_service": [("work", "Work"), ("done", "Done"), ("out", "ServiceOut")],
     "av_gate": [("gate", "Gate")],
     "av_desk": [("lent", "Lent"), ("lent", "Taken")],

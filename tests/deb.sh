@@ -1,6 +1,6 @@
 #!/bin/sh
 # The Debian package of programs that are built: what it has, and what dpkg does with it in a folder of its own: it is installed,
-# installed again over a changed signature file, removed, and purged. The last line counts the checks.
+# installed again over files that were changed, removed, and purged. The last line counts the checks.
 # usage: tests/deb.sh PROGRAM, avscan in the folder of its crate, beside whose crate those of the other programs are
 set -eu
 built=$(realpath "$(dirname "$1")/../..")
@@ -35,13 +35,18 @@ dpkg-deb -x "$package" "$room/files"
 for script in postinst prerm postrm; do
     check "$script is a script" sh -n "$room/control/$script"
 done
-check "the signature file is kept as the user has it" grep -qx /etc/avscan/signatures.avsig "$room/control/conffiles"
+for file in avguard.conf signatures.avsig; do
+    check "$file is kept as the user has it" grep -qx "/etc/avscan/$file" "$room/control/conffiles"
+done
 check "each file has a checksum" sh -c "cd '$room/files' && md5sum --quiet -c '$room/control/md5sums'"
 for name in avscan avguard avtool; do
     check "$name runs" "$room/files/usr/bin/$name" --version
     check "$name has a page" gzip -t "$room/files/usr/share/man/man1/$name.1.gz"
     check "bash completes $name" bash -n "$room/files/usr/share/bash-completion/completions/$name"
 done
+check "the guard's settings are good" "$room/files/usr/bin/avguard" check-config "$room/files/etc/avscan/avguard.conf"
+check "the guard's unit names them" grep -q "^ExecStart=/usr/bin/avguard run --config /etc/avscan/avguard.conf$" "$room/files/usr/lib/systemd/system/avscan-guard.service"
+check "the guard denies what can't be judged" grep -qx "open = false" "$room/files/etc/avscan/avguard.conf"
 check "the signatures are a set" "$room/files/usr/bin/avscan" check "$room/files/etc/avscan/signatures.avsig"
 check "the license is there" grep -q "Apache-2.0 or MIT" "$room/files/usr/share/doc/vizdroun/copyright"
 check "the changes are there" gzip -t "$room/files/usr/share/doc/vizdroun/changelog.gz"
@@ -71,9 +76,11 @@ check "two lines say how to start it" test "$(grep -c '^vizdroun: ' "$room/dpkg"
 check "the groups are there" test "$(grep -cE '^avscan(-ask)?:' "$system/etc/group")" = 2
 check "what is installed runs" "$system/usr/bin/avscan" check "$system/etc/avscan/signatures.avsig"
 echo '# of this machine' >> "$system/etc/avscan/signatures.avsig"
+echo '# of this machine' >> "$system/etc/avscan/avguard.conf"
 check "it is installed over itself" with_dpkg -i "$package"
 check "an update says nothing of a first start" not grep -q '^vizdroun: ' "$room/dpkg"
 check "a changed signature file stays" grep -q 'of this machine' "$system/etc/avscan/signatures.avsig"
+check "changed settings stay" grep -q 'of this machine' "$system/etc/avscan/avguard.conf"
 mkdir -p "$system/var/lib/avscan-guard"
 check "it is removed" with_dpkg -r vizdroun
 check "no program is left" not test -e "$system/usr/bin/avscan"

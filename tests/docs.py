@@ -8,7 +8,7 @@ import glob, os, re, shutil, subprocess, sys, tempfile
 from programs import program_beside
 
 ROOT = os.path.dirname(os.path.dirname(os.path.abspath(__file__)))
-PAGES = ["README.md", "CHANGELOG.md", "bench/README.md", "gate/README.md", "tests/README.md"] + [f"docs/{name}.md" for name in ("ARCHITECTURE", "CHECK", "CONDUCT", "DECISIONS", "FORMATS", "GATE", "MUTANTS", "READING", "OPERATING", "PROMISES", "SCANNER", "THREADS")]
+PAGES = ["README.md", "CHANGELOG.md", "bench/README.md", "gate/README.md", "tests/README.md"] + [f"docs/{name}.md" for name in ("ARCHITECTURE", "CHECK", "CONDUCT", "DECISIONS", "EDITS", "FORMATS", "GATE", "MUTANTS", "READING", "OPERATING", "PROMISES", "SCANNER", "THREADS")]
 # words of the language, of std and of formats that stand in backticks too
 OUTSIDE = set("make test run install scan rt clang slab lru bytes hex clap thiserror itoa std memchr Drop Display Error From Ok Err Some None "
               "true false requires ensures main malloc grep nice yara clamscan clamonacc clamd cargo valgrind".split())
@@ -145,7 +145,7 @@ def lemmas(checks):
 def fault_lines(checks):
     # (a test of a library has its lines without the program's name, which its standard error puts in front)
     tested = "".join(text_of(path) for path in ("crates/av_status/src/tests.rt", "crates/av_words/src/tests.rt", "crates/avscan_words/src/tests.rt", "crates/avguard_words/src/tests.rt", "crates/avscan/src/tests.rt"))
-    given = "".join(text_of(path) for path in glob.glob(os.path.join(ROOT, "tests", "*", "*.case")) + glob.glob(os.path.join(ROOT, "tests", "import", "*.err"))) + "".join(text_of(path) for path in ("tests/program.py", "tests/files.py", "tests/tables.py", "tests/sockets.py", "tests/watch.py", "tests/chart.py", "tests/guard.py", "tests/clients.py", "tests/attacks.py", "tests/waits.py", "tests/import.py", "tests/generate.py"))
+    given = "".join(text_of(path) for path in glob.glob(os.path.join(ROOT, "tests", "*", "*.case")) + glob.glob(os.path.join(ROOT, "tests", "import", "*.err"))) + "".join(text_of(path) for path in ("tests/program.py", "tests/files.py", "tests/tables.py", "tests/sockets.py", "tests/watch.py", "tests/chart.py", "tests/guard.py", "tests/clients.py", "tests/attacks.py", "tests/waits.py", "tests/config.py", "tests/import.py", "tests/generate.py"))
     for line in re.findall(r"\| `(av(?:scan|guard|tool): [^`]*)` \|", text_of("docs/FORMATS.md")):
         pattern = re.escape(line).replace(r"\.\.", ".*")
         for word, form in (("N", r"(\d+|%d)"), ("K", r"(\d+|%d)"), ("FILE", r".*"), ("SOCKET", r".*"), ("LIST", r".*"), ("SET", r".*"), ("OPENS", r".*"), ("WORDS", r".*"), ("V", r"(\d+|%d)"), ("W", r"(\d+|%d)")):
@@ -193,14 +193,14 @@ def help_of(program, *words):
     return subprocess.run([program, *words, "--help"], stdout=subprocess.PIPE, text=True, timeout=60).stdout
 
 
-COMMANDS = {"avscan": ["run", "scan", "host", "filter", "service", "check"], "avguard": ["run", "ask"], "avtool": ["chart", "generate", "import"]}
+COMMANDS = {"avscan": ["run", "scan", "host", "filter", "service", "check"], "avguard": ["run", "ask", "check-config"], "avtool": ["chart", "generate", "import"]}
 
 
 def manual(checks, program):
     """The manual page and the completions of each program have each of its commands and options; the pages render."""
     for name, wanted in COMMANDS.items():
         at = program_beside(program, name)
-        commands = re.findall(r"^  (\w+) ", help_of(at).split("Commands:")[1].split("Options:")[0], flags=re.M)
+        commands = re.findall(r"^  ([\w-]+) ", help_of(at).split("Commands:")[1].split("Options:")[0], flags=re.M)
         checks.check(commands == [*wanted, "help"], f"commands of {name}: {commands}")
         options = set(re.findall(r"(?<![\w-])--?[a-zA-Z][a-z0-9-]*", "".join(help_of(at, *words) for words in [[]] + [[command] for command in wanted])))
         worded(checks, name, at, [*commands, *sorted(options)])

@@ -99,7 +99,7 @@ def is_silent(end):
 class Guard:
     """A guard in a folder of its own."""
 
-    def __init__(self, program, *words, clamd=True, descriptors=None, stderr=None):
+    def __init__(self, program, *words, clamd=True, descriptors=None, stderr=None, before=None):
         self.room = tempfile.TemporaryDirectory()
         self.folder = self.room.name
         self.program = program_beside(program, "avguard")
@@ -107,7 +107,7 @@ class Guard:
         more = ["--clamd", self.clamd] if clamd else []
         self.log = open(os.path.join(self.folder, "log"), "w+b")
         limited = ["prlimit", f"--nofile={descriptors}:{descriptors}"] if descriptors else []
-        self.process = subprocess.Popen([*limited, self.program, "run", *words, *more, self.opens, self.service], stdin=subprocess.DEVNULL, stdout=subprocess.PIPE, stderr=stderr or self.log)
+        self.process = subprocess.Popen([*limited, self.program, "run", *words, *more, self.opens, self.service], stdin=subprocess.DEVNULL, stdout=subprocess.PIPE, stderr=stderr or self.log, preexec_fn=before)
         self.said = 0
 
     def __enter__(self):
