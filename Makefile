@@ -10,7 +10,7 @@ SHARE = $(DESTDIR)$(PREFIX)/share
 
 # `run` shows the example before it proves, also with -j
 .NOTPARALLEL:
-.PHONY: build avscan run unproved try test proofs gate-times bench install install-built deb $(PROGRAMS:%=install-%) clean kit
+.PHONY: build avscan run unproved try test proofs soak gate-times bench install install-built deb $(PROGRAMS:%=install-%) clean kit
 
 build: kit
 	@echo "building: proving each crate and compiling $(PROGRAMS) (README.md says how long the first time takes)"
@@ -41,6 +41,11 @@ test: kit
 
 proofs: kit
 	@room=$$(mktemp -d) && trap 'rm -rf "$$room"' EXIT && sh gate/whole.sh "$$room"
+
+# a guard for so many hours beside all that happens to it, with flat memory and descriptors as the verdict
+HOURS := 1
+soak: build
+	@python3 tests/soak.py "$(PROGRAM)" $$(awk 'BEGIN { print $(HOURS) * 3600 }')
 
 gate-times:
 	@python3 gate/times.py

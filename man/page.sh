@@ -12,11 +12,11 @@ title() { # NAME SECTION WHAT
     printf '.ad l\n.nh\n'
 }
 
-part() { # HEADING: the part of docs/FORMATS.md under this heading, as far as the next one of its kind
-    awk -v heading="## $1" '
+part() { # HEADING: the part of docs/FORMATS.md under this heading, as far as the next one of its kind or above it
+    awk -v heading="$1" '
         /^```/ { fenced = !fenced }
-        $0 == heading { inside = 1; next }
-        !fenced && /^## / { inside = 0 }
+        $0 == heading { inside = length($1); next }
+        !fenced && /^#+ / && length($1) <= inside { inside = 0 }
         inside
     ' "$formats" | awk -f "$here/roff.awk"
 }
@@ -34,7 +34,7 @@ command_page() { # NAME WHAT PROGRAM COMMAND..
     shift 3
     echo .SH SYNOPSIS
     for command in "$@"; do
-        "$program" "$command" --help | sed -n -e 's/-/\\-/g' -e "s/^Usage: \\($name [a-z]*\\) *\\(.*\\)/.br\\n.B \\1\\n\\2/p"
+        "$program" "$command" --help | sed -n -e 's/-/\\-/g' -e "s/^Usage: \\($name [a-z\\-]*\\) *\\(.*\\)/.br\\n.B \\1\\n\\2/p"
     done
     echo .SH DESCRIPTION
     "$program" --help | words
@@ -66,7 +66,7 @@ format_page() { # NAME WHAT HEADING
     echo .SH NAME
     echo "$1 \\- $2"
     echo .SH DESCRIPTION
-    part "$3"
+    part "## $3"
     see_also avscan.1
 }
 
@@ -74,11 +74,13 @@ case ${1-} in
 avscan.1)
     command_page avscan "hold opens of files until a scanning service has judged their content" "$2" run scan host filter service check
     echo .SH "OUTPUT, STATUS AND FAULTS"
-    part "The programs"
+    part "## The programs"
     see_also avguard.1 avtool.1 avsig.5 avscript.5
     ;;
 avguard.1)
-    command_page avguard "answer other programs whether a content may be opened" "$2" run ask
+    command_page avguard "answer other programs whether a content may be opened" "$2" run ask check-config
+    echo .SH "CONFIGURATION FILES"
+    part "### Configuration files"
     of_all
     see_also avscan.1 avsig.5
     ;;

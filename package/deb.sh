@@ -37,6 +37,7 @@ done
 install -D -m 644 "$here/vizdroun.sysusers" "$root/usr/lib/sysusers.d/vizdroun.conf"
 install -D -m 644 "$top/examples/systemd/avscan.tmpfiles" "$root/usr/lib/tmpfiles.d/vizdroun.conf"
 install -D -m 644 "$here/signatures.avsig" "$root/etc/avscan/signatures.avsig"
+sed 's,docs/FORMATS.md,/usr/share/doc/vizdroun/FORMATS.md.gz,' "$top/examples/systemd/avguard.conf" > "$root/etc/avscan/avguard.conf"
 
 for page in README CHANGELOG; do
     install -m 644 "$top/$page.md" "$doc"
@@ -52,7 +53,7 @@ find "$doc/examples" -name '*.py' -exec chmod 644 {} +
 size=$(du -sk --apparent-size "$root/usr" "$root/etc" | awk '{ all += $1 } END { print all }')
 architecture=$(dpkg-deb --print-architecture 2> /dev/null || dpkg --print-architecture)
 sed -e "s/@VERSION@/$version/; s/@ARCHITECTURE@/$architecture/; s/@SIZE@/$size/" "$here/control.in" > "$root/DEBIAN/control"
-echo /etc/avscan/signatures.avsig > "$root/DEBIAN/conffiles"
+printf '/etc/avscan/%s\n' avguard.conf signatures.avsig > "$root/DEBIAN/conffiles"
 for script in postinst prerm postrm; do
     install -m 755 "$here/$script" "$root/DEBIAN/$script"
 done
