@@ -2,7 +2,7 @@
 _avguard() {
     local word=${COMP_WORDS[COMP_CWORD]} before=${COMP_WORDS[COMP_CWORD - 1]} command=${COMP_WORDS[1]-} options
     if [ "$COMP_CWORD" = 1 ]; then
-        COMPREPLY=($(compgen -W "run ask check-config help --help --version" -- "$word"))
+        COMPREPLY=($(compgen -W "run ask status metrics check-config help --help --version" -- "$word"))
         return
     fi
     case $before in
@@ -26,7 +26,9 @@ _avguard() {
     case $command in
     run) options="--config --open --closed --wait --keep --questions --clamd --names --mode --service-mode --least --most-version --state --log --log-grants --log-json --help" ;;
     ask) options="--recursive --keep-going --infected --json --print0 --files-from --null --found-status --summary --wait --quiet --help" ;;
-    help) options="run ask check-config" ;;
+    status) options="--json --wait --help" ;;
+    metrics) options="--wait --help" ;;
+    help) options="run ask status metrics check-config" ;;
     *) options="--help" ;;
     esac
     case $command:$word in

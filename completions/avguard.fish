@@ -1,12 +1,14 @@
 # Completion of avguard for fish.
-set -l commands run ask check-config help
+set -l commands run ask status metrics check-config help
 complete -c avguard -n "not __fish_seen_subcommand_from $commands" -f
 complete -c avguard -n "not __fish_seen_subcommand_from $commands" -a run -d "Answer opens that other programs ask about"
 complete -c avguard -n "not __fish_seen_subcommand_from $commands" -a ask -d "Ask a guard whether files may be opened"
+complete -c avguard -n "not __fish_seen_subcommand_from $commands" -a status -d "Ask a guard how it is"
+complete -c avguard -n "not __fish_seen_subcommand_from $commands" -a metrics -d "Print how a guard is, as Prometheus reads it"
 complete -c avguard -n "not __fish_seen_subcommand_from $commands" -a check-config -d "Look at a configuration file of avguard run"
 complete -c avguard -n "not __fish_seen_subcommand_from $commands" -a help -d "Print a help text"
 complete -c avguard -n "not __fish_seen_subcommand_from $commands" -s V -l version -d "Print the version"
-complete -c avguard -n "__fish_seen_subcommand_from ask" -l json -d "Print JSON objects, one a line"
+complete -c avguard -n "__fish_seen_subcommand_from ask status" -l json -d "Print JSON objects, one a line"
 complete -c avguard -s h -l help -d "Print the help text"
 complete -c avguard -n "__fish_seen_subcommand_from ask" -s q -l quiet -d "Show no progress on a terminal"
 complete -c avguard -n "__fish_seen_subcommand_from ask" -s r -l recursive -d "A folder stands for the files below it"
@@ -17,7 +19,7 @@ complete -c avguard -n "__fish_seen_subcommand_from ask" -l files-from -r -d "A 
 complete -c avguard -n "__fish_seen_subcommand_from ask" -s 0 -l null -d "A zero byte ends each name of the list"
 complete -c avguard -n "__fish_seen_subcommand_from ask" -l found-status -d "End with status 5 or 6 where something is infected"
 complete -c avguard -n "__fish_seen_subcommand_from ask" -l summary -d "Say at the end how many files were scanned"
-complete -c avguard -n "__fish_seen_subcommand_from run ask" -l wait -x -a "5 30 60 300" -d "Seconds to wait for the other side"
+complete -c avguard -n "__fish_seen_subcommand_from run ask status metrics" -l wait -x -a "5 30 60 300" -d "Seconds to wait for the other side"
 complete -c avguard -n "__fish_seen_subcommand_from run" -l mode -x -a "600 660 666" -d "Who may join at the socket"
 complete -c avguard -n "__fish_seen_subcommand_from run" -l service-mode -x -a "600 660 666" -d "Who may join as the service"
 complete -c avguard -n "__fish_seen_subcommand_from run" -l least -x -d "The least version that is believed"

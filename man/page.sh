@@ -78,7 +78,7 @@ avscan.1)
     see_also avguard.1 avtool.1 avsig.5 avscript.5
     ;;
 avguard.1)
-    command_page avguard "answer other programs whether a content may be opened" "$2" run ask check-config
+    command_page avguard "answer other programs whether a content may be opened" "$2" run ask status metrics check-config
     echo .SH "CONFIGURATION FILES"
     part "### Configuration files"
     of_all

@@ -193,7 +193,7 @@ def help_of(program, *words):
     return subprocess.run([program, *words, "--help"], stdout=subprocess.PIPE, text=True, timeout=60).stdout
 
 
-COMMANDS = {"avscan": ["run", "scan", "host", "filter", "service", "check"], "avguard": ["run", "ask", "check-config"], "avtool": ["chart", "generate", "import"]}
+COMMANDS = {"avscan": ["run", "scan", "host", "filter", "service", "check"], "avguard": ["run", "ask", "status", "metrics", "check-config"], "avtool": ["chart", "generate", "import"]}
 
 
 def manual(checks, program):

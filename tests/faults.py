@@ -73,6 +73,18 @@ def answers(out, whole):
     return any(len(lines) <= len(some) and all(line in of for line, of in zip(lines, some)) for some in (told, told[1:]))
 
 
+def figures(out, whole):
+    """Lines with the names of a whole run's, from the first one on, and numbers. The last one may have been cut."""
+    lines, names = out.split(b"\n"), [line.split(b" ")[0] for line in whole.splitlines()]
+    return all(line.split(b" ")[0] == name and line.split(b" ")[1].isdigit() for line, name in zip(lines[:-1], names)) and len(lines) <= len(names) + 1
+
+
+def some_of_metrics(out, whole):
+    """The same of metrics: of each line that ended, all but the number is that of a whole run."""
+    front = lambda line: line if line.startswith(b"#") else line.split(b" ")[0]
+    return all(front(line) == front(other) for line, other in zip(out.split(b"\n")[:-1], whole.splitlines())) and out.count(b"\n") <= whole.count(b"\n")
+
+
 def each_call(cases, library, words, may_say=is_front):
     """A command with each of its calls failing."""
     name, whole = " ".join([os.path.basename(words[0]), *words[1:3]]), run(words)
@@ -145,6 +157,8 @@ def asking(cases, program, library):
             time.sleep(0.02)
         words = [program_beside(program, "avguard"), "ask", "--wait", "10", pair.opens, LETTER, EICAR]
         each_call(cases, library, words, answers)
+        for command in ("status", "metrics"):
+            each_call(cases, library, [words[0], command, "--wait", "10", pair.opens], figures if command == "status" else some_of_metrics)
         cases.same("the guard behind clients whose calls failed", pair.ask(), WHOLE)
         pair.end()
 

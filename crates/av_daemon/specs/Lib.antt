@@ -7,5 +7,6 @@ pub mod Late
 pub mod Line
 pub mod Names
 pub mod Recorder
+pub mod Reports
 pub mod Service
 pub mod Told

@@ -54,18 +54,14 @@ impl<'a, R: Net + Clock> Asker<'a, R> {
         ensures none { IfOk result (λ asker. (asker.answers.items ≡ []) × (asker.owed ≡ 0)) }
         ensures fault { IfErr result IsGuardless }
     {
-        match connect(rt, alloc, meeting) {
-            Ok(duplex) => Ok(Asker {
-                duplex,
-                feed: AnswerFeed::new(alloc),
-                answers: Vec::new(alloc),
-                owed: 0,
-                room: Vec::new(alloc),
-            }),
-            Err(SocketFault::NotAllowed) => Err(SocketFault::NotAllowed),
-            Err(SocketFault::FilterLost) => Err(SocketFault::GuardLost),
-            Err(_) => Err(SocketFault::NoGuard),
-        }
+        let duplex = meet(rt, alloc, meeting)?;
+        Ok(Asker {
+            duplex,
+            feed: AnswerFeed::new(alloc),
+            answers: Vec::new(alloc),
+            owed: 0,
+            room: Vec::new(alloc),
+        })
     }
 
     /// Asks about a content, whose name the guard is told as far as it has room for it. The answer may come later.
@@ -197,6 +193,22 @@ impl<'a, R: Net + Clock> Asker<'a, R> {
         }
         self.owed = self.owed.saturating_sub(1);
         Ok(())
+    }
+}
+
+/// A connection to the guard that listens at a socket, or will within the wait.
+pub(crate) fn meet<'a, R: Net + Clock>(
+    rt: &'a R,
+    alloc: Global,
+    meeting: Meeting<'_>,
+) -> Result<Duplex<'a, R>, SocketFault>
+    ensures { IfErr result IsGuardless }
+{
+    match connect(rt, alloc, meeting) {
+        Ok(duplex) => Ok(duplex),
+        Err(SocketFault::NotAllowed) => Err(SocketFault::NotAllowed),
+        Err(SocketFault::FilterLost) => Err(SocketFault::GuardLost),
+        Err(_) => Err(SocketFault::NoGuard),
     }
 }
 

@@ -126,6 +126,13 @@ impl Client {
         self.is_done && self.owed == 0 && self.line.waiting() == 0
     }
 
+    /// How many answers it waits for.
+    pub fn owed(&self) -> usize
+        ensures { result ≡ self.now.owed }
+    {
+        self.owed
+    }
+
     /// Reads a piece, and says how many bytes came. One that sends no more is done; one that takes no more either is lost.
     pub fn read(&mut self, buffer: &mut [u8]) -> Result<usize, Lost>
         ensures within { IfOk result (λ count. count ≤ length buffer.new) }

@@ -2,6 +2,7 @@ mod accepting;
 mod asking;
 mod reading;
 mod recording;
+mod reporting;
 mod sending;
 mod telling;
 
@@ -16,6 +17,7 @@ use crate::recorder::{MOST_WAITING, Recorder};
 use crate::service::Service;
 use av_base::{Mode, Version};
 use av_guard::Guard;
+use av_health::Counts;
 use av_log::Entry;
 use av_status::Prefixed;
 use av_turns::Turns;
@@ -43,7 +45,9 @@ const SUCCEEDING: u64 = 4;
 
 const LOG: u64 = 5;
 
-const FIRST: u64 = 6;
+pub const STATUS: u64 = 6;
+
+const FIRST: u64 = 7;
 
 // How many are let in at a door before what came is read. Each wants two turns, to be heard and to be seen leaving, and there are no
 // fewer of those: else those who come and go would take all places.
@@ -91,6 +95,8 @@ pub struct Entrance {
     pub opens: Door,
     pub service: Door,
     pub clamd: Option<Door>,
+    /// To which those come who want to know what the guard does.
+    pub status: Option<Door>,
 }
 
 /// Who came to the guard's sockets. It does what the turns say: who is read, whose time is up, who is let in.
@@ -113,6 +119,10 @@ pub struct Daemon<'a, R: Files> {
     belief: Belief,
     keeping: Keeping<'a>,
     names: Names<'a>,
+    // Since when it runs, how often it answered, and since when the service has greeted.
+    begun: Duration,
+    counts: Counts,
+    greeted: Option<Duration>,
     log: Prefixed<Log>,
     // What writes the log of decisions, where there is one.
     recorder: Option<Recorder<'a, R::File>>,
@@ -130,6 +140,9 @@ impl<'a, R: Files + Net + Clock> Daemon<'a, R> {
         recorder: Option<Recorder<'a, R::File>>,
     ) -> Result<Daemon<'a, R>, Stop> {
         let buffer = vec![in alloc; 0u8; PIECE]?;
+        let Ok(now) = rt.monotonic() else {
+            return Err(Stop::Device);
+        };
         let asked = begun.asked;
         let belief = asked.belief(kept);
         let most = match &recorder {
@@ -153,6 +166,9 @@ impl<'a, R: Files + Net + Clock> Daemon<'a, R> {
             belief,
             keeping: Keeping::new(asked.state, kept),
             names: Names::new(asked.doors.names),
+            begun: now,
+            counts: Counts::new(),
+            greeted: None,
             log: Prefixed::new(begun.program, log),
             recorder,
             buffer,
@@ -217,17 +233,14 @@ impl<'a, R: Files + Net + Clock> Daemon<'a, R> {
         if self.goes_on || self.turns.ready() > 0 {
             return Some(Duration::ZERO);
         }
-        let clamd = match &self.doors.clamd {
-            Some(clamd) => clamd.next_try(now),
-            None => None,
-        };
         let dues = [
             self.turns_due(),
             self.service_due(),
             self.lines_due(),
             self.doors.opens.next_try(now),
             self.doors.service.next_try(now),
-            clamd,
+            next_try(&self.doors.clamd, now),
+            next_try(&self.doors.status, now),
         ];
         let mut timeout: Option<Duration> = None;
         for due in dues {
@@ -257,11 +270,8 @@ impl<'a, R: Files + Net + Clock> Daemon<'a, R> {
         match number {
             OPENS => self.doors.opens.told(),
             SERVICE => self.doors.service.told(),
-            CLAMD => {
-                if let Some(clamd) = &mut self.doors.clamd {
-                    clamd.told();
-                }
-            }
+            CLAMD => told(&mut self.doors.clamd),
+            STATUS => told(&mut self.doors.status),
             SERVING => return self.note_service(event),
             SUCCEEDING => self.note_successor(event),
             LOG => self.log.writer.told(),
@@ -324,6 +334,21 @@ impl<'a, R: Files + Net + Clock> Daemon<'a, R> {
             self.sending.push_back(number)?;
         }
         Ok(())
+    }
+}
+
+// Somebody came to a door, where there is such a door.
+fn told(door: &mut Option<Door>) {
+    if let Some(door) = door {
+        door.told();
+    }
+}
+
+// When it is tried again to let in who may wait at a door, where there is such a door.
+fn next_try(door: &Option<Door>, now: Duration) -> Option<Duration> {
+    match door {
+        Some(door) => door.next_try(now),
+        None => None,
     }
 }
 

@@ -3,11 +3,12 @@ ghost use Rattle.av_daemon.specs.Guarding.{IsFailed};
 ghost use Rattle.av_status.specs.declared.status.Status.TheVariants.{Device};
 
 use crate::belief::Belief;
-use crate::daemon::{CLAMD, Daemon, Entrance, OPENS, SERVICE, Stop};
+use crate::daemon::{CLAMD, Daemon, Entrance, OPENS, SERVICE, STATUS, Stop};
 use crate::descriptors::{clients_of, descriptors};
 use crate::door::Door;
 use crate::keeping::{BadKeeping, kept_version};
 use crate::recorder::{BadLog, Logging, Recorder, open_log};
+use crate::reports::{no_report, status_path};
 use av_base::{Mode, Version};
 use av_guard::{Guard, Settings};
 use av_sockets::fault::socket_failed;
@@ -141,6 +142,7 @@ struct Listeners {
     opens: UnixListener,
     service: UnixListener,
     clamd: Option<UnixListener>,
+    status: Option<UnixListener>,
 }
 
 // One of them, with its file.
@@ -187,6 +189,7 @@ fn guard_with<R: Files + Net + Clock + RandomSource, E: Write>(
         opens,
         service: service.listener,
         clamd: None,
+        status: None,
     };
     let status = guard_all(rt, alloc, begun, listeners, err);
     remove_own(rt, asked.doors.service, service.node);
@@ -205,7 +208,7 @@ fn guard_all<R: Files + Net + Clock + RandomSource, E: Write>(
 {
     let asked = begun.asked;
     let Some(path) = asked.doors.clamd else {
-        return guard_over(rt, alloc, begun, listeners, err);
+        return guard_told(rt, alloc, begun, listeners, err);
     };
     let clamd = match listen_at(rt, alloc, path, asked.rights, err) {
         Ok(door) => door,
@@ -215,8 +218,40 @@ fn guard_all<R: Files + Net + Clock + RandomSource, E: Write>(
         clamd: Some(clamd.listener),
         ..listeners
     };
-    let status = guard_over(rt, alloc, begun, listeners, err);
+    let status = guard_told(rt, alloc, begun, listeners, err);
     remove_own(rt, path, clamd.node);
+    status
+}
+
+// Goes on with the socket at which the guard says what it does, where a socket can have its path.
+fn guard_told<R: Files + Net + Clock + RandomSource, E: Write>(
+    rt: &R,
+    alloc: Global,
+    begun: Begun<'_>,
+    listeners: Listeners,
+    err: &mut Prefixed<E>,
+) -> Status
+    ensures { IsFailed result }
+{
+    let asked = begun.asked;
+    let path = match status_path(alloc, asked.doors.opens) {
+        Ok(Some(path)) => path,
+        Ok(None) => {
+            let _ = no_report(err, asked.doors.opens);
+            return guard_over(rt, alloc, begun, listeners, err);
+        }
+        Err(_) => return out_of_memory(err),
+    };
+    let door = match listen_at(rt, alloc, path.as_str(), asked.rights, err) {
+        Ok(door) => door,
+        Err(status) => return status,
+    };
+    let listeners = Listeners {
+        status: Some(door.listener),
+        ..listeners
+    };
+    let status = guard_over(rt, alloc, begun, listeners, err);
+    remove_own(rt, path.as_str(), door.node);
     status
 }
 
@@ -323,20 +358,28 @@ fn entrance<R: Net>(rt: &R, listeners: Listeners) -> io::Result<Entrance> {
         opens,
         service,
         clamd,
+        status,
     } = listeners;
     let poll = Poll::new(rt)?;
     let opens = Door::new(&poll, opens, OPENS)?;
     let service = Door::new(&poll, service, SERVICE)?;
-    let clamd = match clamd {
-        None => None,
-        Some(listener) => Some(Door::new(&poll, listener, CLAMD)?),
-    };
+    let clamd = door_at(&poll, clamd, CLAMD)?;
+    let status = door_at(&poll, status, STATUS)?;
     Ok(Entrance {
         poll,
         opens,
         service,
         clamd,
+        status,
     })
+}
+
+// The door at a socket, where there is one.
+fn door_at(poll: &Poll, listener: Option<UnixListener>, number: u64) -> io::Result<Option<Door>> {
+    match listener {
+        None => Ok(None),
+        Some(listener) => Ok(Some(Door::new(poll, listener, number)?)),
+    }
 }
 
 // The number of the filter's boot and the key of the names of contents, which nobody can know before.

@@ -20,10 +20,13 @@ mod keeping;
 mod line;
 mod log;
 mod names;
+mod process;
 mod recorder;
+mod reports;
 mod service;
 mod told;
 
 pub use asking::{Asker, AskingFault};
 pub use guarding::{Doors, Guarding, guard_at};
 pub use recorder::Logging;
+pub use reports::{no_report, report_at, status_path};

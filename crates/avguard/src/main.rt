@@ -1,9 +1,10 @@
-//! The program that guards opens of other programs, asks a guard about files, and looks at a guard's configuration file.
+//! The program that guards opens of other programs, asks a guard about files and how it is, and looks at a guard's configuration file.
 #![tactic(auto)]
 
 mod ask;
 mod configuring;
 mod guarding;
+mod reporting;
 
 use ask::ask_named;
 use av_program::{Errors, Output, command_line, held, progress, say_output_fault};
@@ -12,6 +13,7 @@ use av_status::{Prefixed, Status};
 use avguard_words::{PROGRAM, Request, read_words};
 use configuring::{check_config, guard_configured};
 use guarding::{Guards, guard_named};
+use reporting::print_report;
 use std::alloc::Global;
 use std::cell::Cell;
 use std::io::{BufWriter, Error, Write};
@@ -70,6 +72,7 @@ fn done<R: Guards, W: Write>(
         Request::Guard(guard) => guard_named(rt, system, alloc, *guard, &mut err),
         Request::Configured(asked) => guard_configured(rt, system, alloc, *asked, &mut err),
         Request::CheckConfig(file) => check_config(rt, alloc, file, out, &mut err),
+        Request::Report(report) => print_report(system, alloc, *report, out, &mut err),
         Request::Ask(ask) => {
             let err = &mut progress(rt, PROGRAM, fault, &ask.named);
             ask_named(rt, system, alloc, ask, out, err)

@@ -5,7 +5,7 @@ use Rattle.av_words.specs.Words.{IsSocketPath}
 use Rattle.avguard_words.specs.Settings.{HasUseOfNames}
 use Rattle.avguard_words.specs.declared.request.Guard.{Guard as Guarding}
 use Rattle.avguard_words.specs.declared.request.Request.{Request}
-use Rattle.avguard_words.specs.declared.request.Request.TheVariants.{Guard, Configured, CheckConfig, Ask}
+use Rattle.avguard_words.specs.declared.request.Request.TheVariants.{Guard, Configured, CheckConfig, Ask, Report}
 
 -- the sockets of a guard can be ones
 abbrev pub HasSockets : Guarding → Type 0
@@ -25,6 +25,7 @@ AsksForApart (Guard guard) = AreApart guard
 AsksForApart (Configured asked) = ⊤
 AsksForApart (CheckConfig file) = ⊤
 AsksForApart (Ask ask) = ⊤
+AsksForApart (Report report) = ⊤
 
 -- a guard that is asked for has names only for clients of clamd
 abbrev pub AsksForUseOfNames : Request → Type 0
@@ -32,6 +33,7 @@ AsksForUseOfNames (Guard guard) = HasUseOfNames guard
 AsksForUseOfNames (Configured asked) = ⊤
 AsksForUseOfNames (CheckConfig file) = ⊤
 AsksForUseOfNames (Ask ask) = ⊤
+AsksForUseOfNames (Report report) = ⊤
 
 -- the sockets that are asked for can be ones
 abbrev pub AsksForSockets : Request → Type 0
@@ -39,3 +41,4 @@ AsksForSockets (Guard guard) = HasSockets guard
 AsksForSockets (Configured asked) = ⊤
 AsksForSockets (CheckConfig file) = ⊤
 AsksForSockets (Ask ask) = IsSocketPath ask.opens.now
+AsksForSockets (Report report) = IsSocketPath report.opens.now

@@ -10,10 +10,12 @@ use av_words::{Absent, Kind, Word, command_of, with};
 use clap::{Arg, Command};
 use std::alloc::{AllocError, Global};
 
-/// The command line: a command that guards, one that asks a guard, and one that looks at a configuration file.
+/// The command line: a command that guards, one that asks a guard, two that ask it how it is, and one that looks at a configuration file.
 pub fn avguard_command<'a>(alloc: Global) -> Result<Command<'a>, AllocError> {
     let command = with(program(alloc), run_command(alloc))?;
     let command = with(command, ask_command(alloc))?;
+    let command = with(command, status_command(alloc))?;
+    let command = with(command, metrics_command(alloc))?;
     with(command, check_config_command(alloc))
 }
 
@@ -134,6 +136,42 @@ fn ask_command<'a>(alloc: Global) -> Result<Command<'a>, AllocError> {
         ],
     )
 }
+
+fn status_command<'a>(alloc: Global) -> Result<Command<'a>, AllocError> {
+    command_of(
+        alloc,
+        "status",
+        "Asks a guard how it is",
+        "It prints a line for each figure: its name and its number. The status is 0 only where a service is connected that has greeted,          so it\
+         \nis a check of health; it is 4 without a service, and without a guard. The guard tells it at OPENS.status.\
+         \n\nExample, beside `avguard run opens.socket service.socket`:\
+         \n  avguard status opens.socket",
+        &[OPENS_OF_GUARD, JSON, WAIT_FOR_REPORT],
+    )
+}
+
+fn metrics_command<'a>(alloc: Global) -> Result<Command<'a>, AllocError> {
+    command_of(
+        alloc,
+        "metrics",
+        "Prints how a guard is, as Prometheus reads it",
+        "The names begin with `avguard_`. The status is 0 where a guard told it, with a service or without.\
+         \n\nExample, for the textfile collector of node_exporter:\
+         \n  avguard metrics opens.socket > avguard.prom.new && mv avguard.prom.new avguard.prom",
+        &[OPENS_OF_GUARD, WAIT_FOR_REPORT],
+    )
+}
+
+const WAIT_FOR_REPORT: Word = Word {
+    name: "wait",
+    kind: Kind::Number {
+        shown: "SECONDS",
+        least: 1,
+        greatest: 86_400,
+        absent: Absent::Means("5"),
+    },
+    help: "How long to wait for the guard to be there, and for what it says",
+};
 
 const OPENS_MADE: &str = "Where to make the socket for opens: a path of 1 to 107 bytes";
 

@@ -14,6 +14,8 @@ pub enum Request<'a> {
     CheckConfig(&'a str),
     /// Ask a guard about files.
     Ask(Ask<'a>),
+    /// Ask a guard how it is.
+    Report(Report<'a>),
 }
 
 /// Where a guard is joined, and how it answers.
@@ -58,6 +60,25 @@ pub struct Guard<'a> {
 pub struct Configured<'a> {
     pub config: &'a str,
     pub words: Settings<'a>,
+}
+
+/// Which guard is asked how it is, by its socket for opens, and how that is shown. It may take `wait` seconds to be there, and to say it.
+#[derive(Clone, Copy)]
+pub struct Report<'a> {
+    pub opens: &'a str,
+    pub view: View,
+    pub wait: u64,
+}
+
+/// How it is shown how a guard is.
+#[derive(Clone, Copy, Debug, PartialEq, Eq)]
+pub enum View {
+    /// A line a figure.
+    Text,
+    /// An object of JSON.
+    Json,
+    /// The text that Prometheus reads.
+    Metrics,
 }
 
 /// Which files the guard at a socket is asked about. It may take `wait` seconds to be there, and each answer so long.

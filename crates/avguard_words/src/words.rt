@@ -4,7 +4,7 @@ ghost use Rattle.av_words.specs.Words.{IsOfWords};
 ghost use Rattle.avguard_words.specs.Words.{AsksForApart, AsksForSockets, AsksForUseOfNames};
 
 use crate::commands::avguard_command;
-use crate::request::{Ask, Configured, Request};
+use crate::request::{Ask, Configured, Report, Request, View};
 use crate::settings::Settings;
 use crate::sockets::with_sockets;
 use av_status::faults::{bad_socket, out_of_memory};
@@ -47,6 +47,8 @@ pub fn read_words<'a, S: AsStr, W: Write, E: Write>(
 fn request_of<'a>(alloc: Global, matches: &ArgMatches<'a>) -> Result<Request<'a>, AllocError> {
     match matches.subcommand() {
         Some(("ask", ask)) => ask_of(alloc, ask),
+        Some(("status", status)) => Ok(Request::Report(report_of(status, view_of(status)))),
+        Some(("metrics", metrics)) => Ok(Request::Report(report_of(metrics, View::Metrics))),
         Some(("check-config", check)) => Ok(Request::CheckConfig(text_of(check, "file"))),
         Some((_, run)) => Ok(run_of(run)),
         None => Ok(run_of(matches)),
@@ -135,6 +137,24 @@ fn ask_of<'a>(alloc: Global, matches: &ArgMatches<'a>) -> Result<Request<'a>, Al
     }))
 }
 
+fn view_of(matches: &ArgMatches<'_>) -> View {
+    if matches.get_flag("json") {
+        View::Json
+    } else {
+        View::Text
+    }
+}
+
+fn report_of<'a>(matches: &ArgMatches<'a>, view: View) -> Report<'a>
+    ensures { result.view ≡ view }
+{
+    Report {
+        opens: text_of(matches, "opens"),
+        view,
+        wait: number_of(matches, "wait"),
+    }
+}
+
 // The request, where a guard of it can be one, and the socket of a question can too.
 fn in_order<'a, E: Write>(request: Request<'a>, err: &mut E) -> Result<Request<'a>, Status>
     ensures sockets { IfOk result AsksForSockets }
@@ -153,6 +173,10 @@ fn in_order<'a, E: Write>(request: Request<'a>, err: &mut E) -> Result<Request<'
         Request::Ask(ask) => match bad_socket_of(ask.opens) {
             Some(socket) => Err(bad_socket(err, socket)),
             None => Ok(Request::Ask(ask)),
+        },
+        Request::Report(report) => match bad_socket_of(report.opens) {
+            Some(socket) => Err(bad_socket(err, socket)),
+            None => Ok(Request::Report(report)),
         },
         Request::Configured(asked) => Ok(Request::Configured(asked)),
         Request::CheckConfig(file) => Ok(Request::CheckConfig(file)),

@@ -2,6 +2,7 @@
 
 use super::{AT_ONCE, Daemon, FIRST, SERVING, SUCCEEDING, Stop, millis};
 use crate::client::Client;
+use crate::door::Door;
 use crate::line::Line;
 use crate::service::Service;
 use av_guard::Guard;
@@ -30,17 +31,19 @@ impl<'a, R: Files + Net + Clock> Daemon<'a, R> {
             self.admit(guard, client, now)?;
         }
         'clamd: for _ in 0..AT_ONCE {
-            let Some(stream) = self.next_of_clamd() else {
+            let Some(stream) = next_of(&mut self.doors.clamd) else {
                 break;
             };
             let client = Client::of_clamd(self.alloc, Line::new(self.alloc, stream));
             self.admit(guard, client, now)?;
         }
+        'looks: for _ in 0..AT_ONCE {
+            let Some(stream) = next_of(&mut self.doors.status) else {
+                break;
+            };
+            self.tell_report(guard, stream, now);
+        }
         Ok(())
-    }
-
-    fn next_of_clamd(&mut self) -> Option<UnixStream> {
-        self.doors.clamd.as_mut()?.next()
     }
 
     // A client is there, where there is a place for it. The longest idle one may have to leave it.
@@ -136,4 +139,9 @@ impl<'a, R: Files + Net + Clock> Daemon<'a, R> {
         self.service = Some(service);
         self.goes_on = true;
     }
+}
+
+// Who came to a door, where there is such a door.
+fn next_of(door: &mut Option<Door>) -> Option<UnixStream> {
+    door.as_mut()?.next()
 }

@@ -195,6 +195,7 @@ impl<'a, R: Files + Net + Clock> Daemon<'a, R> {
                 label,
                 content,
             } => {
+                self.counts.asked();
                 self.keep_note(client, tag, label, content.len());
                 (tag, content)
             }

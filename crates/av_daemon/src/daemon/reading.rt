@@ -77,6 +77,7 @@ impl<'a, R: Files + Net + Clock> Daemon<'a, R> {
             self.happened(&Entry::Newer(*version));
         }
         if !was_connected {
+            self.greeted = Some(now);
             self.turns.service_greeted();
             if let Some(Claim::Greeting(version)) = &claim {
                 self.happened(&Entry::Connected(*version));
@@ -106,6 +107,7 @@ impl<'a, R: Files + Net + Clock> Daemon<'a, R> {
     // The service is gone: every question ends, and a successor takes its place at once.
     pub(super) fn lose_service(&mut self, guard: &mut Guard, now: Duration) -> Result<(), Stop> {
         self.service = None;
+        self.greeted = None;
         let has_successor = self.turns.service_lost(millis(now));
         if guard.connected() {
             self.happened(&Entry::Lost);

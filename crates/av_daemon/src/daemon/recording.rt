@@ -85,6 +85,7 @@ impl<'a, R: Files + Net + Clock> Daemon<'a, R> {
         let registry = self.doors.poll.registry();
         let dropped = send_lines(&mut self.log, registry, LOG, err);
         if dropped > 0 {
+            self.counts.dropped(dropped);
             self.tell_dropped(dropped);
         }
         let lost = match &mut self.recorder {
@@ -92,6 +93,7 @@ impl<'a, R: Files + Net + Clock> Daemon<'a, R> {
             None => 0,
         };
         if lost > 0 {
+            self.counts.dropped(lost);
             self.record(&Entry::Dropped(lost));
         }
         self.goes_on = self.goes_on || self.log.writer.may_send();

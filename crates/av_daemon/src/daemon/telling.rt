@@ -2,6 +2,7 @@
 
 use super::{Daemon, FIRST, SERVING, Stop, millis};
 use crate::client::Lost;
+use crate::recorder::judged_of;
 use av_frame::encode::encode_into;
 use av_frame::{Body, Message};
 use av_guard::{Given, Guard, Told};
@@ -61,6 +62,7 @@ impl<'a, R: Files + Net + Clock> Daemon<'a, R> {
             self.lose(guard, who);
             return Ok(());
         }
+        self.counts.told(judged_of(told.answer));
         self.record_told(told, way, note);
         self.turns.answered(who, bytes as u64, millis(now))?;
         self.wants_to_send(connection)

@@ -1,0 +1,55 @@
+//! What the guard says of itself.
+
+use super::Daemon;
+use crate::line::Line;
+use crate::process::memory;
+use av_guard::Guard;
+use av_health::{Report, report_bytes};
+use mio::net::UnixStream;
+use std::fs::Files;
+use std::net::Net;
+use std::time::{Clock, Duration};
+
+impl<'a, R: Files + Net + Clock> Daemon<'a, R> {
+    // Tells one who came for it how the guard is now, and closes the connection. Nothing is waited for: what is not taken at once is lost.
+    pub(super) fn tell_report(&mut self, guard: &Guard, stream: UnixStream, now: Duration) {
+        let Ok(bytes) = report_bytes(self.alloc, &self.report(guard, now)) else {
+            return;
+        };
+        let mut line = Line::new(self.alloc, stream);
+        if line.waiting.extend_from_slice(bytes.as_slice()).is_ok() {
+            let _ = line.send(now);
+        }
+    }
+
+    fn report(&self, guard: &Guard, now: Duration) -> Report {
+        let stands_by = if self.successor.is_some() { 1 } else { 0 };
+        let is_there = if self.service.is_some() { 1 } else { 0 };
+        Report {
+            ready: if guard.connected() { 1 } else { 0 },
+            version: guard.floor().get(),
+            services: is_there + stands_by,
+            clients: self.clients.len() as u64,
+            unanswered: self.unanswered(),
+            questions: guard.question_count() as u64,
+            contents: guard.kept_count(),
+            content_bytes: guard.kept_bytes(),
+            counts: self.counts,
+            uptime_seconds: now.saturating_sub(self.begun).as_secs(),
+            service_seconds: match self.greeted {
+                Some(greeted) => now.saturating_sub(greeted).as_secs(),
+                None => 0,
+            },
+            memory_bytes: memory(self.rt),
+        }
+    }
+
+    // How many asks of those who are connected have no answer.
+    fn unanswered(&self) -> u64 {
+        let mut count = 0u64;
+        for client in self.clients.values() {
+            count = count.saturating_add(client.owed() as u64);
+        }
+        count
+    }
+}
