@@ -19,6 +19,7 @@ use crate::lines::{are_denied_right, are_of_their_files};
 use crate::opener::{Brought, Group, Openings};
 use crate::service::{Service, Services};
 use crate::signatures::Signatures;
+use crate::threads::threads_for;
 use av_base::{Limits, Mode};
 use av_desk::Desk;
 use av_ends::Receipt;
@@ -29,6 +30,7 @@ use av_files::streams::{add_file, empty_volume};
 use av_gate::{Gate, Seat, Unclosed};
 use av_pend::Answer;
 use av_shared::closing::{Closed, NotClosed, close_all};
+use av_shared::looking::Looking;
 use av_shared::telling::shows_true;
 use av_status::faults::{not_certified, out_of_memory};
 use av_status::status::Status;
@@ -229,7 +231,7 @@ fn open_between<'a, R: Hosting, C: Clock, E: Write>(
 }
 
 // Closes a gate and its desks, and looks whether their run shows what the files were told.
-fn certify<'a, R, E: Write>(
+fn certify<'a, R: Hosting, E: Write>(
     host: &Host<'_, R>,
     volume: &Volume,
     gate: Gate,
@@ -256,8 +258,13 @@ fn certify<'a, R, E: Write>(
             return Err(uncertified(end, err));
         }
     };
+    let looking = Looking {
+        rt: host.rt,
+        alloc: host.alloc,
+        threads: threads_for(host.rt, &closed),
+    };
     match are_shown(
-        host.alloc,
+        &looking,
         &closed,
         host.signatures,
         volume,
@@ -296,8 +303,8 @@ fn abandoned(kept: NotClosed) {
 }
 
 // Whether a run shows that what these files were told is true of the contents that the volume has under their names, by this set.
-fn are_shown(
-    alloc: Global,
+fn are_shown<R: Threads + Sync>(
+    looking: &Looking<'_, R>,
     closed: &Closed,
     signatures: &Signatures,
     volume: &Volume,
@@ -309,7 +316,7 @@ fn are_shown(
     requires given { AreGiven closed.now.gate opened.now }
     ensures { IfOk result (λ yes. IsTrue yes → AreTrueLines volume.now signatures.now opened.now) }
 {
-    if !is_shown(alloc, closed, signatures)? {
+    if !is_shown(looking, closed, signatures)? {
         return Ok(false);
     }
     if !are_denied_right(opened, volume, signatures) {
@@ -318,7 +325,11 @@ fn are_shown(
     Ok(are_of_their_files(opened, volume, &closed.gate.volume))
 }
 
-fn is_shown(alloc: Global, closed: &Closed, signatures: &Signatures) -> Result<bool, AllocError>
+fn is_shown<R: Threads + Sync>(
+    looking: &Looking<'_, R>,
+    closed: &Closed,
+    signatures: &Signatures,
+) -> Result<bool, AllocError>
     requires gate { IsLegal closed.now.gate }
     requires desk { IsDeskAudit closed.now.desk }
     requires spare { IfSome closed.now.spare (λ a. IsDeskAudit a) }
@@ -327,9 +338,9 @@ fn is_shown(alloc: Global, closed: &Closed, signatures: &Signatures) -> Result<b
     let set = signatures.set();
     let automaton = signatures.automaton();
     match &closed.spare {
-        None => shows_true(alloc, &closed.gate, &closed.desk, None, set, automaton),
+        None => shows_true(looking, &closed.gate, &closed.desk, None, set, automaton),
         Some(spare) => shows_true(
-            alloc,
+            looking,
             &closed.gate,
             &closed.desk,
             Some(spare),

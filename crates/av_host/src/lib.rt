@@ -20,6 +20,7 @@ pub mod signatures;
 mod staffed;
 #[cfg(test)]
 mod tests;
+mod threads;
 mod wire;
 
 pub use groups::host_groups;

@@ -1,5 +1,6 @@
 pub mod AmongLemmas
 mod ApartLemmas
+pub mod Crossing
 mod MergeLemmas
 mod OnlyLemmas
 mod RunLemmas

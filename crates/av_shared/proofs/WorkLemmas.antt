@@ -1,6 +1,6 @@
--- One entry more of a desk that finishes its own works.
+-- A desk that finishes its own works, entry by entry.
 use Rattle.std.proofs.Common.{◌≡◌, ℕ, ◌<◌, zero, suc, List, [], ◌∷◌, ◌++◌, Some, take, length, get_or, slice_get, refl, sym, ap, ◌∙◌, subst, arith}
-use Rattle.std.proofs.lemmas.Option.{get_or_from_slice_get, slice_get_within}
+use Rattle.std.proofs.lemmas.Option.{get_or_from_slice_get, slice_get_read, slice_get_within}
 use Rattle.av_base.proofs.AmongLemmas.{among_each, among_left, among_right}
 use Rattle.av_base.specs.Among.{Among}
 use Rattle.av_service.specs.Audit.{Call, ServiceEntry, lent_by, sets_after}
@@ -15,16 +15,28 @@ use Rattle.av_service.specs.Audit.{By, IsServiceAudit, Publishes, respond}
 use Rattle.av_service.specs.Conduct.{Receives, ServiceEvent}
 use Rattle.av_service.specs.Conduct as service
 use Rattle.av_service.specs.Desk.{Desk}
-use Rattle.av_history.specs.Audits.{FinishesItsWorks, IsOfWorks, sets_end}
+use Rattle.av_history.specs.Audits.{FinishesItsWorks, IsOfWorks}
+use Rattle.av_desk.specs.Audit.{opened_by}
+use Rattle.av_desk.specs.declared.audit.Audit.{Audit as DeskAudit}
+use Rattle.av_shared.specs.Works.{HasOwnWorks, IsOwnAt}
 
-pub finishes_more : (xs : List ServiceEntry) (x : ServiceEntry) (sets : List Publication) (works : List WorkState) → FinishesItsWorks sets works xs
-    → IsOfWorks (sets_end sets xs) (lent_by works xs) x.call → FinishesItsWorks sets works (xs ++ x ∷ [])
-finishes_more [] x sets works h own = (own, tt)
-finishes_more (y ∷ ys) x sets works h own = (h.0, finishes_more ys x (sets_after sets y.call) (works ++ y.works) h.1 own)
+-- each entry is own, so the desk finishes its own works
+abbrev IsOwn : List Publication → List WorkState → ServiceEntry → Type 0
+IsOwn sets works x = IsOfWorks sets works x.call × (sets_after sets x.call ≡ sets)
 
-pub sets_more : (xs : List ServiceEntry) (x : ServiceEntry) (sets : List Publication) → sets_end sets (xs ++ x ∷ []) ≡ sets_after (sets_end sets xs) x.call
-sets_more [] x sets = refl
-sets_more (y ∷ ys) x sets = sets_more ys x (sets_after sets y.call)
+all_own : (xs : List ServiceEntry) (sets : List Publication) (works : List WorkState)
+    → ((i : ℕ) (x : ServiceEntry) → slice_get xs i ≡ Some x → IsOwn sets (lent_by works (take i xs)) x)
+    → FinishesItsWorks sets works xs
+all_own [] sets works own = tt
+all_own (y ∷ ys) sets works own =
+    let first : IsOwn sets works y = own 0 y (slice_get_read (y ∷ ys) (length (y ∷ ys)) 0 y refl (omega arith) refl) in
+    let rest : (i : ℕ) (x : ServiceEntry) → slice_get ys i ≡ Some x → IsOwn sets (lent_by (works ++ y.works) (take i ys)) x =
+    λ i x e. own (suc i) x (slice_get_read (y ∷ ys) (length (y ∷ ys)) (suc i) x refl (omega (arith, slice_get_within ys i x e)) (sym (get_or_from_slice_get ys i x x e))) in
+    (first.0, subst (λ (s : List Publication). FinishesItsWorks s (works ++ y.works) ys) (sym first.1) (all_own ys sets (works ++ y.works) rest))
+
+pub own_everywhere : (a : DeskAudit) → ((at : ℕ) → at < length a.events.items → IsOwnAt a at) → HasOwnWorks a
+own_everywhere a own =
+    all_own a.events.items (opened_by a) [] (λ i x e. let here = own i (slice_get_within a.events.items i x e) in (here.own x e, here.same x e))
 
 lent_still : (xs : List ServiceEntry) (k : WorkState) (works : List WorkState) → Among k works → Among k (lent_by works xs)
 lent_still [] k works a = a

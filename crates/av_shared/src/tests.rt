@@ -1,4 +1,5 @@
 mod between;
+mod forged;
 mod frames;
 mod joined;
 mod rows;

@@ -1,4 +1,4 @@
-ghost use Rattle.std.specs.Prelude.{◌≡◌, IfOk, IfSome, IsTrue, [], Some, take};
+ghost use Rattle.std.specs.Prelude.{◌≡◌, ◌<◌, ℕ, Bool, IfOk, IfSome, IsTrue, [], Some, length, slice_index_or, take};
 ghost use Rattle.std.specs.Option.{option_copied};
 ghost use Rattle.av_desk.specs.Audit.{opened_by};
 ghost use Rattle.av_desk.specs.Book.{compiled};
@@ -7,10 +7,11 @@ ghost use Rattle.av_match.specs.Scanning.{fitting, if_found, run};
 ghost use Rattle.av_service.specs.Audit.{By, lent_by, sets_after};
 ghost use Rattle.av_service.specs.Conduct.{Finishes};
 ghost use Rattle.av_shared.specs.History.{AreOwnWorks, IsDeskAudit};
-ghost use Rattle.av_shared.specs.Works.{BringsBytes, HasOwnWorks, IsOpenedWith, SpareHasOwnWorks, SpareIsOpenedWith};
+ghost use Rattle.av_shared.specs.Works.{BringsBytes, HasOwnWorks, IsOpenedWith, IsOwnAt, IsShareOwn, SpareHasOwnWorks, SpareIsOpenedWith};
 ghost use Rattle.av_sigset.specs.Publication.{publication_of, published_as};
 ghost use Rattle.av_history.specs.Audits.{IsOfWorks};
 
+use crate::looking::Looking;
 use av_base::Lease;
 use av_desk::{Audit as DeskAudit, Entry as DeskEntry, Event as DeskEvent};
 use av_frame::Body;
@@ -18,11 +19,17 @@ use av_match::Automaton;
 use av_service::ContentScan;
 use av_sigset::SignatureSet;
 use std::alloc::{AllocError, Global};
+use std::thread;
+use std::thread::Threads;
 
-/// Whether each work that came back to a desk is one that it had lent, run under its set; each is run again to see it. Only of desks
-/// that were opened with this set alone, and where nothing was published. It takes memory for the place of each work.
-pub fn are_own_works(
-    alloc: Global,
+// Each share has so many events one after the other, and the shares take turns.
+const BLOCK: usize = 16;
+
+/// Whether each work that came back to a desk is one that it had lent, run under its set; each is run again to see it, in as many
+/// threads as may look at once. Only of desks that were opened with this set alone, and where nothing was published. It takes memory
+/// for the place of each work.
+pub fn are_own_works<R: Threads + Sync>(
+    looking: &Looking<'_, R>,
     desk: &DeskAudit,
     spare: Option<&DeskAudit>,
     set: &SignatureSet,
@@ -35,14 +42,14 @@ pub fn are_own_works(
     requires beside { SpareIsOpenedWith (option_copied spare) (publication_of set.now) }
     ensures { IfOk result (λ yes. IsTrue yes → AreOwnWorks desk.now (option_copied spare.entry)) }
 {
-    if !has_own_works(alloc, desk, set, automaton)? {
+    if !has_own_works(looking, desk, set, automaton)? {
         return Ok(false);
     }
-    spare_has_own_works(alloc, spare, set, automaton)
+    spare_has_own_works(looking, spare, set, automaton)
 }
 
-fn spare_has_own_works(
-    alloc: Global,
+fn spare_has_own_works<R: Threads + Sync>(
+    looking: &Looking<'_, R>,
     spare: Option<&DeskAudit>,
     set: &SignatureSet,
     automaton: &Automaton,
@@ -54,12 +61,12 @@ fn spare_has_own_works(
 {
     match spare {
         None => Ok(true),
-        Some(audit) => has_own_works(alloc, audit, set, automaton),
+        Some(audit) => has_own_works(looking, audit, set, automaton),
     }
 }
 
-fn has_own_works(
-    alloc: Global,
+fn has_own_works<R: Threads + Sync>(
+    looking: &Looking<'_, R>,
     audit: &DeskAudit,
     set: &SignatureSet,
     automaton: &Automaton,
@@ -69,28 +76,85 @@ fn has_own_works(
     requires opened { IsOpenedWith audit.now (publication_of set.now) }
     ensures { IfOk result (λ yes. IsTrue yes → HasOwnWorks audit.now) }
 {
-    finishes_own(alloc, audit, automaton)
+    finishes_own(looking, audit, automaton)
 }
 
-fn finishes_own(alloc: Global, audit: &DeskAudit, automaton: &Automaton) -> Result<bool, AllocError>
+fn finishes_own<R: Threads + Sync>(
+    looking: &Looking<'_, R>,
+    audit: &DeskAudit,
+    automaton: &Automaton,
+) -> Result<bool, AllocError>
     requires legal { IsDeskAudit audit.now }
     requires published { published_as (opened_by audit.now) automaton.now.version ≡ Some automaton.now.patterns }
     ensures { IfOk result (λ yes. IsTrue yes → HasOwnWorks audit.now) }
 {
-    // At each place in order a work was lent.
+    let places = places_of(looking.alloc, audit)?;
+    let places = places.as_slice();
+    let of = looking.threads.max(1);
+    let shares = thread::map_indices(
+        looking.rt,
+        looking.alloc,
+        of,
+        &|number: usize| -> bool
+            requires { (0 < of) × IsDeskAudit audit.now × (published_as (opened_by audit.now) automaton.now.version ≡ Some automaton.now.patterns) }
+            ensures { IsTrue result → IsShareOwn audit.entry.now of number }
+        { is_share_own(audit, automaton, places, Share { number, of }) },
+    )?;
+    Ok(are_all(shares.as_slice()))
+}
+
+// At each place in order a work was lent.
+fn places_of(alloc: Global, audit: &DeskAudit) -> Result<Vec<usize>, AllocError> {
     let mut places = Vec::new(alloc);
-    'events: for at in 0..audit.events.len() {
-        let Some(entry) = audit.events.get(at) else {
-            return Ok(false);
-        };
-        if !is_own(audit, at, places.as_slice(), automaton, entry.event()) {
-            return Ok(false);
-        }
+    'events: for (at, entry) in audit.events.iter().enumerate() {
         if entry.lent().is_some() {
             places.push(at)?;
         }
     }
-    Ok(true)
+    Ok(places)
+}
+
+fn are_all(shares: &[bool]) -> bool
+    ensures { IsTrue result → (number : ℕ) (d : Bool) → number < length shares.now → IsTrue (slice_index_or shares.now number d) }
+{
+    shares.iter().all(|own| *own)
+}
+
+// One of so many shares of the events of an audit.
+#[derive(Clone, Copy)]
+struct Share {
+    number: usize,
+    of: usize,
+}
+
+// Whether the same holds of each event of a share.
+fn is_share_own(audit: &DeskAudit, automaton: &Automaton, places: &[usize], share: Share) -> bool
+    requires legal { IsDeskAudit audit.now }
+    requires published { published_as (opened_by audit.now) automaton.now.version ≡ Some automaton.now.patterns }
+    requires shares { 0 < share.of }
+    ensures { IsTrue result → IsShareOwn audit.now share.of share.number }
+{
+    'events: for at in 0..audit.events.len() {
+        if at / BLOCK % share.of != share.number {
+            continue;
+        }
+        if !is_own_at(audit, at, places, automaton) {
+            return false;
+        }
+    }
+    true
+}
+
+// The same of the event at a place.
+fn is_own_at(audit: &DeskAudit, at: usize, places: &[usize], automaton: &Automaton) -> bool
+    requires legal { IsDeskAudit audit.now }
+    requires published { published_as (opened_by audit.now) automaton.now.version ≡ Some automaton.now.patterns }
+    ensures { IsTrue result → IsOwnAt audit.now at }
+{
+    match audit.events.get(at) {
+        None => false,
+        Some(entry) => is_own(audit, at, places, automaton, entry.event()),
+    }
 }
 
 // Whether an event is no publication, and brings back no work but one that was lent before.

@@ -3,6 +3,7 @@ ghost use Rattle.std.specs.Prelude.{IfOk};
 ghost use Rattle.av_gate.specs.Seats.{IsSeatOf};
 
 use crate::closing::close_all;
+use crate::looking::Looking;
 use crate::telling::shows_true;
 use crate::tests::between::{Desks, Step};
 use crate::tests::rows::{APART, Row};
@@ -15,6 +16,7 @@ use std::alloc::Global;
 use std::process::Abort;
 use std::sync::Wait;
 use std::test::Fail;
+use std::thread::Threads;
 
 // The content ABC, which was there before the gate, is judged and granted, and nothing changes.
 const STILL: Row<'static> = Row {
@@ -53,7 +55,7 @@ fn gate_over(alloc: Global, mode: Mode) -> Result<(Gate, Seat), Fail>
 }
 
 // Runs a row on a gate and a desk that has the pattern XX as version 1: whether it shows its grants true by this set.
-fn shown<R: Wait + Abort>(
+fn shown<R: Wait + Abort + Threads + Sync>(
     rt: &R,
     alloc: Global,
     mode: Mode,
@@ -69,7 +71,14 @@ fn shown<R: Wait + Abort>(
     };
     match run(rt, alloc, &gate, desks, seat, row) {
         Ok((seats, receipts)) => match close_all(gate, seats, receipts, desk, None) {
-            Ok(closed) => Ok(shows_true(alloc, &closed.gate, &closed.desk, None, set, &automaton)?),
+            Ok(closed) => {
+                let looking = Looking {
+                    rt,
+                    alloc,
+                    threads: 2,
+                };
+                Ok(shows_true(&looking, &closed.gate, &closed.desk, None, set, &automaton)?)
+            }
             Err(kept) => Err(abandoned(kept)),
         },
         Err(why) => {

@@ -1,24 +1,25 @@
-use Rattle.std.proofs.Common.{◌≡◌, ◌+◌, ◌++◌, ◌∷◌, List, [], ap, refl, sym, ◌∙◌, slice_get, Some, subst, take}
-use Rattle.std.proofs.lemmas.Option.{slice_get_read}
-use Rattle.av_desk.specs.Audit.{opened_by}
-use Rattle.av_service.specs.Audit.{Call, ServiceEntry, lent_by, sets_after}
-use Rattle.av_sigset.specs.Publication.{Publication}
-use Rattle.av_history.specs.Audits.{FinishesItsWorks, IsOfWorks, sets_end}
-use Rattle.av_shared.proofs.AmongLemmas.{take_got}
-use Rattle.av_shared.proofs.WorkLemmas.{finishes_more, sets_more}
+use denote.Param.Send.{sendable}
+use Rattle.std.proofs.Common.{rules, ◌≡◌, ◌<◌, ◌/◌, ◌%◌, ℕ, IsTrue, true, arith, length, refl, slice_index_or, subst}
+use Rattle.std.proofs.Crossing.{crosses}
+use Rattle.av_match.proofs.automaton.Automaton.TheSendSync as automaton
+use Rattle.av_shared.specs.Works.{IsOwnAt}
+use Rattle.av_shared.proofs.Crossing.{desk_audit_sync}
+use Rattle.av_shared.proofs.WorkLemmas.{own_everywhere}
 use Rattle.av_shared.proofs.works.finishes_own.Goals as goal
 
-pub events-preserved : goal.events-preserved
-events-preserved c =
-    let x : ServiceEntry = c.in-Some.entry.now in
-    let xs : List ServiceEntry = take c.events.at c.args.audit.now.events.items in
-    let got = c.in-Some.ensures.lookup in
-    let more : take (c.events.at + 1) c.args.audit.now.events.items ≡ xs ++ x ∷ [] = take_got c.args.audit.now.events.items c.events.at x (subst (λ (es : List ServiceEntry). slice_get es c.events.at ≡ Some x) c.deref.ensures.value (slice_get_read _ _ _ _ refl got.3.0 got.1)) in
-    let stays : sets_end (opened_by c.args.audit.now) xs ≡ (opened_by c.args.audit.now) = c.events.invariant.1 in
-    let own : IsOfWorks (opened_by c.args.audit.now) (lent_by [] xs) x.call = subst (IsOfWorks (opened_by c.args.audit.now) (lent_by [] xs)) c.event.ensures (c.is_own.ensures.own c.if-not-is_own.false) in
-    let same : sets_after (opened_by c.args.audit.now) x.call ≡ (opened_by c.args.audit.now) = subst (λ (y : Call). sets_after (opened_by c.args.audit.now) y ≡ (opened_by c.args.audit.now)) c.event.ensures (c.is_own.ensures.same c.if-not-is_own.false) in
-    let all : FinishesItsWorks (opened_by c.args.audit.now) [] (xs ++ x ∷ []) =
-    finishes_more xs x (opened_by c.args.audit.now) [] c.events.invariant.0 (subst (λ (s : List Publication). IsOfWorks s (lent_by [] xs) x.call) (sym stays) own) in (
-      subst (FinishesItsWorks (opened_by c.args.audit.now) []) (sym more) all,
-      ap (sets_end (opened_by c.args.audit.now)) more ∙ (sets_more xs x (opened_by c.args.audit.now) ∙ (ap (λ (s : List Publication). sets_after s x.call) stays ∙ same)),
-    )
+pub map_indices-requires-sync-F : goal.map_indices-requires-sync-F
+map_indices-requires-sync-F g c κs within = search (sendable, crosses, desk_audit_sync, automaton.the_sync) depth 60
+
+pub returns : goal.returns
+returns g c = λ yes.
+    let of = c.max-of.result in
+    let some : 0 < of = search rules in
+    let own : (at : ℕ) → at < length c.args.audit.now.events.items → IsOwnAt c.args.audit.now at =
+    λ at within.
+    let number = at / 16 % of in
+    let below : number < of = omega (arith, some) in
+    let told = (c.in_ok-shares.ensures.each number true below).1.met in
+    let one : IsTrue (slice_index_or c.as_slice.result.now number true) = c.are_all.ensures yes number true (omega (arith, below, c.in_ok-shares.ensures.len, c.as_slice.ensures.len)) in
+    told (subst (λ bs. IsTrue (slice_index_or bs number true)) c.as_slice.ensures.value one) at within refl
+    in
+    own_everywhere c.args.audit.now own
