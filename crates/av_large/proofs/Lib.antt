@@ -1,0 +1,6 @@
+pub mod MapLemmas
+pub mod FloorLemmas
+pub mod OnceLemmas
+pub mod NumberLemmas
+pub mod StateLemmas
+pub mod PromiseLemmas

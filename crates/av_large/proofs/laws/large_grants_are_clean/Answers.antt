@@ -1,0 +1,8 @@
+use Rattle.av_large.proofs.PromiseLemmas.{grants_are_clean, judges_say_right}
+use Rattle.av_large.proofs.laws.large_grants_are_clean.Goals as goal
+
+pub returns-clause-grants : goal.returns-clause-grants
+returns-clause-grants c = grants_are_clean
+
+pub returns-clause-judges : goal.returns-clause-judges
+returns-clause-judges c = judges_say_right

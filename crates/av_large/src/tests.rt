@@ -1,0 +1,3 @@
+mod course;
+mod refused;
+mod rows;
