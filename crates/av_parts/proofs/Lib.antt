@@ -4,3 +4,7 @@ pub mod HeldLemmas
 pub mod JudgeLemmas
 pub mod ReadLemmas
 pub mod ReadWordLemmas
+pub mod CourseLemmas
+pub mod ServingLemmas
+pub mod RunLemmas
+pub mod StreamLemmas

@@ -6,3 +6,6 @@ pub mod WordsHeard
 pub mod Judge
 pub mod Course
 pub mod ReadBack
+pub mod Looks
+pub mod Serving
+pub mod Steps

@@ -4,6 +4,7 @@ ghost use Rattle.av_parts.specs.Course.{BringsBytewise, HoldsFew, JudgesAreRight
 ghost use Rattle.av_parts.specs.Heard;
 ghost use Rattle.av_parts.specs.Listening.{IsCutAnywhere};
 ghost use Rattle.av_parts.specs.ReadBack.{KeepsFewWords, KeepsLittle, OrdersAreReadBack, WordsAreReadBack};
+ghost use Rattle.av_parts.specs.Serving.{AreOneStream};
 ghost use Rattle.av_parts.specs.WordsHeard;
 
 /// Orders that come in two pieces are heard as those that come at once, wherever they are cut.
@@ -41,4 +42,9 @@ pub fn judges_are_right()
 /// A judge holds 4,096 contents at most.
 pub fn judges_hold_few()
     ensures { HoldsFew }
+{}
+
+/// However what comes is cut into reads, the orders that are obeyed are those of the whole.
+pub fn reads_are_one_stream()
+    ensures { AreOneStream }
 {}

@@ -10,22 +10,29 @@
 //! ```
 #![tactic(auto)]
 
+pub mod ended;
 pub mod fault;
 mod fields;
 mod front;
 pub mod judge;
 pub mod laws;
+pub mod newest;
 pub mod order;
 pub mod order_reader;
+pub mod serve;
+mod side;
 pub mod sizes;
 #[cfg(test)]
 mod tests;
 pub mod word;
 pub mod word_reader;
 
+pub use ended::Ended;
 pub use fault::{JudgeFault, OrderFault, UnfitPart, WordFault};
 pub use judge::Judge;
+pub use newest::Newest;
 pub use order::{Order, put_order};
 pub use order_reader::{Heard, OrderReader};
+pub use serve::serve_parts;
 pub use word::{Said, Unjudged, Word, put_said};
 pub use word_reader::WordReader;

@@ -1,4 +1,4 @@
-ghost use Rattle.std.specs.Prelude.{◌≡◌, ◌≤◌, [], drop, length, IfErr, IfOk, None, Some};
+ghost use Rattle.std.specs.Prelude.{◌≡◌, ◌≤◌, ◌↔◌, [], drop, length, IfErr, IfOk, IsTrue, None, Some};
 ghost use Rattle.av_parts.specs.declared.order_reader.Place.TheVariants as place;
 ghost use Rattle.av_parts.specs.Listening.{after};
 ghost use Rattle.av_parts.specs.Heard.{HasLeft, bytewise_of, fresh, front_orders, heard_of, place_after, step, within};
@@ -100,6 +100,13 @@ impl OrderReader {
                 })
             }
         }
+    }
+
+    /// Whether all frames that began are whole, and no fault was met.
+    pub fn is_between(&self) -> bool
+        ensures { IsTrue result ↔ (self.now ≡ fresh) }
+    {
+        self.front.is_empty() && matches!(self.place, Place::Front) && self.fault.is_none()
     }
 
     // Takes a byte at the front of a frame.

@@ -4,6 +4,7 @@ mod orders;
 mod refused;
 mod service;
 mod service_rows;
+mod serving;
 mod set;
 mod word_rows;
 mod words;
