@@ -1,6 +1,8 @@
 //! Where a guard says how it is, and how that is asked.
 
 ghost use Rattle.std.specs.Prelude.{◌≡◌, IfErr, IfOk};
+ghost use Rattle.std.specs.Option.{option_map};
+ghost use Rattle.std.specs.String.{string_bytes};
 ghost use Rattle.av_daemon.specs.Asking.{IsGuardless};
 ghost use Rattle.av_daemon.specs.Reports.{IsStatusPath};
 ghost use Rattle.av_status.specs.declared.status.Status.TheVariants.{Usage};
@@ -27,7 +29,7 @@ const ROOM: usize = REPORT_SIZE + 1;
 
 /// The path of the socket at which a guard says how it is: that for opens with `.status` behind it. None where it would be too long.
 pub fn status_path(alloc: Global, opens: &str) -> Result<Option<String>, AllocError>
-    ensures { IfOk result (λ path. IsStatusPath opens.now path) }
+    ensures { IfOk result (λ path. IsStatusPath opens.now (option_map (λ p. string_bytes p) path)) }
 {
     if opens.len() + BEHIND.len() > MAX_PATH {
         return Ok(None);
