@@ -4,3 +4,4 @@ pub mod Place
 pub mod Refusal
 pub mod Run
 pub mod Sockets
+pub mod Tries

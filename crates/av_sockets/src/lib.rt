@@ -17,10 +17,13 @@ mod mount;
 mod opener;
 mod place;
 pub mod refusal;
+mod second;
 pub mod service;
+mod sharing;
 pub mod sockets;
 #[cfg(test)]
 mod tests;
+pub mod tries;
 pub mod watch;
 
 pub use duplex::{Duplex, Hearing, Saying};

@@ -4,9 +4,11 @@ ghost use Rattle.av_files.specs.Opened.{IsDoneOrFault};
 ghost use Rattle.av_sigset.specs.Catalogue.{set_at};
 ghost use Rattle.av_status.specs.declared.status.Status.TheVariants.{Done};
 
-use crate::duplex::{Duplex, Hearing, Saying};
+use crate::duplex::{Duplex, Saying};
 use crate::fault::{SocketFault, socket_failed};
 use crate::refusal::turned_away;
+use crate::second::Second;
+use crate::sharing::{Greeting, Sharing};
 use crate::sockets::{Meeting, connect};
 use crate::watch::{Watch, Watched};
 use av_base::device::write_text;
@@ -21,6 +23,8 @@ use std::alloc::{AllocError, Global};
 use std::fs::Files;
 use std::io::Write;
 use std::net::Net;
+use std::sync::Wait;
+use std::thread::Threads;
 use std::time::Clock;
 
 // How many reads a service makes of its connection at most: it may run for as long as it likes.
@@ -29,7 +33,11 @@ const READS: u64 = u64::MAX;
 /// Scans under a set for the filter that listens at a socket, or will within the wait, until the filter closes the
 /// connection: then `closed` is written. Else one line to `err` says why, also where a guard turns the service away. Where a signature file is watched, its newer sets are
 /// published meanwhile, and an idle filter is waited for without an end.
-pub fn serve_at<R: Files + Net + Clock, W: Write, E: Write>(
+pub fn serve_at<
+    R: Files + Net + Clock + Threads + Wait + Copy + Send + 'static,
+    W: Write,
+    E: Write,
+>(
     rt: &R,
     alloc: Global,
     meeting: Meeting<'_>,
@@ -38,6 +46,9 @@ pub fn serve_at<R: Files + Net + Clock, W: Write, E: Write>(
     out: &mut W,
     err: &mut E,
 ) -> Status
+where
+    R::Stream: Send,
+    R::Listener: Send,
     ensures closed { result ≡ Done → Appends (W.contents out.old) (W.contents out.new) (codes "closed\n") }
     ensures ended { IsDoneOrFault result }
 {
@@ -46,15 +57,20 @@ pub fn serve_at<R: Files + Net + Clock, W: Write, E: Write>(
     };
     match connect(rt, alloc, meeting) {
         Ok(duplex) => {
-            let end = serve_over(
+            let second = Second::start(
                 rt,
                 alloc,
-                &mut service,
-                &mut catalogue,
-                &duplex,
-                watched,
-                err,
+                meeting.path,
+                newest(alloc, &service, &catalogue),
             );
+            let lines = Lines {
+                first: &duplex,
+                second: second.as_ref(),
+            };
+            let end = serve_over(rt, alloc, &mut service, &mut catalogue, lines, watched, err);
+            if let Some(second) = second {
+                end_second(rt, second, err);
+            }
             match duplex.refusal() {
                 Some(why) => turned_away(err, meeting.path, version_of(&service), why),
                 None => told(meeting.path, end, out, err),
@@ -64,13 +80,20 @@ pub fn serve_at<R: Files + Net + Clock, W: Write, E: Write>(
     }
 }
 
+// Both connections of a service.
+#[derive(Clone, Copy)]
+struct Lines<'a, 'b, R> {
+    first: &'b Duplex<'a, R>,
+    second: Option<&'b Second>,
+}
+
 // Scans until the connection ends.
-fn serve_over<'a, R: Files + Clock, E: Write>(
+fn serve_over<'a, R: Files + Clock + Wait, E: Write>(
     rt: &'a R,
     alloc: Global,
     service: &mut Service,
     catalogue: &mut Catalogue,
-    duplex: &Duplex<'a, R>,
+    lines: Lines<'a, '_, R>,
     watched: Option<Watched<'_>>,
     err: &mut E,
 ) -> End
@@ -78,13 +101,25 @@ fn serve_over<'a, R: Files + Clock, E: Write>(
     requires version { 1 ≤ service.old.desk.version }
     requires set { IsSome (set_at catalogue.old.sets service.old.desk.version) }
 {
-    let mut reader = Hearing { duplex };
+    let duplex = lines.first;
+    let mut reader = Greeting {
+        rt,
+        duplex,
+        second: lines.second,
+    };
     let mut writer = Saying { duplex };
     let Some(watched) = watched else {
         return serve_service(alloc, service, catalogue, &mut reader, &mut writer, READS);
     };
     let version = version_of(service);
-    let mut watch = Watch::new(rt, alloc, duplex, watched, version, err);
+    let watch = Watch::new(rt, alloc, duplex, watched, version, err);
+    let mut sharing = Sharing {
+        rt,
+        alloc,
+        watch,
+        second: lines.second,
+        kept: None,
+    };
     serve_fresh(
         alloc,
         service,
@@ -92,8 +127,21 @@ fn serve_over<'a, R: Files + Clock, E: Write>(
         &mut reader,
         &mut writer,
         READS,
-        &mut watch,
+        &mut sharing,
     )
+}
+
+// A copy of the set under which a service judges.
+fn newest(alloc: Global, service: &Service, catalogue: &Catalogue) -> Option<SignatureSet> {
+    let set = catalogue.at(service.version()?)?;
+    set.copied(alloc).ok()
+}
+
+// Ends the second connection, and reports what came over it that is no frame, where that was not reported before.
+fn end_second<R: Threads, E: Write>(rt: &R, second: Second, err: &mut E) {
+    if second.end(rt) {
+        bad_frame(err);
+    }
 }
 
 fn version_of(service: &Service) -> Version {

@@ -1,8 +1,10 @@
 // When a file that others write is read: rows of looks.
 use crate::looks::{Look, Looks};
 use crate::refusal::{TurnedAway, put_refusal, refusal_in};
+use crate::tries::{BEHIND, First, Next, has_second, next_of};
 use av_base::Version;
 use std::test::Fail;
+use std::time::Duration;
 
 // A look at a file of this number and length, changed at this time. No file has the number 0.
 fn look(row: (u64, u64, i64, i64)) -> Option<Look> {
@@ -129,5 +131,32 @@ fn other_frames_are_no_refusal(rt: HostRuntime) -> Result<(), Fail> {
     for (place, row) in rows.iter().enumerate() {
         assert!(&rt; refusal_in(row.as_slice()).is_none(), "row {place}");
     }
+    Ok(())
+}
+
+#[test]
+fn a_second_connection_is_tried_each_second_once_the_service_has_greeted(
+    rt: HostRuntime,
+) -> Result<(), Fail> {
+    let rows: [(First, Option<u64>, Next); 7] = [
+        (First::Silent, None, Next::Waits),
+        (First::Silent, Some(5_000_000_000), Next::Waits),
+        (First::Greeted, None, Next::Tries),
+        (First::Greeted, Some(999_999_999), Next::Waits),
+        (First::Greeted, Some(1_000_000_000), Next::Tries),
+        (First::Gone, None, Next::Ends),
+        (First::Gone, Some(1_000_000_000), Next::Ends),
+    ];
+    for (first, nanoseconds, next) in rows {
+        let tried = nanoseconds.map(Duration::from_nanos);
+        assert_eq!(rt; next_of(first, tried), next);
+    }
+    Ok(())
+}
+
+#[test]
+fn the_path_of_a_second_socket_has_107_bytes_at_most(rt: HostRuntime) -> Result<(), Fail> {
+    assert_eq!(rt; BEHIND, ".parts");
+    assert!(rt; has_second(107 - BEHIND.len()) && !has_second(108 - BEHIND.len()));
     Ok(())
 }

@@ -8,7 +8,7 @@ use av_base::{Part, Refusal, Version};
 use av_engines::Fresh;
 use av_files::{Input, MAX_FILE, TURNS, admit_set, read_set};
 use av_sigset::{CatalogueFault, SignatureSet};
-use av_status::faults::{EmptySets, out_of_memory, say, say_of, text};
+use av_status::faults::{EmptySets, bad_frame, out_of_memory, say, say_of, text};
 use std::alloc::Global;
 use std::fs;
 use std::fs::Files;
@@ -73,6 +73,11 @@ impl<'a, 'b, R: Files + Clock, E: Write> Watch<'a, 'b, R, E> {
             empty: watched.empty,
             count: 0,
         }
+    }
+
+    /// Says that bytes came over the second connection that are no frame.
+    pub(crate) fn say_bad_frame(&mut self) {
+        bad_frame(self.err);
     }
 
     // Whether a look is due. The next one is due so long from now.

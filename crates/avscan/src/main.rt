@@ -32,7 +32,11 @@ fn main(rt: HostRuntime) -> ExitCode {
 }
 
 // Takes the words of the command line as text. The system is taken twice, the second time for threads and sockets.
-fn started<R: Hosting>(rt: &HostRuntime, system: &R, alloc: Global) -> Status {
+fn started<R: Hosting>(rt: &HostRuntime, system: &R, alloc: Global) -> Status
+where
+    R::Stream: Send,
+    R::Listener: Send,
+{
     let mut err = Prefixed::new(PROGRAM, rt.stderr());
     match command_line(rt, alloc, &mut err) {
         Ok(words) => asked(rt, system, alloc, &words),
@@ -41,7 +45,11 @@ fn started<R: Hosting>(rt: &HostRuntime, system: &R, alloc: Global) -> Status {
 }
 
 // Does what the words ask for.
-fn asked<R: Hosting>(rt: &HostRuntime, system: &R, alloc: Global, words: &Vec<String>) -> Status {
+fn asked<R: Hosting>(rt: &HostRuntime, system: &R, alloc: Global, words: &Vec<String>) -> Status
+where
+    R::Stream: Send,
+    R::Listener: Send,
+{
     let fault = Cell::new(None);
     answered(rt, system, alloc, words, &fault)
 }
@@ -53,7 +61,11 @@ fn answered<R: Hosting>(
     alloc: Global,
     words: &Vec<String>,
     fault: &Cell<Option<Error>>,
-) -> Status {
+) -> Status
+where
+    R::Stream: Send,
+    R::Listener: Send,
+{
     let mut err = Prefixed::new(PROGRAM, Errors::new(rt.stderr(), fault));
     let stdout = Output::new(rt.stdout(), fault);
     let Ok(mut out) = BufWriter::new(alloc, stdout) else {
@@ -79,7 +91,11 @@ fn done<R: Hosting, W: Write>(
     request: &Request<'_>,
     fault: &Cell<Option<Error>>,
     out: &mut W,
-) -> Status {
+) -> Status
+where
+    R::Stream: Send,
+    R::Listener: Send,
+{
     let status = done_with(rt, system, alloc, request, fault, out);
     let mut err = Prefixed::new(PROGRAM, Errors::new(rt.stderr(), fault));
     say_output_fault(rt, alloc, fault, &mut err);
@@ -93,7 +109,11 @@ fn done_with<R: Hosting, W: Write>(
     request: &Request<'_>,
     fault: &Cell<Option<Error>>,
     out: &mut W,
-) -> Status {
+) -> Status
+where
+    R::Stream: Send,
+    R::Listener: Send,
+{
     let mut err = Prefixed::new(PROGRAM, Errors::new(rt.stderr(), fault));
     match request {
         Request::Run(script) => run_named(rt, alloc, *script, out, &mut err),

@@ -21,6 +21,9 @@ pub fn serve_named<R: Hosting, W: Write, E: Write>(
     out: &mut W,
     err: &mut E,
 ) -> Status
+where
+    R::Stream: Send,
+    R::Listener: Send,
     ensures closed { result ≡ Done → Appends (W.contents out.old) (W.contents out.new) (codes "closed\n") }
     ensures ended { IsDoneOrFault result }
 {
