@@ -4,3 +4,4 @@ pub mod OnceLemmas
 pub mod NumberLemmas
 pub mod StateLemmas
 pub mod PromiseLemmas
+pub mod FollowLemmas

@@ -47,7 +47,7 @@ absent {X} n k (e ∷ es) le all =
     ]) refl
 
 -- what holds of each content that is found holds of each
-each_from : {X : Type 0} (P : ℕ → X → Type 0) (m : List (ℕ × X)) → Ascends m → ((k : ℕ) (x : X) → at m k ≡ Some x → P k x) → Each (λ (e : ℕ × X). P e.0 e.1) m
+pub each_from : {X : Type 0} (P : ℕ → X → Type 0) (m : List (ℕ × X)) → Ascends m → ((k : ℕ) (x : X) → at m k ≡ Some x → P k x) → Each (λ (e : ℕ × X). P e.0 e.1) m
 unfolding IsStrictlySortedBy
 each_from {X} P [] up all = tt
 each_from {X} P (e ∷ es) up all = (

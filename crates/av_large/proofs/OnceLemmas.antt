@@ -44,7 +44,7 @@ none_above low last n (e ∷ es) all up =
       | Greater ↦ λ c. none_above e.0 last n es all.3 up
     ]) refl
 
-lower : (low high last : ℕ) (m : List (ℕ × Content)) → low ≤ high → Holds Any high last m → Holds Any low last m
+pub lower : (low high last : ℕ) (m : List (ℕ × Content)) → low ≤ high → Holds Any high last m → Holds Any low last m
 lower low high last [] le all = tt
 lower low high last (e ∷ es) le all = (omega (arith, le, all.0), all.1, tt, all.3)
 

@@ -60,7 +60,7 @@ unfolding brought
 drops_nothing [] = λ n. refl
 drops_nothing (e ∷ m) = λ n. drops_nothing m n
 
-differ : (n m : ℕ) → (n ≡ m → ⊥) → nat_eq n m ≡ false
+pub differ : (n m : ℕ) → (n ≡ m → ⊥) → nat_eq n m ≡ false
 differ n m differs = (elim (nat_eq n m) as (λ b. nat_eq n m ≡ b → b ≡ false) [ true ↦ λ e. absurd (differs (eqb-true n m e)) | false ↦ λ e. refl ]) refl
 
 of_another : (n m : ℕ) (some : List ℕ) → (n ≡ m → ⊥) → brought n (Brings m some ∷ []) ≡ []
@@ -331,11 +331,11 @@ module _ (g : State) (sent : List Order) (writing : Writing) (written : List Wri
 
 -- ---- what is granted is just
 
-each_both : {A : Type 0} (P : A → Type 0) (xs ys : List A) → Each P xs → Each P ys → Each P (xs ++ ys)
+pub each_both : {A : Type 0} (P : A → Type 0) (xs ys : List A) → Each P xs → Each P ys → Each P (xs ++ ys)
 each_both {A} P [] ys one other = other
 each_both {A} P (x ∷ xs) ys one other = (one.0, each_both P xs ys one.1 other)
 
-each_weaker : {A : Type 0} (P Q : A → Type 0) (xs : List A) → ((x : A) → P x → Q x) → Each P xs → Each Q xs
+pub each_weaker : {A : Type 0} (P Q : A → Type 0) (xs : List A) → ((x : A) → P x → Q x) → Each P xs → Each Q xs
 each_weaker {A} P Q [] f all = tt
 each_weaker {A} P Q (x ∷ xs) f all = (f x all.0, each_weaker P Q xs f all.1)
 

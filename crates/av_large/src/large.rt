@@ -1,9 +1,11 @@
-ghost use Rattle.std.specs.Prelude.{◌≡◌, ◌++◌, ◌∷◌, [], length, is_some, None, Some, OnErr, OnOk};
+ghost use Rattle.std.specs.Prelude.{◌≡◌, ◌≤◌, ◌++◌, ◌∷◌, [], length, is_some, IfSome, None, Some, OnErr, OnOk};
 ghost use Rattle.av_base.specs.Answers.{AnswersAtOnce, StepsAtOnce};
 ghost use Rattle.av_large.specs.Calls.{BeginsBy, begins, begun_by, brought_by, ended_by, ends, greeted_with, grows, heard, is_owed, late, left_by, lost};
 ghost use Rattle.av_large.specs.State.{Gives, answers, at_first, numbers_of, theirs};
 ghost use Rattle.av_parts.specs.Judge.{at};
-ghost use Rattle.av_parts.specs.Orders.{Drops};
+ghost use Rattle.av_parts.specs.Orders.{Drops, order_of};
+ghost use Rattle.av_parts.specs.Spelling.{IsSpelled};
+ghost use Rattle.av_parts.specs.declared.sizes.TheConstants.{MAX_PART};
 
 use crate::answer::{Answer, Begun, Given, Told, nothing, number_in};
 use crate::content::{Content, Ending, Service};
@@ -83,9 +85,8 @@ impl Large {
         Ok(())
     }
 
-    /// A client begins a content of at most so many bytes. It has a number, under which the service is sent an `Order::Begin`. Or it
-    /// is told at once, if no service can judge it. Only this call can
-    /// run out of memory among those about one content.
+    /// A client begins a content of at most so many bytes. It has a number, under which the service is sent an `Order::Begin`. Or
+    /// it is told at once, if no service can judge it. Of the calls about one content only this one requests memory.
     pub fn begin(
         &mut self,
         service: Service,
@@ -138,9 +139,10 @@ impl Large {
         Ok(Begun::Sent { number })
     }
 
-    /// A client sends some of the content that it is within, at most 1,048,576 bytes. They are to go on as they lie in the piece.
+    /// A client sends some of the content that it is within, at most 1,048,576 bytes at once. They go on as they lie in the piece.
     pub fn bring<'a>(&mut self, client: u64, some: &'a [u8]) -> Given<'a>
-        ensures { Gives (brought_by self.old client some.now) self.new result }
+        ensures gives { Gives (brought_by self.old client some.now) self.new result }
+        ensures spelled { length some.now ≤ MAX_PART → IfSome result.order (λ o. IsSpelled (order_of o)) }
     {
         if some.is_empty() {
             return nothing();
@@ -153,7 +155,9 @@ impl Large {
 
     // Some of a content comes.
     fn grow<'a>(&mut self, number: u64, some: &'a [u8]) -> Given<'a>
-        ensures { Gives (grows self.old number some.now (at self.old.held number)) self.new result }
+        requires { 1 ≤ length some.now }
+        ensures gives { Gives (grows self.old number some.now (at self.old.held number)) self.new result }
+        ensures spelled { length some.now ≤ MAX_PART → IfSome result.order (λ o. IsSpelled (order_of o)) }
     {
         let Some(content) = self.held.get(number) else {
             return nothing();
@@ -281,8 +285,8 @@ impl Large {
         }
     }
 
-    /// A connection of the service is lost. With the first connection the caller closes the second, since one service makes both. Each content without an answer is told, by rising number. If memory
-    /// is refused nothing has changed.
+    /// A connection of the service is lost. With the first connection the caller closes the second, since one service makes both.
+    /// Each content without an answer is told, by rising number. If memory is refused nothing has changed.
     pub fn lose(&mut self, told: &mut Vec<Told>) -> Result<(), AllocError>
         ensures ok { OnOk result (self.new ≡ (lost self.old).state) }
         ensures told { OnOk result (told.new.items ≡ told.old.items ++ (lost self.old).told) }

@@ -1,6 +1,6 @@
 //! Laws, each the contract of a function that does nothing: a call hands its law to the caller.
 
-ghost use Rattle.av_large.specs.Laws.{LargeAsksAreAnsweredOnce, NumbersRise, WordsGrantAtTheFloor};
+ghost use Rattle.av_large.specs.Laws.{LargeAsksAreAnsweredOnce, NothingFollowsTheEnd, NumbersRise, WordsGrantAtTheFloor};
 ghost use Rattle.av_large.specs.Promise.{JudgesSayRight, LargeGrantsAreClean};
 
 /// Only a word of the service grants, and each grant names the guard's floor of its moment.
@@ -13,9 +13,11 @@ pub fn large_asks_are_answered_once()
     ensures { LargeAsksAreAnsweredOnce }
 {}
 
-/// Numbers rise, so none is given twice.
+/// Numbers rise, so none is given twice. Behind the end of a content nothing of it is sent but that it is dropped, and behind that
+/// nothing.
 pub fn numbers_rise()
-    ensures { NumbersRise }
+    ensures rise { NumbersRise }
+    ensures follow { NothingFollowsTheEnd }
 {}
 
 /// A grant is of a content that its client wrote whole under its tag, and that is clean under a set of the version that is named.
