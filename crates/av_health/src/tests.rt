@@ -40,7 +40,7 @@ fn a_report_has_a_format_and_eight_bytes_a_figure(rt: HostRuntime) -> Result<(),
         let at = 1 + 8 * place;
         let field = bytes.get(at..at + 8).unwrap_or(b"".as_slice());
         let last = place as u8 + 1;
-        assert!(&rt; field == &[0, 0, 0, 0, 0, 0, 0, last], "{place}");
+        assert!(&rt; field == [0, 0, 0, 0, 0, 0, 0, last].as_slice(), "{place}");
     }
     assert!(&rt; report_in(bytes.as_slice()) == Some(COUNTED), "read back");
     Ok(())
@@ -67,18 +67,18 @@ fn figures_are_shown_by_their_names(rt: HostRuntime) -> Result<(), Fail> {
         b"ready 1\nversion 2\nservices 3\nclients 4\nunanswered 5\nquestions 6\ncontents 7\ncontent_bytes 8\nasks_total 9\n\
         grants_total 10\ndenials_total 11\nunscanned_total 12\ntimeouts_total 13\ndropped_lines_total 14\nuptime_seconds 15\n\
         service_seconds 16\nmemory_bytes 17\n";
-    assert!(&rt; text == *wanted, "text");
+    assert!(&rt; text.as_slice() == wanted.as_slice(), "text");
     let json = json_of(rt.alloc(), &figures)?;
     let object =
         b"{\"ready\":1,\"version\":2,\"services\":3,\"clients\":4,\"unanswered\":5,\"questions\":6,\"contents\":7,\"content_bytes\":8,\
         \"asks_total\":9,\"grants_total\":10,\"denials_total\":11,\"unscanned_total\":12,\"timeouts_total\":13,\"dropped_lines_total\":14,\
         \"uptime_seconds\":15,\"service_seconds\":16,\"memory_bytes\":17}\n";
-    assert!(&rt; json == *object, "json");
+    assert!(&rt; json.as_slice() == object.as_slice(), "json");
     let metrics = metrics_of(rt.alloc(), &figures[8..10])?;
     let lines =
         b"# HELP avguard_asks_total asks\n# TYPE avguard_asks_total counter\navguard_asks_total 9\n\
         # HELP avguard_grants_total answers that granted\n# TYPE avguard_grants_total counter\navguard_grants_total 10\n";
-    assert!(&rt; metrics == *lines, "metrics");
+    assert!(&rt; metrics.as_slice() == lines.as_slice(), "metrics");
     Ok(())
 }
 
