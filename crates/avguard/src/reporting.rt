@@ -1,6 +1,7 @@
 //! How a guard is.
 
 ghost use Rattle.std.specs.Prelude.{◌≡◌, IfErr, IfOk, OnOk};
+ghost use Rattle.std.specs.Io.KnownBytes.{Appends};
 ghost use Rattle.av_base.specs.Device.{AppendsPrefix};
 ghost use Rattle.av_status.specs.Status.{IsFault};
 ghost use Rattle.av_status.specs.declared.status.Status.TheVariants.{Device, Done};
@@ -67,7 +68,20 @@ fn show<W: Write, E: Write>(
     let Ok(said) = text_in(alloc, health, view) else {
         return Err(out_of_memory(err));
     };
-    if write_text(out, said.as_slice()).is_err() || out.flush().is_err() {
+    put(said.as_slice(), out, err)
+}
+
+// Writes a text, and leaves none of it in a buffer.
+#[tactic(auto, using(crate::proofs::ReportLemmas::all_of_it))]
+fn put<W: Write, E: Write>(said: &[u8], out: &mut W, err: &mut E) -> Result<(), Status>
+    ensures whole { OnOk result (Appends (W.contents out.old) (W.contents out.new) said.now) }
+    ensures front { AppendsPrefix (W.contents out.old) (W.contents out.new) said.now }
+    ensures fault { IfErr result (λ status. IsFault status) }
+{
+    if write_text(out, said).is_err() {
+        return Err(device_failed(err));
+    }
+    if out.flush().is_err() {
         return Err(device_failed(err));
     }
     Ok(())
