@@ -157,7 +157,7 @@ fn metrics_command<'a>(alloc: Global) -> Result<Command<'a>, AllocError> {
         "Prints how a guard is, as Prometheus reads it",
         "The names begin with `avguard_`. The status is 0 where a guard told it, with a service or without.\
          \n\nExample, for the textfile collector of node_exporter:\
-         \n  avguard metrics opens.socket > avguard.prom.new && mv avguard.prom.new avguard.prom",
+         \n  avguard metrics opens.socket > new.prom && mv new.prom avguard.prom",
         &[OPENS_OF_GUARD, WAIT_FOR_REPORT],
     )
 }
