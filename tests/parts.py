@@ -117,6 +117,14 @@ class Both:
             return None
         return self.second
 
+    def say(self, pieces):
+        """Sends these, one after the other, as far as the service takes them: it may close the connection amid a frame that is none."""
+        try:
+            for piece in pieces:
+                self.second.sendall(piece)
+        except (BrokenPipeError, ConnectionResetError):
+            pass
+
     def hear(self, wanted, seconds=SECONDS):
         return heard(self.second, len(wanted), seconds) if wanted else b""
 
@@ -181,8 +189,7 @@ def a_case(cases, program, path, cut):
             if what == "comes:":
                 sent += bytes_of(rest)
                 continue
-            for piece in pieces_of(sent, cut, draw):
-                both.second.sendall(piece)
+            both.say(pieces_of(sent, cut, draw))
             sent = b""
             if what == "said:":
                 wanted = bytes.fromhex(rest)
@@ -193,8 +200,7 @@ def a_case(cases, program, path, cut):
                 cases.same(f"{name}:{place}", heard(both.first, 14), updated(version))
             else:
                 cases.check(f"{name}:{place}", both.is_closed(), "not closed")
-        for piece in pieces_of(sent, cut, draw):
-            both.second.sendall(piece)
+        both.say(pieces_of(sent, cut, draw))
         if lines[-1] != "closed":
             cases.check(f"{name}: nothing more", both.is_silent(), "more came")
 
