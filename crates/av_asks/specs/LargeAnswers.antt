@@ -1,5 +1,5 @@
 -- Answers to contents in parts, for the causes that only these have.
-use Rattle.std.specs.Prelude.{ℕ, ◌==◌, List, [], ◌∷◌, ◌++◌, Option, None, Some, if◌then◌else◌}
+use Rattle.std.specs.Prelude.{ℕ, ◌==◌, List, [], ◌∷◌, ◌++◌, codes, Option, None, Some, if◌then◌else◌}
 use Rattle.av_asks.specs.declared.large_answer.LargeAnswer.{LargeAnswer}
 use Rattle.av_asks.specs.declared.large_answer.LargeAnswer.TheVariants.{Denied, Unscanned}
 use Rattle.av_asks.specs.declared.large_answer.LargeCause.{LargeCause}
@@ -13,6 +13,13 @@ cause_number AskAgain = 11
 cause_number TooLarge = 12
 cause_number GivenUp = 13
 cause_number NoParts = 14
+
+-- a cause in words
+abbrev pub cause_text : LargeCause → List ℕ
+cause_text AskAgain = codes "ask again"
+cause_text TooLarge = codes "too large"
+cause_text GivenUp = codes "given up"
+cause_text NoParts = codes "takes no parts"
 
 -- the cause of a number
 abbrev pub cause_of : ℕ → Option LargeCause

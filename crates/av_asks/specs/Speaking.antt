@@ -209,6 +209,10 @@ IsTurn (Ok (t, content)) wanted = wanted ≡ Ok (told_saying t, content)
 IsTurn (Err (Fault f)) wanted = wanted ≡ Err f
 IsTurn (Err NoMemory) wanted = IsOk wanted
 
+-- the bytes that came of the frame that has begun, and how many of it say something: 0 as long as its kind has not come
+abbrev pub begun_of : Speaking → ℕ × ℕ
+begun_of s = (length s.front, (if nat_lt (length s.front) 5 then 0 else wanted_of s.front))
+
 -- a content is open, or a frame has begun
 abbrev pub is_within : Speaking → Bool
 is_within s = is_some s.content || not (length s.front == 0)

@@ -1,7 +1,7 @@
-ghost use Rattle.std.specs.Prelude.{◌≡◌, ◌≤◌, ◌<◌, ◌+◌, [], drop, length, slice_index, true, IfOk, Err, None, Some};
+ghost use Rattle.std.specs.Prelude.{◌≡◌, ◌≤◌, ◌<◌, ◌+◌, [], drop, is_some, length, slice_index, true, IfOk, Err, None, Some};
 ghost use Rattle.av_base.specs.declared.refusal.Refusal.TheVariants.{Fault, NoMemory};
 ghost use Rattle.av_asks.specs.Spelling.{number8};
-ghost use Rattle.av_asks.specs.Speaking.{IsCounted, IsTurn, after, begins, bytewise_of, ends, fits_kind, fresh, gone_on, heard_of, is_within, left_of, length_of, of_ask, parts, said_by, told_list};
+ghost use Rattle.av_asks.specs.Speaking.{IsCounted, IsTurn, after, begins, begun_of, bytewise_of, ends, fits_kind, fresh, gone_on, heard_of, is_within, left_of, length_of, of_ask, parts, said_by, told_list};
 
 use crate::ask::Ask;
 use crate::ask_feed::body as ask_of;
@@ -101,11 +101,40 @@ impl ClientReader {
         self.front.len()
     }
 
+    /// How many bytes have come of the frame that has begun, and how many of it are kept before it says something: 0 as long as its
+    /// kind has not come. Of a part these are the 13 bytes before its content.
+    pub fn begun(&self) -> (usize, usize)
+        ensures { result ≡ begun_of self.now }
+    {
+        let came = self.front.len();
+        if came < 5 {
+            return (came, 0);
+        }
+        (came, wanted(&self.front))
+    }
+
+    /// How many bytes are still to come of the part that is open, 0 between parts. They are given as they come.
+    pub fn left(&self) -> usize
+        ensures { result ≡ left_of self.now.content }
+    {
+        match self.content {
+            Some(content) => content.left as usize,
+            None => 0,
+        }
+    }
+
+    /// Whether a content is open: it began, and has not ended.
+    pub fn is_open(&self) -> bool
+        ensures { result ≡ is_some self.now.content }
+    {
+        self.content.is_some()
+    }
+
     /// Whether a content is open, or a frame has begun that is not whole.
     pub fn is_within(&self) -> bool
         ensures { result ≡ is_within self.now }
     {
-        self.content.is_some() || !self.front.is_empty()
+        self.is_open() || !self.front.is_empty()
     }
 
     /// Takes the first bytes of a piece, at least one where there is one: those that say something, or those behind which more has

@@ -1,5 +1,5 @@
 ghost use Rattle.std.specs.Prelude.{◌≡◌, ◌+◌, ◌≤◌, ◌++◌, OnOk, OnErr, vec_len, vec_capacity};
-ghost use Rattle.av_asks.specs.LargeAnswers.{cause_number, cause_of, large_body, large_frame, large_size};
+ghost use Rattle.av_asks.specs.LargeAnswers.{cause_number, cause_of, cause_text, large_body, large_frame, large_size};
 
 use crate::fields::{put1, put4, put8};
 use crate::sizes::{DENIED_SIZE, UNSCANNED_SIZE};
@@ -46,7 +46,9 @@ impl LargeCause {
     }
 
     /// What the cause means, in words.
-    pub fn text(self) -> &'static str {
+    pub fn text(self) -> &'static str
+        ensures { result.now ≡ cause_text self }
+    {
         match self {
             LargeCause::AskAgain => "ask again",
             LargeCause::TooLarge => "too large",

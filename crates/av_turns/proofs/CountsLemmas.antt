@@ -18,7 +18,7 @@ use Rattle.av_turns.specs.declared.clients.Look.{Look}
 use Rattle.av_turns.specs.declared.clients.Look.TheVariants.{Later, Nobody, Turn}
 use Rattle.av_turns.specs.declared.line.First.{First}
 use Rattle.av_turns.specs.declared.client.Left.{Left}
-use Rattle.av_turns.specs.declared.client.Left.TheVariants.{Nothing, Part, Whole}
+use Rattle.av_turns.specs.declared.client.Left.TheVariants.{Nothing, Part, Whole, Held}
 use Rattle.av_turns.proofs.ClientsLemmas.{at_insert, at_set}
 
 kept_by : (b : Bool) (c : Client) (o : Option Client) → option_map kept_of (cond b (Some c) o) ≡ cond b (Some (kept_of c)) (option_map kept_of o)
@@ -85,6 +85,7 @@ pub kept_over : (left : Left) (now : ℕ) (c : Client) → kept_of (over left no
 kept_over Nothing now c = refl
 kept_over (Whole held) now c = refl
 kept_over (Part held total) now c = refl
+kept_over (Held held) now c = refl
 
 written_by : (all much : Bool) (count now : ℕ) (c : Client)
     → kept_of (cond all (sent now c) (cond much (record c { out = c.out - count; taken = 0; waits = Some now }) (record c { out = c.out - count; taken = c.taken + count }))) ≡ kept_of c

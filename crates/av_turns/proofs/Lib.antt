@@ -7,3 +7,4 @@ pub mod QuestionsLemmas
 pub mod RingLemmas
 pub mod TimesLemmas
 pub mod TurnsLemmas
+pub mod WaitsLemmas

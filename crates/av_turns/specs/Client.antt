@@ -6,7 +6,7 @@ use Rattle.av_turns.specs.declared.client.Client.{Client}
 use Rattle.av_turns.specs.declared.client.Kind.{Kind}
 use Rattle.av_turns.specs.declared.client.Kind.TheVariants.{Opens, Clamd}
 use Rattle.av_turns.specs.declared.client.Left.{Left}
-use Rattle.av_turns.specs.declared.client.Left.TheVariants.{Nothing, Whole, Part}
+use Rattle.av_turns.specs.declared.client.Left.TheVariants.{Nothing, Whole, Part, Held}
 
 -- what one client may hold: input and asks in line within its floor and its share, output, small asks in line
 pub record IsFit (c : Client) : Type 0 where
@@ -145,6 +145,7 @@ abbrev pub over : Left → ℕ → Client → Client
 over Nothing now c = emptied now c
 over (Whole held) now c = record c { inside = true; filling = false; input = min c.input held; first = None; idle = None }
 over (Part held total) now c = begun held total now c
+over (Held held) now c = record c { readable = false; inside = false; filling = false; input = min c.input held; first = None; idle = None }
 
 -- it has the share that it waited for
 abbrev pub granted : Client → Client

@@ -10,3 +10,4 @@ pub mod Questions
 pub mod Times
 pub mod Turns
 pub mod Windows
+pub mod Waits

@@ -33,6 +33,11 @@ pub enum Left {
         /// The whole size of the begun thing, 0 where it is not known yet.
         total: u64,
     },
+    /// What came waits, and the client is not read before it is told to be readable again.
+    Held {
+        /// Bytes that are left.
+        held: u64,
+    },
 }
 
 /// What is counted of one client. Times are in milliseconds.
@@ -321,6 +326,15 @@ impl Client {
                 ..self
             },
             Left::Part { held, total } => self.begun(held, total, now),
+            Left::Held { held } => Client {
+                readable: false,
+                inside: false,
+                filling: false,
+                input: self.input.min(held),
+                first: None,
+                idle: None,
+                ..self
+            },
         }
     }
 

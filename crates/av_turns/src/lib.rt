@@ -14,9 +14,11 @@ pub mod queue;
 mod tests;
 pub mod times;
 pub mod turns;
+pub mod waits;
 pub mod windows;
 
 pub use client::{Client, Kind, Left};
 pub use line::Standing;
 pub use places::Arrived;
 pub use turns::{Admitted, Late, Next, Parsed, Thing, Turns, Why};
+pub use waits::Waits;
