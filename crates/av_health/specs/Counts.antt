@@ -33,6 +33,8 @@ told (judged.Granted version) c = record c { grants = more 1 c.grants }
 told (judged.Infected version signature end) c = record c { denials = more 1 c.denials }
 told (judged.Denied cause) c = timed_out cause (record c { denials = more 1 c.denials })
 told (judged.Unscanned cause) c = timed_out cause (record c { unscanned = more 1 c.unscanned })
+told (judged.LargeDenied cause) c = record c { denials = more 1 c.denials }
+told (judged.LargeUnscanned cause) c = record c { unscanned = more 1 c.unscanned }
 
 -- so many lines were dropped
 abbrev pub dropped : ℕ → Counts → Counts

@@ -60,6 +60,8 @@ impl Counts {
                 self.unscanned = self.unscanned.saturating_add(1);
                 self.timed_out(cause);
             }
+            Judged::LargeDenied { .. } => self.denials = self.denials.saturating_add(1),
+            Judged::LargeUnscanned { .. } => self.unscanned = self.unscanned.saturating_add(1),
         }
     }
 

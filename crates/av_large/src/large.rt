@@ -1,4 +1,5 @@
 ghost use Rattle.std.specs.Prelude.{◌≡◌, ◌≤◌, ◌++◌, ◌∷◌, [], length, is_some, IfSome, None, Some, OnErr, OnOk};
+ghost use Rattle.std.specs.Option.{option_map};
 ghost use Rattle.av_base.specs.Answers.{AnswersAtOnce, StepsAtOnce};
 ghost use Rattle.av_large.specs.Calls.{BeginsBy, begins, begun_by, brought_by, ended_by, ends, greeted_with, grows, heard, is_owed, late, left_by, lost};
 ghost use Rattle.av_large.specs.State.{Gives, answers, at_first, numbers_of, theirs};
@@ -83,6 +84,16 @@ impl Large {
         }
         self.takes = true;
         Ok(())
+    }
+
+    /// Whose content has this number, as long as it has no answer.
+    pub fn client_of(&self, number: u64) -> Option<u64>
+        ensures { result ≡ option_map (λ c. c.client) (at self.now.held number) }
+    {
+        match self.held.get(number) {
+            Some(content) => Some(content.client),
+            None => None,
+        }
     }
 
     /// A client begins a content of at most so many bytes. It has a number, under which the service is sent an `Order::Begin`. Or

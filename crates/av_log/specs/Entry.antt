@@ -1,6 +1,8 @@
 -- What a line of the log says: an answer, or what became of the service, the clients, the kept version and the log itself.
 use Rattle.std.specs.Prelude.{ℕ, ◌||◌, Bool, true, false, not, List, [], ◌∷◌, ◌++◌, Option, None, Some, codes}
 use Rattle.std.specs.Borrow.{Bor}
+use Rattle.av_asks.specs.LargeAnswers.{cause_number, cause_text}
+use Rattle.av_asks.specs.declared.large_answer.LargeCause.{LargeCause}
 use Rattle.av_base.specs.Cause.{number_of}
 use Rattle.av_base.specs.declared.cause.Cause.{Cause}
 use Rattle.av_base.specs.declared.cause.Cause.TheVariants as cause
@@ -10,7 +12,7 @@ use Rattle.av_log.specs.declared.entry.Asked.{Asked}
 use Rattle.av_log.specs.declared.entry.Entry.{Entry}
 use Rattle.av_log.specs.declared.entry.Entry.TheVariants as entry
 use Rattle.av_log.specs.declared.entry.Judged.{Judged}
-use Rattle.av_log.specs.declared.entry.Judged.TheVariants.{Granted, Infected, Denied, Unscanned}
+use Rattle.av_log.specs.declared.entry.Judged.TheVariants.{Granted, Infected, Denied, Unscanned, LargeDenied, LargeUnscanned}
 use Rattle.av_log.specs.declared.entry.Told.{Told}
 use Rattle.av_log.specs.declared.entry.Way.{Way}
 use Rattle.av_log.specs.declared.entry.Way.TheVariants.{Opens, Clamd}
@@ -28,6 +30,13 @@ name_items (Some name) = Bytes (codes "name") (codes "name_hex") name.now ∷ []
 abbrev pub denial_items : List ℕ → Cause → List Item
 denial_items answer c = Word (codes "answer") answer ∷ cause_items c
 
+-- the same of a content in parts, for a cause of its own
+abbrev pub large_cause_items : LargeCause → List Item
+large_cause_items c = Number (codes "cause") (cause_number c) ∷ Bytes (codes "why") (codes "why_hex") (cause_text c) ∷ []
+
+abbrev pub large_items : List ℕ → LargeCause → List Item
+large_items answer c = Word (codes "answer") answer ∷ large_cause_items c
+
 -- which signature occurs, where it ends, and of which set it is
 abbrev pub found_items : ℕ → Option (Bor (List ℕ)) → List Item
 found_items signature name = Number (codes "signature") signature ∷ name_items name
@@ -42,6 +51,8 @@ judged_items (Infected version signature end) name =
     denial_items (codes "denied") cause.Infected ++ found_items signature name ++ end_items end version
 judged_items (Denied c) name = denial_items (codes "denied") c
 judged_items (Unscanned c) name = denial_items (codes "unscanned") c
+judged_items (LargeDenied c) name = large_items (codes "denied") c
+judged_items (LargeUnscanned c) name = large_items (codes "unscanned") c
 
 -- at which socket it was asked
 abbrev pub way_of : Way → List ℕ
@@ -82,6 +93,9 @@ items_of (entry.Older version least) = versioned (codes "service") (codes "refus
 items_of (entry.Above version most) = versioned (codes "service") (codes "refused") version ++ Number (codes "most") most ∷ []
 items_of entry.Silent = happened (codes "service") (codes "silent")
 items_of entry.Stuck = happened (codes "service") (codes "stuck")
+items_of (entry.PartsConnected version) = versioned (codes "parts") (codes "connected") version
+items_of entry.PartsLost = happened (codes "parts") (codes "lost")
+items_of (entry.PartsOlder version least) = versioned (codes "parts") (codes "refused") version ++ Number (codes "least") least ∷ []
 items_of (entry.Unkept version) = versioned (codes "state") (codes "unwritten") version
 items_of entry.Crowded = happened (codes "client") (codes "closed")
 items_of (entry.Dropped lines) = happened (codes "log") (codes "dropped") ++ Number (codes "lines") lines ∷ []
@@ -92,6 +106,8 @@ is_grant (Granted version) = true
 is_grant (Infected version signature end) = false
 is_grant (Denied c) = false
 is_grant (Unscanned c) = false
+is_grant (LargeDenied c) = false
+is_grant (LargeUnscanned c) = false
 
 abbrev pub is_logged : Bool → Judged → Bool
 is_logged has_grants judged = has_grants || not (is_grant judged)

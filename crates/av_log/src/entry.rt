@@ -1,10 +1,11 @@
 //! What a line says.
 
 ghost use Rattle.std.specs.Prelude.{◌≡◌, ◌++◌, ◌∷◌, [], codes, map, IfOk, OnOk};
-ghost use Rattle.av_log.specs.Entry.{asked_items, asker_items, cause_items, denial_items, end_items, found_items, happened, is_logged, items_of, judged_items, label_items, name_items, told_items, versioned, way_of};
+ghost use Rattle.av_log.specs.Entry.{asked_items, asker_items, cause_items, denial_items, end_items, found_items, happened, is_logged, items_of, judged_items, label_items, large_cause_items, large_items, name_items, told_items, versioned, way_of};
 ghost use Rattle.av_log.specs.Words.{Bytes, Number, Word, item_of};
 
 use crate::field::Field;
+use av_asks::LargeCause;
 use av_base::{Cause, Version};
 use av_json::why;
 use std::alloc::{AllocError, Global};
@@ -29,6 +30,14 @@ pub enum Judged {
     /// It could not be judged, and is let through.
     Unscanned {
         cause: Cause,
+    },
+    /// It came in parts, was not judged for a cause of its own, and is kept out.
+    LargeDenied {
+        cause: LargeCause,
+    },
+    /// It came in parts, was not judged for a cause of its own, and is let through.
+    LargeUnscanned {
+        cause: LargeCause,
     },
 }
 
@@ -81,6 +90,12 @@ pub enum Entry<'a> {
     Silent,
     /// The service answered none of many questions in a row.
     Stuck,
+    /// The second connection of the service is there, for contents in parts, under a set of this version.
+    PartsConnected(Version),
+    /// The second connection of the service is gone.
+    PartsLost,
+    /// A second connection was turned away, whose set is older than the guard's.
+    PartsOlder { version: Version, least: Version },
     /// The file that keeps the version could not be written.
     Unkept(Version),
     /// The longest idle client was closed, since all places are taken.
@@ -126,6 +141,12 @@ fn put_entry<'a>(fields: &mut Vec<Field<'a>>, entry: &Entry<'a>) -> Result<(), A
         }
         Entry::Silent => put_event(fields, "service", "silent"),
         Entry::Stuck => put_event(fields, "service", "stuck"),
+        Entry::PartsConnected(version) => put_version(fields, "parts", "connected", *version),
+        Entry::PartsLost => put_event(fields, "parts", "lost"),
+        Entry::PartsOlder { version, least } => {
+            put_version(fields, "parts", "refused", *version)?;
+            put_number(fields, "least", least.get())
+        }
         Entry::Unkept(version) => put_version(fields, "state", "unwritten", *version),
         Entry::Crowded => put_event(fields, "client", "closed"),
         Entry::Dropped(lines) => {
@@ -166,7 +187,28 @@ fn put_judged<'a>(
         }
         Judged::Denied { cause } => put_denial(fields, "denied", cause),
         Judged::Unscanned { cause } => put_denial(fields, "unscanned", cause),
+        Judged::LargeDenied { cause } => put_large(fields, "denied", cause),
+        Judged::LargeUnscanned { cause } => put_large(fields, "unscanned", cause),
     }
+}
+
+// Puts that a content in parts was not judged.
+fn put_large<'a>(
+    fields: &mut Vec<Field<'a>>,
+    answer: &'a str,
+    cause: LargeCause,
+) -> Result<(), AllocError>
+    ensures { OnOk result (map item_of fields.new.items ≡ map item_of fields.old.items ++ large_items answer.now cause) }
+{
+    put_word(fields, "answer", answer)?;
+    put_large_cause(fields, cause)
+}
+
+fn put_large_cause(fields: &mut Vec<Field<'_>>, cause: LargeCause) -> Result<(), AllocError>
+    ensures { OnOk result (map item_of fields.new.items ≡ map item_of fields.old.items ++ large_cause_items cause) }
+{
+    put_number(fields, "cause", u64::from(cause.number()))?;
+    put_bytes(fields, "why", "why_hex", cause.text().as_bytes())
 }
 
 // Puts which signature occurs.

@@ -2,6 +2,7 @@ use crate::entry::{Asked, Entry, Judged, Told, Way, fields_of};
 use crate::line::{Form, put_line};
 use crate::queue::Queue;
 use crate::stamp::stamp_of;
+use av_asks::LargeCause;
 use av_base::{Cause, Version};
 use std::alloc::{AllocError, Global};
 use std::test::Fail;
@@ -86,5 +87,68 @@ fn a_version_has_its_event(rt: HostRuntime) -> Result<(), Fail> {
         words.as_slice()
             == b"time=1970-01-01T00:00:00.000Z event=service state=refused version=3 least=7\n".as_slice()
     );
+    Ok(())
+}
+
+#[test]
+fn contents_in_parts_have_causes_of_their_own(rt: HostRuntime) -> Result<(), Fail> {
+    for (cause, text) in [
+        (
+            LargeCause::AskAgain,
+            b"cause=11 why=\"ask again\"".as_slice(),
+        ),
+        (
+            LargeCause::TooLarge,
+            b"cause=12 why=\"too large\"".as_slice(),
+        ),
+        (LargeCause::GivenUp, b"cause=13 why=\"given up\"".as_slice()),
+        (
+            LargeCause::NoParts,
+            b"cause=14 why=\"takes no parts\"".as_slice(),
+        ),
+    ] {
+        for (judged, answer) in [
+            (Judged::LargeDenied { cause }, b"denied".as_slice()),
+            (Judged::LargeUnscanned { cause }, b"unscanned".as_slice()),
+        ] {
+            let told = Told {
+                judged,
+                name: None,
+                way: Way::Clamd,
+                client: 1,
+                tag: 2,
+                asked: None,
+            };
+            let words = line(rt.alloc(), Form::Words, &Entry::Told(told))?;
+            let begun = b"time=1970-01-01T00:00:00.000Z event=answer answer=";
+            let wanted = [begun, answer, b" ", text, b" socket=clamd client=1 tag=2\n"].concat(
+                rt.alloc(),
+            )?;
+            assert!(&rt; words == wanted);
+        }
+    }
+    Ok(())
+}
+
+#[test]
+fn a_second_connection_has_lines(rt: HostRuntime) -> Result<(), Fail> {
+    let version = Version::new(7);
+    let least = Version::new(9);
+    for (entry, text) in [
+        (
+            Entry::PartsConnected(version),
+            b"time=1970-01-01T00:00:00.000Z event=parts state=connected version=7\n".as_slice(),
+        ),
+        (
+            Entry::PartsLost,
+            b"time=1970-01-01T00:00:00.000Z event=parts state=lost\n".as_slice(),
+        ),
+        (
+            Entry::PartsOlder { version, least },
+            b"time=1970-01-01T00:00:00.000Z event=parts state=refused version=7 least=9\n".as_slice(),
+        ),
+    ] {
+        assert!(&rt; line(rt.alloc(), Form::Words, &entry)?.as_slice() == text);
+    }
     Ok(())
 }

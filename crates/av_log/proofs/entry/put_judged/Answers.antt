@@ -19,3 +19,6 @@ returns-in_ok-put_found-in-Infected c =
 
 pub returns-in-Unscanned : goal.returns-in-Unscanned
 returns-in-Unscanned c = rw c.in-Unscanned.is c.put_denial-in-Unscanned.ensures
+
+pub returns-in-LargeUnscanned : goal.returns-in-LargeUnscanned
+returns-in-LargeUnscanned c = rw c.in-LargeUnscanned.is c.put_large-in-LargeUnscanned.ensures
