@@ -1,3 +1,4 @@
 pub mod HearLemmas
 pub mod KeptLemmas
 pub mod ReplyLemmas
+pub mod WholeLemmas

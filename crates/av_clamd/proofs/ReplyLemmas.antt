@@ -3,7 +3,7 @@ use Rattle.std.proofs.Common.{ℕ, ◌≡◌, List, [], ◌∷◌, ◌++◌, len
 use Rattle.std.specs.Prelude.{codes}
 use Rattle.std.proofs.lemmas.List.{append_cancel_left, append_cancel_right}
 use Rattle.av_clamd.specs.declared.reply.Spoken.{Spoken}
-use Rattle.av_clamd.specs.declared.reply.Spoken.TheVariants.{Clean, Found, FoundAt, NoVerdict}
+use Rattle.av_clamd.specs.declared.reply.Spoken.TheVariants.{Clean, Found, FoundAt, TooLarge, NoVerdict}
 use Rattle.av_clamd.specs.Text.{numbered, verdict_text}
 use Rattle.av_clamd.specs.Laws.{IsOkForCleanAlone}
 
@@ -14,6 +14,7 @@ ok_text : (verdict : Spoken) → verdict_text verdict ≡ codes "OK" → verdict
 ok_text Clean e = refl
 ok_text (Found name) e = let sizes = ap length e in absurd (omega (arith, sizes, length-append name.now (codes " FOUND")))
 ok_text (FoundAt index version) e = let first : 115 ≡ 79 = first_same 115 79 _ _ e in absurd (omega (arith, first))
+ok_text TooLarge e = let first : 73 ≡ 79 = first_same 73 79 _ _ e in absurd (omega (arith, first))
 ok_text (NoVerdict cause) e = let first : 110 ≡ 79 = first_same 110 79 _ _ e in absurd (omega (arith, first))
 
 pub ok_for_clean_alone : IsOkForCleanAlone

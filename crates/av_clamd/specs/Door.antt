@@ -1,59 +1,70 @@
-use Rattle.std.specs.Prelude.{ℕ, ◌≡◌, ◌+◌, ◌-◌, ◌==◌, ◌&&◌, Bool, true, false, not, nat_lt, List, [], ◌∷◌, ◌++◌, length, take, Option, None, Some, Result, Ok, Err, codes, min, if◌then◌else◌}
+use Rattle.std.specs.Prelude.{ℕ, ◌≡◌, ◌≤◌, ◌+◌, ◌-◌, ◌==◌, ◌&&◌, Bool, true, false, not, nat_lt, List, [], ◌∷◌, ◌++◌, length, map, nat_le, take, Option, None, Some, Result, Ok, Err, codes, min, if◌then◌else◌}
 use Rattle.std.specs.Int.{w32, from_be_bytes}
 use Rattle.std.specs.declared.alloc.AllocError.{AllocError}
 use Rattle.av_clamd.specs.declared.door.Reading.{Reading}
 use Rattle.av_clamd.specs.declared.door.Reading.TheVariants.{Command, Size, Piece, Nothing}
+use Rattle.av_clamd.specs.declared.door.Sending.{Sending}
+use Rattle.av_clamd.specs.declared.door.Sending.TheVariants.{Whole, InParts}
+use Rattle.av_clamd.specs.declared.door.Way.{Way}
+use Rattle.av_clamd.specs.declared.door.Way.TheVariants.{Collected, Relayed, Dropped}
 use Rattle.av_clamd.specs.declared.door.Heard.{Heard}
 use Rattle.av_clamd.specs.declared.door.Heard.TheVariants as heard
-use Rattle.av_clamd.specs.declared.door.TheConstants.{LONGEST, MAX_CONTENT}
+use Rattle.av_clamd.specs.declared.door.TheConstants.{LONGEST, MAX_CONTENT, MOST_KEPT}
 use Rattle.std.specs.Str.{bytes_eq}
 use Rattle.av_clamd.specs.Text.{answered, end_of, is_marked, line_of, word_of}
 
--- A door: what is read next; the bytes of the command, or of a piece's length, that came so far; the content so far; whether
--- it was too long, so that the rest of it is dropped; whether a session was begun, and how many commands it has had; and how
--- the last command ended.
+-- A door: what is read next; the bytes of the command, or of a piece's length, that came so far; the content so far, where it is
+-- collected; what is done with its bytes; whether a session was begun, and how many commands it has had; and how the last
+-- command ended.
 pub record Opened : Type 0 where
   pub reading : Reading
   pub begun : List ℕ
   pub content : List ℕ
-  pub dropped : Bool
+  pub way : Way
   pub session : Bool
   pub number : ℕ
   pub end : ℕ
 
--- what came of a byte: a line that is said, or a content that is asked about, under its command's number and end
+-- What came of a byte: a line that is said, or a content that is asked about, under its command's number and end. Of a content that
+-- comes in parts: that it begins, with its first bytes; one of its bytes; that it ends.
 pub data Told : Type 0 where
   Said : List ℕ → Told
   Asked : ℕ → ℕ → List ℕ → Told
+  Began : ℕ → ℕ → List ℕ → Told
+  Brought : ℕ → Told
+  Ended : Told
 
 -- what was heard, with its bytes
-abbrev pub told : Heard → Told
-told (heard.Say line) = Said line.items
-told (heard.Ask number end content) = Asked number end content.items
+abbrev pub told : Heard → List Told
+told (heard.Say line) = Said line.items ∷ []
+told (heard.Ask number end content) = Asked number end content.items ∷ []
+told (heard.Begin number end first) = Began number end first.items ∷ []
+told (heard.More bytes) = map Brought bytes.now
+told heard.End = Ended ∷ []
 
 -- a door that nobody spoke to
 abbrev pub fresh : Opened
-fresh = record { reading = Command; begun = []; content = []; dropped = false; session = false; number = 0; end = 10 }
+fresh = record { reading = Command; begun = []; content = []; way = Collected; session = false; number = 0; end = 10 }
 
 -- outside of a session a reply is the last
 abbrev pub after_reply : Opened → Reading
 after_reply d = if d.session then Command else Nothing
 
 -- a line is said, and then this is read
-abbrev pub says : List ℕ → Reading → Opened → Opened × Option Told
-says text next d = (record d { reading = next }, Some (Said (line_of d.number text d.end)))
+abbrev pub says : List ℕ → Reading → Opened → Opened × List Told
+says text next d = (record d { reading = next }, Said (line_of d.number text d.end) ∷ [])
 
 -- a word that is answered by a line; any other closes
-abbrev pub answers : Option (List ℕ) → Opened → Opened × Option Told
+abbrev pub answers : Option (List ℕ) → Opened → Opened × List Told
 answers (Some text) d = says text (after_reply d) d
 answers None d = says (if d.session then codes "Command invalid inside IDSESSION. ERROR" else codes "UNKNOWN COMMAND") Nothing d
 
 -- a word, and whether its command was marked
-abbrev pub obeyed : Bool → List ℕ → Opened → Opened × Option Told
+abbrev pub obeyed : Bool → List ℕ → Opened → Opened × List Told
 obeyed marked word d =
-    if bytes_eq word (codes "INSTREAM") && marked then (record d { reading = Size; content = []; dropped = false }, None)
-    else if bytes_eq word (codes "IDSESSION") && marked && not d.session then (record d { reading = Command; session = true }, None)
-    else if bytes_eq word (codes "END") && d.session then (record d { reading = Nothing }, None)
+    if bytes_eq word (codes "INSTREAM") && marked then (record d { reading = Size; content = []; way = Collected }, [])
+    else if bytes_eq word (codes "IDSESSION") && marked && not d.session then (record d { reading = Command; session = true }, [])
+    else if bytes_eq word (codes "END") && d.session then (record d { reading = Nothing }, [])
     else answers (answered word) d
 
 -- the number of the next command: they count in a session alone
@@ -61,78 +72,144 @@ abbrev pub next_number : Opened → ℕ
 next_number d = if d.session then min (d.number + 1) 18446744073709551615 else d.number
 
 -- a command is whole
-abbrev pub commanded : Opened → Opened × Option Told
+abbrev pub commanded : Opened → Opened × List Told
 commanded d =
     obeyed (is_marked d.begun) (word_of d.begun)
     (record d { begun = []; number = next_number d; end = end_of d.begun })
 
 -- a byte of a command; at 1,024 bytes without an end nothing more is read
-abbrev pub in_command : ℕ → Opened → Opened × Option Told
+abbrev pub in_command : ℕ → Opened → Opened × List Told
 in_command b d =
     if b == end_of d.begun then commanded d
-    else if nat_lt (length d.begun + 1) LONGEST then (record d { begun = d.begun ++ b ∷ [] }, None)
-    else (record d { reading = Nothing }, None)
+    else if nat_lt (length d.begun + 1) LONGEST then (record d { begun = d.begun ++ b ∷ [] }, [])
+    else (record d { reading = Nothing }, [])
 
--- the content is whole: it is asked about, unless it was too long
-abbrev pub finished : Opened → Opened × Option Told
-finished d = (
-  record d { reading = after_reply d; content = []; dropped = false },
-  (if d.dropped then None else Some (Asked d.number d.end d.content)),
-)
+-- the content is whole: it is asked about, or it ends, or it was too long
+abbrev pub told_at_end : Way → Opened → List Told
+told_at_end Collected d = Asked d.number d.end d.content ∷ []
+told_at_end Relayed d = Ended ∷ []
+told_at_end Dropped d = []
 
--- a piece of so many bytes follows; one that would make the content too long is told once, and all of it is dropped
-abbrev pub sized : ℕ → Opened → Opened × Option Told
-sized size d =
-    if size == 0 then finished d
-    else if d.dropped then (record d { reading = Piece size }, None)
+abbrev pub finished : Opened → Opened × List Told
+finished d = (record d { reading = after_reply d; content = []; way = Collected }, told_at_end d.way d)
+
+-- a content of which so many bytes were collected goes in parts, now that a piece of this length follows
+abbrev pub goes_in_parts : Sending → ℕ → ℕ → Bool
+goes_in_parts Whole kept size = false
+goes_in_parts InParts kept size = nat_le kept MOST_KEPT && nat_lt MOST_KEPT (kept + size)
+
+-- a piece of so many bytes follows of a content that is collected; one that would make it too long is told once, and all of it is
+-- dropped
+abbrev pub enlarged : Sending → ℕ → Opened → Opened × List Told
+enlarged sending size d =
+    if goes_in_parts sending (length d.content) size
+    then (record d { reading = Piece size; content = []; way = Relayed }, Began d.number d.end d.content ∷ [])
     else if nat_lt MAX_CONTENT (length d.content + size)
-    then says (codes "stream: INSTREAM size limit exceeded. ERROR") (Piece size) (record d { content = []; dropped = true })
-    else (record d { reading = Piece size }, None)
+    then says (codes "stream: INSTREAM size limit exceeded. ERROR") (Piece size) (record d { content = []; way = Dropped })
+    else (record d { reading = Piece size }, [])
+
+-- a piece of so many bytes follows
+abbrev pub by_way : Way → Sending → ℕ → Opened → Opened × List Told
+by_way Collected sending size d = enlarged sending size d
+by_way Relayed sending size d = (record d { reading = Piece size }, [])
+by_way Dropped sending size d = (record d { reading = Piece size }, [])
+
+-- the length of a piece is whole: 0 is behind the last
+abbrev pub sized : Sending → ℕ → Opened → Opened × List Told
+sized sending size d = if size == 0 then finished d else by_way d.way sending size d
 
 -- a byte of a piece's length, which has four
-abbrev pub in_size : ℕ → Opened → Opened × Option Told
-in_size b d =
-    if nat_lt (length d.begun + 1) 4 then (record d { begun = d.begun ++ b ∷ [] }, None)
-    else sized (from_be_bytes w32 (take 4 (d.begun ++ b ∷ []))) (record d { begun = [] })
+abbrev pub in_size : Sending → ℕ → Opened → Opened × List Told
+in_size sending b d =
+    if nat_lt (length d.begun + 1) 4 then (record d { begun = d.begun ++ b ∷ [] }, [])
+    else sized sending (from_be_bytes w32 (take 4 (d.begun ++ b ∷ []))) (record d { begun = [] })
 
--- bytes of a piece that has so many left: they are content, unless it is dropped
-abbrev pub pieced : ℕ → List ℕ → Opened → Opened
-pieced left bytes d =
-    record d {
-      reading = (if nat_lt (length bytes) left then Piece (left - length bytes) else Size);
-      content = (if d.dropped then d.content else d.content ++ bytes);
-    }
+-- the content with bytes behind it, where it is collected
+abbrev pub content_with : Way → List ℕ → List ℕ → List ℕ
+content_with Collected content bytes = content ++ bytes
+content_with Relayed content bytes = content
+content_with Dropped content bytes = content
+
+-- the bytes one by one, where the content comes in parts
+abbrev pub handed_out : Way → List ℕ → List Told
+handed_out Collected bytes = []
+handed_out Relayed bytes = map Brought bytes
+handed_out Dropped bytes = []
+
+-- bytes of a piece that has so many left
+abbrev pub pieced : ℕ → List ℕ → Opened → Opened × List Told
+pieced left bytes d = (
+  record d {
+    reading = (if nat_lt (length bytes) left then Piece (left - length bytes) else Size);
+    content = content_with d.way d.content bytes;
+  },
+  handed_out d.way bytes,
+)
 
 -- what a byte does
-abbrev pub by_reading : Reading → ℕ → Opened → Opened × Option Told
-by_reading Command b d = in_command b d
-by_reading Size b d = in_size b d
-by_reading (Piece left) b d = (pieced left (b ∷ []) d, None)
-by_reading Nothing b d = (d, None)
+abbrev pub by_reading : Reading → Sending → ℕ → Opened → Opened × List Told
+by_reading Command sending b d = in_command b d
+by_reading Size sending b d = in_size sending b d
+by_reading (Piece left) sending b d = pieced left (b ∷ []) d
+by_reading Nothing sending b d = (d, [])
 
--- what a byte does to a door
-unfoldable pub step : ℕ → Opened → Opened × Option Told
-step b d = by_reading d.reading b d
+-- what a byte does to a door, where contents go in parts or not
+unfoldable pub step : Sending → ℕ → Opened → Opened × List Told
+step sending b d = by_reading d.reading sending b d
 
--- what came of a byte, before what comes of the bytes behind it
-abbrev pub onto : Option Told → Opened × List Told → Opened × List Told
-onto None heard = heard
-onto (Some t) heard = (heard.0, t ∷ heard.1)
+-- what came before what comes next
+abbrev pub onto : List Told → Opened × List Told → Opened × List Told
+onto first heard = (heard.0, first ++ heard.1)
 
 -- what bytes do to a door, one after another
-abbrev pub heard_of : List ℕ → Opened → Opened × List Told
-heard_of [] d = (d, [])
-heard_of (b ∷ bs) d = onto (step b d).1 (heard_of bs (step b d).0)
+abbrev pub heard_of : Sending → List ℕ → Opened → Opened × List Told
+heard_of sending [] d = (d, [])
+heard_of sending (b ∷ bs) d = onto (step sending b d).1 (heard_of sending bs (step sending b d).0)
 
--- what came of a byte, where something did
-abbrev pub option_told : Option Heard → Option Told
-option_told None = None
-option_told (Some h) = Some (told h)
+-- what was heard, where it is something
+abbrev pub option_told : Option Heard → List Told
+option_told None = []
+option_told (Some h) = told h
 
--- a door took a byte, unless memory was refused
-abbrev pub Steps : Opened → Result (Option Heard) AllocError → Opened × Option Told → Type 0
-Steps new (Ok h) wanted = (new, option_told h) ≡ wanted
+-- some of a content is a byte at least
+abbrev pub HasBytes : Option Heard → Type 0
+HasBytes None = Unit {0}
+HasBytes (Some (heard.Say line)) = Unit {0}
+HasBytes (Some (heard.Ask number end content)) = Unit {0}
+HasBytes (Some (heard.Begin number end first)) = Unit {0}
+HasBytes (Some (heard.More bytes)) = 1 ≤ length bytes.now
+HasBytes (Some heard.End) = Unit {0}
+
+-- a door took bytes, and this came of them
+abbrev pub Gives : Opened → Option Heard → Opened × List Told → Type 0
+Gives new h wanted = ((new, option_told h) ≡ wanted) × HasBytes h
+
+-- the same, unless memory was refused
+abbrev pub Steps : Opened → Result (Option Heard) AllocError → Opened × List Told → Type 0
+Steps new (Ok h) wanted = Gives new h wanted
 Steps new (Err e) wanted = Unit {0}
+
+-- a piece's bytes are read
+abbrev pub is_piece : Reading → Bool
+is_piece Command = false
+is_piece Size = false
+is_piece (Piece left) = true
+is_piece Nothing = false
+
+-- a content comes in parts
+abbrev pub is_relayed : Way → Bool
+is_relayed Collected = false
+is_relayed Relayed = true
+is_relayed Dropped = false
+
+-- how many bytes are to come of a piece, of a content that comes in parts
+abbrev pub relay_left : Reading → Way → ℕ
+relay_left (Piece left) Relayed = left
+relay_left (Piece left) Collected = 0
+relay_left (Piece left) Dropped = 0
+relay_left Command way = 0
+relay_left Size way = 0
+relay_left Nothing way = 0
 
 -- nothing more is read
 abbrev pub is_nothing : Reading → Bool

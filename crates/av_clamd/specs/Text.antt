@@ -2,7 +2,7 @@ use Rattle.std.specs.Prelude.{ℕ, ◌≡◌, Vec, ◌-◌, ◌==◌, ◌&&◌, 
 use Rattle.std.specs.Str.{bytes_eq}
 use Rattle.std.specs.declared.alloc.Global.{Global}
 use Rattle.av_clamd.specs.declared.reply.Spoken.{Spoken}
-use Rattle.av_clamd.specs.declared.reply.Spoken.TheVariants.{Clean, Found, FoundAt, NoVerdict}
+use Rattle.av_clamd.specs.declared.reply.Spoken.TheVariants.{Clean, Found, FoundAt, TooLarge, NoVerdict}
 
 -- a line of the command of a number, which is 0 outside of a session: the number, what is said, and how the command ended
 abbrev pub numbered : ℕ → List ℕ
@@ -29,6 +29,7 @@ abbrev pub verdict_text : Spoken → List ℕ
 verdict_text Clean = codes "OK"
 verdict_text (Found name) = name.now ++ codes " FOUND"
 verdict_text (FoundAt index version) = place_text index version
+verdict_text TooLarge = codes "INSTREAM size limit exceeded. ERROR"
 verdict_text (NoVerdict cause) = cause_text cause
 
 -- the reply to a content

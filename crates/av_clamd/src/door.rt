@@ -1,7 +1,8 @@
-ghost use Rattle.std.specs.Prelude.{◌≡◌, ◌≤◌, drop, length, IfOk, IfSome, None, OnErr, OnOk};
+ghost use Rattle.std.specs.Prelude.{◌≡◌, ◌≤◌, ◌+◌, ◌<◌, ◌^◌, false, drop, length, take, IfOk, IfSome, None, OnErr, OnOk};
 ghost use Rattle.av_clamd.specs.declared.door.Reading.TheVariants.{Nothing, Piece};
+ghost use Rattle.av_clamd.specs.declared.door.Way.TheVariants.{Collected};
 ghost use Rattle.av_clamd.specs.Text.{answered};
-ghost use Rattle.av_clamd.specs.Door.{Steps, after_reply, answers, commanded, finished, fresh, heard_of, in_command, in_size, is_nothing, kept_of, obeyed, onto, option_told, pieced, says, sized, step};
+ghost use Rattle.av_clamd.specs.Door.{Gives, HasBytes, Steps, after_reply, answers, commanded, enlarged, finished, fresh, goes_in_parts, heard_of, in_command, in_size, is_nothing, is_piece, is_relayed, kept_of, obeyed, onto, option_told, pieced, relay_left, says, sized, step};
 
 use crate::text::{answered, end_of, is_marked, line_of, word_of};
 use std::alloc::{AllocError, Global};
@@ -11,12 +12,24 @@ use std::mem;
 /// The most bytes of a command, with its end.
 pub const LONGEST: usize = 1_024;
 
-/// The most bytes of a content.
+/// The most bytes of a content that is collected.
 pub const MAX_CONTENT: usize = 1_048_576;
+
+/// The most bytes of a content that is collected while contents go in parts.
+pub const MOST_KEPT: usize = 65_536;
+
+/// Whether contents above 65,536 bytes go in parts now.
+#[derive(Clone, Copy, Debug, PartialEq, Eq)]
+pub enum Sending {
+    /// They are collected, up to 1,048,576 bytes.
+    Whole,
+    /// They go in parts.
+    InParts,
+}
 
 /// What came of bytes, in the order of the bytes.
 #[derive(Debug, Drop)]
-pub enum Heard {
+pub enum Heard<'a> {
     /// This is to be said to the client at once.
     Say(Vec<u8>),
     /// This content is asked about. Its reply wants the command's number, which is 0 outside of a session, and its end.
@@ -25,6 +38,17 @@ pub enum Heard {
         end: u8,
         content: Vec<u8>,
     },
+    /// A content is too long to be collected and comes in parts from here on: `first` came of it so far (it may be empty).
+    /// Its reply wants the command's number and end.
+    Begin {
+        number: u64,
+        end: u8,
+        first: Vec<u8>,
+    },
+    /// Some of the content that comes in parts, as it lies in the piece. At least one byte.
+    More(&'a [u8]),
+    /// The content that comes in parts is whole.
+    End,
 }
 
 // What a door reads next.
@@ -40,15 +64,26 @@ pub enum Reading {
     Nothing,
 }
 
+// What is done with the bytes of a content.
+#[derive(Clone, Copy, Debug, PartialEq, Eq)]
+pub enum Way {
+    /// They are collected.
+    Collected,
+    /// They are handed out as they come.
+    Relayed,
+    /// There were too many: they are dropped.
+    Dropped,
+}
+
 /// What one client of clamd's protocol says. It keeps a command of at most 1,024 bytes and a content of at most 1,048,576,
-/// as they come.
+/// as they come. Of a content that comes in parts it keeps nothing.
 #[derive(Drop)]
 pub struct Door {
     alloc: Global,
     reading: Reading,
     begun: Vec<u8>,
     content: Vec<u8>,
-    dropped: bool,
+    way: Way,
     session: bool,
     number: u64,
     end: u8,
@@ -59,7 +94,7 @@ impl Model for Door {
 
     ghost Value = { Opened };
 
-    ghost view = { λ d. record { reading = d.reading; begun = d.begun.items; content = d.content.items; dropped = d.dropped; session = d.session; number = d.number; end = d.end } };
+    ghost view = { λ d. record { reading = d.reading; begun = d.begun.items; content = d.content.items; way = d.way; session = d.session; number = d.number; end = d.end } };
 }
 
 impl Door {
@@ -72,7 +107,7 @@ impl Door {
             reading: Reading::Command,
             begun: Vec::new(alloc),
             content: Vec::new(alloc),
-            dropped: false,
+            way: Way::Collected,
             session: false,
             number: 0,
             end: b'\n',
@@ -80,15 +115,24 @@ impl Door {
     }
 
     /// Takes bytes that the client sent, cut anywhere, up to the first of which something came. It answers how many bytes it took,
-    /// all of them where nothing came, and what came. The cost is so many steps. Where memory is refused the client is to be left:
-    /// nothing more is read of it, and what these bytes gave is lost.
-    pub fn hear(&mut self, piece: &[u8]) -> Result<(usize, Option<Heard>), AllocError>
+    /// all of them where nothing came, and what came. `sending` decides about each content whose next piece would bring it above
+    /// 65,536 bytes, once that piece's length is known: it goes in parts, unless it was collected beyond that before. The cost is
+    /// so many steps. Where memory is refused the client is to be left: nothing more is read of it, and what these bytes gave is
+    /// lost.
+    pub fn hear<'a>(
+        &mut self,
+        piece: &'a [u8],
+        sending: Sending,
+    ) -> Result<(usize, Option<Heard<'a>>), AllocError>
         ensures within { IfOk result (λ r. r.0 ≤ length piece.now) }
+        ensures some { IfOk result (λ r. 1 ≤ length piece.now → 1 ≤ r.0) }
         ensures whole { IfOk result (λ r. r.1 ≡ None → r.0 ≡ length piece.now) }
-        ensures heard { IfOk result (λ r. onto (option_told r.1) (heard_of (drop r.0 piece.now) self.new) ≡ heard_of piece.now self.old) }
+        ensures taken { IfOk result (λ r. heard_of sending (take r.0 piece.now) self.old ≡ (self.new, option_told r.1)) }
+        ensures heard { IfOk result (λ r. onto (option_told r.1) (heard_of sending (drop r.0 piece.now) self.new) ≡ heard_of sending piece.now self.old) }
+        ensures more { IfOk result (λ r. HasBytes r.1) }
         ensures err { OnErr result (self.new.reading ≡ Nothing) }
     {
-        match hear_until(self, piece) {
+        match hear_until(self, piece, sending) {
             Ok(heard) => Ok(heard),
             Err(refused) => {
                 self.reading = Reading::Nothing;
@@ -104,7 +148,25 @@ impl Door {
         matches!(self.reading, Reading::Nothing)
     }
 
-    /// How many bytes are kept of what has begun, a command or a content. None where the next command has not begun.
+    /// Whether a content that comes in parts has begun and not ended.
+    pub fn is_relaying(&self) -> bool
+        ensures { result ≡ is_relayed self.now.way }
+    {
+        matches!(self.way, Way::Relayed)
+    }
+
+    /// How many bytes are still to come of the piece that has begun, of a content that comes in parts. They are handed out as they come.
+    pub fn relay_left(&self) -> usize
+        ensures { result ≡ relay_left self.now.reading self.now.way }
+    {
+        match self.reading {
+            Reading::Piece(left) if self.is_relaying() => left as usize,
+            _ => 0,
+        }
+    }
+
+    /// How many bytes are kept of what has begun, a command or a content: of a content that comes in parts those of a length that
+    /// is not whole. None where the next command has not begun.
     pub fn begun(&self) -> Option<usize>
         ensures { result ≡ kept_of self.now }
     {
@@ -125,21 +187,19 @@ impl Door {
     }
 
     #[tactic(auto, unfolding(crate::specs::Door::step))]
-    fn step(&mut self, byte: u8) -> Result<Option<Heard>, AllocError>
-        ensures { Steps self.new result (step byte self.old) }
+    fn step<'a>(&mut self, byte: u8, sending: Sending) -> Result<Option<Heard<'a>>, AllocError>
+        requires { is_piece self.old.reading ≡ false }
+        ensures { Steps self.new result (step sending byte self.old) }
     {
         match self.reading {
             Reading::Command => self.command_byte(byte),
-            Reading::Size => self.size_byte(byte),
-            Reading::Piece(left) => {
-                self.piece_bytes(left, &[byte])?;
-                Ok(None)
-            }
+            Reading::Size => self.size_byte(byte, sending),
+            Reading::Piece(_) => unreachable!(),
             Reading::Nothing => Ok(None),
         }
     }
 
-    fn command_byte(&mut self, byte: u8) -> Result<Option<Heard>, AllocError>
+    fn command_byte<'a>(&mut self, byte: u8) -> Result<Option<Heard<'a>>, AllocError>
         ensures { Steps self.new result (in_command byte self.old) }
     {
         if byte == end_of(&self.begun) {
@@ -153,7 +213,7 @@ impl Door {
         Ok(None)
     }
 
-    fn command(&mut self) -> Result<Option<Heard>, AllocError>
+    fn command<'a>(&mut self) -> Result<Option<Heard<'a>>, AllocError>
         ensures { Steps self.new result (commanded self.old) }
     {
         let command = mem::replace(&mut self.begun, Vec::new(self.alloc));
@@ -164,13 +224,13 @@ impl Door {
         self.obey(is_marked(&command), word_of(&command))
     }
 
-    fn obey(&mut self, marked: bool, word: &[u8]) -> Result<Option<Heard>, AllocError>
+    fn obey<'a>(&mut self, marked: bool, word: &[u8]) -> Result<Option<Heard<'a>>, AllocError>
         ensures { Steps self.new result (obeyed marked word.now self.old) }
     {
         if word == b"INSTREAM".as_slice() && marked {
             self.reading = Reading::Size;
             self.content.clear();
-            self.dropped = false;
+            self.way = Way::Collected;
             return Ok(None);
         }
         if word == b"IDSESSION".as_slice() && marked && !self.session {
@@ -185,7 +245,7 @@ impl Door {
         self.answer(word)
     }
 
-    fn answer(&mut self, word: &[u8]) -> Result<Option<Heard>, AllocError>
+    fn answer<'a>(&mut self, word: &[u8]) -> Result<Option<Heard<'a>>, AllocError>
         ensures { Steps self.new result (answers (answered word.now) self.old) }
     {
         let next = self.after_reply();
@@ -198,7 +258,7 @@ impl Door {
         }
     }
 
-    fn say(&mut self, text: &[u8], next: Reading) -> Result<Option<Heard>, AllocError>
+    fn say<'a>(&mut self, text: &[u8], next: Reading) -> Result<Option<Heard<'a>>, AllocError>
         ensures { Steps self.new result (says text.now next self.old) }
     {
         self.reading = next;
@@ -216,8 +276,8 @@ impl Door {
         }
     }
 
-    fn size_byte(&mut self, byte: u8) -> Result<Option<Heard>, AllocError>
-        ensures { Steps self.new result (in_size byte self.old) }
+    fn size_byte<'a>(&mut self, byte: u8, sending: Sending) -> Result<Option<Heard<'a>>, AllocError>
+        ensures { Steps self.new result (in_size sending byte self.old) }
     {
         self.begun.push(byte)?;
         if self.begun.len() < 4 {
@@ -226,22 +286,41 @@ impl Door {
         let mut field = [0u8; 4];
         field.copy_from_slice(&self.begun[..4]);
         self.begun.clear();
-        self.sized(u32::from_be_bytes(field))
+        self.sized(u32::from_be_bytes(field), sending)
     }
 
-    fn sized(&mut self, size: u32) -> Result<Option<Heard>, AllocError>
-        ensures { Steps self.new result (sized size self.old) }
+    fn sized<'a>(&mut self, size: u32, sending: Sending) -> Result<Option<Heard<'a>>, AllocError>
+        ensures { Steps self.new result (sized sending size self.old) }
     {
         if size == 0 {
             return Ok(self.finished());
         }
-        if self.dropped {
+        match self.way {
+            Way::Collected => self.enlarged(size, sending),
+            Way::Relayed | Way::Dropped => {
+                self.reading = Reading::Piece(size);
+                Ok(None)
+            }
+        }
+    }
+
+    // A content that is collected has so many bytes more.
+    fn enlarged<'a>(&mut self, size: u32, sending: Sending) -> Result<Option<Heard<'a>>, AllocError>
+        requires { self.old.way ≡ Collected }
+        ensures { Steps self.new result (enlarged sending size self.old) }
+    {
+        if goes_in_parts(sending, self.content.len(), size as usize) {
             self.reading = Reading::Piece(size);
-            return Ok(None);
+            self.way = Way::Relayed;
+            return Ok(Some(Heard::Begin {
+                number: self.number,
+                end: self.end,
+                first: mem::replace(&mut self.content, Vec::new(self.alloc)),
+            }));
         }
         if self.content.len() + size as usize > MAX_CONTENT {
             self.content = Vec::new(self.alloc);
-            self.dropped = true;
+            self.way = Way::Dropped;
             return self.say(
                 b"stream: INSTREAM size limit exceeded. ERROR",
                 Reading::Piece(size),
@@ -251,25 +330,30 @@ impl Door {
         Ok(None)
     }
 
-    fn finished(&mut self) -> Option<Heard>
-        ensures { (self.new, option_told result) ≡ finished self.old }
+    fn finished<'a>(&mut self) -> Option<Heard<'a>>
+        ensures { Gives self.new result (finished self.old) }
     {
         self.reading = self.after_reply();
         let content = mem::replace(&mut self.content, Vec::new(self.alloc));
-        if self.dropped {
-            self.dropped = false;
-            return None;
+        match mem::replace(&mut self.way, Way::Collected) {
+            Way::Collected => Some(Heard::Ask {
+                number: self.number,
+                end: self.end,
+                content,
+            }),
+            Way::Relayed => Some(Heard::End),
+            Way::Dropped => None,
         }
-        Some(Heard::Ask {
-            number: self.number,
-            end: self.end,
-            content,
-        })
     }
 
-    // Bytes of a piece that has so many left. They are copied at once.
-    fn piece_bytes(&mut self, left: u32, bytes: &[u8]) -> Result<(), AllocError>
-        ensures { OnOk result (self.new ≡ pieced left bytes.now self.old) }
+    // Bytes of a piece that has so many left. They are copied at once, or handed out.
+    fn piece_bytes<'a>(
+        &mut self,
+        left: u32,
+        bytes: &'a [u8],
+    ) -> Result<Option<Heard<'a>>, AllocError>
+        requires { 1 ≤ length bytes.now }
+        ensures { Steps self.new result (pieced left bytes.now self.old) }
     {
         let left = left as usize;
         self.reading = if bytes.len() < left {
@@ -277,32 +361,54 @@ impl Door {
         } else {
             Reading::Size
         };
-        if !self.dropped {
-            self.content.extend_from_slice(bytes)?;
+        match self.way {
+            Way::Collected => {
+                self.content.extend_from_slice(bytes)?;
+                Ok(None)
+            }
+            Way::Relayed => Ok(Some(Heard::More(bytes))),
+            Way::Dropped => Ok(None),
         }
-        Ok(())
     }
 
-    // How many bytes a piece has left, where there are several.
+    // How many bytes a piece has left.
     fn left(&self) -> Option<u32>
-        ensures { IfSome result (λ n. (2 ≤ n) × (self.now.reading ≡ Piece n)) }
+        ensures some { IfSome result (λ n. self.now.reading ≡ Piece n) }
+        ensures none { result ≡ None → is_piece self.now.reading ≡ false }
     {
         match self.reading {
-            Reading::Piece(left) if left > 1 => Some(left),
-            _ => None,
+            Reading::Piece(left) => Some(left),
+            Reading::Command | Reading::Size | Reading::Nothing => None,
         }
     }
 }
 
+// Whether a content of which so many bytes were collected goes in parts, now that a piece of this length follows.
+fn goes_in_parts(sending: Sending, kept: usize, size: usize) -> bool
+    requires { kept + size < 2 ^ 64 }
+    ensures { result ≡ goes_in_parts sending kept size }
+{
+    match sending {
+        Sending::Whole => false,
+        Sending::InParts => kept <= MOST_KEPT && kept + size > MOST_KEPT,
+    }
+}
+
 // Takes bytes one after another, until something came of one.
-fn hear_until(door: &mut Door, piece: &[u8]) -> Result<(usize, Option<Heard>), AllocError>
+fn hear_until<'a>(
+    door: &mut Door,
+    piece: &'a [u8],
+    sending: Sending,
+) -> Result<(usize, Option<Heard<'a>>), AllocError>
     ensures within { IfOk result (λ r. r.0 ≤ length piece.now) }
+    ensures some { IfOk result (λ r. 1 ≤ length piece.now → 1 ≤ r.0) }
     ensures whole { IfOk result (λ r. r.1 ≡ None → r.0 ≡ length piece.now) }
-    ensures heard { IfOk result (λ r. onto (option_told r.1) (heard_of (drop r.0 piece.now) door.new) ≡ heard_of piece.now door.old) }
+    ensures taken { IfOk result (λ r. heard_of sending (take r.0 piece.now) door.old ≡ (door.new, option_told r.1)) }
+    ensures more { IfOk result (λ r. HasBytes r.1) }
 {
     let mut taken = 0;
     'bytes: while taken < piece.len() {
-        let (count, one) = hear_some(door, &piece[taken..])?;
+        let (count, one) = hear_some(door, &piece[taken..], sending)?;
         taken += count;
         if one.is_some() {
             return Ok((taken, one));
@@ -312,16 +418,21 @@ fn hear_until(door: &mut Door, piece: &[u8]) -> Result<(usize, Option<Heard>), A
 }
 
 // Takes what stands at the front: all of a piece that is there, or one byte. It answers how many bytes that were, and what came.
-fn hear_some(door: &mut Door, rest: &[u8]) -> Result<(usize, Option<Heard>), AllocError>
+fn hear_some<'a>(
+    door: &mut Door,
+    rest: &'a [u8],
+    sending: Sending,
+) -> Result<(usize, Option<Heard<'a>>), AllocError>
     requires { 1 ≤ length rest.now }
     ensures some { IfOk result (λ r. (1 ≤ r.0) × (r.0 ≤ length rest.now)) }
-    ensures heard { IfOk result (λ r. onto (option_told r.1) (heard_of (drop r.0 rest.now) door.new) ≡ heard_of rest.now door.old) }
+    ensures taken { IfOk result (λ r. heard_of sending (take r.0 rest.now) door.old ≡ (door.new, option_told r.1)) }
+    ensures more { IfOk result (λ r. HasBytes r.1) }
 {
     if let Some(left) = door.left() {
-        let count = rest.len().min(left as usize);
-        door.piece_bytes(left, &rest[..count])?;
-        return Ok((count, None));
+        let count = rest.len().min((left as usize).max(1));
+        let one = door.piece_bytes(left, &rest[..count])?;
+        return Ok((count, one));
     }
-    let one = door.step(rest[0])?;
+    let one = door.step(rest[0], sending)?;
     Ok((1, one))
 }

@@ -13,6 +13,8 @@ pub enum Spoken<'a> {
     Found(&'a [u8]),
     /// A signature occurs in it whose name isn't known: where it stands in the set of which version.
     FoundAt { index: u64, version: u64 },
+    /// It came in parts and had more bytes than are judged.
+    TooLarge,
     /// It could not be judged, for the cause of this number, whether it is let through or not.
     NoVerdict { cause: u8 },
 }
@@ -46,6 +48,7 @@ fn put_verdict(line: &mut Vec<u8>, verdict: Spoken<'_>) -> Result<(), AllocError
             line.extend_from_slice(b" FOUND")
         }
         Spoken::FoundAt { index, version } => put_place(line, index, version),
+        Spoken::TooLarge => line.extend_from_slice(b"INSTREAM size limit exceeded. ERROR"),
         Spoken::NoVerdict { cause } => put_cause(line, u64::from(cause)),
     }
 }

@@ -1,19 +1,21 @@
 mod rows;
 
-use crate::door::{Door, Heard};
+use crate::door::{Door, Heard, Sending};
 use crate::reply::{Spoken, put_reply, put_timed_out};
-use crate::tests::rows::{REPLIES, ROWS};
+use crate::tests::rows::{LONG, REPLIES, ROWS};
 use av_fakes::{may_refuse, refuse_no_more};
 use std::alloc::{AllocError, Global};
 use std::test::Fail;
 
-// Writes what was heard: S and a line, or A, a number, an end and a content, each with a bar behind it.
-fn write_down(all: &[Heard], out: &mut Vec<u8>) -> Result<(), Fail> {
+// Writes what was heard: S and a line, or A, a number, an end and a content, each with a bar behind it. Of a content in parts B,
+// the number and the end, what came of it so far, a stroke, the bytes of all its parts, and a bar where it ends.
+fn write_down(all: &[Heard<'_>], out: &mut Vec<u8>) -> Result<(), Fail> {
     for heard in all {
         match heard {
             Heard::Say(line) => {
                 out.push(b'S')?;
                 out.extend_from_slice(line)?;
+                out.push(b'|')?;
             }
             Heard::Ask {
                 number,
@@ -22,19 +24,31 @@ fn write_down(all: &[Heard], out: &mut Vec<u8>) -> Result<(), Fail> {
             } => {
                 out.extend_from_slice(&[b'A', b'0'.wrapping_add((*number % 10) as u8), *end])?;
                 out.extend_from_slice(content)?;
+                out.push(b'|')?;
             }
+            Heard::Begin { number, end, first } => {
+                out.extend_from_slice(&[b'B', b'0'.wrapping_add((*number % 10) as u8), *end])?;
+                out.extend_from_slice(first)?;
+                out.push(b'/')?;
+            }
+            Heard::More(bytes) => out.extend_from_slice(bytes)?,
+            Heard::End => out.push(b'|')?,
         }
-        out.push(b'|')?;
     }
     Ok(())
 }
 
 // All that a door hears of a piece, one thing after the other.
-fn hear_all(alloc: Global, door: &mut Door, piece: &[u8]) -> Result<Vec<Heard>, AllocError> {
+fn hear_in<'a>(
+    alloc: Global,
+    door: &mut Door,
+    piece: &'a [u8],
+    sending: Sending,
+) -> Result<Vec<Heard<'a>>, AllocError> {
     let mut all = Vec::new(alloc);
     let mut rest = piece;
     'things: while !rest.is_empty() {
-        let (taken, one) = door.hear(rest)?;
+        let (taken, one) = door.hear(rest, sending)?;
         rest = rest.get(taken..).unwrap_or(b"".as_slice());
         if let Some(one) = one {
             all.push(one)?;
@@ -43,15 +57,30 @@ fn hear_all(alloc: Global, door: &mut Door, piece: &[u8]) -> Result<Vec<Heard>, 
     Ok(all)
 }
 
+// The same, of contents that go whole.
+fn hear_all<'a>(
+    alloc: Global,
+    door: &mut Door,
+    piece: &'a [u8],
+) -> Result<Vec<Heard<'a>>, AllocError> {
+    hear_in(alloc, door, piece, Sending::Whole)
+}
+
 // What a new door hears of these bytes, cut at these places, and D where it is done, else O.
-fn heard(alloc: Global, bytes: &[u8], first: usize, second: usize) -> Result<Vec<u8>, Fail> {
+fn heard(
+    alloc: Global,
+    sending: Sending,
+    bytes: &[u8],
+    first: usize,
+    second: usize,
+) -> Result<Vec<u8>, Fail> {
     let mut door = Door::new(alloc);
     let mut out = Vec::new(alloc);
     let (front, rest) = bytes.split_at(first.min(bytes.len()));
     let (middle, back) = rest.split_at(second.min(rest.len()));
-    write_down(&hear_all(alloc, &mut door, front)?, &mut out)?;
-    write_down(&hear_all(alloc, &mut door, middle)?, &mut out)?;
-    write_down(&hear_all(alloc, &mut door, back)?, &mut out)?;
+    write_down(&hear_in(alloc, &mut door, front, sending)?, &mut out)?;
+    write_down(&hear_in(alloc, &mut door, middle, sending)?, &mut out)?;
+    write_down(&hear_in(alloc, &mut door, back, sending)?, &mut out)?;
     out.push(if door.is_done() { b'D' } else { b'O' })?;
     Ok(out)
 }
@@ -60,10 +89,114 @@ fn heard(alloc: Global, bytes: &[u8], first: usize, second: usize) -> Result<Vec
 fn each_exchange_is_heard_however_it_is_cut(rt: HostRuntime) -> Result<(), Fail> {
     for (bytes, wanted) in ROWS.as_slice() {
         for cut in 0..=bytes.len() {
-            let out = heard(rt.alloc(), bytes, cut, 1)?;
-            assert!(rt; out.as_slice() == *wanted, "at {cut}");
+            let whole = heard(rt.alloc(), Sending::Whole, bytes, cut, 1)?;
+            assert!(rt; whole.as_slice() == *wanted, "at {cut}");
+            let parts = heard(rt.alloc(), Sending::InParts, bytes, cut, 1)?;
+            assert!(rt; parts.as_slice() == *wanted, "at {cut}, in parts");
         }
     }
+    Ok(())
+}
+
+// Bytes, each time with so many zeros behind them.
+fn laid_out(alloc: Global, runs: &[(&[u8], usize)]) -> Result<Vec<u8>, AllocError> {
+    let mut out = Vec::new(alloc);
+    for (bytes, zeros) in runs {
+        out.extend_from_slice(bytes)?;
+        out.extend_from_slice(&vec![in alloc; 0u8; *zeros]?)?;
+    }
+    Ok(out)
+}
+
+#[test]
+fn each_long_exchange_is_heard_however_it_is_cut(rt: HostRuntime) -> Result<(), Fail> {
+    for (number, (sending, sent, wanted)) in LONG.as_slice().iter().enumerate() {
+        let bytes = laid_out(rt.alloc(), sent)?;
+        let wanted = laid_out(rt.alloc(), wanted)?;
+        let mut at = 0usize;
+        for (run, zeros) in *sent {
+            // Of the longest a cut at each run's first byte is enough.
+            let cuts = if bytes.len() < 200_000 { run.len() } else { 0 };
+            for cut in at..=at.saturating_add(cuts) {
+                let out = heard(rt.alloc(), *sending, &bytes, cut, 1)?;
+                assert!(rt;
+                    out.as_slice() == wanted.as_slice(),
+                    "row {number} at {cut}"
+                );
+            }
+            at = at.saturating_add(run.len()).saturating_add(*zeros);
+        }
+        let out = heard(rt.alloc(), *sending, &bytes, at / 2, at / 3)?;
+        assert!(rt;
+            out.as_slice() == wanted.as_slice(),
+            "row {number} in its midst"
+        );
+    }
+    Ok(())
+}
+
+#[test]
+fn a_content_stays_on_its_way_where_the_other_is_chosen(rt: HostRuntime) -> Result<(), Fail> {
+    let zeros = vec![in rt.alloc(); 0u8; 65_537]?;
+    let mut door = Door::new(rt.alloc());
+    assert!(rt;
+        hear_all(
+            rt.alloc(),
+            &mut door,
+            b"zIDSESSION\0zINSTREAM\0\0\x01\0\x01"
+        )?
+        .is_empty()
+    );
+    assert!(rt; hear_in(rt.alloc(), &mut door, &zeros, Sending::InParts)?.is_empty());
+    assert!(rt; hear_in(rt.alloc(), &mut door, b"\0\0\0\x01a", Sending::InParts)?.is_empty());
+    assert!(rt; !door.is_relaying() && door.begun() == Some(65_538));
+    let all = hear_in(
+        rt.alloc(),
+        &mut door,
+        b"\0\0\0\0zINSTREAM\0\0\x01\0\x01",
+        Sending::InParts,
+    )?;
+    assert!(rt;
+        matches!(all.as_slice(),
+        [Heard::Ask { content, .. }, Heard::Begin { number: 2, end: 0, first }]
+            if content.len() == 65_538 && first.is_empty()
+    )
+    );
+    assert!(rt; door.is_relaying() && door.begun() == Some(0));
+    let all = hear_all(rt.alloc(), &mut door, &zeros)?;
+    assert!(rt; matches!(all.as_slice(), [Heard::More(bytes)] if bytes.len() == 65_537));
+    assert!(rt; hear_all(rt.alloc(), &mut door, b"\0\x10")?.is_empty() && door.begun() == Some(2));
+    assert!(rt; hear_all(rt.alloc(), &mut door, b"\0\x01")?.is_empty() && door.begun() == Some(0));
+    let all = hear_all(rt.alloc(), &mut door, &zeros)?;
+    assert!(rt; matches!(all.as_slice(), [Heard::More(bytes)] if bytes.len() == 65_537));
+    assert!(rt; door.is_relaying() && !door.is_done());
+    Ok(())
+}
+
+#[test]
+fn parts_are_handed_out_as_they_lie_in_the_piece(rt: HostRuntime) -> Result<(), Fail> {
+    let piece = b"nINSTREAM\n\0\x01\0\0abc";
+    let mut door = Door::new(rt.alloc());
+    assert!(rt; hear_in(rt.alloc(), &mut door, piece, Sending::InParts)?.is_empty());
+    assert!(rt; door.begun() == Some(3) && !door.is_relaying());
+    let mut door = Door::new(rt.alloc());
+    let piece = b"nINSTREAM\n\0\x02\0\0abc";
+    let (taken, begun) = door.hear(piece, Sending::InParts)?;
+    assert!(rt;
+        taken == 14
+            && matches!(
+                begun,
+                Some(Heard::Begin {
+                    number: 0,
+                    end: 10,
+                    ..
+                })
+            )
+    );
+    let (taken, more) = door.hear(&piece[14..], Sending::InParts)?;
+    assert!(rt;
+        taken == 3 && matches!(more, Some(Heard::More(bytes)) if bytes == b"abc".as_slice())
+    );
     Ok(())
 }
 
@@ -101,23 +234,28 @@ fn is_heard_alike(alloc: Global, seed: &mut u64) -> Result<bool, Fail> {
         }
     }
     let (first, second) = (draw(seed, 60) as usize, draw(seed, 30) as usize);
-    let whole = heard(alloc, &bytes, 0, 0)?;
-    Ok(whole.as_slice() == heard(alloc, &bytes, first, second)?.as_slice())
+    let mut is_alike = true;
+    for sending in [Sending::Whole, Sending::InParts] {
+        let whole = heard(alloc, sending, &bytes, 0, 0)?;
+        let cut = heard(alloc, sending, &bytes, first, second)?;
+        is_alike = is_alike && whole.as_slice() == cut.as_slice();
+    }
+    Ok(is_alike)
 }
 
 #[test]
 fn a_command_has_1024_bytes_with_its_end(rt: HostRuntime) -> Result<(), Fail> {
     let mut long = vec![in rt.alloc(); b'A'; 1_024]?;
     assert_eq!(rt;
-        heard(rt.alloc(), &long, 1_023, 1)?.as_slice(),
+        heard(rt.alloc(), Sending::Whole, &long, 1_023, 1)?.as_slice(),
         b"D".as_slice()
     );
     assert_eq!(rt;
-        heard(rt.alloc(), &long[1..], 9, 9)?.as_slice(),
+        heard(rt.alloc(), Sending::Whole, &long[1..], 9, 9)?.as_slice(),
         b"O".as_slice()
     );
     long[1_023] = b'\n';
-    let out = heard(rt.alloc(), &long, 0, 0)?;
+    let out = heard(rt.alloc(), Sending::Whole, &long, 0, 0)?;
     assert_eq!(rt; out.as_slice(), b"SUNKNOWN COMMAND\n|D".as_slice());
     Ok(())
 }
@@ -206,16 +344,31 @@ fn who_says_nothing_is_told_with_the_last_commands_end(rt: HostRuntime) -> Resul
     Ok(())
 }
 
-const SPOKEN: &[u8] = b"zIDSESSION\0zPING\0zINSTREAM\0\0\0\0\x03abc\0\0\0\0zSCAN /x\0";
+const SPOKEN: &[u8] =
+    b"zIDSESSION\0zPING\0zINSTREAM\0\0\0\0\x03abc\0\0\0\0zSCAN /x\0zINSTREAM\0\0\0\0\x02de\0\x01\0\0f";
+
+// How many things a door hears of a piece. It takes no memory of its own.
+fn count_all(door: &mut Door, piece: &[u8]) -> Result<usize, AllocError> {
+    let mut count = 0usize;
+    let mut rest = piece;
+    'things: while !rest.is_empty() {
+        let (taken, one) = door.hear(rest, Sending::InParts)?;
+        rest = rest.get(taken..).unwrap_or(b"".as_slice());
+        if one.is_some() {
+            count = count.saturating_add(1);
+        }
+    }
+    Ok(count)
+}
 
 #[test]
 fn refused_or_not_bytes_are_heard(rt: HostRuntime) -> Result<(), Fail> {
     let mut door = Door::new(rt.alloc());
     may_refuse(rt.alloc());
-    let first = hear_all(rt.alloc(), &mut door, SPOKEN);
+    let first = count_all(&mut door, SPOKEN);
     refuse_no_more(rt.alloc());
     match first {
-        Ok(all) => assert!(rt; all.len() == 3 && !door.is_done()),
+        Ok(count) => assert!(rt; count == 5 && door.is_relaying() && !door.is_done()),
         Err(_) => assert!(rt;
             door.is_done() && hear_all(rt.alloc(), &mut door, SPOKEN)?.is_empty()
         ),

@@ -1,5 +1,6 @@
 //! Exchanges as bytes: what a client sends, and what its door makes of it, as `write_down` has it.
 
+use crate::door::Sending;
 use crate::reply::Spoken;
 
 pub const ROWS: [(&[u8], &[u8]); 35] = [
@@ -72,8 +73,96 @@ pub const ROWS: [(&[u8], &[u8]); 35] = [
     (b"zSCAN \0", b"SUNKNOWN COMMAND\0|D"),
 ];
 
+// Bytes of a long exchange, each time with so many zeros behind them.
+pub type Runs = &'static [(&'static [u8], usize)];
+
+// Long exchanges: whether contents go in parts, what a client sends, and what its door makes of it.
+pub const LONG: [(Sending, Runs, Runs); 10] = [
+    // 65,536 bytes are small.
+    (
+        Sending::InParts,
+        &[(b"zINSTREAM\0\0\x01\0\0", 65_536), (b"\0\0\0\0", 0)],
+        &[(b"A0\0", 65_536), (b"|D", 0)],
+    ),
+    (
+        Sending::InParts,
+        &[
+            (b"zINSTREAM\0\0\0\xff\xff", 65_535),
+            (b"\0\0\0\x01a\0\0\0\0", 0),
+        ],
+        &[(b"A0\0", 65_535), (b"a|D", 0)],
+    ),
+    // 65,537 go in parts.
+    (
+        Sending::InParts,
+        &[(b"zINSTREAM\0\0\x01\0\x01", 65_537), (b"\0\0\0\0", 0)],
+        &[(b"B0\0/", 65_537), (b"|D", 0)],
+    ),
+    (
+        Sending::InParts,
+        &[
+            (b"zINSTREAM\0\0\0\xff\xff", 65_535),
+            (b"\0\0\0\x02ab\0\0\0\0", 0),
+        ],
+        &[(b"B0\0", 65_535), (b"/ab|D", 0)],
+    ),
+    (
+        Sending::InParts,
+        &[
+            (b"zINSTREAM\0\0\x01\0\0", 65_536),
+            (b"\0\0\0\x03ABC\0\0\0\0", 0),
+        ],
+        &[(b"B0\0", 65_536), (b"/ABC|D", 0)],
+    ),
+    // A piece of two mebibytes.
+    (
+        Sending::InParts,
+        &[(b"nINSTREAM\n\0\x20\0\0", 2_097_152), (b"\0\0\0\0", 0)],
+        &[(b"B0\n/", 2_097_152), (b"|D", 0)],
+    ),
+    // Commands behind a content in parts, within a session.
+    (
+        Sending::InParts,
+        &[
+            (b"zIDSESSION\0zINSTREAM\0\0\x01\0\0", 65_536),
+            (b"\0\0\x11\x70", 4_464),
+            (b"\0\0\0\0zINSTREAM\0\0\0\0\x03two\0\0\0\0zPING\0zEND\0", 0),
+        ],
+        &[
+            (b"B1\0", 65_536),
+            (b"/", 4_464),
+            (b"|A2\0two|S3: PONG\0|D", 0),
+        ],
+    ),
+    // A content that has not ended; a piece has up to 4,294,967,295 bytes.
+    (
+        Sending::InParts,
+        &[(b"zINSTREAM\0\0\0\0\x01a\xff\xff\xff\xffxyz", 70_000)],
+        &[(b"B0\0a/xyz", 70_000), (b"O", 0)],
+    ),
+    // Contents that go whole.
+    (
+        Sending::Whole,
+        &[
+            (b"zINSTREAM\0\0\x01\0\0", 65_536),
+            (b"\0\0\x86\xa0", 34_464),
+            (b"\0\0\0\0", 0),
+        ],
+        &[(b"A0\0", 100_000), (b"|D", 0)],
+    ),
+    (
+        Sending::Whole,
+        &[
+            (b"zINSTREAM\0\0\x0f\0\0", 983_040),
+            (b"\0\x01\0\0", 65_536),
+            (b"\0\0\0\x01x\0\0\0\0", 0),
+        ],
+        &[(b"Sstream: INSTREAM size limit exceeded. ERROR\0|D", 0)],
+    ),
+];
+
 // A command's number and end, a verdict, and its reply behind a mark.
-pub const REPLIES: [(u64, u8, Spoken<'static>, &[u8]); 9] = [
+pub const REPLIES: [(u64, u8, Spoken<'static>, &[u8]); 11] = [
     (0, 0, Spoken::Clean, b"<stream: OK\0"),
     (2, 0, Spoken::Clean, b"<2: stream: OK\0"),
     (0, 0, Spoken::Found(b"Test.X"), b"<stream: Test.X FOUND\0"),
@@ -110,5 +199,17 @@ pub const REPLIES: [(u64, u8, Spoken<'static>, &[u8]); 9] = [
         10,
         Spoken::NoVerdict { cause: 10 },
         b"<18446744073709551615: stream: no verdict, cause 10. ERROR\n",
+    ),
+    (
+        0,
+        10,
+        Spoken::TooLarge,
+        b"<stream: INSTREAM size limit exceeded. ERROR\n",
+    ),
+    (
+        12,
+        0,
+        Spoken::TooLarge,
+        b"<12: stream: INSTREAM size limit exceeded. ERROR\0",
     ),
 ];
