@@ -1,4 +1,3 @@
-pub mod Asking
 pub mod Belief
 pub mod Client
 pub mod Descriptors
@@ -7,6 +6,7 @@ pub mod Late
 pub mod Line
 pub mod Names
 pub mod Recorder
-pub mod Reports
 pub mod Service
 pub mod Told
+pub mod Parts
+pub mod Relaying

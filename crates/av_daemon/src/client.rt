@@ -1,13 +1,18 @@
 ghost use Rattle.std.specs.Prelude.{◌≡◌, ◌+◌, ◌-◌, ◌≤◌, ◌++◌, [], length, min, true, false, IfOk, OnOk};
 ghost use Rattle.av_clamd.specs.Door.{fresh};
-ghost use Rattle.av_daemon.specs.Client.{GivesAsk, Hears, SaysOne, begun_left, came, farewell, is_of_clamd, is_over, kind_of, late_text, left_of, of_tag, open_answer_of, spoken_of, tag_of, told_text};
+ghost use Rattle.av_daemon.specs.Client.{Hears, IsWords, SaysNext, SaysOne, begun_left, came, ending_of, farewell, is_of_clamd, is_over, kind_of, late_text, left_of, of_tag, open_answer_of, open_text, part_left, silent, spoken_answer, spoken_cause, spoken_of, tag_of, thing_of, told_text};
 ghost use Rattle.av_daemon.specs.declared.client.Speech.TheVariants.{Opens, Clamd};
 
 use crate::line::{Came, Line};
-use av_asks::{Ask, AskFeed, OpenAnswer, put_answer};
-use av_base::{ByteList, Cause};
-use av_clamd::{Door, Heard, Spoken, put_reply, put_timed_out};
-use av_guard::{Answered, Told};
+use crate::told::{LargeTold, WRITTEN};
+use av_asks::{
+    Ask, ClientHeard, ClientReader, ClientSays, How, LargeAnswer, LargeCause, OpenAnswer,
+    put_answer, put_large_answer,
+};
+use av_base::{ByteList, Cause, Generation};
+use av_clamd::{Door, Heard, Sending, Spoken, put_reply, put_timed_out};
+use av_guard::Answered;
+use av_large::Ending;
 use av_log::Notes;
 use av_sockets::{TurnedAway, put_refusal};
 use av_turns::{Kind, Left};
@@ -26,6 +31,10 @@ pub struct Client {
     has_asked: bool,
     // No more is heard of it.
     is_done: bool,
+    /// The content in parts that it is within.
+    pub within: Option<Open>,
+    /// Whether it waits to be read until the service takes more of contents in parts.
+    pub place: Place,
     /// What it asked about and was not answered yet, where there is a log.
     pub notes: Notes,
     /// It is among those to which something is sent next.
@@ -35,13 +44,35 @@ pub struct Client {
 // What it speaks.
 #[derive(Drop)]
 enum Speech {
-    Opens(AskFeed),
+    Opens(ClientReader),
     Clamd(Door),
+}
+
+/// A content in parts that a client is within.
+#[derive(Clone, Copy, Debug, PartialEq, Eq)]
+pub struct Open {
+    /// The client's tag of it.
+    pub tag: u64,
+    /// The guard's number of it, 0 once it is answered.
+    pub number: u64,
+    /// How many of its bytes came.
+    pub count: u64,
+}
+
+/// Where a client is while the service takes no more of contents in parts.
+#[derive(Clone, Copy, Debug, PartialEq, Eq)]
+pub enum Place {
+    /// Among the others.
+    Free,
+    /// It waits to be read.
+    Parked,
+    /// It waited, and there is room for what it sends next.
+    Called,
 }
 
 /// One thing that a client said.
 #[derive(Drop)]
-pub enum Thing {
+pub enum Thing<'a> {
     /// It needs no verdict: so many bytes were put behind those that wait for the client.
     Said(usize),
     /// It asks about a content, with its name for it, where it says one. Its tag is handed back with the answer.
@@ -50,6 +81,16 @@ pub enum Thing {
         label: Option<ByteList>,
         content: Vec<u8>,
     },
+    /// It begins a content that comes in parts, with its name for it, where it says one, and what came of it already.
+    Begun {
+        tag: u64,
+        label: Option<ByteList>,
+        first: Option<Vec<u8>>,
+    },
+    /// Some of the content that it is within came, perhaps no byte.
+    Part(&'a [u8]),
+    /// The content that it is within ends.
+    Ended(Ending),
 }
 
 /// Why a client is let go.
@@ -65,10 +106,10 @@ impl From<AllocError> for Lost {
 impl Client {
     /// One that came by the socket for opens.
     pub fn of_opens(alloc: Global, line: Line) -> Client
-        ensures came { result ≡ came line (Opens (record { rest = []; broken = false })) result.kept }
+        ensures came { result ≡ came line (Opens silent) result.kept }
         ensures kept { result.kept.items ≡ [] }
     {
-        Client::new(alloc, line, Speech::Opens(AskFeed::new(alloc)))
+        Client::new(alloc, line, Speech::Opens(ClientReader::new(alloc)))
     }
 
     /// One that came by the socket for clients of clamd.
@@ -90,6 +131,8 @@ impl Client {
             owed: 0,
             has_asked: false,
             is_done: false,
+            within: None,
+            place: Place::Free,
             notes: Notes::new(alloc),
             is_sending: false,
         }
@@ -170,19 +213,34 @@ impl Client {
         Ok(())
     }
 
-    /// Hears the next thing in a piece that came, and says how many of its bytes were taken. A client that says what it can't say is
+    /// Hears the next thing in a piece that came, and says how many of its bytes were taken. `sending` is for a client of clamd: whether
+    /// its long contents go in parts. A client that says what it can't say is
     /// lost, and so is one for which memory is refused.
-    pub fn hear(&mut self, piece: &[u8]) -> Result<(usize, Option<Thing>), Lost>
-        ensures hears { IfOk result (λ heard. Hears heard piece.now self.old.speech self.new.speech self.old.line.waiting.items self.new.line.waiting.items) }
+    pub fn hear<'b>(
+        &mut self,
+        piece: &'b [u8],
+        sending: Sending,
+    ) -> Result<(usize, Option<Thing<'b>>), Lost>
+        ensures hears { IfOk result (λ heard. Hears sending heard piece.now self.old.speech self.new.speech self.old.line.waiting.items self.new.line.waiting.items) }
         ensures same { (self.new.kept ≡ self.old.kept) × (self.new.owed ≡ self.old.owed) }
     {
         match &mut self.speech {
-            Speech::Opens(feed) => next_ask(feed, piece),
+            Speech::Opens(reader) => next_said(reader, piece),
             Speech::Clamd(door) => {
-                let heard = next_words(door, piece, &mut self.line.waiting);
+                let heard = next_words(door, piece, sending, &mut self.line.waiting);
                 self.is_done = self.is_done || door.is_done();
                 heard
             }
+        }
+    }
+
+    /// How many bytes are still to come of the part that has begun. They are handed on as they come.
+    pub fn part_left(&self) -> usize
+        ensures { result ≡ part_left self.now.speech }
+    {
+        match &self.speech {
+            Speech::Opens(reader) => reader.left(),
+            Speech::Clamd(door) => door.relay_left(),
         }
     }
 
@@ -195,12 +253,13 @@ impl Client {
             return Left::Whole { held: kept };
         }
         match &self.speech {
-            Speech::Opens(feed) => {
-                let (came, total) = feed.begun();
+            Speech::Opens(reader) => {
+                let (came, total) = reader.begun();
                 begun_left(came as u64, total as u64)
             }
             Speech::Clamd(door) => match door.begun() {
                 None => Left::Nothing,
+                Some(0) if door.is_relaying() => Left::Nothing,
                 Some(held) => Left::Part {
                     held: held as u64,
                     total: 0,
@@ -217,22 +276,29 @@ impl Client {
         self.has_asked = true;
     }
 
-    /// It is told an answer. The name is that of the signature that occurs, where it is known.
-    pub fn tell(&mut self, told: Told, name: Option<&[u8]>) -> Result<(), Lost>
-        ensures told { OnOk result (self.new.line.waiting.items ≡ self.old.line.waiting.items ++ told_text self.old.speech told.tag told.answer name.entry) }
+    /// It is told an answer under a tag. The name is that of the signature that occurs, where it is known.
+    pub fn tell(&mut self, tag: u64, told: LargeTold, name: Option<&[u8]>) -> Result<(), Lost>
+        ensures told { OnOk result (self.new.line.waiting.items ≡ self.old.line.waiting.items ++ told_text self.old.speech tag told name.entry) }
         ensures owed { self.new.owed ≡ self.old.owed - 1 }
         ensures same { self.new ≡ record self.old { line = self.new.line; owed = self.new.owed } }
     {
-        self.owed = self.owed.saturating_sub(1);
+        self.forgive();
         let out = &mut self.line.waiting;
         match &self.speech {
-            Speech::Opens(_) => put_answer(out, &open_answer(told.tag, told.answer))?,
+            Speech::Opens(_) => put_open(out, tag, told),
             Speech::Clamd(..) => {
-                let (number, end) = of_tag(told.tag);
-                put_reply(out, number, end, &spoken(told.answer, name))?;
+                let (number, end) = of_tag(tag);
+                put_reply(out, number, end, &spoken(told, name))?;
+                Ok(())
             }
         }
-        Ok(())
+    }
+
+    /// It is not told the answer that it waited for last: it broke off.
+    pub fn forgive(&mut self)
+        ensures { self.new ≡ record self.old { owed = self.old.owed - 1 } }
+    {
+        self.owed = self.owed.saturating_sub(1);
     }
 
     /// It said nothing for too long: a client of clamd is told so, and no more is heard of it.
@@ -266,47 +332,79 @@ impl Client {
     }
 }
 
-// The next ask, with a piece behind what came before.
-fn next_ask(feed: &mut AskFeed, piece: &[u8]) -> Result<(usize, Option<Thing>), Lost>
-    ensures { IfOk result (λ h. (h.0 ≡ length piece.now) × GivesAsk h.1 (feed.old.rest ++ piece.now) feed.new.rest) }
+// The next thing that a client says at the socket for opens.
+fn next_said<'b>(
+    reader: &mut ClientReader,
+    piece: &'b [u8],
+) -> Result<(usize, Option<Thing<'b>>), Lost>
+    ensures { IfOk result (λ h. SaysNext h.1 h.0 piece.now reader.old reader.new) }
 {
-    if feed.push(piece).is_err() {
-        return Err(Lost);
+    match reader.hear(piece) {
+        Ok(ClientHeard { taken, said }) => Ok((taken, thing_of(said))),
+        Err(_) => Err(Lost),
     }
-    match feed.next() {
-        Ok(Some(ask)) => {
+}
+
+// What a client said, as the guard takes it.
+fn thing_of<'b>(said: Option<ClientSays<'b>>) -> Option<Thing<'b>>
+    ensures { result ≡ thing_of said.entry }
+{
+    match said? {
+        ClientSays::Ask(ask) => {
             let Ask {
                 tag,
                 label,
                 content,
             } = ask;
             let label = Some(label);
-            let thing = Thing::Asked {
+            Some(Thing::Asked {
                 tag,
                 label,
                 content,
-            };
-            Ok((piece.len(), Some(thing)))
+            })
         }
-        Ok(None) => Ok((piece.len(), None)),
-        Err(_) => Err(Lost),
+        ClientSays::Begin { tag, label } => {
+            let (label, first) = (Some(label), None);
+            Some(Thing::Begun { tag, label, first })
+        }
+        ClientSays::Part { some, .. } => Some(Thing::Part(some)),
+        ClientSays::End { how, .. } => Some(Thing::Ended(ending_of(how))),
     }
 }
 
-// The next thing that a client of clamd says. What is said to it at once is put behind what waits.
-fn next_words(
-    door: &mut Door,
-    piece: &[u8],
-    out: &mut Vec<u8>,
-) -> Result<(usize, Option<Thing>), Lost>
-    ensures { IfOk result (λ h. SaysOne h.1 h.0 piece.now door.old door.new out.old.items out.new.items) }
+// How a content ends, for the guard.
+fn ending_of(how: How) -> Ending
+    ensures { result ≡ ending_of how }
 {
-    let (taken, heard) = door.hear(piece)?;
-    match heard {
-        None => Ok((taken, None)),
+    match how {
+        How::Whole => Ending::Whole,
+        How::GivenUp => Ending::GivenUp,
+    }
+}
+
+// The next thing that a client of clamd says.
+fn next_words<'b>(
+    door: &mut Door,
+    piece: &'b [u8],
+    sending: Sending,
+    out: &mut Vec<u8>,
+) -> Result<(usize, Option<Thing<'b>>), Lost>
+    ensures { IfOk result (λ h. SaysOne sending h.1 h.0 piece.now door.old door.new out.old.items out.new.items) }
+{
+    let (taken, heard) = door.hear(piece, sending)?;
+    let thing = words_of(heard, out)?;
+    Ok((taken, thing))
+}
+
+// What came of its words. What is said to it at once is put after what waits for it.
+fn words_of<'b>(heard: Option<Heard<'b>>, out: &mut Vec<u8>) -> Result<Option<Thing<'b>>, Lost>
+    ensures { IfOk result (λ given. IsWords given heard.entry out.old.items out.new.items) }
+{
+    let thing = match heard {
+        None => return Ok(None),
         Some(Heard::Say(text)) => {
             out.extend_from_slice(text.as_slice())?;
-            Ok((taken, Some(Thing::Said(text.len()))))
+            Thing::Said(text.len())
         }
         Some(
             Heard::Ask {
@@ -314,17 +412,20 @@ fn next_words(
                 end,
                 content,
             },
-        ) => {
-            let tag = numbered(number, end);
-            let label = None;
-            let thing = Thing::Asked {
-                tag,
-                label,
-                content,
-            };
-            Ok((taken, Some(thing)))
-        }
-    }
+        ) => Thing::Asked {
+            tag: numbered(number, end),
+            label: None,
+            content,
+        },
+        Some(Heard::Begin { number, end, first }) => Thing::Begun {
+            tag: numbered(number, end),
+            label: None,
+            first: Some(first),
+        },
+        Some(Heard::More(bytes)) => Thing::Part(bytes),
+        Some(Heard::End) => Thing::Ended(Ending::Whole),
+    };
+    Ok(Some(thing))
 }
 
 // What is left of a frame of which so many bytes came, and which has so many, where that is known.
@@ -351,6 +452,30 @@ fn of_tag(tag: u64) -> (u64, u8)
     ensures { result ≡ of_tag tag }
 {
     (tag / 256, (tag % 256) as u8)
+}
+
+// Appends an answer as the open protocol has it.
+fn put_open(out: &mut Vec<u8>, tag: u64, told: LargeTold) -> Result<(), Lost>
+    ensures { OnOk result (out.new.items ≡ out.old.items ++ open_text tag told) }
+{
+    match told {
+        LargeTold::Answered(answer) => put_answer(out, &open_answer(tag, answer))?,
+        LargeTold::Denied { cause } => {
+            put_large_answer(out, &LargeAnswer::Denied { tag, cause })?;
+        }
+        LargeTold::Unscanned { cause } => {
+            let generation = Generation::new(WRITTEN);
+            put_large_answer(
+                out,
+                &LargeAnswer::Unscanned {
+                    tag,
+                    generation,
+                    cause,
+                },
+            )?;
+        }
+    }
+    Ok(())
 }
 
 // An answer as the open protocol has it.
@@ -380,8 +505,30 @@ fn open_answer(tag: u64, answer: Answered) -> OpenAnswer
 }
 
 // An answer as clients of clamd hear it.
-fn spoken<'a>(answer: Answered, name: Option<&'a [u8]>) -> Spoken<'a>
-    ensures { result ≡ spoken_of answer name.entry }
+fn spoken<'a>(told: LargeTold, name: Option<&'a [u8]>) -> Spoken<'a>
+    ensures { result ≡ spoken_of told name.entry }
+{
+    match told {
+        LargeTold::Answered(answer) => spoken_answer(answer, name),
+        LargeTold::Denied { cause } | LargeTold::Unscanned { cause } => spoken_cause(cause),
+    }
+}
+
+// The same of a content in parts that was not judged, for a cause of its own.
+fn spoken_cause<'a>(cause: LargeCause) -> Spoken<'a>
+    ensures { result ≡ spoken_cause cause }
+{
+    match cause {
+        LargeCause::TooLarge => Spoken::TooLarge,
+        LargeCause::AskAgain | LargeCause::GivenUp | LargeCause::NoParts => Spoken::NoVerdict {
+            cause: cause.number(),
+        },
+    }
+}
+
+// The same of an answer that an ask can have too.
+fn spoken_answer<'a>(answer: Answered, name: Option<&'a [u8]>) -> Spoken<'a>
+    ensures { result ≡ spoken_answer answer name.entry }
 {
     match answer {
         Answered::Granted { .. } => Spoken::Clean,

@@ -2,6 +2,7 @@ mod accepting;
 mod asking;
 mod reading;
 mod recording;
+mod relaying;
 mod reporting;
 mod sending;
 mod telling;
@@ -9,18 +10,20 @@ mod telling;
 use crate::belief::Belief;
 use crate::client::Client;
 use crate::door::Door;
-use crate::guarding::Begun;
+use crate::guarding::{Begun, Sizes};
 use crate::keeping::Keeping;
 use crate::log::Log;
 use crate::names::Names;
+use crate::parts::Parts;
 use crate::recorder::{MOST_WAITING, Recorder};
 use crate::service::Service;
 use av_base::{Mode, Version};
 use av_guard::Guard;
 use av_health::Counts;
+use av_large::Large;
 use av_log::Entry;
 use av_status::Prefixed;
-use av_turns::Turns;
+use av_turns::{Turns, Waits};
 use mio::event::Event;
 use mio::{Events, Poll};
 use std::alloc::{AllocError, AllocFailed, Global};
@@ -31,7 +34,7 @@ use std::mem;
 use std::net::Net;
 use std::time::{Clock, Duration};
 
-// The numbers of the doors, of the connections of the service and its successor, and of standard error. A client's is that which the
+// The numbers of the doors, of the connections of the service and its successor, of the service's second one, and of standard error. A client's is that which the
 // guard gives it, and so many more.
 pub const OPENS: u64 = 0;
 
@@ -47,7 +50,11 @@ const LOG: u64 = 5;
 
 pub const STATUS: u64 = 6;
 
-const FIRST: u64 = 7;
+pub const PARTS: u64 = 7;
+
+const RELAYING: u64 = 8;
+
+const FIRST: u64 = 9;
 
 // How many are let in at a door before what came is read. Each wants two turns, to be heard and to be seen leaving, and there are no
 // fewer of those: else those who come and go would take all places.
@@ -94,6 +101,8 @@ pub struct Entrance {
     pub poll: Poll,
     pub opens: Door,
     pub service: Door,
+    /// To which the service comes once more, for contents in parts.
+    pub parts: Option<Door>,
     pub clamd: Option<Door>,
     /// To which those come who want to know what the guard does.
     pub status: Option<Door>,
@@ -112,6 +121,15 @@ pub struct Daemon<'a, R: Files> {
     successor: Option<Service>,
     clients: BTreeMap<u64, Client>,
     turns: Turns,
+    // The second connection of the service, and the contents that are relayed over it, of at most so many bytes by the socket at which
+    // their client came.
+    parts: Option<Parts>,
+    large: Large,
+    most: Sizes,
+    // Since when a content has waited for its next bytes, or for its verdict.
+    contents: Waits,
+    // Clients that are not read until the second connection takes more, in their order.
+    parked: VecDeque<u64>,
     // Those to which something is to be sent.
     sending: VecDeque<u64>,
     // More can be done at once.
@@ -161,6 +179,11 @@ impl<'a, R: Files + Net + Clock> Daemon<'a, R> {
             successor: None,
             clients: BTreeMap::new(alloc),
             turns: Turns::new(alloc, begun.most_clients, millis(asked.wait)),
+            parts: None,
+            large: Large::new(alloc),
+            most: asked.most,
+            contents: Waits::new(alloc),
+            parked: VecDeque::new(alloc),
             sending: VecDeque::new(alloc),
             goes_on: false,
             belief,
@@ -207,6 +230,7 @@ impl<'a, R: Files + Net + Clock> Daemon<'a, R> {
         self.end_late(guard, now)?;
         self.accept(guard, now)?;
         self.read_service(guard, now)?;
+        self.read_parts(guard, now)?;
         self.serve(guard, now)?;
         self.ask_line(guard, now)?;
         self.make_room(guard, now)?;
@@ -236,9 +260,12 @@ impl<'a, R: Files + Net + Clock> Daemon<'a, R> {
         let dues = [
             self.turns_due(),
             self.service_due(),
+            self.contents_due(),
+            self.parts_due(),
             self.lines_due(),
             self.doors.opens.next_try(now),
             self.doors.service.next_try(now),
+            next_try(&self.doors.parts, now),
             next_try(&self.doors.clamd, now),
             next_try(&self.doors.status, now),
         ];
@@ -272,6 +299,8 @@ impl<'a, R: Files + Net + Clock> Daemon<'a, R> {
             SERVICE => self.doors.service.told(),
             CLAMD => told(&mut self.doors.clamd),
             STATUS => told(&mut self.doors.status),
+            PARTS => told(&mut self.doors.parts),
+            RELAYING => return self.note_parts(event),
             SERVING => return self.note_service(event),
             SUCCEEDING => self.note_successor(event),
             LOG => self.log.writer.told(),
@@ -319,16 +348,19 @@ impl<'a, R: Files + Net + Clock> Daemon<'a, R> {
 
     // A connection is among those to which something is sent next.
     fn wants_to_send(&mut self, number: u64) -> Result<(), Stop> {
-        let was_sending = if number == SERVING {
-            match &mut self.service {
+        let was_sending = match number {
+            SERVING => match &mut self.service {
                 Some(service) => mem::replace(&mut service.is_sending, true),
                 None => true,
-            }
-        } else {
-            match self.clients.get_mut(&number) {
+            },
+            RELAYING => match &mut self.parts {
+                Some(parts) => mem::replace(&mut parts.is_sending, true),
+                None => true,
+            },
+            _ => match self.clients.get_mut(&number) {
                 Some(client) => mem::replace(&mut client.is_sending, true),
                 None => true,
-            }
+            },
         };
         if !was_sending {
             self.sending.push_back(number)?;

@@ -3,13 +3,13 @@ ghost use Rattle.av_daemon.specs.Guarding.{IsFailed};
 ghost use Rattle.av_status.specs.declared.status.Status.TheVariants.{Device};
 
 use crate::belief::Belief;
-use crate::daemon::{CLAMD, Daemon, Entrance, OPENS, SERVICE, STATUS, Stop};
+use crate::daemon::{CLAMD, Daemon, Entrance, OPENS, PARTS, SERVICE, STATUS, Stop};
 use crate::descriptors::{clients_of, descriptors};
 use crate::door::Door;
 use crate::keeping::{BadKeeping, kept_version};
 use crate::recorder::{BadLog, Logging, Recorder, open_log};
-use crate::reports::{no_report, status_path};
 use av_base::{Mode, Version};
+use av_client::{PARTS_BEHIND, STATUS_BEHIND, beside};
 use av_guard::{Guard, Settings};
 use av_sockets::fault::socket_failed;
 use av_sockets::{Node, listen, remove_own};
@@ -43,6 +43,15 @@ pub struct Doors<'a> {
     pub names: Option<&'a str>,
 }
 
+/// The most bytes of a content that comes in parts. Nothing of it is kept, so a limit protects nothing but time.
+#[derive(Clone, Copy, Debug, PartialEq, Eq)]
+pub struct Sizes {
+    /// Of a client at the socket for opens.
+    pub contents: u64,
+    /// Of a client of clamd. Those cut a content at a length of their own, so it is to be less than that.
+    pub streams: u64,
+}
+
 /// How a guard is run.
 #[derive(Clone, Copy, Debug)]
 pub struct Guarding<'a> {
@@ -53,6 +62,8 @@ pub struct Guarding<'a> {
     pub keep: u64,
     /// How many questions the service is asked at a time, 1 to 256.
     pub questions: u64,
+    /// The most bytes of a content in parts.
+    pub most: Sizes,
     /// How long an ask may take to come and to be answered, and how long a client or the service may take nothing that it is sent.
     pub wait: Duration,
     /// The rights of the sockets for opens and for clients of clamd.
@@ -95,17 +106,19 @@ pub fn guard_at<R: Files + Net + Clock + RandomSource, E: Write>(
     let Some(most_clients) = clients_of(descriptors(rt)) else {
         return few_descriptors(err);
     };
-    let opens = match listen_at(rt, alloc, asked.doors.opens, asked.rights, err) {
-        Ok(door) => door,
-        Err(status) => return status,
-    };
     let begun = Begun {
         asked,
         most_clients,
         program: err.program(),
     };
-    let status = guard_with(rt, alloc, begun, opens.listener, err);
-    remove_own(rt, asked.doors.opens, opens.node);
+    let mut made = Vec::new(alloc);
+    let status = match listen_all(rt, alloc, asked, &mut made, err) {
+        Ok(listeners) => guard_over(rt, alloc, begun, listeners, err),
+        Err(status) => status,
+    };
+    'made: for socket in made {
+        remove_own(rt, socket.path.as_str(), socket.node);
+    }
     status
 }
 
@@ -141,15 +154,50 @@ fn bad_state<E: Write>(err: &mut E, path: &str) -> Status
 struct Listeners {
     opens: UnixListener,
     service: UnixListener,
+    parts: Option<UnixListener>,
     clamd: Option<UnixListener>,
     status: Option<UnixListener>,
 }
 
-// One of them, with its file.
+// The file of one of them, which is removed in the end.
 #[derive(Drop)]
-struct Standing {
-    listener: UnixListener,
+struct Made {
+    path: String,
     node: Node,
+}
+
+// Listens at all of them. Those that were made are noted, also where one can't be.
+fn listen_all<R: Files + Net + Clock, E: Write>(
+    rt: &R,
+    alloc: Global,
+    asked: Guarding<'_>,
+    made: &mut Vec<Made>,
+    err: &mut E,
+) -> Result<Listeners, Status>
+    ensures { IfErr result IsFailed }
+{
+    let doors = asked.doors;
+    let opens = listen_at(rt, alloc, doors.opens, asked.rights, made, err)?;
+    let service = listen_at(rt, alloc, doors.service, asked.service_rights, made, err)?;
+    let parts = match path_behind(alloc, doors.service, PARTS_BEHIND, err)? {
+        Some(path) => Some(listen_at(rt, alloc, path.as_str(), asked.service_rights, made, err)?),
+        None => None,
+    };
+    let clamd = match doors.clamd {
+        Some(path) => Some(listen_at(rt, alloc, path, asked.rights, made, err)?),
+        None => None,
+    };
+    let status = match path_behind(alloc, doors.opens, STATUS_BEHIND, err)? {
+        Some(path) => Some(listen_at(rt, alloc, path.as_str(), asked.rights, made, err)?),
+        None => None,
+    };
+    Ok(Listeners {
+        opens,
+        service,
+        parts,
+        clamd,
+        status,
+    })
 }
 
 fn listen_at<R: Files + Net + Clock, E: Write>(
@@ -157,102 +205,44 @@ fn listen_at<R: Files + Net + Clock, E: Write>(
     alloc: Global,
     path: &str,
     rights: u32,
+    made: &mut Vec<Made>,
     err: &mut E,
-) -> Result<Standing, Status>
+) -> Result<UnixListener, Status>
     ensures { IfErr result IsFailed }
 {
+    let Ok(name) = String::from_str(alloc, path) else {
+        return Err(out_of_memory(err));
+    };
+    if made.reserve(1).is_err() {
+        return Err(out_of_memory(err));
+    }
     match listen(rt, alloc, path, rights) {
-        Ok((listener, node)) => Ok(Standing {
-            listener: UnixListener::from_std(listener),
-            node,
-        }),
+        Ok((listener, node)) => {
+            made.push_reserved(Made { path: name, node });
+            Ok(UnixListener::from_std(listener))
+        }
         Err(fault) => Err(socket_failed(err, path, fault)),
     }
 }
 
-// Goes on with the socket for opens.
-fn guard_with<R: Files + Net + Clock + RandomSource, E: Write>(
-    rt: &R,
+// The path of a socket beside another one. None where it would be too long, which a line says.
+fn path_behind<E: Write>(
     alloc: Global,
-    begun: Begun<'_>,
-    opens: UnixListener,
-    err: &mut Prefixed<E>,
-) -> Status
-    ensures { IsFailed result }
+    path: &str,
+    behind: &'static str,
+    err: &mut E,
+) -> Result<Option<String>, Status>
+    ensures { IfErr result IsFailed }
 {
-    let asked = begun.asked;
-    let service = match listen_at(rt, alloc, asked.doors.service, asked.service_rights, err) {
-        Ok(door) => door,
-        Err(status) => return status,
-    };
-    let listeners = Listeners {
-        opens,
-        service: service.listener,
-        clamd: None,
-        status: None,
-    };
-    let status = guard_all(rt, alloc, begun, listeners, err);
-    remove_own(rt, asked.doors.service, service.node);
-    status
-}
-
-// Goes on with the socket for the service, and with that for clients of clamd, where there is one.
-fn guard_all<R: Files + Net + Clock + RandomSource, E: Write>(
-    rt: &R,
-    alloc: Global,
-    begun: Begun<'_>,
-    listeners: Listeners,
-    err: &mut Prefixed<E>,
-) -> Status
-    ensures { IsFailed result }
-{
-    let asked = begun.asked;
-    let Some(path) = asked.doors.clamd else {
-        return guard_told(rt, alloc, begun, listeners, err);
-    };
-    let clamd = match listen_at(rt, alloc, path, asked.rights, err) {
-        Ok(door) => door,
-        Err(status) => return status,
-    };
-    let listeners = Listeners {
-        clamd: Some(clamd.listener),
-        ..listeners
-    };
-    let status = guard_told(rt, alloc, begun, listeners, err);
-    remove_own(rt, path, clamd.node);
-    status
-}
-
-// Goes on with the socket at which the guard says what it does, where a socket can have its path.
-fn guard_told<R: Files + Net + Clock + RandomSource, E: Write>(
-    rt: &R,
-    alloc: Global,
-    begun: Begun<'_>,
-    listeners: Listeners,
-    err: &mut Prefixed<E>,
-) -> Status
-    ensures { IsFailed result }
-{
-    let asked = begun.asked;
-    let path = match status_path(alloc, asked.doors.opens) {
-        Ok(Some(path)) => path,
+    match beside(alloc, path, behind) {
+        Ok(Some(path)) => Ok(Some(path)),
         Ok(None) => {
-            let _ = no_report(err, asked.doors.opens);
-            return guard_over(rt, alloc, begun, listeners, err);
+            let why = text(": the path of a socket has 1 to 107 bytes");
+            say_of(err, path, &[text(behind), why]);
+            Ok(None)
         }
-        Err(_) => return out_of_memory(err),
-    };
-    let door = match listen_at(rt, alloc, path.as_str(), asked.rights, err) {
-        Ok(door) => door,
-        Err(status) => return status,
-    };
-    let listeners = Listeners {
-        status: Some(door.listener),
-        ..listeners
-    };
-    let status = guard_over(rt, alloc, begun, listeners, err);
-    remove_own(rt, path.as_str(), door.node);
-    status
+        Err(_) => Err(out_of_memory(err)),
+    }
 }
 
 // Goes on with all sockets.
@@ -357,18 +347,21 @@ fn entrance<R: Net>(rt: &R, listeners: Listeners) -> io::Result<Entrance> {
     let Listeners {
         opens,
         service,
+        parts,
         clamd,
         status,
     } = listeners;
     let poll = Poll::new(rt)?;
     let opens = Door::new(&poll, opens, OPENS)?;
     let service = Door::new(&poll, service, SERVICE)?;
+    let parts = door_at(&poll, parts, PARTS)?;
     let clamd = door_at(&poll, clamd, CLAMD)?;
     let status = door_at(&poll, status, STATUS)?;
     Ok(Entrance {
         poll,
         opens,
         service,
+        parts,
         clamd,
         status,
     })

@@ -1,8 +1,9 @@
 //! The log of decisions: its lines wait, and go to a file, or to standard error.
 
 ghost use Rattle.std.specs.Prelude.{◌≡◌};
-ghost use Rattle.av_daemon.specs.Recorder.{judged_of};
+ghost use Rattle.av_daemon.specs.Recorder.{judged_answer, judged_of};
 
+use crate::told::LargeTold;
 use av_guard::Answered;
 use av_log::{Entry, Form, Judged, Queue, fields_of, is_due, put_line, stamp_of};
 use std::alloc::{AllocError, Global};
@@ -207,8 +208,19 @@ fn put_made(queue: &mut Queue, line: &[u8], is_made: bool) {
 }
 
 /// An answer as the log has it.
-pub fn judged_of(answer: Answered) -> Judged
-    ensures { result ≡ judged_of answer }
+pub fn judged_of(told: LargeTold) -> Judged
+    ensures { result ≡ judged_of told }
+{
+    match told {
+        LargeTold::Answered(answer) => judged_answer(answer),
+        LargeTold::Denied { cause } => Judged::LargeDenied { cause },
+        LargeTold::Unscanned { cause } => Judged::LargeUnscanned { cause },
+    }
+}
+
+// The same of an answer that an ask can have too.
+fn judged_answer(answer: Answered) -> Judged
+    ensures { result ≡ judged_answer answer }
 {
     match answer {
         Answered::Granted { version, .. } => Judged::Granted { version },

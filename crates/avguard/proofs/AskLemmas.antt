@@ -1,27 +1,29 @@
 -- A status that tells of no fault is of files that were all judged; and what was written by then.
-use Rattle.std.proofs.Common.{arith, ℕ, ◌≡◌, ◌<◌, ◌+◌, ◌++◌, ◌||◌, Bool, false, true, if◌then◌else◌, List, [], ◌∷◌, Option, None, Some, length, map, take, refl, rules, ap, sym, subst, ◌∙◌, inl, inr}
+use Rattle.std.proofs.Common.{add-one, arith, ℕ, zero, suc, ◌≡◌, ◌<◌, ◌+◌, ◌++◌, ◌||◌, Bool, false, true, if◌then◌else◌, List, [], ◌∷◌, Option, None, Some, length, map, take, refl, rules, ap, sym, subst, ◌∙◌, inl, inr}
 use Rattle.std.proofs.KnownBytes.{Appends-nil}
 use Rattle.std.specs.Io.KnownBytes.{Appends}
 use Rattle.std.proofs.lemmas.Bool.{cases_Bool, ltb-false, ltb-true}
-use Rattle.std.proofs.lemmas.List.{map-append, take_more}
+use Rattle.std.proofs.lemmas.List.{length_push, map-append, take_more}
 use Rattle.std.proofs.lemmas.List.Elements.{recursion_from_All}
 use Rattle.std.specs.Borrow.{Bor}
 use Rattle.std.specs.List.{All, AllByRecursion}
-use Rattle.std.specs.Prelude.{IsSome, nat_lt, slice_index_or}
+use Rattle.std.specs.Prelude.{IsSome, nat_lt, slice_get, slice_index_or}
 use Rattle.std.specs.String.{string_bytes}
 use Rattle.av_base.specs.Device.{AppendsPrefix}
-use Rattle.av_files.specs.Opened.{is_granted, is_infected, opened_lines, tally_from, with_opened, worst_of}
-use Rattle.av_files.specs.declared.opened.Opened.{Opened}
+use Rattle.av_files.specs.Opened.{is_granted, is_infected_answer, with_opened, worst_of}
 use Rattle.av_status.specs.Status.{graver_status, number_of, IsFault}
 use Rattle.av_status.specs.Tally.{concluded, ending_of, has_found, no_files, with_missed, with_scanned}
 use Rattle.av_status.specs.declared.status.Status.{Status}
 use Rattle.av_status.specs.declared.status.Status.TheVariants.{Done, Refused, Usage, Memory, Device, Found, FoundInPart}
 use Rattle.av_status.specs.declared.tally.Tally.{Tally}
 use Rattle.av_status.specs.declared.tally.Wishes.{Wishes}
-use Rattle.av_pend.specs.declared.answer.Answer.{Answer}
-use Rattle.av_daemon.specs.Asking.{AreAtTheirTags}
+use Rattle.av_client.specs.declared.reply.Reply.{Reply}
+use Rattle.av_client.specs.declared.reply.Reply.TheVariants.{Open, Large}
+use Rattle.av_client.specs.Asking.{AreAtTheirTags, Forgets}
 use Rattle.avguard.specs.Ask.{AreAsked, AreJudged, AreJudgedIfDone, AreToldSoFar, IsAsGrave, IsJudged, IsToldSoFar, answered, asked_tally, names_found}
-use Rattle.avguard.specs.declared.ask.Found.{Found as FoundFile}
+use Rattle.avguard.specs.Told.{is_judged, tally_told, told_lines, with_reply}
+use Rattle.avguard.specs.declared.inquiry.Found.{Found as FoundFile}
+use Rattle.avguard.specs.declared.told.Told.{Told}
 
 -- a device fault is never none
 device_stays : (s : Status) → graver_status s Device ≡ Done → ⊥
@@ -40,12 +42,17 @@ one_judged true infected t e = (e, refl)
 one_judged false true t e = (e, refl)
 one_judged false false t e = absurd (device_stays t.worst e)
 
+-- the same by the reply
+reply_judged : (t : Tally) (name : Bor (List ℕ)) (r : Reply) → (with_reply t name r).worst ≡ Done → (t.worst ≡ Done) × (is_judged r ≡ true)
+reply_judged t name (Open a) e = one_judged (is_granted a) (is_infected_answer a) t e
+reply_judged t name (Large a) e = absurd (device_stays t.worst e)
+
 -- where the greatest fault is none there was none before, and each file was judged
-counted_judged : (t : Tally) (opened : List Opened) → (tally_from t opened).worst ≡ Done → (t.worst ≡ Done) × AllByRecursion IsJudged opened
+counted_judged : (t : Tally) (told : List Told) → (tally_told t told).worst ≡ Done → (t.worst ≡ Done) × AllByRecursion IsJudged told
 counted_judged t [] e = (e, tt)
-counted_judged t (o ∷ opened) e =
-    let rest = counted_judged (with_opened t o) opened e in
-    let first = one_judged (is_granted o.answer) (is_infected o) t rest.0 in
+counted_judged t (o ∷ told) e =
+    let rest = counted_judged (with_reply t o.name o.reply) told e in
+    let first = reply_judged t o.name o.reply rest.0 in
     (first.0, (first.1, rest.1))
 
 -- what decides is none only where what was counted is none
@@ -123,40 +130,40 @@ ended_none ended counted e =
     first_none FoundInPart counted e = absurd (search rules)
 
 -- a run that asked about files, and ends with Done
-pub all_judged : (w : Wishes) (opened : List Opened) (files : ℕ) (ended : Status) → concluded w (asked_tally opened files ended) ≡ Done
-    → (ended ≡ Done) × AllByRecursion IsJudged opened
-all_judged w opened files ended e =
-    let t = tally_from no_files opened in
-    let worst = none_ended w (asked_tally opened files ended) (worst_of (graver_status ended t.worst) t.worst) e in
-    (ended_none ended t.worst worst, (counted_judged no_files opened (none_counted (graver_status ended t.worst) t.worst worst)).1)
+pub all_judged : (w : Wishes) (told : List Told) (files : ℕ) (ended : Status) → concluded w (asked_tally told files ended) ≡ Done
+    → (ended ≡ Done) × AllByRecursion IsJudged told
+all_judged w told files ended e =
+    let t = tally_told no_files told in
+    let worst = none_ended w (asked_tally told files ended) (worst_of (graver_status ended t.worst) t.worst) e in
+    (ended_none ended t.worst worst, (counted_judged no_files told (none_counted (graver_status ended t.worst) t.worst worst)).1)
 
 -- where each file has its answer, the files that are answered have the names of all
-each_answered : (names : List (Bor (List ℕ))) (answers : List (Option Answer)) → length answers ≡ length names → AllByRecursion IsSome answers
+each_answered : (names : List (Bor (List ℕ))) (answers : List (Option Reply)) → length answers ≡ length names → AllByRecursion IsSome answers
     → map (λ o. o.name.now) (answered names answers) ≡ map (λ n. n.now) names
 each_answered [] answers long all = refl
 each_answered (n ∷ names) [] long all = absurd (omega (arith, long))
 each_answered (n ∷ names) (Some a ∷ answers) long all = ap (λ l. n.now ∷ l) (each_answered names answers (omega (arith, long)) all.1)
 each_answered (n ∷ names) (None ∷ answers) long all = let no : false ≡ true = all.0 in absurd (search rules)
 
-pub all_answered : (names : List (Bor (List ℕ))) (answers : List (Option Answer)) → length answers ≡ length names → All IsSome answers
+pub all_answered : (names : List (Bor (List ℕ))) (answers : List (Option Reply)) → length answers ≡ length names → All IsSome answers
     → map (λ o. o.name.now) (answered names answers) ≡ map (λ n. n.now) names
 all_answered names answers long all = each_answered names answers long (recursion_from_All IsSome answers all)
 
-pub judged_if_done : (status : Status) (names : List (List ℕ)) (opened : List Opened) → (status ≡ Done → AreJudged names opened) → AreJudgedIfDone status names opened
-judged_if_done Done names opened are = are refl
-judged_if_done Refused names opened are = tt
-judged_if_done Usage names opened are = tt
-judged_if_done Memory names opened are = tt
-judged_if_done Device names opened are = tt
-judged_if_done Found names opened are = tt
-judged_if_done FoundInPart names opened are = tt
+pub judged_if_done : (status : Status) (names : List (List ℕ)) (told : List Told) → (status ≡ Done → AreJudged names told) → AreJudgedIfDone status names told
+judged_if_done Done names told are = are refl
+judged_if_done Refused names told are = tt
+judged_if_done Usage names told are = tt
+judged_if_done Memory names told are = tt
+judged_if_done Device names told are = tt
+judged_if_done Found names told are = tt
+judged_if_done FoundInPart names told are = tt
 
 -- nothing was written
 pub none_written : (old : Option (List ℕ)) (text : List ℕ) → AppendsPrefix old old text
 none_written old text = record { front = []; back = text; parts = refl; appended = Appends-nil old }
 
-pub none_told : (answers : List (Option Answer)) (wishes : Wishes) (old : Option (List ℕ)) → AreToldSoFar answers wishes old old
-none_told answers wishes old = record { names = []; front = none_written old (opened_lines wishes (answered [] answers)) }
+pub none_told : (answers : List (Option Reply)) (wishes : Wishes) (old : Option (List ℕ)) → AreToldSoFar answers wishes old old
+none_told answers wishes old = record { names = []; front = none_written old (told_lines wishes (answered [] answers)) }
 
 pub no_tags : AreAtTheirTags []
 no_tags place a at = cc
@@ -166,22 +173,22 @@ none_asked wishes old = record { answers = []; tags = no_tags; told = none_told 
 
 -- A run that asked about these files, of which so many were to be asked about: what was written of those that are answered, and the status,
 -- tell what is asked of it.
-pub told_asked : (names : List (Bor (List ℕ))) (files : List (List ℕ)) (answers : List (Option Answer)) (before asked finished ended status : Status) (count : ℕ) (wishes : Wishes) (old new : Option (List ℕ))
+pub told_asked : (names : List (Bor (List ℕ))) (files : List (List ℕ)) (answers : List (Option Reply)) (before asked finished ended status : Status) (count : ℕ) (wishes : Wishes) (old new : Option (List ℕ))
     → IsAsGrave before asked → ended ≡ graver_status asked finished → count ≡ length files
-    → Appends old new (opened_lines wishes (answered names answers)) → status ≡ concluded wishes (asked_tally (answered names answers) count ended)
+    → Appends old new (told_lines wishes (answered names answers)) → status ≡ concluded wishes (asked_tally (answered names answers) count ended)
     → (asked ≡ Done → (map (λ n. n.now) names ≡ files) × (length answers ≡ length names)) → (finished ≡ Done → All IsSome answers)
     → AreAsked files before wishes old new status
 told_asked names files answers before asked finished ended status count wishes old new since is counted lines ends each all =
-    let opened = answered names answers in
-    let by_count : status ≡ concluded wishes (asked_tally opened (length files) ended) = ends ∙ ap (λ n. concluded wishes (asked_tally opened n ended)) counted in
+    let told = answered names answers in
+    let by_count : status ≡ concluded wishes (asked_tally told (length files) ended) = ends ∙ ap (λ n. concluded wishes (asked_tally told n ended)) counted in
     let grave : IsAsGrave asked ended = subst (λ e. IsAsGrave asked e) (sym is) (graver_than_one asked finished) in
     record {
-      opened = opened;
+      told = told;
       ended = ended;
       since = omega (arith, since, grave);
       lines = lines;
       concluded = by_count;
-      judged = judged_if_done status files opened (λ done. judged (all_judged wishes opened (length files) ended (sym by_count ∙ done)));
+      judged = judged_if_done status files told (λ done. judged (all_judged wishes told (length files) ended (sym by_count ∙ done)));
     }
   where
     judged : (ended ≡ Done) × AllByRecursion IsJudged (answered names answers) → AreJudged files (answered names answers)
@@ -200,3 +207,49 @@ found_more names more name found i d within pushed same so =
     let file = slice_index_or found i d in
     ap (λ ns. map (λ n. n.now) ns) pushed ∙ map-append (λ n. n.now) names (name ∷ []) ∙ ap (λ l. l ++ name.now ∷ []) so ∙ ap (λ n. names_found (take i found) ++ n ∷ []) same
     ∙ sym (map-append (λ f. string_bytes f.name) (take i found) (file ∷ [])) ∙ ap names_found (sym (take_more found i d within))
+
+-- an answer was taken back
+pub forgot_length : (old new : List (Option Reply)) (last : Option Reply) → Forgets old new last → IsSome last → length old ≡ length new + 1
+forgot_length old new None forgot some = let no : false ≡ true = some in absurd (search rules)
+forgot_length old new (Some a) forgot some = ap (λ l. length l) forgot ∙ length_push new (Some a)
+
+-- one name more, with the answer at its place if it has one
+answered_more : (names : List (Bor (List ℕ))) (answers : List (Option Reply)) (i : ℕ) (d : Bor (List ℕ)) (r : Reply) → i < length names → slice_get answers i ≡ Some (Some r)
+    → answered (take (suc i) names) answers ≡ answered (take i names) answers ++ record { name = slice_index_or names i d; reply = r } ∷ []
+answered_more [] answers i d r within at = absurd (omega (arith, within))
+answered_more (n ∷ names) [] zero d r within at = cc
+answered_more (n ∷ names) [] (suc i) d r within at = cc
+answered_more (n ∷ names) (a ∷ answers) zero d r within at = let is : a ≡ Some r = cc in rw is refl
+answered_more (n ∷ names) (None ∷ answers) (suc i) d r within at = answered_more names answers i d r (omega (arith, within)) at
+answered_more (n ∷ names) (Some b ∷ answers) (suc i) d r within at = ap (λ l. record { name = n; reply = b } ∷ l) (answered_more names answers i d r (omega (arith, within)) at)
+
+-- or none, where it has none
+answered_same : (names : List (Bor (List ℕ))) (answers : List (Option Reply)) (i : ℕ) → ((r : Reply) → slice_get answers i ≡ Some (Some r) → ⊥)
+    → answered (take (suc i) names) answers ≡ answered (take i names) answers
+answered_same [] answers zero none = refl
+answered_same [] answers (suc i) none = refl
+answered_same (n ∷ names) [] zero none = refl
+answered_same (n ∷ names) [] (suc i) none = refl
+answered_same (n ∷ names) (None ∷ answers) zero none = refl
+answered_same (n ∷ names) (Some b ∷ answers) zero none = absurd (none b refl)
+answered_same (n ∷ names) (None ∷ answers) (suc i) none = answered_same names answers i none
+answered_same (n ∷ names) (Some b ∷ answers) (suc i) none = ap (λ l. record { name = n; reply = b } ∷ l) (answered_same names answers i none)
+
+pub answered_then : (names : List (Bor (List ℕ))) (answers : List (Option Reply)) (i : ℕ) (d : Bor (List ℕ)) (r : Reply) (old new : List Told) → i < length names → slice_get answers i ≡ Some (Some r)
+    → old ≡ answered (take i names) answers → new ≡ old ++ record { name = slice_index_or names i d; reply = r } ∷ [] → new ≡ answered (take (i + 1) names) answers
+answered_then names answers i d r old new within at so pushed =
+    rw add-one (pushed ∙ ap (λ l. l ++ record { name = slice_index_or names i d; reply = r } ∷ []) so ∙ sym (answered_more names answers i d r within at))
+
+pub unanswered_then : (names : List (Bor (List ℕ))) (answers : List (Option Reply)) (i : ℕ) (old : List Told) → slice_get answers i ≡ Some None → old ≡ answered (take i names) answers
+    → old ≡ answered (take (i + 1) names) answers
+unanswered_then names answers i old at so = rw add-one (so ∙ sym (answered_same names answers i (λ r it. no_reply r (sym at ∙ it))))
+  where
+    no_reply : (r : Reply) → ◌≡◌ {A = Option (Option Reply)} (Some None) (Some (Some r)) → ⊥
+    no_reply r e = absurd cc
+
+pub unasked_then : (names : List (Bor (List ℕ))) (answers : List (Option Reply)) (i : ℕ) (old : List Told) → slice_get answers i ≡ None → old ≡ answered (take i names) answers
+    → old ≡ answered (take (i + 1) names) answers
+unasked_then names answers i old at so = rw add-one (so ∙ sym (answered_same names answers i (λ r it. no_reply r (sym at ∙ it))))
+  where
+    no_reply : (r : Reply) → ◌≡◌ {A = Option (Option Reply)} None (Some (Some r)) → ⊥
+    no_reply r e = absurd cc

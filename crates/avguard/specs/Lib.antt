@@ -1,3 +1,4 @@
 pub mod Ask
 pub mod Logging
 pub mod Report
+pub mod Told

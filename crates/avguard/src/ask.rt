@@ -1,29 +1,33 @@
-ghost use Rattle.std.specs.Prelude.{◌≡◌, ◌+◌, ◌++◌, [], ◌∷◌, false, length, map, IfErr, IfOk, IsSome, OnOk};
+//! Asks a guard about files of names, lists and folders.
+
+ghost use Rattle.std.specs.Prelude.{◌≡◌, ◌++◌, [], ◌∷◌, false, length, map, IfErr, IfOk, IsSome, OnOk};
 ghost use Rattle.std.specs.Io.KnownBytes.{Appends};
 ghost use Rattle.std.specs.List.{All};
 ghost use Rattle.av_base.specs.Device.{AppendsPrefix};
-ghost use Rattle.av_daemon.specs.Asking.{AreAtTheirTags, IsOwedEach};
-ghost use Rattle.av_files.specs.Opened.{IsDoneOrFault, opened_lines};
+ghost use Rattle.av_client.specs.Asking.{AreAtTheirTags, IsOwedEach};
+ghost use Rattle.av_files.specs.Opened.{IsDoneOrFault};
 ghost use Rattle.av_status.specs.Status.{EndsWell, IsFault};
 ghost use Rattle.av_status.specs.Tally.{concluded};
-ghost use Rattle.av_status.specs.declared.status.Status.TheVariants.{Device, Done};
-ghost use Rattle.avguard.specs.Ask.{AreAsked, AreFoundAndAsked, AreNamedAndAsked, AreToldSoFar, IsAsGrave, IsToldSoFar, answered, asked_tally, failed_of, names_found};
+ghost use Rattle.av_status.specs.declared.status.Status.TheVariants.{Done};
+ghost use Rattle.avguard.specs.Ask.{AreAsked, AreFoundAndAsked, AreNamedAndAsked, AreToldSoFar, IsAsGrave, IsToldSoFar, answered, asked_tally, names_found};
+ghost use Rattle.avguard.specs.Told.{told_lines};
 
 use crate::guarding::Guards;
-use av_daemon::{Asker, AskingFault};
-use av_files::{MAX_FILE, Met, Opened, Walk, conclude_opened, count_opened, print_opened};
-use av_pend::Answer;
-use av_program::{Source, failing, is_folder, names_of, read_file, read_met, say_why};
+use crate::inquiry::{Asking, Found, ask_one, asking_failed};
+use crate::told::{Told, count_told, print_told};
+use av_client::{Asker, Reply};
+use av_files::{MAX_FILE, Met, Walk, conclude_opened};
+use av_program::{Source, failing, is_folder, names_of, say_why};
+use av_sockets::Meeting;
 use av_sockets::fault::socket_failed;
-use av_sockets::{Meeting, SocketFault};
-use av_status::faults::{bad_entry, out_of_memory, say_of, text, too_large, unreadable};
+use av_status::faults::{bad_entry, out_of_memory, unreadable};
 use av_status::{Progress, Status, Tally, Wishes};
 use avguard_words::Ask;
 use std::alloc::{AllocError, Global};
 use std::io::Write;
 
-/// Asks a guard about files by their names, and writes a line for each that it answered, in the order given. One buffer holds each
-/// content on its way. Whatever the status, nothing was written but a front of these lines.
+/// Asks a guard about files by their names, and writes a line for each that it answered, in the order given. One buffer holds what is
+/// read of a file. Whatever the status, nothing was written but a front of these lines.
 pub fn ask_named<R: Guards, W: Write, E: Write>(
     rt: &HostRuntime,
     system: &R,
@@ -59,27 +63,11 @@ pub fn ask_named<R: Guards, W: Write, E: Write>(
     }
 }
 
-// What is asked, and the system that it is asked on.
-#[derive(Drop)]
-struct Asking<'a, R> {
-    rt: &'a HostRuntime,
-    system: &'a R,
-    alloc: Global,
-    asked: &'a Ask<'a>,
-}
-
 // The files that are asked about, and what went wrong while they were found.
 #[derive(Drop)]
 struct Finds {
     files: Vec<Found>,
     missed: Status,
-}
-
-// A file that is asked about.
-#[derive(Drop)]
-struct Found {
-    name: String,
-    source: Source,
 }
 
 // Asks about the files of these names, and about those below each that is a folder, where folders stand for files.
@@ -278,84 +266,6 @@ fn finished<R: Guards, E: Write>(
     }
 }
 
-// Why a file was not asked about, and whether no other can be.
-#[derive(Clone, Copy)]
-struct Failed {
-    status: Status,
-    is_last: bool,
-}
-
-fn ask_one<R: Guards, E: Write>(
-    asking: &Asking<'_, R>,
-    asker: &mut Asker<'_, R>,
-    file: &Found,
-    buffer: &mut [u8],
-    err: &mut Progress<'_, HostRuntime, E>,
-) -> Result<(), Failed>
-    ensures asked { OnOk result (length asker.new.answers.items ≡ length asker.old.answers.items + 1) }
-    ensures failed { IfErr result (λ failed. IsFault failed.status) }
-    ensures tags { AreAtTheirTags asker.old.answers.items → AreAtTheirTags asker.new.answers.items }
-    ensures owed { IsOwedEach asker.old.owed asker.old.answers.items → IsOwedEach asker.new.owed asker.new.answers.items }
-{
-    let name = file.name.as_str();
-    let input = match file.source {
-        Source::Met => read_met(asking.rt, name, buffer),
-        _ => read_file(asking.rt, name, buffer),
-    };
-    let content = match input.readable(err) {
-        Ok(content) => content,
-        Err(status) => {
-            say_why(asking.rt, asking.alloc, name, file.source, err);
-            return Err(Failed {
-                status,
-                is_last: false,
-            });
-        }
-    };
-    match asker.ask(name, content) {
-        Ok(()) => Ok(()),
-        Err(fault) => Err(asking_failed(err, asking.asked.opens, name, fault, asker.answers())),
-    }
-}
-
-// Says why a file, or any from here on, is not answered, by what was answered before.
-fn asking_failed<E: Write>(
-    err: &mut E,
-    socket: &str,
-    name: &str,
-    fault: AskingFault,
-    answers: &[Option<Answer>],
-) -> Failed
-    ensures { result ≡ failed_of fault }
-{
-    match fault {
-        AskingFault::TooLarge => Failed {
-            status: too_large(err, name),
-            is_last: false,
-        },
-        AskingFault::Memory => Failed {
-            status: out_of_memory(err),
-            is_last: true,
-        },
-        AskingFault::Lost => Failed {
-            status: guard_lost(err, socket, answers),
-            is_last: true,
-        },
-    }
-}
-
-// The guard went away. One that has as many clients as it can have closes the connection of the next one unheard.
-fn guard_lost<E: Write>(err: &mut E, socket: &str, answers: &[Option<Answer>]) -> Status
-    ensures { result ≡ Device }
-{
-    if answers.iter().any(|answer| answer.is_some()) {
-        return socket_failed(err, socket, SocketFault::GuardLost);
-    }
-    let why = text(": the guard gave no answer: it was lost, or has no room for another client");
-    say_of(err, socket, &[why]);
-    Status::Device
-}
-
 // How a run ends that had so many files to ask about.
 #[derive(Clone, Copy)]
 struct Ending {
@@ -369,22 +279,22 @@ struct Ending {
 fn print_answers<W: Write, E: Write>(
     alloc: Global,
     names: &[&str],
-    answers: &[Option<Answer>],
+    answers: &[Option<Reply>],
     ending: Ending,
     out: &mut W,
     err: &mut E,
 ) -> Status
-    ensures lines { EndsWell result → Appends (W.contents out.old) (W.contents out.new) (opened_lines ending.wishes (answered names.now answers.now)) }
+    ensures lines { EndsWell result → Appends (W.contents out.old) (W.contents out.new) (told_lines ending.wishes (answered names.now answers.now)) }
     ensures ended { EndsWell result → result ≡ concluded ending.wishes (asked_tally (answered names.now answers.now) ending.files ending.ended) }
-    ensures front { AppendsPrefix (W.contents out.old) (W.contents out.new) (opened_lines ending.wishes (answered names.now answers.now)) }
+    ensures front { AppendsPrefix (W.contents out.old) (W.contents out.new) (told_lines ending.wishes (answered names.now answers.now)) }
 {
-    let Ok(opened) = opened_of(alloc, names, answers) else {
+    let Ok(told) = told_of(alloc, names, answers) else {
         return out_of_memory(err);
     };
-    match print_opened(alloc, opened.as_slice(), ending.wishes, out, err) {
+    match print_told(alloc, told.as_slice(), ending.wishes, out, err) {
         Status::Done => {
             let mut tally = Tally::new();
-            count_opened(&mut tally, opened.as_slice());
+            count_told(&mut tally, told.as_slice());
             let ended = ending.ended.or_graver(tally.worst);
             conclude_opened(tally, ending.files, ended, ending.wishes, err)
         }
@@ -393,19 +303,21 @@ fn print_answers<W: Write, E: Write>(
 }
 
 // The files that were answered.
-fn opened_of<'a>(
+fn told_of<'a>(
     alloc: Global,
     names: &[&'a str],
-    answers: &[Option<Answer>],
-) -> Result<Vec<Opened<'a>>, AllocError>
-    ensures { IfOk result (λ opened. opened.items ≡ answered names.now answers.now) }
+    answers: &[Option<Reply>],
+) -> Result<Vec<Told<'a>>, AllocError>
+    ensures { IfOk result (λ told. told.items ≡ answered names.now answers.now) }
 {
-    names
-        .iter()
-        .zip(answers)
-        .filter_map(|(name, answer)| {
-            let answer = (*answer)?;
-            Some(Opened { name, answer })
-        })
-        .collect(alloc)
+    let mut told = Vec::new(alloc);
+    'names: for (place, name) in names.iter().enumerate() {
+        if let Some(Some(reply)) = answers.get(place) {
+            let reply = *reply;
+            if told.push(Told { name, reply }).is_err() {
+                return Err(AllocError);
+            }
+        }
+    }
+    Ok(told)
 }

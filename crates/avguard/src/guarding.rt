@@ -5,7 +5,7 @@ ghost use Rattle.av_status.specs.Status.{IsFault};
 ghost use Rattle.avguard.specs.Logging.{IsLogged, IsLogging, form_of, is_dash};
 
 use av_base::Mode;
-use av_daemon::{Doors, Guarding, Logging, guard_at};
+use av_daemon::{Doors, Guarding, Logging, Sizes, guard_at};
 use av_log::Form;
 use av_program::set_named;
 use av_status::faults::EmptySets;
@@ -62,6 +62,7 @@ fn guarding(asked: Guard<'_>) -> Guarding<'_>
     ensures mode { result.mode ≡ (if asked.entry.is_open then FailOpen else FailClosed) }
     ensures keep { result.keep ≡ asked.entry.keep }
     ensures questions { result.questions ≡ asked.entry.questions }
+    ensures sizes { result.most ≡ record { contents = asked.entry.max_size; streams = asked.entry.stream_max_size } }
     ensures wait { as_nanos result.wait ≡ asked.entry.wait * 1_000_000_000 }
     ensures rights { (result.rights ≡ asked.entry.mode) × (result.service_rights ≡ asked.entry.service_mode) }
     ensures versions { (result.least ≡ asked.entry.least) × (result.most_version ≡ asked.entry.most_version) }
@@ -83,6 +84,10 @@ fn guarding(asked: Guard<'_>) -> Guarding<'_>
         },
         keep: asked.keep,
         questions: asked.questions,
+        most: Sizes {
+            contents: asked.max_size,
+            streams: asked.stream_max_size,
+        },
         wait: Duration::from_secs(asked.wait),
         rights: asked.mode,
         service_rights: asked.service_mode,

@@ -4,7 +4,9 @@
 mod ask;
 mod configuring;
 mod guarding;
+mod inquiry;
 mod reporting;
+mod told;
 
 use ask::ask_named;
 use av_program::{Errors, Output, command_line, held, progress, say_output_fault};

@@ -9,7 +9,7 @@ ghost use Rattle.avguard.specs.Report.{HasShown, IsShown, IsShownSoFar, IsText, 
 
 use crate::guarding::Guards;
 use av_base::device::write_text;
-use av_daemon::{no_report, report_at, status_path};
+use av_client::{no_report, report_at, status_path};
 use av_health::{Report as Health, figures_of, json_of, metrics_of, text_of};
 use av_sockets::Meeting;
 use av_sockets::fault::socket_failed;

@@ -16,8 +16,8 @@ use Rattle.avguard_words.specs.declared.settings.Settings.{Settings}
 abbrev pub is_key : List ℕ → Bool
 is_key k = bytes_eq k (codes "opens") || (bytes_eq k (codes "service") || (bytes_eq k (codes "clamd") || (bytes_eq k (codes "names")
     || (bytes_eq k (codes "open") || (bytes_eq k (codes "wait") || (bytes_eq k (codes "keep") || (bytes_eq k (codes "questions")
-    || (bytes_eq k (codes "mode") || (bytes_eq k (codes "service-mode") || (bytes_eq k (codes "least") || (bytes_eq k (codes "most-version")
-    || (bytes_eq k (codes "state") || (bytes_eq k (codes "log") || (bytes_eq k (codes "log-grants") || bytes_eq k (codes "log-json")))))))))))))))
+    || (bytes_eq k (codes "max-size") || (bytes_eq k (codes "stream-max-size") || (bytes_eq k (codes "mode") || (bytes_eq k (codes "service-mode") || (bytes_eq k (codes "least") || (bytes_eq k (codes "most-version")
+    || (bytes_eq k (codes "state") || (bytes_eq k (codes "log") || (bytes_eq k (codes "log-grants") || bytes_eq k (codes "log-json")))))))))))))))))
 
 -- a number within bounds
 abbrev pub number_in : Bounds → Data → Option ℕ
@@ -58,6 +58,8 @@ pub record IsSaid (ms : Members) (s : Settings) : Type 0 where
   pub wait : IsRead (number_in (record { least = 1; greatest = 86_400 })) (get_member (codes "wait") ms) s.wait
   pub keep : IsRead (number_in (record { least = 0; greatest = 1_099_511_627_776 })) (get_member (codes "keep") ms) s.keep
   pub questions : IsRead (number_in (record { least = 1; greatest = 256 })) (get_member (codes "questions") ms) s.questions
+  pub max_size : IsRead (number_in (record { least = 1; greatest = 9_223_372_036_854_775_807 })) (get_member (codes "max-size") ms) s.max_size
+  pub stream_max_size : IsRead (number_in (record { least = 1; greatest = 9_223_372_036_854_775_807 })) (get_member (codes "stream-max-size") ms) s.stream_max_size
   pub mode : IsRead rights_in (get_member (codes "mode") ms) s.mode
   pub service_mode : IsRead rights_in (get_member (codes "service-mode") ms) s.service_mode
   pub least : IsRead (number_in (record { least = 0; greatest = 18_446_744_073_709_551_615 })) (get_member (codes "least") ms) s.least

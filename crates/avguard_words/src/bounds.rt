@@ -20,6 +20,12 @@ pub const KEEP: Bounds = Bounds {
     greatest: 1_099_511_627_776,
 };
 
+/// Of the bytes of a content in parts.
+pub const SIZES: Bounds = Bounds {
+    least: 1,
+    greatest: 9_223_372_036_854_775_807,
+};
+
 /// Of the contents that are scanned at a time.
 pub const QUESTIONS: Bounds = Bounds {
     least: 1,

@@ -1,6 +1,6 @@
 //! The commands of avguard, their words and their help.
 
-use crate::bounds::{KEEP, QUESTIONS, VERSIONS, WAIT};
+use crate::bounds::{KEEP, QUESTIONS, SIZES, VERSIONS, WAIT};
 use crate::words::PROGRAM;
 use av_words::rows::{
     DENIED, FILES_FROM, JSON, KEEP_GOING, NOT_GRANTED, NULL, PRINT0, QUIET, RECURSIVE, SUMMARY,
@@ -75,13 +75,15 @@ const RUN_HELP: &str =
          \n  avscan service service.socket examples/test.avsig\
          \n  avguard ask opens.socket examples/letter.txt examples/eicar.com.txt";
 
-const OPTIONS: [Word; 16] = [
+const OPTIONS: [Word; 18] = [
     CONFIG,
     OPEN,
     CLOSED,
     WAIT_FOR_ALL,
     KEEP_BYTES,
     ASKED_AT_ONCE,
+    MAX_SIZE,
+    STREAM_MAX_SIZE,
     CLAMD,
     NAMES,
     MODE_OF_OPENS,
@@ -198,7 +200,7 @@ const CHECKED: Word = Word {
 const ASKED_FILES: Word = Word {
     name: "file",
     kind: Kind::Files,
-    help: "The files to ask about, of at most 1,048,576 bytes each",
+    help: "The files to ask about, of any size",
 };
 
 const WAIT_FOR_ALL: Word = Word {
@@ -321,6 +323,28 @@ const ASKED_AT_ONCE: Word = Word {
         absent: Absent::Means("256"),
     },
     help: "How many contents are scanned at a time, 1 to 256; further asks stand in line",
+};
+
+const MAX_SIZE: Word = Word {
+    name: "max-size",
+    kind: Kind::Number {
+        shown: "BYTES",
+        least: SIZES.least,
+        greatest: SIZES.greatest,
+        absent: Absent::Means("9223372036854775807"),
+    },
+    help: "The most bytes of a content that comes in parts at OPENS; none of them is kept",
+};
+
+const STREAM_MAX_SIZE: Word = Word {
+    name: "stream-max-size",
+    kind: Kind::Number {
+        shown: "BYTES",
+        least: SIZES.least,
+        greatest: SIZES.greatest,
+        absent: Absent::Means("26214399"),
+    },
+    help: "The most bytes of a content of a client of clamd: less than the StreamMaxLength of its clamd.conf",
 };
 
 const CLAMD: Word = Word {

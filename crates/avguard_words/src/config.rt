@@ -10,7 +10,7 @@ ghost use Rattle.av_status.specs.Status.{IsFault};
 ghost use Rattle.av_status.specs.declared.status.Status.TheVariants.{Memory, Usage};
 ghost use Rattle.avguard_words.specs.Config.{IsOfConfig, IsRead, IsSaid, IsWrong, file_in, is_key, number_in, rights_in, rights_named, socket_in};
 
-use crate::bounds::{Bounds, KEEP, MAX_SOCKET, QUESTIONS, VERSIONS, WAIT};
+use crate::bounds::{Bounds, KEEP, MAX_SOCKET, QUESTIONS, SIZES, VERSIONS, WAIT};
 use crate::misfit::{Misfit, Wanted, bad_document, bad_setting, config_too_long};
 use crate::place::{Place, find_key};
 use crate::settings::Settings;
@@ -103,6 +103,8 @@ fn settings_in<'a>(table: &'a Table) -> Result<Settings<'a>, Misfit<'a>>
         wait: number_at(table, "wait", WAIT)?,
         keep: number_at(table, "keep", KEEP)?,
         questions: number_at(table, "questions", QUESTIONS)?,
+        max_size: number_at(table, "max-size", SIZES)?,
+        stream_max_size: number_at(table, "stream-max-size", SIZES)?,
         mode: rights_at(table, "mode")?,
         service_mode: rights_at(table, "service-mode")?,
         least: number_at(table, "least", VERSIONS)?,
@@ -138,6 +140,8 @@ fn is_known(name: &str) -> bool
         || name == "wait"
         || name == "keep"
         || name == "questions"
+        || name == "max-size"
+        || name == "stream-max-size"
         || name == "mode"
         || name == "service-mode"
         || name == "least"

@@ -37,6 +37,10 @@ pub struct Guard<'a> {
     pub keep: u64,
     /// The most contents that are scanned at a time.
     pub questions: u64,
+    /// The most bytes of a content in parts.
+    pub max_size: u64,
+    /// The most bytes of a content of a client of clamd.
+    pub stream_max_size: u64,
     /// The rights of the sockets for opens and for clients of clamd.
     pub mode: u32,
     /// The rights of the socket for the service.

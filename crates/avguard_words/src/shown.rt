@@ -18,6 +18,8 @@ pub fn config_lines(alloc: Global, guard: Guard<'_>) -> Result<String, AllocErro
     add_number(alloc, "wait", guard.wait, &mut lines)?;
     add_number(alloc, "keep", guard.keep, &mut lines)?;
     add_number(alloc, "questions", guard.questions, &mut lines)?;
+    add_number(alloc, "max-size", guard.max_size, &mut lines)?;
+    add_number(alloc, "stream-max-size", guard.stream_max_size, &mut lines)?;
     add_text(alloc, "mode", Some(digits_of(guard.mode)), &mut lines)?;
     add_text(
         alloc,

@@ -338,10 +338,10 @@ fn read_config(
 }
 
 const ABSENT: &str =
-    "opens = \"o\"\nservice = \"s\"\nopen = false\nwait = 30\nkeep = 67108864\nquestions = 256\nmode = \"600\"\nservice-mode = \"600\"\nleast = 0\nlog-grants = false\nlog-json = false\n";
+    "opens = \"o\"\nservice = \"s\"\nopen = false\nwait = 30\nkeep = 67108864\nquestions = 256\nmax-size = 9223372036854775807\nstream-max-size = 26214399\nmode = \"600\"\nservice-mode = \"600\"\nleast = 0\nlog-grants = false\nlog-json = false\n";
 
 const ALL: &str =
-    "opens = \"a/o\"\nservice = \"s\"\nclamd = \"c \\u0009\"\nnames = \"n\"\nopen = true\nwait = 86400\nkeep = 1099511627776\nquestions = 1\nmode = \"660\"\nservice-mode = \"666\"\nleast = 7\nmost-version = 9223372036854775807\nstate = \"v\"\nlog = \"-\"\nlog-grants = true\nlog-json = true\n";
+    "opens = \"a/o\"\nservice = \"s\"\nclamd = \"c \\u0009\"\nnames = \"n\"\nopen = true\nwait = 86400\nkeep = 1099511627776\nquestions = 1\nmax-size = 1\nstream-max-size = 9223372036854775807\nmode = \"660\"\nservice-mode = \"666\"\nleast = 7\nmost-version = 9223372036854775807\nstate = \"v\"\nlog = \"-\"\nlog-grants = true\nlog-json = true\n";
 
 #[test]
 fn a_configuration_file_says_what_words_say(rt: HostRuntime) -> Result<(), Fail> {
@@ -378,6 +378,8 @@ fn the_words_win_over_the_file(rt: HostRuntime) -> Result<(), Fail> {
         wait: Some(1),
         keep: Some(2),
         questions: Some(3),
+        max_size: Some(6),
+        stream_max_size: Some(7),
         mode: Some(0o600),
         service_mode: Some(0o660),
         least: Some(4),
@@ -388,7 +390,7 @@ fn the_words_win_over_the_file(rt: HostRuntime) -> Result<(), Fail> {
         log_json: Some(true),
     };
     let lines =
-        "opens = \"o\"\nservice = \"s\"\nclamd = \"c\"\nnames = \"n\"\nopen = false\nwait = 1\nkeep = 2\nquestions = 3\nmode = \"600\"\nservice-mode = \"660\"\nleast = 4\nmost-version = 5\nstate = \"v\"\nlog = \"l\"\nlog-grants = true\nlog-json = true\n";
+        "opens = \"o\"\nservice = \"s\"\nclamd = \"c\"\nnames = \"n\"\nopen = false\nwait = 1\nkeep = 2\nquestions = 3\nmax-size = 6\nstream-max-size = 7\nmode = \"600\"\nservice-mode = \"660\"\nleast = 4\nmost-version = 5\nstate = \"v\"\nlog = \"l\"\nlog-grants = true\nlog-json = true\n";
     for (words, text, wanted) in [
         (said, ALL, lines),
         (said, "", lines),
@@ -463,6 +465,14 @@ fn a_bad_value_is_told_with_its_place(rt: HostRuntime) -> Result<(), Fail> {
         (
             "questions = 0",
             "f:1:13: questions: expected a number from 1 to 256\n",
+        ),
+        (
+            "max-size = 0",
+            "f:1:12: max-size: expected a number from 1 to 9223372036854775807\n",
+        ),
+        (
+            "stream-max-size = true",
+            "f:1:19: stream-max-size: expected a number from 1 to 9223372036854775807\n",
         ),
         (
             "least = -1",

@@ -77,6 +77,8 @@ fn settings_of<'a>(matches: &ArgMatches<'a>) -> Settings<'a> {
         wait: number_said(matches, "wait"),
         keep: number_said(matches, "keep"),
         questions: number_said(matches, "questions"),
+        max_size: number_said(matches, "max-size"),
+        stream_max_size: number_said(matches, "stream-max-size"),
         mode: mode_said(matches, "mode"),
         service_mode: mode_said(matches, "service-mode"),
         least: number_said(matches, "least"),

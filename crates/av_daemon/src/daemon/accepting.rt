@@ -1,7 +1,7 @@
 //! Who comes to a door.
 
 use super::{AT_ONCE, Daemon, FIRST, SERVING, SUCCEEDING, Stop, millis};
-use crate::client::Client;
+use crate::client::{Client, Place};
 use crate::door::Door;
 use crate::line::Line;
 use crate::service::Service;
@@ -22,6 +22,12 @@ impl<'a, R: Files + Net + Clock> Daemon<'a, R> {
                 break;
             };
             self.accept_service(stream, now)?;
+        }
+        'parts: for _ in 0..AT_ONCE {
+            let Some(stream) = next_of(&mut self.doors.parts) else {
+                break;
+            };
+            self.accept_parts(guard, stream, now)?;
         }
         'opens: for _ in 0..AT_ONCE {
             let Some(stream) = self.doors.opens.next() else {
@@ -55,7 +61,7 @@ impl<'a, R: Files + Net + Clock> Daemon<'a, R> {
             Admitted::Admit => {}
             Admitted::Instead(idle) => {
                 self.happened(&Entry::Crowded);
-                self.remove(guard, idle);
+                self.remove(guard, idle)?;
             }
             Admitted::Away => {
                 guard.client_lost(number);
@@ -80,16 +86,22 @@ impl<'a, R: Files + Net + Clock> Daemon<'a, R> {
         Ok(())
     }
 
-    // A client is gone, of which the turns know already: it is told nothing any more.
-    pub(super) fn remove(&mut self, guard: &mut Guard, client: u64) {
+    // A client is gone, of which the turns know already: it is told nothing any more, and what it began is dropped.
+    pub(super) fn remove(&mut self, guard: &mut Guard, client: u64) -> Result<(), Stop> {
         guard.client_lost(client);
-        let _ = self.clients.remove(&client.saturating_add(FIRST));
+        let connection = client.saturating_add(FIRST);
+        if let Some(who) = self.clients.remove(&connection) {
+            if who.place == Place::Parked {
+                self.parked.retain(|parked| *parked != client);
+            }
+        }
+        self.drop_contents(client)
     }
 
     // A client is gone.
-    pub(super) fn lose(&mut self, guard: &mut Guard, client: u64) {
+    pub(super) fn lose(&mut self, guard: &mut Guard, client: u64) -> Result<(), Stop> {
         self.turns.closed(client);
-        self.remove(guard, client);
+        self.remove(guard, client)
     }
 
     // One that may be a scanning service: it takes the service's place, or stands by, or is turned away.

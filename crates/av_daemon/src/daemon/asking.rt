@@ -1,10 +1,13 @@
 //! What clients ask: each in its turn, and from the line.
 
+use super::relaying::Beginning;
+use super::telling::Reply;
 use super::{ASKS, Daemon, FIRST, Stop, TURNS, millis};
 use crate::client::{Lost, Thing};
-use crate::told::unjudged;
+use crate::told::{LargeTold, unjudged};
 use av_base::{ByteList, Cause, Refusal};
-use av_guard::{AskFault, Class, Guard, Told};
+use av_clamd::Sending;
+use av_guard::{AskFault, Class, Guard};
 use av_log::Note;
 use av_turns as turns;
 use av_turns::{Next, Parsed, Standing};
@@ -14,10 +17,10 @@ use std::mem;
 use std::net::Net;
 use std::time::{Clock, Duration};
 
-// What goes no further in a client's turn.
+// What goes no further in a turn.
 #[derive(Drop)]
-enum Broken {
-    // The client, which is closed.
+pub(super) enum Broken {
+    // The client, or the second connection of the service, which is closed.
     Client,
     // The guard, which ends.
     Guard(Stop),
@@ -66,11 +69,8 @@ impl<'a, R: Files + Net + Clock> Daemon<'a, R> {
         let served = self.serve_with(guard, client, bytes, &mut buffer, now);
         self.buffer = buffer;
         match served {
-            Ok(()) => self.settle_client(guard, client),
-            Err(Broken::Client) => {
-                self.lose(guard, client);
-                Ok(())
-            }
+            Ok(()) => self.settle_client(guard, client, now),
+            Err(Broken::Client) => self.lose(guard, client),
             Err(Broken::Guard(stop)) => Err(stop),
         }
     }
@@ -84,6 +84,10 @@ impl<'a, R: Files + Net + Clock> Daemon<'a, R> {
         buffer: &mut Vec<u8>,
         now: Duration,
     ) -> Result<(), Broken> {
+        if self.must_wait(client) {
+            return self.end_turn(client, b"", now);
+        }
+        self.is_served(client);
         let Some(who) = self.clients.get_mut(&client.saturating_add(FIRST)) else {
             return Err(Broken::Client);
         };
@@ -96,7 +100,7 @@ impl<'a, R: Files + Net + Clock> Daemon<'a, R> {
         self.serve_piece(guard, client, piece, now)
     }
 
-    // Reads at most so many bytes of a client, for which there is room.
+    // Reads at most so many bytes of a client, for which there is room. What is to come of a part needs no room: it goes on as it comes.
     fn read(
         &mut self,
         client: u64,
@@ -104,17 +108,22 @@ impl<'a, R: Files + Net + Clock> Daemon<'a, R> {
         buffer: &mut Vec<u8>,
         now: Duration,
     ) -> Result<usize, Broken> {
-        let most = bytes.min(self.turns.room(client)) as usize;
-        let room = buffer.len().min(most);
+        let kept = self.turns.room(client);
         let Some(who) = self.clients.get_mut(&client.saturating_add(FIRST)) else {
             return Err(Broken::Client);
         };
+        let most = match who.part_left() {
+            0 => bytes.min(kept) as usize,
+            left => left,
+        };
+        let room = buffer.len().min(most);
         if room == 0 || who.is_done() {
             return Ok(0);
         }
         let count = who.read(&mut buffer[..room])?;
         let more = who.line.may_read() && !who.is_done();
-        self.turns.read(client, count as u64, more, millis(now))?;
+        let counted = kept.min(count as u64);
+        self.turns.read(client, counted, more, millis(now))?;
         Ok(count)
     }
 
@@ -139,7 +148,7 @@ impl<'a, R: Files + Net + Clock> Daemon<'a, R> {
         if !rest.is_empty() {
             who.keep(rest)?;
         }
-        let left = who.left();
+        let left = self.left_of(client)?;
         self.turns.turn_over(client, left, millis(now))?;
         Ok(())
     }
@@ -152,24 +161,31 @@ impl<'a, R: Files + Net + Clock> Daemon<'a, R> {
         piece: &[u8],
         now: Duration,
     ) -> Result<usize, Broken> {
+        let sending = if self.large.takes_parts() {
+            Sending::InParts
+        } else {
+            Sending::Whole
+        };
         let mut taken = 0usize;
         'things: for _ in 0..u64::MAX {
             let Some(who) = self.clients.get_mut(&client.saturating_add(FIRST)) else {
                 return Err(Broken::Client);
             };
-            if who.is_done() {
+            let rest = piece.get(taken..).unwrap_or(b"".as_slice());
+            if rest.is_empty() || who.is_done() {
                 break;
             }
-            match who.hear(piece.get(taken..).unwrap_or(b"".as_slice())) {
+            match who.hear(rest, sending) {
                 Err(Lost) => {
                     who.end()?;
                     break;
                 }
-                Ok((_, None)) => break,
-                Ok((count, Some(thing))) => {
+                Ok((count, said)) => {
                     taken = taken.saturating_add(count);
-                    if !self.take(guard, client, thing, now)? {
-                        return Ok(taken);
+                    if let Some(thing) = said {
+                        if !self.take(guard, client, thing, now)? {
+                            return Ok(taken);
+                        }
                     }
                 }
             }
@@ -183,10 +199,22 @@ impl<'a, R: Files + Net + Clock> Daemon<'a, R> {
         &mut self,
         guard: &mut Guard,
         client: u64,
-        thing: Thing,
+        thing: Thing<'_>,
         now: Duration,
     ) -> Result<bool, Broken> {
         let (tag, content) = match thing {
+            Thing::Begun { tag, label, first } => {
+                let begun = Beginning { tag, label, first };
+                return self.begin_content(guard, client, begun, now);
+            }
+            Thing::Part(some) => {
+                self.bring(guard, client, some, now)?;
+                return Ok(true);
+            }
+            Thing::Ended(ending) => {
+                self.end_content(guard, client, ending, now)?;
+                return Ok(true);
+            }
             Thing::Said(bytes) => {
                 return self.count(client, turns::Thing::Said(bytes as u64), now);
             }
@@ -196,7 +224,7 @@ impl<'a, R: Files + Net + Clock> Daemon<'a, R> {
                 content,
             } => {
                 self.counts.asked();
-                self.keep_note(client, tag, label, content.len());
+                self.keep_note(client, tag, label, content.len() as u64);
                 (tag, content)
             }
         };
@@ -218,18 +246,22 @@ impl<'a, R: Files + Net + Clock> Daemon<'a, R> {
     }
 
     // What a client asks about is kept for the line of the answer, where there is a log.
-    fn keep_note(&mut self, client: u64, tag: u64, label: Option<ByteList>, bytes: usize) {
+    pub(super) fn keep_note(&mut self, client: u64, tag: u64, label: Option<ByteList>, bytes: u64) {
         if self.recorder.is_none() {
             return;
         }
         if let Some(who) = self.clients.get_mut(&client.saturating_add(FIRST)) {
-            let bytes = bytes as u64;
             let _ = who.notes.put(Note { tag, bytes, label });
         }
     }
 
     // The turns count what a client said, and say whether its turn goes on.
-    fn count(&mut self, client: u64, thing: turns::Thing, now: Duration) -> Result<bool, Broken> {
+    pub(super) fn count(
+        &mut self,
+        client: u64,
+        thing: turns::Thing,
+        now: Duration,
+    ) -> Result<bool, Broken> {
         match self.turns.parsed(client, thing, millis(now)) {
             Ok(Parsed::GoesOn) => Ok(true),
             Ok(Parsed::TurnEnds) => Ok(false),
@@ -251,22 +283,27 @@ impl<'a, R: Files + Net + Clock> Daemon<'a, R> {
     }
 
     // A client waits for one answer more.
-    fn waits(&mut self, client: u64) {
+    pub(super) fn waits(&mut self, client: u64) {
         if let Some(who) = self.clients.get_mut(&client.saturating_add(FIRST)) {
             who.asked();
         }
     }
 
-    // A client is closed where it is over, and else sent what it was told.
-    fn settle_client(&mut self, guard: &mut Guard, client: u64) -> Result<(), Stop> {
+    // A client is closed where it is over, and else sent what it was told. What it began and will not end is dropped.
+    fn settle_client(&mut self, guard: &mut Guard, client: u64, now: Duration) -> Result<(), Stop> {
         let connection = client.saturating_add(FIRST);
+        let Some(who) = self.clients.get(&connection) else {
+            return Ok(());
+        };
+        if who.is_done() && who.within.is_some() {
+            self.break_off(client, now)?;
+        }
         let Some(who) = self.clients.get(&connection) else {
             return Ok(());
         };
         let (is_over, waits) = (who.is_over(), who.line.waiting() > 0);
         if is_over {
-            self.lose(guard, client);
-            return Ok(());
+            return self.lose(guard, client);
         }
         if waits {
             self.wants_to_send(connection)
@@ -306,21 +343,10 @@ impl<'a, R: Files + Net + Clock> Daemon<'a, R> {
             Ok(given) => self.settle(guard, given, first),
             Err(refused) => match refused.why {
                 Refusal::Fault(_) => {
-                    let answer = unjudged(self.mode, Cause::Busy);
-                    self.tell(
-                        guard,
-                        Told {
-                            client,
-                            tag,
-                            answer,
-                        },
-                        now,
-                    )
+                    let told = LargeTold::Answered(unjudged(self.mode, Cause::Busy));
+                    self.tell(guard, Reply { client, tag, told }, now)
                 }
-                Refusal::NoMemory => {
-                    self.lose(guard, client);
-                    Ok(())
-                }
+                Refusal::NoMemory => self.lose(guard, client),
             },
         }
     }

@@ -114,6 +114,7 @@ impl<'a, R: Files + Net + Clock> Daemon<'a, R> {
             let given = guard.service_lost(self.alloc)?;
             self.settle(guard, given, millis(now))?;
         }
+        self.lose_parts(guard, now)?;
         if has_successor {
             self.promote(now);
         }

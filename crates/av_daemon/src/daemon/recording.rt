@@ -1,13 +1,15 @@
 //! What is said on standard error, and in the log of decisions.
 
-use super::{Daemon, LOG, Stop, millis};
-use crate::log::{Log, send_lines};
+use super::telling::Reply;
+use super::{Daemon, LOG, millis};
+use crate::log::send_lines;
+use crate::names::Names;
 use crate::recorder::judged_of;
+use crate::told::LargeTold;
 use av_base::{Part, Version};
-use av_guard::Told;
-use av_log::{Asked, Entry, Note, Way, is_logged};
-use av_status::Prefixed;
+use av_log::{Asked, Entry, Note, Told, Way, is_logged};
 use av_status::faults::{say, text};
+use std::alloc::Global;
 use std::fs::Files;
 use std::io::Write;
 use std::net::Net;
@@ -41,8 +43,8 @@ impl<'a, R: Files + Net + Clock> Daemon<'a, R> {
     }
 
     // The log has a line of an answer, where there is a log and it has lines of such answers.
-    pub(super) fn record_told(&mut self, told: Told, way: Way, note: Option<Note>) {
-        let judged = judged_of(told.answer);
+    pub(super) fn record_told(&mut self, reply: Reply, way: Way, note: Option<Note>) {
+        let judged = judged_of(reply.told);
         let is_logged = match &self.recorder {
             Some(recorder) => is_logged(recorder.logging.has_grants, judged),
             None => false,
@@ -54,15 +56,15 @@ impl<'a, R: Files + Net + Clock> Daemon<'a, R> {
             Ok(time) => millis(time),
             Err(_) => 0,
         };
-        self.names.look(self.rt, self.alloc, told.answer);
-        let entry = Entry::Told(av_log::Told {
+        look(&mut self.names, self.rt, self.alloc, reply.told);
+        let entry = Entry::Told(Told {
             judged,
-            name: self.names.name_in(told.answer),
+            name: name_in(&self.names, reply.told),
             way,
-            client: told.client,
+            client: reply.client,
             tag: match way {
-                Way::Opens => told.tag,
-                Way::Clamd => told.tag / ENDS,
+                Way::Opens => reply.tag,
+                Way::Clamd => reply.tag / ENDS,
             },
             asked: match &note {
                 Some(note) => Some(Asked {
@@ -116,6 +118,21 @@ impl<'a, R: Files + Net + Clock> Daemon<'a, R> {
     }
 }
 
+// Reads the names of signatures again, where an answer names one of a set that isn't there.
+pub(super) fn look<R: Files>(names: &mut Names<'_>, rt: &R, alloc: Global, told: LargeTold) {
+    if let LargeTold::Answered(answer) = told {
+        names.look(rt, alloc, answer);
+    }
+}
+
+// The name of the signature that an answer names, where it is known.
+pub(super) fn name_in<'n>(names: &'n Names<'_>, told: LargeTold) -> Option<&'n [u8]> {
+    match told {
+        LargeTold::Answered(answer) => names.name_in(answer),
+        _ => None,
+    }
+}
+
 // Says in words what happened. An answer and a newer set are for the log alone.
 fn say_entry<E: Write>(err: &mut E, entry: &Entry<'_>) {
     match entry {
@@ -131,6 +148,9 @@ fn say_entry<E: Write>(err: &mut E, entry: &Entry<'_>) {
             err,
             &[text("the service answered none of 8 questions in a row")],
         ),
+        Entry::PartsConnected(_) => say(err, &[text("parts connected")]),
+        Entry::PartsLost => say(err, &[text("parts lost")]),
+        Entry::PartsOlder { version, least } => say_parts_older(err, *version, *least),
         Entry::Crowded => say(
             err,
             &[text("the longest idle client was closed: all places are taken")],
@@ -162,6 +182,20 @@ fn say_refused<E: Write>(err: &mut E, version: Version, why: &str, bound: Versio
             Part::Number(version.get()),
             Part::Text(why.as_bytes()),
             Part::Number(bound.get()),
+        ],
+    );
+}
+
+// Says that a second connection was turned away.
+fn say_parts_older<E: Write>(err: &mut E, version: Version, least: Version) {
+    let (number, bound) = (Part::Number(version.get()), Part::Number(least.get()));
+    say(
+        err,
+        &[
+            text("parts of version "),
+            number,
+            text(" are older than "),
+            bound,
         ],
     );
 }

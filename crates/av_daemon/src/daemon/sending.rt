@@ -3,10 +3,11 @@
 ghost use Rattle.std.specs.Prelude.{◌≡◌};
 ghost use Rattle.av_daemon.specs.Late.{is_late};
 
-use super::{Daemon, FIRST, SERVING, Stop, millis};
-use crate::told::unjudged;
+use super::telling::Reply;
+use super::{Daemon, FIRST, RELAYING, SERVING, Stop, millis};
+use crate::told::{LargeTold, unjudged};
 use av_base::Cause;
-use av_guard::{Guard, Told};
+use av_guard::Guard;
 use av_log::Entry;
 use av_turns::{Late, Why};
 use std::fs::Files;
@@ -20,12 +21,14 @@ impl<'a, R: Files + Net + Clock> Daemon<'a, R> {
             let Some(number) = self.sending.pop_front() else {
                 break;
             };
-            if number == SERVING {
-                self.send_to_service(guard, now)?;
-            } else {
-                self.send_to(guard, number, now)?;
+            match number {
+                SERVING => self.send_to_service(guard, now)?,
+                RELAYING => self.send_to_parts(guard, now)?,
+                _ => self.send_to(guard, number, now)?,
             }
         }
+        self.call_parked(now)?;
+        self.goes_on = self.goes_on || !self.parked.is_empty() && self.has_room();
         Ok(())
     }
 
@@ -40,8 +43,7 @@ impl<'a, R: Files + Net + Clock> Daemon<'a, R> {
         let is_over = client.is_over();
         let who = number.saturating_sub(FIRST);
         if !stands || is_over {
-            self.lose(guard, who);
-            return Ok(());
+            return self.lose(guard, who);
         }
         self.turns.written(who, count as u64, millis(now))?;
         Ok(())
@@ -73,19 +75,13 @@ impl<'a, R: Files + Net + Clock> Daemon<'a, R> {
                 Late::Service => self.end_service(guard, now)?,
                 Late::Deny { client, tag } => {
                     let answer = unjudged(self.mode, Cause::TimedOut);
-                    self.tell(
-                        guard,
-                        Told {
-                            client,
-                            tag,
-                            answer,
-                        },
-                        now,
-                    )?;
+                    let told = LargeTold::Answered(answer);
+                    self.tell(guard, Reply { client, tag, told }, now)?;
                 }
-                Late::Close { client, why } => self.close(guard, client, why, now),
+                Late::Close { client, why } => self.close(guard, client, why, now)?,
             }
         }
+        self.end_late_contents(guard, now)?;
         let since = match &self.service {
             Some(service) => service.since(),
             None => None,
@@ -109,19 +105,25 @@ impl<'a, R: Files + Net + Clock> Daemon<'a, R> {
     }
 
     // A client is closed, of which the turns know already. A client of clamd that said nothing is told so.
-    fn close(&mut self, guard: &mut Guard, client: u64, why: Why, now: Duration) {
+    pub(super) fn close(
+        &mut self,
+        guard: &mut Guard,
+        client: u64,
+        why: Why,
+        now: Duration,
+    ) -> Result<(), Stop> {
         if let Some(who) = self.clients.get_mut(&client.saturating_add(FIRST)) {
             let is_silent = matches!(why, Why::SaidNothing | Why::Idle);
             if is_silent && who.time_out().is_ok() {
                 let _ = who.line.send(now);
             }
         }
-        self.remove(guard, client);
+        self.remove(guard, client)
     }
 }
 
 // Whether who is waited for since then is waited for too long.
-fn is_late(since: Option<Duration>, now: Duration, wait: Duration) -> bool
+pub(super) fn is_late(since: Option<Duration>, now: Duration, wait: Duration) -> bool
     ensures { result ≡ is_late since now wait }
 {
     match since {

@@ -1,8 +1,10 @@
 //! What the guard gives out: messages for the service, and answers for clients.
 
+use super::recording::{look, name_in};
 use super::{Daemon, FIRST, SERVING, Stop, millis};
 use crate::client::Lost;
 use crate::recorder::judged_of;
+use crate::told::LargeTold;
 use av_frame::encode::encode_into;
 use av_frame::{Body, Message};
 use av_guard::{Given, Guard, Told};
@@ -25,7 +27,7 @@ impl<'a, R: Files + Net + Clock> Daemon<'a, R> {
         }
         let now = self.now()?;
         'told: for told in told {
-            self.tell(guard, told, now)?;
+            self.tell(guard, Reply::from(told), now)?;
         }
         Ok(())
     }
@@ -48,22 +50,21 @@ impl<'a, R: Files + Net + Clock> Daemon<'a, R> {
     pub(super) fn tell(
         &mut self,
         guard: &mut Guard,
-        told: Told,
+        reply: Reply,
         now: Duration,
     ) -> Result<(), Stop> {
-        let who = told.client;
+        let who = reply.client;
         let connection = who.saturating_add(FIRST);
-        let note = self.take_note(connection, told.tag);
+        let note = self.take_note(connection, reply.tag);
         let way = self.way_of(connection);
-        let Some((done, bytes)) = self.put_told(connection, &told) else {
+        let Some((done, bytes)) = self.put_told(connection, &reply) else {
             return Ok(());
         };
         if done.is_err() {
-            self.lose(guard, who);
-            return Ok(());
+            return self.lose(guard, who);
         }
-        self.counts.told(judged_of(told.answer));
-        self.record_told(told, way, note);
+        self.counts.told(judged_of(reply.told));
+        self.record_told(reply, way, note);
         self.turns.answered(who, bytes as u64, millis(now))?;
         self.wants_to_send(connection)
     }
@@ -82,17 +83,35 @@ impl<'a, R: Files + Net + Clock> Daemon<'a, R> {
     }
 
     // Puts an answer to what a client is sent, and says how many bytes that took.
-    fn put_told(&mut self, connection: u64, told: &Told) -> Option<(Result<(), Lost>, usize)> {
+    fn put_told(&mut self, connection: u64, reply: &Reply) -> Option<(Result<(), Lost>, usize)> {
         let client = self.clients.get_mut(&connection)?;
         let before = client.line.waiting();
         let done = if client.is_of_clamd() {
-            self.names.look(self.rt, self.alloc, told.answer);
-            let name = self.names.name_in(told.answer);
-            client.tell(*told, name)
+            look(&mut self.names, self.rt, self.alloc, reply.told);
+            let name = name_in(&self.names, reply.told);
+            client.tell(reply.tag, reply.told, name)
         } else {
-            client.tell(*told, None)
+            client.tell(reply.tag, reply.told, None)
         };
         let bytes = client.line.waiting().saturating_sub(before);
         Some((done, bytes))
+    }
+}
+
+/// An answer, with the guard's number of its client and the client's tag.
+#[derive(Clone, Copy)]
+pub(super) struct Reply {
+    pub client: u64,
+    pub tag: u64,
+    pub told: LargeTold,
+}
+
+impl From<Told> for Reply {
+    fn from(told: Told) -> Reply {
+        Reply {
+            client: told.client,
+            tag: told.tag,
+            told: LargeTold::Answered(told.answer),
+        }
     }
 }

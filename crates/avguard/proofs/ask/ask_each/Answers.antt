@@ -2,7 +2,7 @@ use Rattle.std.proofs.Common.{◌≡◌, ◌∙◌, ◌++◌, ◌∷◌, [], ap,
 use Rattle.std.proofs.lemmas.List.{length_push}
 use Rattle.std.specs.String.{string_bytes}
 use Rattle.avguard.specs.Ask.{IsAsGrave}
-use Rattle.avguard.specs.declared.ask.Found.{Found}
+use Rattle.avguard.specs.declared.inquiry.Found.{Found}
 use Rattle.avguard.proofs.AskLemmas.{fault_stays, found_more, grave_then}
 use Rattle.avguard.proofs.ask.ask_each.Goals as goal
 

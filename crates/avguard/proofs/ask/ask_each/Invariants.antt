@@ -1,5 +1,5 @@
 use Rattle.std.proofs.Common.{◌≡◌, length, map, take}
-use Rattle.av_daemon.specs.Asking.{AreAtTheirTags, IsOwedEach}
+use Rattle.av_client.specs.Asking.{AreAtTheirTags, IsOwedEach}
 use Rattle.av_status.specs.declared.status.Status.TheVariants.{Done}
 use Rattle.avguard.specs.Ask.{IsAsGrave, names_found}
 use Rattle.avguard.proofs.ask.ask_each.Given as goal

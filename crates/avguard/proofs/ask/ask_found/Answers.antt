@@ -1,5 +1,5 @@
 use Rattle.std.proofs.Common.{subst, sym}
-use Rattle.av_daemon.specs.Asking.{AreAtTheirTags}
+use Rattle.av_client.specs.Asking.{AreAtTheirTags}
 use Rattle.avguard.proofs.AskLemmas.{no_tags, none_asked}
 use Rattle.avguard.proofs.ask.ask_found.Goals as goal
 

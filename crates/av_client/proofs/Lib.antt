@@ -1,0 +1,4 @@
+pub mod AskLemmas
+pub mod OwedLemmas
+pub mod SendLemmas
+pub mod TagLemmas

@@ -1,0 +1,4 @@
+pub mod Again
+pub mod Asking
+pub mod Reports
+pub mod Sending

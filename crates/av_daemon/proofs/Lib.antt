@@ -1,3 +1,0 @@
-pub mod AskLemmas
-pub mod OwedLemmas
-pub mod TagLemmas
