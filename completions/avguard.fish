@@ -33,6 +33,8 @@ complete -c avguard -n "__fish_seen_subcommand_from run" -l closed -d "Deny open
 complete -c avguard -n "__fish_seen_subcommand_from run" -l open -d "Let opens through that can not be judged"
 complete -c avguard -n "__fish_seen_subcommand_from run" -l keep -x -a "0 67108864 1073741824" -d "Bytes of contents that are kept"
 complete -c avguard -n "__fish_seen_subcommand_from run" -l questions -x -a "1 64 256" -d "Contents that are scanned at a time"
+complete -c avguard -n "__fish_seen_subcommand_from run" -l max-size -x -d "The most bytes of a content in parts"
+complete -c avguard -n "__fish_seen_subcommand_from run" -l stream-max-size -x -a "26214399" -d "The most bytes of a content of a client of clamd"
 complete -c avguard -n "__fish_seen_subcommand_from run" -l clamd -r -d "A socket for clients of clamd"
 complete -c avguard -n "__fish_seen_subcommand_from run" -l names -r -d "The signature file whose names they are told"
 complete -c avguard -n "__fish_seen_subcommand_from help" -x -a "$commands"

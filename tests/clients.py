@@ -2,12 +2,13 @@
 """The clients of examples/ beside `avguard ask`, over one guard and service: what they print, and how they end; and programs that have
 them built in.
 
-The client in C and that in Python are asked about files that are clean, infected, empty, as long as may be, too long, not there; with no
-guard, one that lets through, one that goes away or says what is no answer, and stopped while they wait. The helper for fanotify holds
-`cat` of a clean and of an infected file, where the machine lets it. clamdscan, clamonacc, rspamd and pyclamd ask at --clamd, where they are
+The client in C and that in Python are asked about files that are clean, infected, empty, as long as an ask may be, longer, not there; with
+no guard, one that lets through, one that goes away or says what is no answer, and stopped while they wait. A guard of bytes answers contents
+in parts early, with each cause of theirs, or never. The helper for fanotify holds `cat` of clean and of infected files, `cp` of a library,
+python3 and a file of 4 GiB, where the machine lets it. clamdscan, clamonacc, rspamd and pyclamd ask at --clamd, where they are
 installed (Debian: clamdscan, clamav-daemon, rspamd, python3-pyclamd); each that was not run is named.
 The last line says how many passed and how many failed."""
-import os, shutil, signal, socket, struct, subprocess, sys, tempfile, threading, time
+import filecmp, glob, os, re, shutil, signal, socket, struct, subprocess, sys, tempfile, threading, time
 
 from cases import Cases
 from programs import program_beside
@@ -40,7 +41,42 @@ with Guard(sys.argv[1], seconds=1) as guard:
         except Lost:
             print(-1)
 """
-FILES = {"clean": b"ABC", "infected": b"A letter with XX in it", "empty": b"", "most": b"A" * MOST, "last": b"A" * (MOST - 2) + b"XX", "long": b"XX" + b"A" * MOST}
+# The same of contents in parts of 1,000 bytes, of which each word is a length: how often it is sent, and what is said of it. A content whose
+# length is odd is given up.
+PARTS_IN_C = b"""#include "avask.h"
+#include <stdio.h>
+#include <stdlib.h>
+int main(int count, char **words) {
+    static char content[1000];
+    struct av_content parts;
+    struct av_answer answer;
+    int guard = av_connect(words[1]);
+    if (guard < 0 || av_wait(guard, 1) < 0) return 4;
+    for (int i = 2; i < count; i++) {
+        long left = atol(words[i]), odd = left % 2;
+        int said = av_begin(&parts, guard);
+        for (; said == AV_OPEN && left > 0; left -= 1000) said = av_part(&parts, content, left < 1000 ? (size_t)left : 1000);
+        said = odd ? av_give_up(&parts, &answer) : av_end(&parts, &answer);
+        printf("%d %s\\n", said, said == AV_DENIED ? av_why(answer.cause) : "-");
+    }
+    return 0;
+}
+"""
+PARTS_IN_PYTHON = """import sys
+from ask import Guard, Lost, WHY, cause_of
+with Guard(sys.argv[1], seconds=1) as guard:
+    for word in sys.argv[2:]:
+        try:
+            content, left = guard.begin(7), int(word)
+            while left > 0 and content.part(bytes(min(left, 1000))) is None:
+                left -= 1000
+            words = content.give_up() if int(word) % 2 else content.end()
+            print({"granted": 2, "denied": 3}[words.split()[0]], WHY.get(cause_of(words), "-"))
+        except Lost:
+            print(-1, "-")
+"""
+FILES = {"clean": b"ABC", "infected": b"A letter with XX in it", "empty": b"", "small": b"A" * 65536, "parts": b"A" * 65537, "most": b"A" * MOST, "last": b"A" * (MOST - 2) + b"XX",
+         "long": b"XX" + b"A" * MOST, "longer": b"A" * (3 * MOST + 1), "tail": b"A" * 3 * MOST + b"XX"}
 
 
 class Room:
@@ -52,9 +88,9 @@ class Room:
         for name, content in {**FILES, "set.avsig": SET}.items():
             self.write(name, content)
         os.mkdir(os.path.join(folder, "folder"))
-        self.ask, self.holder = os.path.join(folder, "ask"), os.path.join(folder, "avguard-fanotify")
+        self.ask, self.holder = os.path.join(folder, "ask"), os.path.join(folder, "avguard-onaccess")
         build(os.path.join(CLIENT, "ask.c"), self.ask)
-        build(os.path.join(ROOT, "examples", "fanotify", "avguard-fanotify.c"), self.holder)
+        build(os.path.join(ROOT, "examples", "fanotify", "avguard-onaccess.c"), self.holder)
 
     def write(self, name, content):
         path = os.path.join(self.folder, name)
@@ -75,13 +111,19 @@ class Room:
         """A guard, with a service that has said which version it has."""
         guard = self.start(self.avguard, "run", *words, self.opens, self.service, stderr=subprocess.PIPE)
         if service:
-            self.start(self.program, "service", self.service, "set.avsig", stdout=subprocess.DEVNULL, stderr=subprocess.DEVNULL)
-            while b"connected" not in (line := guard.stderr.readline()):
+            self.scanner = self.start(self.program, "service", "--watch", "1", self.service, "set.avsig", stdout=subprocess.DEVNULL, stderr=subprocess.DEVNULL)
+            while b"parts connected" not in (line := guard.stderr.readline()):
                 if not line:
                     raise OSError("the guard ended")
         else:
             await_path(self.opens)
         return guard
+
+    def end_others(self, stays):
+        """Ends what was started but this."""
+        self.begun.remove(stays)
+        self.end()
+        self.begun.append(stays)
 
     def end(self):
         """Ends what was started."""
@@ -95,7 +137,7 @@ class Room:
 
 
 def build(source, program):
-    subprocess.run(["cc", "-std=c11", "-O1", "-Wall", "-Wextra", "-Werror", "-o", program, source], check=True)
+    subprocess.run(["cc", "-std=c11", "-O1", "-Wall", "-Wextra", "-Werror", "-pthread", "-o", program, source], check=True)
 
 
 def await_path(path):
@@ -133,6 +175,14 @@ def embedded(cases, room):
         cases.same(f"{name} takes avask.h", run(room, [*words, "-o", made, room.write(source, IN_C)]), (0, b"", b""))
         programs[name] = [made]
     guard = room.guard()
+    for name, words in in_parts(cases, room).items():
+        more = {"env": {**os.environ, "PYTHONPATH": CLIENT, "PYTHONDONTWRITEBYTECODE": "1"}}
+        asked = room.start(*words, room.opens, "0", "500", "3000000", "200001", "1000", stdout=subprocess.PIPE, stderr=subprocess.PIPE, **more)
+        cases.same(f"contents in parts of a program in {name}", ended(asked), (0, b"2 -\n2 -\n2 -\n3 given up\n2 -\n", b""))
+        guard.send_signal(signal.SIGSTOP)
+        asked = room.start(*words, room.opens, "3000000", stdout=subprocess.PIPE, stderr=subprocess.PIPE, **more)
+        cases.same(f"a guard that is stopped amid them, a program in {name}", ended(asked), (0, b"-1 -\n", b""))
+        guard.send_signal(signal.SIGCONT)
     for name, words in programs.items():
         more = {"env": {**os.environ, "PYTHONPATH": CLIENT, "PYTHONDONTWRITEBYTECODE": "1"}}
         asked = room.start(*words, room.opens, "ABC", "XX", "", stdout=subprocess.PIPE, stderr=subprocess.PIPE, **more)
@@ -143,22 +193,33 @@ def embedded(cases, room):
         guard.send_signal(signal.SIGCONT)
 
 
+def in_parts(cases, room):
+    """Programs that send contents in parts."""
+    programs = {"Python": [sys.executable, "-c", PARTS_IN_PYTHON]}
+    for name, compiler, source, standard in (("C", "cc", "parts.c", "c11"), ("C++", "c++", "parts.cc", "c++11")):
+        if shutil.which(compiler):
+            made = os.path.join(room.folder, source + ".out")
+            words = [compiler, f"-std={standard}", "-D_GNU_SOURCE", "-Wall", "-Wextra", "-pedantic", "-Werror", "-I", CLIENT]
+            cases.same(f"{name} takes the parts of avask.h", run(room, [*words, "-o", made, room.write(source, PARTS_IN_C)]), (0, b"", b""))
+            programs[name] = [made]
+    return programs
+
+
 def answers(cases, room):
     room.guard()
-    lines = {"clean": GRANTED, "infected": INFECTED, "empty": GRANTED, "most": GRANTED, "last": INFECTED}
+    lines = {"clean": GRANTED, "infected": INFECTED, "empty": GRANTED, "small": GRANTED, "parts": GRANTED, "most": GRANTED, "last": INFECTED, "long": INFECTED, "longer": GRANTED, "tail": INFECTED}
     for _ in range(2):
         for name, line in lines.items():
             same(cases, room, f"a file, {name}", [room.opens, name], (0, name.encode() + line, b""))
     all_lines = b"".join(name.encode() + line for name, line in lines.items())
-    same(cases, room, "five files", [room.opens, *lines], (0, all_lines, b""))
+    same(cases, room, "all files", [room.opens, *lines], (0, all_lines, b""))
     same(cases, room, "a file twice", [room.opens, "clean", "clean"], (0, b"clean" + GRANTED + b"clean" + GRANTED, b""))
-    same(cases, room, "too long", [room.opens, "long"], (1, b"", [b"long: TooLarge\n"]))
     same(cases, room, "not there", [room.opens, "gone"], (4, b"", [b"gone: cannot read\n"]))
     same(cases, room, "a folder", [room.opens, "folder"], (4, b"", [b"folder: cannot read\n"]))
-    faults = [b"long: TooLarge\n", b"gone: cannot read\n"]
-    same(cases, room, "some can be asked about", [room.opens, "clean", "long", "infected", "gone", "empty"], (4, b"clean" + GRANTED + b"infected" + INFECTED + b"empty" + GRANTED, faults))
-    many = ["clean", "infected", "empty"] * 100
-    same(cases, room, "300 files", [room.opens, *many], (0, b"".join(name.encode() + lines[name] for name in many), b""))
+    faults = [b"folder: cannot read\n", b"gone: cannot read\n"]
+    same(cases, room, "some can be asked about", [room.opens, "clean", "folder", "tail", "gone", "empty"], (4, b"clean" + GRANTED + b"tail" + INFECTED + b"empty" + GRANTED, faults))
+    many = ["clean", "infected", "empty"] * 50 + ["parts", "tail"] + ["empty", "clean"] * 50
+    same(cases, room, "252 files", [room.opens, *many], (0, b"".join(name.encode() + lines[name] for name in many), b""))
     with open("/dev/full", "wb") as full:
         for name, client in room.clients():
             process = room.start(*client, room.opens, "clean", stdout=full, stderr=subprocess.PIPE)
@@ -174,18 +235,18 @@ def statuses(cases, room):
     for words, status, lines in rows:
         got = run(room, ask, *words)
         cases.same(f"ask {words} at a guard without a service", got[:2], (status, lines))
-    stopped = room.start(room.program, "service", room.service, "set.avsig", stdout=subprocess.DEVNULL, stderr=subprocess.DEVNULL)
-    while b"connected" not in (line := guard.stderr.readline()):
+    stopped = room.start(room.program, "service", "--watch", "1", room.service, "set.avsig", stdout=subprocess.DEVNULL, stderr=subprocess.DEVNULL)
+    while b"parts connected" not in (line := guard.stderr.readline()):
         if not line:
             raise OSError("the guard ended")
     rows = [(["--found-status", "clean"], 0, b"clean" + GRANTED), (["--found-status", "clean", "infected"], 5, b"clean" + GRANTED + b"infected" + INFECTED), (["clean", "infected"], 0, b"clean" + GRANTED + b"infected" + INFECTED),
-            (["-k", "--found-status", "infected", "gone"], 6, b"infected" + INFECTED), (["-k", "--found-status", "infected", "long"], 6, b"infected" + INFECTED), (["-k", "infected", "gone"], 4, b"infected" + INFECTED),
-            (["-k", "infected", "long"], 1, b"infected" + INFECTED)]
+            (["-k", "--found-status", "infected", "gone"], 6, b"infected" + INFECTED), (["-k", "infected", "gone"], 4, b"infected" + INFECTED), (["-k", "--found-status", "longer", "tail"], 5, b"longer" + GRANTED + b"tail" + INFECTED)]
     for words, status, lines in rows:
         got = run(room, ask, *words)
         cases.same(f"ask {words}", got[:2], (status, lines))
     stopped.send_signal(signal.SIGSTOP)
-    rows = [(["last"], 4, b"last denied cause 5\n"), (["--found-status", "infected", "most"], 6, b"infected" + INFECTED + b"most denied cause 5\n")]
+    room.write("other", b"B" * 1000)
+    rows = [(["small"], 4, b"small denied cause 5\n"), (["--found-status", "infected", "other"], 6, b"infected" + INFECTED + b"other denied cause 5\n"), (["last"], 4, b"last denied cause 6\n")]
     for words, status, lines in rows:
         got = run(room, ask, *words)
         cases.same(f"ask {words} at a guard whose service hangs", got[:2], (status, lines))
@@ -242,6 +303,94 @@ class Stand:
         self.listener.close()
 
 
+def answer(kind, *fields):
+    """The answer of the content with this tag."""
+    return lambda tag: struct.pack(">I", 1 + len(tag) + sum(map(len, fields))) + bytes([kind]) + tag + b"".join(fields)
+
+
+def denial(cause):
+    return answer(3, bytes([cause]))
+
+
+GRANTS = answer(2, struct.pack(">QQ", 2, 1))
+AT_END = -1
+
+
+class Scripted(Stand):
+    """A guard of bytes that takes contents in parts. Of each it says what its script has next: after so many parts, or AT_END. It grants asks, and
+    keeps of each content how it ended, with its count, and whether that is the count of what came."""
+
+    def __init__(self, path, *script):
+        self.script, self.ends, self.asks = list(script), [], 0
+        super().__init__(path, b"")
+
+    def exactly(self, end, count):
+        data = b""
+        while len(data) < count:
+            piece = end.recv(count - len(data))
+            if not piece:
+                raise OSError
+            data += piece
+        return data
+
+    def serve(self):
+        while True:
+            try:
+                end, _ = self.listener.accept()
+            except OSError:
+                return
+            try:
+                self.attend(end)
+            except OSError:
+                pass
+            end.close()
+
+    def attend(self, end):
+        parts = count = 0
+        when, said = AT_END, GRANTS
+        while True:
+            body = self.exactly(end, struct.unpack(">I", self.exactly(end, 4))[0])
+            kind, tag = body[0], body[1:9]
+            if kind == 1:
+                self.asks += 1
+                end.sendall(GRANTS(tag))
+            elif kind == 5:
+                parts, count = 0, 0
+                when, said = self.script.pop(0)
+            elif kind == 6:
+                parts, count = parts + 1, count + len(body) - 9
+            else:
+                self.ends.append((body[9], struct.unpack(">Q", body[10:])[0], count))
+            if kind in (5, 6) and parts == when or kind == 7 and when == AT_END:
+                end.sendall(said(tag))
+
+
+def parts_of_bytes(cases, room):
+    """What each client does with the answers that only contents in parts have, and with those that come before the end."""
+    size = len(FILES["longer"])
+    whole = (0, size, size)
+    rows = [("granted at its end", [(AT_END, GRANTS)], ["longer"], 0, b"longer" + GRANTED, [whole]), ("newer signatures come three times", [(AT_END, denial(11))] * 3 + [(AT_END, GRANTS)], ["longer"], 0, b"longer" + GRANTED, [whole] * 4),
+            ("newer signatures come four times", [(AT_END, denial(11))] * 4, ["longer"], 4, b"longer denied cause 11\n", [whole] * 4), ("it is too large", [(AT_END, denial(12))], ["longer"], 4, b"longer denied cause 12\n", [whole]),
+            ("no parts are taken", [(0, denial(14))] * 9, ["most", "longer", "most"], 4, b"most" + GRANTED + b"longer denied cause 14\n" + b"most" + GRANTED, None),
+            ("a signature is found in the first part", [(1, denial(2))] * 2, ["longer", "longer"], 0, b"longer denied cause 2\n" * 2, None)]
+    for what, script, files, status, lines, ends in rows:
+        for name, client in room.clients():
+            stand = Scripted(room.opens, *script)
+            cases.same(f"{what}, {name}", run(room, client, room.opens, *files), (status, lines, b""))
+            # (avguard hears answers between contents alone, so that it sends all of a content that was answered early)
+            right = stand.ends == ends if ends else all((how == 1 or name == "avguard") and said == count for how, said, count in stand.ends)
+            cases.check(f"{what}: how they end, {name}", right, f"{stand.ends}")
+            cases.same(f"{what}: what goes as an ask, {name}", stand.asks, 2 if "most" in files else 0)
+            stand.close()
+            os.unlink(room.opens)
+    for what, script in (("a grant before the end", [(1, GRANTS)]), ("a guard that knows no parts", [])):
+        for name, client in room.clients()[1:]:
+            stand = Scripted(room.opens, *script) if script else Stand(room.opens, bytes.fromhex("0000000aff040000000000000000"))
+            cases.same(f"{what}, {name}", run(room, client, room.opens, "longer"), (4, b"", name.encode() + b": " + room.opens.encode() + b": the guard was lost\n"))
+            stand.close()
+            os.unlink(room.opens)
+
+
 def strangers(cases, room):
     lost = [room.opens.encode() + b": the guard was lost\n"]
     rows = [("nothing", b""), ("half a frame", GRANT[:10]), ("a frame that is too long", b"\xff" * 4 + GRANT[4:]), ("a frame of no bytes", bytes(4)),
@@ -283,6 +432,37 @@ def cat(room, path):
     return subprocess.run(["cat", path], stdin=subprocess.DEVNULL, capture_output=True, timeout=SECONDS).stdout
 
 
+def library():
+    """A library of this machine, of 1 to 4 MiB, in which the signature does not occur."""
+    for path in sorted(glob.glob("/usr/lib/*/lib*.so*")):
+        if os.path.isfile(path) and MOST < os.path.getsize(path) < 4 * MOST:
+            with open(path, "rb") as file:
+                if b"XX" not in file.read():
+                    return os.path.realpath(path)
+    return None
+
+
+class Holder:
+    """The helper for fanotify, over one folder, with what it writes about denials."""
+
+    def __init__(self, room, watched, *words):
+        self.room, self.log = room, open(os.path.join(room.folder, "denials"), "w+b")
+        self.process = room.start(room.holder, *words, room.opens, watched, stderr=self.log)
+        limit = time.time() + SECONDS
+        while self.process.poll() is None and time.time() < limit and not is_marked(self.process.pid):
+            time.sleep(0.01)
+
+    def lines(self):
+        with open(self.log.name, "rb") as log:
+            return log.read()
+
+    def end(self):
+        self.process.kill()
+        self.process.wait()
+        self.room.begun.remove(self.process)
+        self.log.close()
+
+
 def held(cases, room):
     watched = os.path.join(room.folder, "watched")
     os.mkdir(watched)
@@ -296,48 +476,127 @@ def held(cases, room):
         """Of each file whether `cat` shows all of it."""
         return {name: cat(room, path) == FILES.get(name, FILES["infected"]) for name, path in paths.items()}
 
-    def holder(*words):
-        process = room.start(room.holder, *words, room.opens, watched, stderr=subprocess.PIPE)
-        limit = time.time() + SECONDS
-        while process.poll() is None and time.time() < limit and not is_marked(process.pid):
-            time.sleep(0.01)
-        return process
-
-    room.guard()
-    process = holder()
-    if process.poll() is not None:
-        print(f"the helper for fanotify was not run: {process.stderr.read().decode().strip()}", file=sys.stderr)
+    guard = room.guard()
+    holder = Holder(room, watched)
+    if holder.process.poll() is not None:
+        print(f"the helper for fanotify was not run: {holder.lines().decode().strip()}", file=sys.stderr)
         return
-    wanted = {"clean": True, "infected": False, "empty": True, "most": True, "last": False, "long": False, "outside": True}
+    wanted = {name: b"XX" not in content for name, content in FILES.items()} | {"outside": True}
     cases.same("what may be opened", opened(), wanted)
-    cases.same("and once more, as it is known", opened(), wanted)
+    cases.same("and once more", opened(), wanted)
+    line = rb'avguard-onaccess: answer=denied cause=2 why="infected" process=\d+ program="cat" path="%s"\n'
+    found = all(len(re.findall(line % re.escape(paths[name].encode()), holder.lines())) == 2 for name in FILES if not wanted[name])
+    cases.check("each denial has a line with cause, process and path", found and holder.lines().count(b"\n") == 2 * list(wanted.values()).count(False), holder.lines())
+    forged = room.write("watched/a\navguard-onaccess: \"\\", FILES["infected"])
+    cases.check("a file whose name has a line's end is denied", not can_open(forged))
+    cases.check("no name forges a line", holder.lines().endswith(b'/watched/a\\x0aavguard-onaccess: \\x22\\x5c"\n'), holder.lines()[-200:])
     room.write("other", b"A clean letter")
     os.rename(os.path.join(room.folder, "other"), paths["infected"])
     cases.same("a file that is replaced is judged anew", cat(room, paths["infected"]), b"A clean letter")
     os.rename(room.write("other", FILES["infected"]), paths["infected"])
     cases.check("and again", not can_open(paths["infected"]))
-    process.kill()
-    process.wait()
+    programs_of_the_system(cases, room, watched)
+    a_long_file_holds_one_thread(cases, room, watched, paths, guard)
+    files_that_grow(cases, room, watched)
+    holder.end()
     cases.check("from its end on all may be opened", can_open(paths["infected"]))
-    process = holder("-o", "-p", "1")
-    cases.same("with -o a file that is too long passes", opened(), {**wanted, "long": True})
-    process.kill()
-    process.wait()
-    process = holder("-p", str(os.getpid()))
+    holder = Holder(room, watched, "-j", "1", "-p", str(os.getpid()))
     cases.same("a process that passes", (can_open(paths["infected"]), cat(room, paths["infected"])), (True, b""))
+    cases.same("one thread judges too", opened(), wanted)
+    holder.end()
     room.end()
-    process = holder()
+    holder = Holder(room, watched)
     cases.same("no guard", (can_open(paths["clean"]), can_open(paths["infected"])), (False, False))
+    cases.check("that has a line", holder.lines().count(b'answer=denied why="no guard answers" ') == 2, holder.lines())
     room.guard()
-    cases.same("a guard that comes later", (can_open(paths["clean"]), can_open(paths["infected"])), (True, False))
-    process.kill()
-    process.wait()
-    process = holder("-o")
-    room.begun.remove(process)
-    room.end()
-    cases.same("with -o and no guard", (can_open(paths["clean"]), can_open(paths["infected"])), (True, True))
-    process.kill()
-    process.wait()
+    cases.same("a guard that comes later", (can_open(paths["clean"]), can_open(paths["infected"]), can_open(paths["longer"])), (True, False, True))
+    room.scanner.kill()
+    room.scanner.wait()
+    holder.end()
+    holder = Holder(room, watched, "-o")
+    room.end_others(holder.process)
+    cases.same("with -o and no guard", (can_open(paths["clean"]), can_open(paths["infected"])), (False, False))
+    room.guard("--open", service=False)
+    cases.same("with -o what the guard lets through passes", (can_open(paths["clean"]), can_open(paths["longer"])), (True, True))
+    holder.end()
+    holder = Holder(room, watched)
+    cases.same("without it it does not", (can_open(paths["clean"]), can_open(paths["longer"])), (False, False))
+    cases.check("that has lines", holder.lines().count(b'answer=denied cause=3 why="not connected" ') == 2, holder.lines())
+    holder.end()
+
+
+def programs_of_the_system(cases, room, watched):
+    """A library and Python, opened by those who use them."""
+    if (source := library()) is None:
+        print("no library of 1 to 4 MiB without the signature is here: none was copied", file=sys.stderr)
+    else:
+        shutil.copy(source, copy := os.path.join(watched, "library"))
+        begun = time.time()
+        done = subprocess.run(["cp", copy, out := os.path.join(room.folder, "copy")], timeout=SECONDS)
+        cases.check(f"cp of {os.path.getsize(source)} bytes of a library", done.returncode == 0 and filecmp.cmp(out, source, False), f"{done}, {time.time() - begun:.1f} s")
+        cases.check("cat of it", cat(room, copy) == open(source, "rb").read())
+    if b"XX" in open(os.path.realpath(sys.executable), "rb").read():
+        print("the signature occurs in python3: it was not run", file=sys.stderr)
+        return
+    python = shutil.copy(os.path.realpath(sys.executable), os.path.join(watched, "python3"))
+    done = subprocess.run([python, "-S", "-E", "-c", "print(6 * 7)"], capture_output=True, timeout=SECONDS, env={**os.environ, "PYTHONHOME": sys.base_prefix})
+    cases.same("python3 runs from there", (done.returncode, done.stdout), (0, b"42\n"))
+    with open(python, "ab") as file:
+        file.write(b"XX")
+    try:
+        done = subprocess.run([python, "-c", "1"], capture_output=True, timeout=SECONDS).returncode
+    except PermissionError:
+        done = "denied"
+    cases.same("and not with a signature at its end", done, "denied")
+
+
+LONGEST = 4 << 30
+
+
+def a_long_file_holds_one_thread(cases, room, watched, paths, guard):
+    """A file of holes with a signature in its last bytes, as long as is judged in less than a minute, and small files meanwhile."""
+    long, size = os.path.join(watched, "long of holes"), 1 << 28
+    for tail in (b"", b"XX"):
+        with open(long, "wb") as file:
+            file.truncate(size)
+            file.seek(size - len(tail))
+            file.write(tail)
+        begun, opens = time.time(), []
+        opening = threading.Thread(target=lambda: opens.append(can_open(long)))
+        opening.start()
+        small = 0
+        while opening.is_alive():
+            small += can_open(paths["clean"]) + (not can_open(paths["infected"]))
+            opening.join(0.01)
+        taken = time.time() - begun
+        cases.same(f"a file of {size} bytes of holes and {tail}", opens, [not tail])
+        cases.check("small files are judged meanwhile", small >= 2, f"{small} in {taken:.1f} s")
+        print(f"the helper: {size >> 20} MiB in {taken:.1f} s, {small} small opens meanwhile", file=sys.stderr)
+        size = min(LONGEST, int(size * 40 / taken)) if taken < 40 else size
+    memory = int(re.search(r"VmRSS:\s+(\d+)", open(f"/proc/{guard.pid}/status").read())[1])
+    cases.check("the guard kept none of it", memory < 300_000, f"{memory} KiB")
+    os.unlink(long)
+
+
+def files_that_grow(cases, room, watched):
+    """A file that grows without end is denied, and one that stops growing is not."""
+    path, stop = os.path.join(watched, "log"), threading.Event()
+    with open(path, "wb") as file:
+        file.write(bytes(4 << 20))
+        file.flush()
+
+        def grow():
+            while not stop.is_set():
+                file.write(b"more")
+                file.flush()
+
+        growing = threading.Thread(target=grow)
+        growing.start()
+        done = subprocess.run(["cat", path], stdin=subprocess.DEVNULL, stdout=subprocess.DEVNULL, stderr=subprocess.DEVNULL, timeout=SECONDS)
+        stop.set()
+        growing.join()
+    cases.check("a file that grows all the time is not opened", done.returncode != 0)
+    cases.check("one that grew is", can_open(path))
 
 
 def can_open(path):
@@ -361,12 +620,12 @@ def is_marked(process):
 
 
 def words_of_holder(cases, room):
-    for words, status in (([], 2), (["x"], 2), (["-z", "o", "f"], 2), (["-p", "x", "o", "f"], 2), (["-p", "0", "o", "f"], 2), (["-h"], 0)):
+    for words, status in (([], 2), (["x"], 2), (["-z", "o", "f"], 2), (["-p", "x", "o", "f"], 2), (["-p", "0", "o", "f"], 2), (["-j", "0", "o", "f"], 2), (["-j", "65", "o", "f"], 2), (["-j", "+1", "o", "f"], 2), (["-h"], 0)):
         got, out, err = run(room, [room.holder], *words)
         text = out if status == 0 else err
-        cases.check(f"avguard-fanotify {words}", got == status and text.startswith(b"usage: ") and not (out and err) or b"invalid option" in err, f"{got}, {out!r}, {err!r}")
+        cases.check(f"avguard-onaccess {words}", got == status and text.startswith(b"usage: ") and not (out and err) or b"invalid option" in err, f"{got}, {out!r}, {err!r}")
     status, out, err = run(room, [room.holder], "o", "gone")
-    cases.check("a folder that is not there", (status, out) == (4, b"") and err.startswith(b"avguard-fanotify: ") and err.count(b"\n") == 1, f"{status}, {out!r}, {err!r}")
+    cases.check("a folder that is not there", (status, out) == (4, b"") and err.startswith(b"avguard-onaccess: ") and err.count(b"\n") == 1, f"{status}, {out!r}, {err!r}")
 
 
 def clamdscan(cases, room):
@@ -374,10 +633,10 @@ def clamdscan(cases, room):
         print("clamdscan is not installed: it was not run", file=sys.stderr)
         return
     with_clamd(room)
-    room.write("clamd.conf", b"LocalSocket %s\nStreamMaxLength 2M\n" % room.clamd.encode())
+    room.write("clamd.conf", b"LocalSocket %s\nStreamMaxLength 100M\n" % room.clamd.encode())
     at = room.folder.encode() + b"/"
     rows = [("clean", 0, b"clean: OK\n"), ("infected", 1, b"infected: Test.X FOUND\n"), ("most", 0, b"most: OK\n"), ("last", 1, b"last: Test.X FOUND\n"),
-            ("long", 2, b"long: INSTREAM size limit exceeded. ERROR\n")]
+            ("long", 1, b"long: Test.X FOUND\n"), ("longer", 0, b"longer: OK\n"), ("tail", 1, b"tail: Test.X FOUND\n")]
     for _ in range(2):
         for name, status, line in rows:
             got, out, err = run(room, ["clamdscan", "--config-file=clamd.conf", "--stream", "--no-summary", name])
@@ -489,7 +748,7 @@ def main():
     if len(sys.argv) != 2:
         sys.exit("usage: tests/clients.py PROGRAM")
     cases = Cases()
-    for part in (answers, embedded, statuses, let_through, denied, nobody, strangers, stopped, words_of_holder, held, clamdscan, pyclamd, clamonacc, rspamd):
+    for part in (answers, embedded, statuses, let_through, denied, nobody, parts_of_bytes, strangers, stopped, words_of_holder, held, clamdscan, pyclamd, clamonacc, rspamd):
         begun = time.time()
         with tempfile.TemporaryDirectory() as folder:
             room = Room(os.path.abspath(sys.argv[1]), folder)

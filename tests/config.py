@@ -11,7 +11,7 @@ from guard import ask, connected, frame, heard, number
 from programs import program_beside
 
 SECONDS = 60
-ABSENT = b"open = false\nwait = 30\nkeep = 67108864\nquestions = 256\nmode = \"600\"\nservice-mode = \"600\"\nleast = 0\nlog-grants = false\nlog-json = false\n"
+ABSENT = b"open = false\nwait = 30\nkeep = 67108864\nquestions = 256\nmax-size = 9223372036854775807\nstream-max-size = 26214399\nmode = \"600\"\nservice-mode = \"600\"\nleast = 0\nlog-grants = false\nlog-json = false\n"
 DENIED, LET_THROUGH = frame(3, number(1), b"\3"), 4
 NUMBER = "expected a number from %d to %d"
 SOCKET = "expected the path of a socket, 1 to 107 bytes in quotes"
@@ -23,6 +23,8 @@ VALUES = [
     ("wait", [(1, 30, 86400, "0x1e", "0o36", "8_6400"), (0, 86401, -1, "1.5", '"30"', "[30]", "true", "{}")], NUMBER % (1, 86400)),
     ("keep", [(0, 1, 1 << 40), ((1 << 40) + 1, -1, '"0"')], NUMBER % (0, 1 << 40)),
     ("questions", [(1, 256), (0, 257, "false")], NUMBER % (1, 256)),
+    ("max-size", [(1, 1 << 40, (1 << 63) - 1), (0, -1, "'1'")], NUMBER % (1, (1 << 63) - 1)),
+    ("stream-max-size", [(1, (1 << 63) - 1), (0, "1.5")], NUMBER % (1, (1 << 63) - 1)),
     ("least", [(0, (1 << 63) - 1), (-1, '""')], NUMBER % (0, (1 << 64) - 1)),
     ("most-version", [(0, (1 << 63) - 1), (-1, "1979-05-27", "inf")], NUMBER % (0, (1 << 64) - 1)),
     ("open", [("true", "false"), (0, 1, '"true"', "[]")], FLAG),
@@ -91,7 +93,7 @@ def checked(cases, program):
         room.write("opens = 'o'\nservice = 's'")
         least = b'opens = "o"\nservice = "s"\n' + ABSENT
         cases.same("a file with the sockets alone", room.run("check-config", room.path), (0, least, b""))
-        whole = (b'opens = "a/o"\nservice = "s s"\nclamd = "c\\u0009\\u0085\\u000a\xc3\xa9\\"\\\\"\nnames = "n"\nopen = true\nwait = 86400\nkeep = 0\nquestions = 1\nmode = "660"\nservice-mode = "666"\n'
+        whole = (b'opens = "a/o"\nservice = "s s"\nclamd = "c\\u0009\\u0085\\u000a\xc3\xa9\\"\\\\"\nnames = "n"\nopen = true\nwait = 86400\nkeep = 0\nquestions = 1\nmax-size = 1\nstream-max-size = 9223372036854775807\nmode = "660"\nservice-mode = "666"\n'
                  b'least = 7\nmost-version = 9223372036854775807\nstate = "/v"\nlog = "-"\nlog-grants = true\nlog-json = false\n')
         for name, text in (("what it printed", least), ("all keys", whole), ("all keys in reverse", b"\n".join(reversed(whole.splitlines()))), ("remarks and line ends", b"\xef\xbb\xbf# one\r\n" + whole.replace(b"\n", b" # more\r\n\r\n"))):
             room.write(text)

@@ -44,6 +44,9 @@ for name in avscan avguard avtool; do
     check "$name has a page" gzip -t "$room/files/usr/share/man/man1/$name.1.gz"
     check "bash completes $name" bash -n "$room/files/usr/share/bash-completion/completions/$name"
 done
+if printf '#include <sys/fanotify.h>\n' | cc -fsyntax-only -xc - 2> /dev/null; then
+    check "the helper for fanotify runs" "$room/files/usr/bin/avguard-onaccess" -h
+fi
 check "the guard's settings are good" "$room/files/usr/bin/avguard" check-config "$room/files/etc/avscan/avguard.conf"
 check "the guard's unit names them" grep -q "^ExecStart=/usr/bin/avguard run --config /etc/avscan/avguard.conf$" "$room/files/usr/lib/systemd/system/avscan-guard.service"
 check "the guard denies what can't be judged" grep -qx "open = false" "$room/files/etc/avscan/avguard.conf"

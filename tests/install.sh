@@ -30,6 +30,9 @@ says_version() {
     *) "$1" run --help > /dev/null ;;
     esac
 }
+says_usage() {
+    "$1" -h | grep -q '^usage: '
+}
 # in 80 columns, with no warning, no wider line, no markdown and no name of a document that is not installed
 renders() {
     command -v man > /dev/null || return 0
@@ -47,9 +50,15 @@ for name in avscan avguard avtool; do
 done
 check share/man/man5/avsig.5 644 renders
 check share/man/man5/avscript.5 644 renders
+wanted=17
+# the helper for fanotify is not left out where it can be built
+if printf '#include <sys/fanotify.h>\n' | cc -fsyntax-only -xc - 2> /dev/null; then
+    check bin/avguard-onaccess 755 says_usage
+    wanted=18
+fi
 found=$(find "$room/usr" -type f | wc -l)
-if [ "$found" != 17 ]; then
-    echo "install: $found files, not 17"
+if [ "$found" != "$wanted" ]; then
+    echo "install: $found files, not $wanted"
     failed=$((failed + 1))
 fi
 echo "$passed passed, $failed failed"

@@ -263,15 +263,15 @@ def standard_error_keeps_nobody(cases, program):
 
 def sockets_are_made_safely(cases, program):
     with Guard(program, "--mode", "666") as guard:
-        for path in (guard.opens, guard.service, guard.clamd, guard.opens + ".status"):
+        for path in (guard.opens, guard.service, guard.service + ".parts", guard.clamd, guard.opens + ".status"):
             connected(path).close()
-        modes = lambda guard: [os.stat(path).st_mode & 0o777 for path in (guard.opens, guard.clamd, guard.opens + ".status", guard.service)]
-        cases.same("--mode is not of the service's socket", modes(guard), [0o666, 0o666, 0o666, 0o600])
+        modes = lambda guard: [os.stat(path).st_mode & 0o777 for path in (guard.opens, guard.clamd, guard.opens + ".status", guard.service, guard.service + ".parts")]
+        cases.same("--mode is not of the service's socket", modes(guard), [0o666, 0o666, 0o666, 0o600, 0o600])
     with Guard(program, "--service-mode", "660") as guard:
-        for path in (guard.opens, guard.service, guard.clamd, guard.opens + ".status"):
+        for path in (guard.opens, guard.service, guard.service + ".parts", guard.clamd, guard.opens + ".status"):
             connected(path).close()
-        cases.same("--service-mode is of it alone", modes(guard), [0o600, 0o600, 0o600, 0o660])
-        cases.same("nothing else is left", sorted(os.listdir(guard.folder)), ["c", "log", "o", "o.status", "s"])
+        cases.same("--service-mode is of it alone", modes(guard), [0o600, 0o600, 0o600, 0o660, 0o660])
+        cases.same("nothing else is left", sorted(os.listdir(guard.folder)), ["c", "log", "o", "o.status", "s", "s.parts"])
     with tempfile.TemporaryDirectory() as folder:
         path = os.path.join(folder, "o")
         listener = socket.socket(socket.AF_UNIX)

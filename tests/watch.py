@@ -412,7 +412,8 @@ def a_guard_is_asked_all_the_while(cases, program):
         end.close()
         guard.kill()
         told = guard.communicate()[1]
-        cases.same("the guard keeps its service", told, b"avguard: service of version 1 connected\n")
+        connections = b"avguard: service of version 1 connected\n", b"avguard: parts connected\n"
+        cases.same("the guard keeps its service and its parts", sorted(told.splitlines(True)), sorted(connections))
         out, err = service.communicate(timeout=SECONDS)
         cases.same("the service ends with the guard", (service.returncode, out, err), (0, b"closed\n", b"avscan: version 2, 1 signatures\n"))
 

@@ -4,8 +4,8 @@
  *   guardtime WAY PATH rate-known|rate-new SIZE COUNT SEED CLIENTS     of all, COUNT in all by so many clients at once
  *   guardtime WAY PATH idle COUNT     holds so many clients that say nothing; a line once they are there, until standard input ends
  *
- * WAY says whom it asks: guard is avguard run over a connection, session is clamd by INSTREAM in one IDSESSION, once is clamd by
- * INSTREAM over a connection each. A content is SIZE random bytes: the same each time (known), or another one each time (new). To make it is
+ * WAY says whom it asks: guard is avguard run over a connection, parts is the same with each content in parts of 65,536 bytes, session is
+ * clamd by INSTREAM in one IDSESSION, once is clamd by INSTREAM over a connection each. A content is SIZE random bytes: the same each time (known), or another one each time (new). To make it is
  * not timed, but in a rate. Any other answer than that it is clean ends the program. */
 #define _GNU_SOURCE
 #include "../../examples/client/avask.h"
@@ -54,6 +54,15 @@ static int join(void) {
     return s;
 }
 
+/* Sends a content to the guard in parts. */
+static int in_parts(int s, const unsigned char *content, size_t size) {
+    struct av_content parts;
+    struct av_answer answer;
+    int said = av_begin(&parts, s);
+    for (size_t at = 0; said == AV_OPEN && at < size; at += AV_SMALL) said = av_part(&parts, content + at, size - at < AV_SMALL ? size - at : AV_SMALL);
+    return said == AV_LOST ? AV_LOST : av_end(&parts, &answer);
+}
+
 /* Sends a content to clamd and reads the line that it says of it, up to its zero byte. */
 static void instream(int s, const unsigned char *content, size_t size) {
     unsigned char length[4] = {size >> 24, size >> 16, size >> 8, size}, none[4] = {0};
@@ -73,6 +82,8 @@ static void ask(int *s, const unsigned char *content, size_t size) {
     struct av_answer answer;
     if (way[0] == 'g') {
         if (av_ask(*s, content, size, &answer) != AV_GRANTED) errno = EPROTO, end("answer");
+    } else if (way[0] == 'p') {
+        if (in_parts(*s, content, size) != AV_GRANTED) errno = EPROTO, end("answer");
     } else if (way[0] == 's') {
         instream(*s, content, size);
     } else {

@@ -4,8 +4,17 @@
  *     struct av_answer answer;
  *     if (guard >= 0 && av_ask(guard, content, length, &answer) == AV_GRANTED) ...
  *
- * It is C11 and C++11. Nothing is allocated, and nothing is needed but the C library of a Unix. A connection carries one ask at a time,
- * so threads take one each. A guard that sends or takes nothing for 60 s is lost; av_wait sets another bound. docs/FORMATS.md, "Asking a guard", has the frames that go over it. */
+ * A content of any size goes in parts:
+ *
+ *     struct av_content parts;
+ *     int said = av_begin(&parts, guard);
+ *     while (said == AV_OPEN && (some = read(file, buffer, sizeof buffer)) > 0) said = av_part(&parts, buffer, (size_t)some);
+ *     said = some < 0 ? av_give_up(&parts, &answer) : av_end(&parts, &answer);
+ *     if (said == AV_DENIED && answer.cause == AV_AGAIN) ...          // from the beginning of the file once more
+ *
+ * It is C11 and C++11. Nothing is allocated, and nothing is needed but the C library of a Unix. A connection carries one content at a
+ * time, so threads take one each. A guard that sends or takes nothing for 60 s is lost; av_wait sets another bound. docs/FORMATS.md has
+ * the frames, in "Asking a guard" and "Contents in parts". */
 #ifndef AVASK_H
 #define AVASK_H
 #include <errno.h>
@@ -16,18 +25,45 @@
 #include <sys/un.h>
 #include <unistd.h>
 
-enum { AV_MOST = 1048576 }; /* the most bytes of a content */
+enum { AV_MOST = 1048576 }; /* the most bytes of a content that av_ask takes */
+enum { AV_SMALL = 65536 };  /* a longer content is judged sooner in parts than by av_ask */
 enum { AV_SECONDS = 60 };   /* how long the guard may send or take nothing, unless av_wait says otherwise */
 
-/* What is said of a content. The last two are no answers of the guard: the connection is of no use any more and is to be closed; nothing
- * was asked, and the connection is as it was. */
-enum { AV_GRANTED = 2, AV_DENIED = 3, AV_UNSCANNED = 4, AV_LOST = -1, AV_TOO_LARGE = -2 };
+/* What is said of a content. The last three are no answers of the guard. AV_OPEN: none came yet. AV_LOST: the connection is of no use any
+ * more and is to be closed. AV_TOO_LARGE: nothing was asked, and the connection is as it was. */
+enum { AV_GRANTED = 2, AV_DENIED = 3, AV_UNSCANNED = 4, AV_OPEN = 0, AV_LOST = -1, AV_TOO_LARGE = -2 };
+
+/* Some causes of a content that was denied or not scanned. The last four are of contents in parts alone. */
+enum {
+    AV_INFECTED = 2,   /* a signature occurs; with any other cause nobody has judged the content */
+    AV_NO_SERVICE = 3, /* no scanning service is connected */
+    AV_TIMED_OUT = 5,  /* it took too long, or a part took too long to come */
+    AV_AGAIN = 11,     /* newer signatures came: send it again, from its beginning */
+    AV_LARGER = 12,    /* it has more bytes than the guard takes (--max-size) */
+    AV_GIVEN_UP = 13,  /* av_give_up was called */
+    AV_NO_PARTS = 14   /* the service takes no parts: av_ask takes up to AV_MOST bytes */
+};
 
 struct av_answer {
     uint64_t generation; /* granted, unscanned: of the content */
     uint64_t version;    /* granted: of the signatures under which it is clean */
-    int cause;           /* denied, unscanned: 2 says that a signature occurs, any other that it was not judged */
+    int cause;           /* denied, unscanned: see above */
 };
+
+/* A content that goes in parts. Its fields are for the calls below. */
+struct av_content {
+    int guard;               /* the connection */
+    int said;                /* the answer that came before the end, or AV_OPEN */
+    uint64_t count;          /* how many of its bytes were sent */
+    struct av_answer answer; /* what came with an early answer */
+};
+
+/* A cause in words, as `avguard ask --json` has them. */
+static inline const char *av_why(int cause) {
+    static const char *const why[] = {"no stream",   "infected",   "not connected", "busy",      "timed out", "service lost", "scan failed",
+                                      "unsettled",   "removed",    "filter restarted", "ask again", "too large", "given up",     "takes no parts"};
+    return cause >= 1 && cause <= 14 ? why[cause - 1] : "unknown";
+}
 
 /* From now on a guard that sends or takes nothing for so many seconds, at least 1, makes the connection AV_LOST. 0, or -1 with errno. */
 static inline int av_wait(int guard, unsigned seconds) {
@@ -96,17 +132,18 @@ static inline uint64_t av_number(const unsigned char *bytes, int count) {
     return number;
 }
 
-/* Asks about a content and waits for what is said of it. Only AV_GRANTED says that it is clean. */
-static inline int av_ask(int guard, const void *content, size_t length, struct av_answer *answer) {
-    unsigned char head[14] = {0}, told[25];
-    if (length > AV_MOST) return AV_TOO_LARGE;
-    uint32_t body = 10 + (uint32_t)length; /* kind 1, tag 0 in 8 bytes, no label; then the content */
-    for (int i = 0; i < 4; i++) head[i] = (unsigned char)(body >> (24 - 8 * i));
-    head[4] = 1;
-    if (av_send(guard, head, sizeof head) < 0 || av_send(guard, content, length) < 0 || av_receive(guard, told, 4) < 0) return AV_LOST;
+/* Writes a number with its highest byte first. */
+static inline void av_put(unsigned char *bytes, int count, uint64_t number) {
+    for (int i = count; i-- > 0; number >>= 8) bytes[i] = (unsigned char)number;
+}
+
+/* Waits for the answer of tag 0. The tag has no other value here, since a connection carries one content at a time. */
+static inline int av_answered(int guard, struct av_answer *answer) {
+    unsigned char told[25];
+    memset(answer, 0, sizeof *answer);
+    if (av_receive(guard, told, 4) < 0) return AV_LOST;
     uint64_t count = av_number(told, 4);
     if (count < 10 || count > sizeof told || av_receive(guard, told, count) < 0 || av_number(told + 1, 8) != 0) return AV_LOST;
-    memset(answer, 0, sizeof *answer);
     switch (told[0]) {
     case AV_GRANTED:
         if (count != 25) return AV_LOST;
@@ -125,5 +162,82 @@ static inline int av_ask(int guard, const void *content, size_t length, struct a
     default:
         return AV_LOST;
     }
+}
+
+/* Asks about a content and waits for what is said of it. Only AV_GRANTED says that it is clean. */
+static inline int av_ask(int guard, const void *content, size_t length, struct av_answer *answer) {
+    unsigned char head[14] = {0};
+    if (length > AV_MOST) return AV_TOO_LARGE;
+    av_put(head, 4, 10 + (uint64_t)length); /* kind 1, tag 0 in 8 bytes, no label; then the content */
+    head[4] = 1;
+    if (av_send(guard, head, sizeof head) < 0 || av_send(guard, content, length) < 0) return AV_LOST;
+    return av_answered(guard, answer);
+}
+
+/* Begins a content that comes in parts: AV_OPEN, or AV_LOST. Every content that was begun needs av_end or av_give_up, unless a call about
+ * it returned AV_LOST. Until then the connection takes no other content. */
+static inline int av_begin(struct av_content *content, int guard) {
+    unsigned char head[14] = {0};
+    memset(content, 0, sizeof *content);
+    content->guard = guard;
+    av_put(head, 4, 10); /* kind 5, tag 0 in 8 bytes, no label */
+    head[4] = 5;
+    if (av_send(guard, head, sizeof head) < 0) content->said = AV_LOST;
+    return content->said;
+}
+
+/* Looks whether an answer came before the end, without waiting for one. The content was not sent whole, so a grant is no answer. */
+static inline int av_early(struct av_content *content) {
+    char byte;
+    if (content->said != AV_OPEN) return content->said;
+    ssize_t some = recv(content->guard, &byte, 1, MSG_PEEK | MSG_DONTWAIT);
+    if (some > 0) {
+        content->said = av_answered(content->guard, &content->answer);
+        if (content->said == AV_GRANTED) content->said = AV_LOST;
+    } else if (some == 0 || (errno != EAGAIN && errno != EWOULDBLOCK && errno != EINTR)) {
+        content->said = AV_LOST;
+    }
+    return content->said;
+}
+
+/* Sends some bytes, 1 to AV_MOST, of a content: AV_OPEN while no answer came. AV_DENIED and AV_UNSCANNED are early answers, for example
+ * that a signature was found. The rest need not be sent then: av_end gives that answer. AV_TOO_LARGE: these bytes were not sent. */
+static inline int av_part(struct av_content *content, const void *bytes, size_t count) {
+    unsigned char head[13] = {0};
+    if (av_early(content) != AV_OPEN || count == 0) return content->said;
+    if (count > AV_MOST) return AV_TOO_LARGE;
+    av_put(head, 4, 9 + (uint64_t)count); /* kind 6, tag 0 in 8 bytes; then the bytes */
+    head[4] = 6;
+    if (av_send(content->guard, head, sizeof head) < 0 || av_send(content->guard, bytes, count) < 0) content->said = AV_LOST;
+    else content->count += count;
+    return content->said;
+}
+
+/* Sends the end, 0 for a whole content and 1 for one that is given up, and waits for the answer if none came yet. */
+static inline int av_close(struct av_content *content, int how, struct av_answer *answer) {
+    unsigned char last[22] = {0};
+    memset(answer, 0, sizeof *answer);
+    if (av_early(content) == AV_LOST) return AV_LOST;
+    av_put(last, 4, 18); /* kind 7, tag 0 in 8 bytes, how, and the count of the bytes that were sent */
+    last[4] = 7;
+    last[13] = (unsigned char)(content->said != AV_OPEN || how);
+    av_put(last + 14, 8, content->count);
+    if (av_send(content->guard, last, sizeof last) < 0) return content->said = AV_LOST;
+    if (content->said == AV_OPEN) content->said = av_answered(content->guard, &content->answer);
+    *answer = content->answer;
+    return content->said;
+}
+
+/* Ends a content whose bytes were all sent, or that has an early answer, and waits for what is said of it. Only AV_GRANTED says that it is
+ * clean. If the cause is AV_AGAIN, begin it anew. */
+static inline int av_end(struct av_content *content, struct av_answer *answer) {
+    return av_close(content, 0, answer);
+}
+
+/* Ends a content that can't be sent whole, such as one of a file that can't be read any further. Waits for the answer, which is never a
+ * grant. Then the connection takes the next content. */
+static inline int av_give_up(struct av_content *content, struct av_answer *answer) {
+    int said = av_close(content, 1, answer);
+    return said == AV_GRANTED ? content->said = AV_LOST : said;
 }
 #endif

@@ -1,0 +1,282 @@
+/* Hands each open of a folder, or of a mount, to `avguard run`, and lets it through only if its content is granted. The help text below
+ * says how it is used, README.md what it needs and what it does not see. Linux alone. */
+#define _GNU_SOURCE
+#define _FILE_OFFSET_BITS 64
+#include "../client/avask.h"
+#include <fcntl.h>
+#include <limits.h>
+#include <poll.h>
+#include <pthread.h>
+#include <signal.h>
+#include <stdio.h>
+#include <stdlib.h>
+#include <sys/fanotify.h>
+#include <sys/stat.h>
+#include <time.h>
+
+enum { USAGE = 2, DEVICE = 4 };
+enum { PASSING = 8, WORKERS = 8, MOST_WORKERS = 64 };
+enum { TURNS = 4 };              /* how often a file is read at most, while it changes or newer signatures come */
+enum { LINE = 4000, NAME = 64 }; /* the most bytes of a line: a pipe takes so many at once; and of a program's name in it */
+/* What is said of a file beside the answers of avask.h. */
+enum { UNREAD = -3, CHANGES = -4, NO_CONTENT = -5 };
+
+static const char HELP[] =
+    "usage: avguard-onaccess [-m] [-o] [-j N] [-p PID].. OPENS FOLDER..\n"
+    "\n"
+    "Holds each open of a file in FOLDER until the guard at OPENS has judged its content.\n"
+    "Only a file that the guard grants may be opened. A file that can't be read, and every\n"
+    "file while no guard answers, is denied. Standard error has a line for each denial.\n"
+    "It needs CAP_SYS_ADMIN, and runs until it is ended; from then on every open passes.\n"
+    "\n"
+    "  -m      each open of the mount that FOLDER is on, not of its own files alone\n"
+    "  -o      lets through what the guard lets through unscanned (avguard run --open)\n"
+    "  -j N    judges N files at once, 1 to 64; otherwise 8\n"
+    "  -p PID  lets through the opens of this process, up to 8: guard and service,\n"
+    "          whose opens would wait for themselves\n"
+    "  -h      this text\n";
+
+/* How it was started. Nothing of this changes once the workers run. */
+static struct {
+    const char *opens; /* the path of the guard */
+    int events;        /* where the kernel's questions come from */
+    int is_open;       /* -o */
+    pid_t passing[PASSING + 1];
+    int known; /* how many of these there are */
+} settings;
+
+/* A thread that takes one event at a time, with a connection of its own. */
+struct worker {
+    pthread_t thread;
+    int connection;  /* or -1 */
+    int takes_parts; /* 0 once the guard answered over it that its service takes none */
+    unsigned char content[AV_MOST + 1];
+};
+
+static int failed(const char *name) {
+    fprintf(stderr, "avguard-onaccess: %s: %s\n", name, strerror(errno));
+    return DEVICE;
+}
+
+static time_t seconds(void) {
+    struct timespec now;
+    return clock_gettime(CLOCK_MONOTONIC, &now) == 0 ? now.tv_sec : 0;
+}
+
+/* Fills in from a place of a file, fewer bytes than `most` only at its end: how many, or -1. */
+static ssize_t read_at(int file, unsigned char *content, size_t most, off_t at) {
+    size_t length = 0;
+    while (length < most) {
+        ssize_t some = pread(file, content + length, most - length, at + (off_t)length);
+        if (some < 0 && errno == EINTR) continue;
+        if (some < 0) return -1;
+        if (some == 0) break;
+        length += (size_t)some;
+    }
+    return (ssize_t)length;
+}
+
+/* Whether a file of which `count` bytes were read has another length now, or is longer than it was before. */
+static int changes(int file, off_t before, off_t count) {
+    struct stat now;
+    return count > before || fstat(file, &now) < 0 || now.st_size != count;
+}
+
+/* Sends a file in parts, of which the first `some` bytes were read. If its length changes meanwhile, the ask is given up: the verdict would
+ * be of a content that the file has no more. */
+static int in_parts(struct worker *worker, int file, off_t before, ssize_t some, struct av_answer *answer) {
+    struct av_content parts;
+    off_t count = 0;
+    int said = av_begin(&parts, worker->connection), fault = 0;
+    while (said == AV_OPEN && some > 0 && count <= before) {
+        said = av_part(&parts, worker->content, (size_t)some);
+        count += some;
+        if (said == AV_OPEN) some = read_at(file, worker->content, AV_SMALL, count);
+    }
+    if (said == AV_LOST) return AV_LOST;
+    if (said == AV_OPEN) fault = some < 0 ? UNREAD : changes(file, before, count) ? CHANGES : 0;
+    if (fault == 0) return av_end(&parts, answer);
+    return av_give_up(&parts, answer) == AV_LOST ? AV_LOST : fault;
+}
+
+/* Reads a file once and asks about what was read. */
+static int ask_once(struct worker *worker, int file, struct av_answer *answer) {
+    size_t small = worker->takes_parts ? AV_SMALL : AV_MOST;
+    struct stat before;
+    if (fstat(file, &before) < 0) return UNREAD;
+    ssize_t some = read_at(file, worker->content, small + 1, 0);
+    if (some < 0) return UNREAD;
+    if ((size_t)some > small) return in_parts(worker, file, before.st_size, some > AV_MOST ? AV_MOST : some, answer);
+    if (changes(file, before.st_size, some)) return CHANGES;
+    return av_ask(worker->connection, worker->content, (size_t)some, answer);
+}
+
+/* What is said of a file. A connection that was lost, as by a guard that was started anew, is made again. A guard that takes or gives
+ * nothing for AV_SECONDS is lost, and is not asked again then: no open waits for ever. */
+static int ask(struct worker *worker, int file, struct av_answer *answer) {
+    int said = AV_LOST;
+    time_t begun = seconds();
+    for (int turn = 0; turn < TURNS; turn++) {
+        if (worker->connection < 0) {
+            worker->connection = av_connect(settings.opens);
+            worker->takes_parts = 1;
+        }
+        if (worker->connection < 0) return AV_LOST;
+        said = ask_once(worker, file, answer);
+        if (said == AV_LOST) {
+            close(worker->connection);
+            worker->connection = -1;
+            if (seconds() - begun >= AV_SECONDS) return AV_LOST;
+        } else if (said == AV_DENIED || said == AV_UNSCANNED) {
+            int takes_none = answer->cause == AV_NO_PARTS && worker->takes_parts;
+            if (!takes_none && answer->cause != AV_AGAIN) return said;
+            if (takes_none) worker->takes_parts = 0; /* up to AV_MOST bytes go as one ask */
+        } else if (said != CHANGES) {
+            return said;
+        }
+    }
+    return said;
+}
+
+/* Appends bytes in quotes. A byte is written as \xHH if it is a double quote, a backslash, or neither a visible character of ASCII nor a
+ * space, so that no name ends its quotes or its line. Two dots after the quotes show that it was cut. */
+static size_t quote(char *line, size_t at, size_t most, const char *name, size_t length) {
+    size_t i = 0;
+    line[at++] = '"';
+    for (; i < length && at + 8 < most; i++) {
+        unsigned char byte = (unsigned char)name[i];
+        if (byte >= ' ' && byte <= '~' && byte != '"' && byte != '\\') line[at++] = (char)byte;
+        else at += (size_t)sprintf(line + at, "\\x%02x", byte);
+    }
+    line[at++] = '"';
+    return at + (size_t)sprintf(line + at, "%s", i < length ? ".." : "");
+}
+
+/* Writes a line to standard error if that takes it at once, so that nobody's open waits for a reader. What it did not take is counted. */
+static void write_line(const char *line, size_t length) {
+    static pthread_mutex_t one_at_a_time = PTHREAD_MUTEX_INITIALIZER;
+    static unsigned long dropped;
+    struct pollfd at = {STDERR_FILENO, POLLOUT, 0};
+    pthread_mutex_lock(&one_at_a_time);
+    if (poll(&at, 1, 0) != 1 || !(at.revents & POLLOUT) || write(STDERR_FILENO, line, length) < 0) {
+        dropped++;
+    } else if (dropped > 0 && poll(&at, 1, 0) == 1 && (at.revents & POLLOUT)) {
+        char text[80];
+        int count = snprintf(text, sizeof text, "avguard-onaccess: %lu lines were dropped\n", dropped);
+        if (write(STDERR_FILENO, text, (size_t)count) == count) dropped = 0;
+    }
+    pthread_mutex_unlock(&one_at_a_time);
+}
+
+/* The first bytes of the name of a program that runs: how many. */
+static size_t name_of(pid_t process, char *name, size_t most) {
+    char path[64];
+    snprintf(path, sizeof path, "/proc/%ld/comm", (long)process);
+    int file = open(path, O_RDONLY | O_CLOEXEC);
+    ssize_t length = file < 0 ? 0 : read(file, name, most);
+    if (file >= 0) close(file);
+    while (length > 0 && name[length - 1] == '\n') length--;
+    return length > 0 ? (size_t)length : 0;
+}
+
+/* One line about an open that is denied: why, whose it is, and the path. */
+static void report(const struct fanotify_event_metadata *event, int said, const struct av_answer *answer) {
+    char line[LINE + 1], path[PATH_MAX], link[64], name[NAME];
+    const char *why = said == UNREAD ? "cannot read" : said == CHANGES ? "it changes" : said == AV_LOST ? "no guard answers" : av_why(answer->cause);
+    int count = snprintf(line, sizeof line, "avguard-onaccess: answer=denied ");
+    size_t at = (size_t)count;
+    if (said == AV_DENIED || said == AV_UNSCANNED) at += (size_t)snprintf(line + at, sizeof line - at, "cause=%d ", answer->cause);
+    at += (size_t)snprintf(line + at, sizeof line - at, "why=\"%s\" process=%ld program=", why, (long)event->pid);
+    at = quote(line, at, sizeof line, name, name_of(event->pid, name, sizeof name));
+    at += (size_t)snprintf(line + at, sizeof line - at, " path=");
+    snprintf(link, sizeof link, "/proc/self/fd/%d", event->fd);
+    ssize_t length = readlink(link, path, sizeof path);
+    at = quote(line, at, sizeof line, path, length > 0 ? (size_t)length : 0);
+    line[at++] = '\n';
+    write_line(line, at);
+}
+
+static int passes(pid_t process) {
+    for (int i = 0; i < settings.known; i++)
+        if (process == settings.passing[i]) return 1;
+    return 0;
+}
+
+/* Whether an open may go on. Anything else than a grant denies it, or what the guard lets through by itself with -o. */
+static int may_open(struct worker *worker, const struct fanotify_event_metadata *event) {
+    struct av_answer answer;
+    struct stat kind;
+    int said = UNREAD;
+    if (passes(event->pid)) return 1;
+    memset(&answer, 0, sizeof answer);
+    if (fstat(event->fd, &kind) == 0) said = S_ISREG(kind.st_mode) ? ask(worker, event->fd, &answer) : NO_CONTENT;
+    if (said == AV_GRANTED || said == NO_CONTENT || (said == AV_UNSCANNED && settings.is_open)) return 1;
+    report(event, said, &answer);
+    return 0;
+}
+
+/* Answers one open after the other. All workers read the same descriptor, an event at a time, so a long file holds one of them. */
+static void *work(void *of) {
+    struct worker *worker = of;
+    struct fanotify_event_metadata event;
+    for (;;) {
+        ssize_t some = read(settings.events, &event, sizeof event);
+        if (some == 0 || (some < 0 && (errno == EINVAL || errno == EBADF || errno == EFAULT))) exit(failed("fanotify"));
+        if (some < 0) continue; /* interrupted; or a file that could not be opened for this program, and was denied by the kernel */
+        if (some != (ssize_t)sizeof event || event.vers != FANOTIFY_METADATA_VERSION) errno = EPROTO, exit(failed("fanotify"));
+        if (event.fd < 0) continue;
+        struct fanotify_response response = {.fd = event.fd, .response = may_open(worker, &event) ? FAN_ALLOW : FAN_DENY};
+        /* ENOENT: the process that waited for the open was ended meanwhile. */
+        while (write(settings.events, &response, sizeof response) < 0 && errno == EINTR) {}
+        close(event.fd);
+    }
+    return NULL;
+}
+
+/* A number of the command line within bounds, or 0. */
+static long number(const char *word, long most) {
+    char *end;
+    long value = strtol(word, &end, 10);
+    return *word >= '0' && *word <= '9' && *end == 0 && value > 0 && value <= most ? value : 0;
+}
+
+int main(int count, char **words) {
+    int letter, is_mount = 0;
+    long workers = WORKERS, process;
+    settings.passing[settings.known++] = getpid();
+    while ((letter = getopt(count, words, "hmoj:p:")) != -1) {
+        switch (letter) {
+        case 'h': return fputs(HELP, stdout) < 0 || fflush(stdout) != 0 ? DEVICE : 0;
+        case 'm': is_mount = 1; break;
+        case 'o': settings.is_open = 1; break;
+        case 'j':
+            if ((workers = number(optarg, MOST_WORKERS)) == 0) return fputs(HELP, stderr), USAGE;
+            break;
+        case 'p':
+            if ((process = number(optarg, 0x7fffffff)) == 0 || settings.known > PASSING) return fputs(HELP, stderr), USAGE;
+            settings.passing[settings.known++] = (pid_t)process;
+            break;
+        default: return fputs(HELP, stderr), USAGE;
+        }
+    }
+    if (count - optind < 2) return fputs(HELP, stderr), USAGE;
+    settings.opens = words[optind++];
+    struct worker *all = calloc((size_t)workers, sizeof *all);
+    if (all == NULL) return failed("memory");
+    /* A reader of standard error that goes away must not end this program, since every open would pass then. */
+    signal(SIGPIPE, SIG_IGN);
+    signal(SIGXFSZ, SIG_IGN);
+    /* Without a limit of the queue: the kernel lets an open pass that finds no place in it. */
+    settings.events = fanotify_init(FAN_CLASS_CONTENT | FAN_UNLIMITED_QUEUE | FAN_CLOEXEC, O_RDONLY | O_LARGEFILE | O_CLOEXEC);
+    if (settings.events < 0) return failed("fanotify");
+    /* The workers run before anything is marked, since an open waits from its mark on. */
+    for (long i = 0; i < workers; i++) {
+        all[i].connection = -1;
+        if ((errno = pthread_create(&all[i].thread, NULL, work, &all[i])) != 0) return failed("thread");
+    }
+    unsigned whole = is_mount ? FAN_MARK_MOUNT : 0;
+    uint64_t held = FAN_OPEN_PERM | (is_mount ? 0 : FAN_EVENT_ON_CHILD);
+    for (int i = optind; i < count; i++)
+        if (fanotify_mark(settings.events, FAN_MARK_ADD | whole, held, AT_FDCWD, words[i]) < 0) return failed(words[i]);
+    return pthread_join(all[0].thread, NULL) == 0 ? DEVICE : failed("thread"); /* no worker ends by itself */
+}
