@@ -11,8 +11,8 @@ use Rattle.av_asks.specs.declared.contents.How.TheVariants.{Whole, GivenUp}
 use Rattle.av_asks.specs.declared.large_head.LargeKind.{LargeKind}
 use Rattle.av_asks.specs.declared.large_head.LargeKind.TheVariants as kind
 use Rattle.av_asks.specs.declared.sizes.TheConstants.{ASK_HEAD, BEGIN_HEAD, MAX_ASK, MAX_BEGIN, MAX_COUNT, MAX_LABEL, MAX_PART, MAX_PART_BODY, PART_HEAD}
-use Rattle.av_asks.specs.ContentLaws.{AsksAreReadBack, BeginsAreReadBack, EndsAreReadBack, IsCutAnywhere, PartsAreReadBack, begun, within}
-use Rattle.av_asks.specs.Contents.{Saying, Asks, Begins, Brings, Ends, begin_body, bytewise, end_body, how_number, part_body}
+use Rattle.av_asks.specs.ContentLaws.{AsksAreReadBack, BeginsAreReadBack, EndsAreReadBack, IsCutAnywhere, PartsAreReadBack, WatchesAreReadBack, begun, within}
+use Rattle.av_asks.specs.Contents.{Saying, Asks, Begins, Brings, Ends, Watches, begin_body, bytewise, end_body, how_number, part_body, watch_body}
 use Rattle.av_asks.specs.Speaking.{Speaking, Turn, after, asks, begins, by_turn, fits_kind, fresh, front_of, gone_on, heard_of, kind_of, left_of, length_of, parts, said_by, step, wanted_of}
 use Rattle.av_asks.specs.Spelling.{Asked, IsAsk, ask_body, field4, field8, number4, number8}
 use Rattle.av_asks.proofs.AskLemmas.{body_again, length-ask_body}
@@ -124,6 +124,20 @@ pub ends_read : EndsAreReadBack
 unfolding field4 field8
 ends_read tag count how fits counted =
     front_read 18 7 (field8 tag ++ how_number how ∷ field8 count) [] kind.End (within (Some (record { tag = tag; count = count; left = 0 }))) _ (omega arith) refl refl refl (omega arith) refl refl refl (end_said tag count how fits counted)
+
+watch_said : (tag version : ℕ) (content : Option Content) → tag < 2 ^ 64 → version < 2 ^ 64
+    → said_by kind.Watch 17 (watch_body tag version) content ≡ Ok (Watches tag version, content)
+unfolding field8
+watch_said tag version content fits low =
+    let body = watch_body tag version in
+    let number : number8 body 1 ≡ tag = from_be_bytes-to_be_bytes_8 tag fits in
+    let named : number8 body 9 ≡ version = from_be_bytes-to_be_bytes_8 version low in
+    rw (number, named) refl
+
+pub watches_read : WatchesAreReadBack
+unfolding field4 field8
+watches_read tag version content fits low none =
+    front_read 17 8 (field8 tag ++ field8 version) [] kind.Watch (within content) _ (omega arith) refl refl refl (omega arith) refl refl none (watch_said tag version content fits low)
 
 begin_frame_read : (tag : ℕ) (label : List ℕ) → tag < 2 ^ 64 → length label ≤ MAX_LABEL → heard_of (field4 (10 + length label) ++ begin_body tag label) fresh ≡ (within (Some (begun tag)), Begins tag label ∷ [])
 unfolding field4 field8

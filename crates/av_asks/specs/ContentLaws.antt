@@ -3,7 +3,7 @@ use Rattle.std.specs.Prelude.{ℕ, ◌≡◌, ◌+◌, ◌<◌, ◌≤◌, ◌^�
 use Rattle.av_asks.specs.declared.client_reader.Content.{Content}
 use Rattle.av_asks.specs.declared.contents.How.{How}
 use Rattle.av_asks.specs.declared.sizes.TheConstants.{MAX_COUNT, MAX_LABEL, MAX_PART}
-use Rattle.av_asks.specs.Contents.{Asks, Begins, Brings, Ends, begin_body, bytewise, end_frame, part_body}
+use Rattle.av_asks.specs.Contents.{Asks, Begins, Brings, Ends, Watches, begin_body, bytewise, end_frame, part_body, watch_body}
 use Rattle.av_asks.specs.Speaking.{Speaking, after, fresh, heard_of, left_of}
 use Rattle.av_asks.specs.Spelling.{Asked, IsAsk, ask_frame, framed}
 
@@ -42,3 +42,9 @@ abbrev pub AsksAreReadBack : Type 0
 AsksAreReadBack =
     (a : Asked) (content : Option Content) → IsAsk a → left_of content ≡ 0
     → heard_of (ask_frame a) (within content) ≡ (within content, Asks a ∷ [])
+
+-- so is what asks for a newer version
+abbrev pub WatchesAreReadBack : Type 0
+WatchesAreReadBack =
+    (tag version : ℕ) (content : Option Content) → tag < 2 ^ 64 → version < 2 ^ 64 → left_of content ≡ 0
+    → heard_of (framed (watch_body tag version)) (within content) ≡ (within content, Watches tag version ∷ [])

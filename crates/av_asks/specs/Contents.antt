@@ -7,12 +7,14 @@ use Rattle.av_asks.specs.declared.fault.UnfitPart.{UnfitPart}
 use Rattle.av_asks.specs.declared.fault.UnfitPart.TheVariants as unfit
 use Rattle.av_asks.specs.Spelling.{Asked, field8, framed}
 
--- what a client says: it asks about a content, or a content begins, some of it comes, and it ends
+-- what a client says: it asks about a content, or a content begins, some of it comes, and it ends, or it wants to be told of a newer
+-- version
 pub data Saying : Type 0 where
   Asks : (ask : Asked) → Saying
   Begins : (tag : ℕ) (label : List ℕ) → Saying
   Brings : (tag : ℕ) (some : List ℕ) → Saying
   Ends : (tag : ℕ) (how : How) → Saying
+  Watches : (tag version : ℕ) → Saying
 
 -- the number of how a content ends
 abbrev pub how_number : How → ℕ
@@ -30,6 +32,18 @@ part_body tag some = 6 ∷ (field8 tag ++ some)
 -- the body that ends it: its kind, the tag, how, and the count of its bytes
 abbrev pub end_body : ℕ → How → ℕ → List ℕ
 end_body tag how count = 7 ∷ (field8 tag ++ how_number how ∷ field8 count)
+
+-- the body that asks for a newer version than this one: its kind, the tag, and the version
+abbrev pub watch_body : ℕ → ℕ → List ℕ
+watch_body tag version = 8 ∷ (field8 tag ++ field8 version)
+
+-- the body that tells it: its kind, the tag, and the newer version
+abbrev pub newer_body : ℕ → ℕ → List ℕ
+newer_body tag version = 9 ∷ (field8 tag ++ field8 version)
+
+-- its frame
+abbrev pub newer_frame : ℕ → ℕ → List ℕ
+newer_frame tag version = framed (newer_body tag version)
 
 -- the frame that ends a content
 abbrev pub end_frame : ℕ → How → ℕ → List ℕ
@@ -56,3 +70,4 @@ bytewise (Begins tag label) = Begins tag label ∷ []
 bytewise (Brings tag []) = Brings tag [] ∷ []
 bytewise (Brings tag (b ∷ some)) = singly tag (b ∷ some)
 bytewise (Ends tag how) = Ends tag how ∷ []
+bytewise (Watches tag version) = Watches tag version ∷ []

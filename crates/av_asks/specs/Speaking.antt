@@ -15,8 +15,8 @@ use Rattle.av_asks.specs.declared.fault.ClientFault.{ClientFault}
 use Rattle.av_asks.specs.declared.fault.ClientFault.TheVariants as fault
 use Rattle.av_asks.specs.declared.large_head.LargeKind.{LargeKind}
 use Rattle.av_asks.specs.declared.large_head.LargeKind.TheVariants as kind
-use Rattle.av_asks.specs.declared.sizes.TheConstants.{ASK_HEAD, BEGIN_HEAD, END_SIZE, MAX_ASK, MAX_BEGIN, MAX_COUNT, MAX_PART_BODY, PART_HEAD}
-use Rattle.av_asks.specs.Contents.{Saying, Asks, Begins, Brings, Ends, bytewise}
+use Rattle.av_asks.specs.declared.sizes.TheConstants.{ASK_HEAD, BEGIN_HEAD, END_SIZE, MAX_ASK, MAX_BEGIN, MAX_COUNT, MAX_PART_BODY, PART_HEAD, WATCH_SIZE}
+use Rattle.av_asks.specs.Contents.{Saying, Asks, Begins, Brings, Ends, Watches, bytewise}
 use Rattle.av_asks.specs.Reading.{ask_of}
 use Rattle.av_asks.specs.Spelling.{Asked, asked, number4, number8}
 
@@ -26,7 +26,8 @@ use Rattle.av_asks.specs.Spelling.{Asked, asked, number4, number8}
 abbrev pub kind_of : ℕ → Option LargeKind
 kind_of byte =
     if byte == 1 then Some kind.Ask else (if byte == 5 then Some kind.Begin else
-    (if byte == 6 then Some kind.Part else (if byte == 7 then Some kind.End else None)))
+    (if byte == 6 then Some kind.Part else (if byte == 7 then Some kind.End else
+    (if byte == 8 then Some kind.Watch else None))))
 
 -- how many bytes a body of a kind can have
 abbrev pub fits_kind : LargeKind → ℕ → Bool
@@ -34,6 +35,7 @@ fits_kind kind.Ask size = nat_le ASK_HEAD size && nat_le size MAX_ASK
 fits_kind kind.Begin size = nat_le BEGIN_HEAD size && nat_le size MAX_BEGIN
 fits_kind kind.Part size = nat_lt PART_HEAD size && nat_le size MAX_PART_BODY
 fits_kind kind.End size = size == END_SIZE
+fits_kind kind.Watch size = size == WATCH_SIZE
 
 -- how many bytes of a frame are enough to do something: all but a part's bytes
 abbrev pub length_of : LargeKind → ℕ → ℕ
@@ -41,6 +43,7 @@ length_of kind.Ask size = 4 + size
 length_of kind.Begin size = 4 + size
 length_of kind.Part size = 4 + PART_HEAD
 length_of kind.End size = 4 + size
+length_of kind.Watch size = 4 + size
 
 -- the same, once a kind is there
 abbrev pub front_by : Option LargeKind → ℕ → ℕ → Result (Option (LargeKind × ℕ)) ClientFault
@@ -116,6 +119,7 @@ said_by kind.Ask size body content = asks content (ask_of body)
 said_by kind.Begin size body content = begins body content
 said_by kind.Part size body content = parts (number8 body 1) (size - PART_HEAD) content
 said_by kind.End size body content = ends (number8 body 1) (slice_index body 9) (number8 body 10) content
+said_by kind.Watch size body content = Ok (Watches (number8 body 1) (number8 body 9), content)
 
 -- ---- a reader
 
@@ -180,6 +184,7 @@ saying (says.Ask a) = Asks (asked a)
 saying (says.Begin tag label) = Begins tag label
 saying (says.Part tag some) = Brings tag some.now
 saying (says.End tag how) = Ends tag how
+saying (says.Watch tag version) = Watches tag version
 
 abbrev pub bytewise_of : Option ClientSays → List Saying
 bytewise_of None = []
@@ -198,6 +203,7 @@ told_saying (told.Ask a) = Asks (asked a)
 told_saying (told.Begin tag label) = Begins tag label
 told_saying (told.Part tag) = Brings tag []
 told_saying (told.End tag how) = Ends tag how
+told_saying (told.Watch tag version) = Watches tag version
 
 abbrev pub told_list : Option Told → List Saying
 told_list None = []

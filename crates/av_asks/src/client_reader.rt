@@ -29,6 +29,8 @@ pub enum ClientSays<'a> {
     Part { tag: u64, some: &'a [u8] },
     /// The content ends.
     End { tag: u64, how: How },
+    /// It wants to be told of a newer version than this one.
+    Watch { tag: u64, version: u64 },
 }
 
 /// What came of the first bytes of a piece.
@@ -47,6 +49,7 @@ pub enum Told {
     Begin { tag: u64, label: ByteList },
     Part { tag: u64 },
     End { tag: u64, how: How },
+    Watch { tag: u64, version: u64 },
 }
 
 /// A content that is open: how many bytes came in its parts, and how many are to come of the present one.
@@ -264,6 +267,10 @@ fn read_body(
         LargeKind::Begin => begin(alloc, body, content),
         LargeKind::Part => part(u64_at(body, 1), (size - PART_HEAD) as u32, content),
         LargeKind::End => end(body, content),
+        LargeKind::Watch => {
+            let (tag, version) = (u64_at(body, 1), u64_at(body, 9));
+            Ok((Told::Watch { tag, version }, content))
+        }
     }
 }
 
@@ -377,5 +384,6 @@ fn said_of<'a>(told: Option<Told>, piece: &'a [u8]) -> Option<ClientSays<'a>>
             some: &piece[..0],
         }),
         Told::End { tag, how } => Some(ClientSays::End { tag, how }),
+        Told::Watch { tag, version } => Some(ClientSays::Watch { tag, version }),
     }
 }

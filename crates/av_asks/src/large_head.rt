@@ -3,7 +3,9 @@ ghost use Rattle.av_asks.specs.Speaking.{fits_kind, front_of, kind_of, length_of
 
 use crate::fault::ClientFault;
 use crate::fields::u32_first;
-use crate::sizes::{ASK_HEAD, BEGIN_HEAD, END_SIZE, MAX_ASK, MAX_BEGIN, MAX_PART_BODY, PART_HEAD};
+use crate::sizes::{
+    ASK_HEAD, BEGIN_HEAD, END_SIZE, MAX_ASK, MAX_BEGIN, MAX_PART_BODY, PART_HEAD, WATCH_SIZE,
+};
 
 /// What a frame of a client has that may send contents in parts.
 #[derive(Clone, Copy)]
@@ -12,6 +14,7 @@ pub enum LargeKind {
     Begin,
     Part,
     End,
+    Watch,
 }
 
 impl LargeKind {
@@ -24,6 +27,7 @@ impl LargeKind {
             LargeKind::Begin => size >= BEGIN_HEAD && size <= MAX_BEGIN,
             LargeKind::Part => size > PART_HEAD && size <= MAX_PART_BODY,
             LargeKind::End => size == END_SIZE,
+            LargeKind::Watch => size == WATCH_SIZE,
         }
     }
 
@@ -33,7 +37,7 @@ impl LargeKind {
         ensures { result ≡ length_of self size }
     {
         match self {
-            LargeKind::Ask | LargeKind::Begin | LargeKind::End => 4 + size,
+            LargeKind::Ask | LargeKind::Begin | LargeKind::End | LargeKind::Watch => 4 + size,
             LargeKind::Part => 4 + PART_HEAD,
         }
     }
@@ -48,6 +52,7 @@ fn kind_of(byte: u8) -> Option<LargeKind>
         5 => Some(LargeKind::Begin),
         6 => Some(LargeKind::Part),
         7 => Some(LargeKind::End),
+        8 => Some(LargeKind::Watch),
         _ => None,
     }
 }

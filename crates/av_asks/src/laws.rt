@@ -3,7 +3,7 @@
 ghost use Rattle.av_asks.specs.Spelling.{IsAnswer, IsAsk, answer_frame, ask_frame};
 ghost use Rattle.av_asks.specs.Reading.{answer_front, ask_front};
 ghost use Rattle.av_asks.specs.ContentAnswers.{IsContentAnswer, content_answer_front, content_frame};
-ghost use Rattle.av_asks.specs.ContentLaws.{AsksAreReadBack, BeginsAreReadBack, EndsAreReadBack, IsCutAnywhere, PartsAreReadBack};
+ghost use Rattle.av_asks.specs.ContentLaws.{AsksAreReadBack, BeginsAreReadBack, EndsAreReadBack, IsCutAnywhere, PartsAreReadBack, WatchesAreReadBack};
 ghost use Rattle.av_asks.specs.Laws.{FaultStays, GivesOneThing, GivesSomething, GoesOn, IsReadBack, ReadsSpellings};
 
 /// An ask that is spelled is read back, and what is read as an ask is spelled so.
@@ -39,12 +39,13 @@ pub fn clients_are_heard_however_they_are_cut()
     ensures { IsCutAnywhere }
 {}
 
-/// A content in parts is heard as it was spelled, and an ask within it as one outside.
+/// A content in parts is heard as it was spelled, and what asks about another one or for a newer version within it as outside.
 pub fn contents_are_read_back()
     ensures begins { BeginsAreReadBack }
     ensures parts { PartsAreReadBack }
     ensures ends { EndsAreReadBack }
     ensures asks { AsksAreReadBack }
+    ensures watches { WatchesAreReadBack }
 {}
 
 /// An answer to a content in parts that is spelled is read back.

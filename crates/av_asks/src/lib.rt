@@ -25,6 +25,7 @@ pub mod laws;
 pub mod sizes;
 #[cfg(test)]
 mod tests;
+pub mod watch;
 
 pub use answer::{OpenAnswer, put_answer};
 pub use answer_feed::AnswerFeed;
@@ -35,3 +36,4 @@ pub use content_answer::{ContentAnswer, ContentAnswerFeed};
 pub use contents::{How, put_begin, put_end, put_part};
 pub use fault::{AnswerFault, AskFault, ClientFault, TooLong, UnfitPart};
 pub use large_answer::{LargeAnswer, LargeCause, put_large_answer};
+pub use watch::put_newer;

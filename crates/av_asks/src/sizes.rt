@@ -41,5 +41,8 @@ pub const MAX_PART_BODY: usize = PART_HEAD + MAX_PART;
 /// Bytes of the body that ends a content: its kind, its tag, how, and a count.
 pub const END_SIZE: usize = 18;
 
+/// Bytes of the body that asks for a newer version, and of the one that tells it: a kind, a tag, and a version.
+pub const WATCH_SIZE: usize = 17;
+
 /// The most bytes of a content in parts.
 pub const MAX_COUNT: u64 = u64::MAX;

@@ -131,8 +131,8 @@ pub const ROWS: [Row<'static>; 34] = [
         fault: Some(ClientFault::Length),
     },
     Row {
-        name: "kind 8",
-        bytes: &["0000000a08"],
+        name: "kind 9",
+        bytes: &["0000000a09"],
         heard: &[],
         fault: Some(ClientFault::Kind),
     },
@@ -284,7 +284,7 @@ pub const ROWS: [Row<'static>; 34] = [
         bytes: &[
             "0000000b0500000000000000070166",
             "0000000b0600000000000000074142",
-            "0000000a08",
+            "0000000a09",
             "00000012070000000000000007000000000000000002",
         ],
         heard: &["begin 7", "2 more"],

@@ -5,7 +5,8 @@ use crate::contents::{How, put_begin, put_end, put_part};
 use crate::fault::{AnswerFault, ClientFault, UnfitPart};
 use crate::large_answer::{LargeAnswer, LargeCause, put_large_answer};
 use crate::tests::client_rows::ROWS;
-use av_base::{Cause, Generation, Refusal};
+use crate::watch::put_newer;
+use av_base::{Cause, Generation, Refusal, Version};
 use av_fakes::{may_refuse, refuse_no_more};
 use std::alloc::{AllocError, Global};
 use std::test::Fail;
@@ -41,6 +42,7 @@ impl Told {
                 How::Whole => format!(in alloc; "end")?,
                 How::GivenUp => format!(in alloc; "given up")?,
             },
+            ClientSays::Watch { tag, version } => format!(in alloc; "watch {tag} {version}")?,
         };
         self.end_parts(alloc)?;
         Ok(self.lines.push(line)?)
@@ -118,6 +120,62 @@ fn each_client_is_heard_as_written(rt: HostRuntime) -> Result<(), Fail> {
     assert_eq!(rt; first_other(rt.alloc(), 1)?, None);
     assert_eq!(rt; first_other(rt.alloc(), 5)?, None);
     assert_eq!(rt; first_other(rt.alloc(), 13)?, None);
+    Ok(())
+}
+
+#[test]
+fn a_watch_is_heard_outside_of_a_content_and_within_one(rt: HostRuntime) -> Result<(), Fail> {
+    let row = Row {
+        name: "a watch, a content that begins, a watch within it, some of it",
+        bytes: &[
+            "000000110800000000000001020000000000000304",
+            "0000000a05000000000000000700",
+            "0000001108ffffffffffffffff0000000000000000",
+            "0000000a06000000000000000741",
+        ],
+        heard: &[
+            "watch 258 772",
+            "begin 7",
+            "watch 18446744073709551615 0",
+            "1 more",
+        ],
+        fault: None,
+    };
+    assert!(rt; is_heard(rt.alloc(), &row, usize::MAX)?);
+    assert!(rt; is_heard(rt.alloc(), &row, 1)?);
+    assert!(rt; is_heard(rt.alloc(), &row, 20)?);
+    Ok(())
+}
+
+#[test]
+fn a_watch_has_17_bytes(rt: HostRuntime) -> Result<(), Fail> {
+    let longer = Row {
+        name: "18 bytes",
+        bytes: &["0000001208"],
+        heard: &[],
+        fault: Some(ClientFault::Shape),
+    };
+    assert!(rt; is_heard(rt.alloc(), &longer, 1)?);
+    let shorter = Row {
+        name: "16 bytes",
+        bytes: &["0000001008"],
+        ..longer
+    };
+    assert!(rt; is_heard(rt.alloc(), &shorter, 1)?);
+    let mut out = Vec::new(rt.alloc());
+    put_newer(&mut out, 0x0102_0304_0506_0708, Version::new(0x1112))?;
+    let wanted = hex::decode(rt.alloc(), "000000110901020304050607080000000000001112")?;
+    assert_eq!(rt; out.as_slice(), wanted.as_slice());
+    Ok(())
+}
+
+#[test]
+fn refused_or_not_a_newer_version_is_spelled(rt: HostRuntime) -> Result<(), Fail> {
+    let mut out = Vec::new(rt.alloc());
+    may_refuse(rt.alloc());
+    let put = put_newer(&mut out, 7, Version::new(1));
+    refuse_no_more(rt.alloc());
+    assert_eq!(rt; out.len(), if put.is_ok() { 21 } else { 0 });
     Ok(())
 }
 
