@@ -6,10 +6,11 @@ import json, os, socket, struct, subprocess, sys, tempfile, threading, time
 
 from cases import Cases
 from guard import Guard, SECONDS, Service, ask, connected, frame, heard, number
+from parts import greeting
 from programs import program_beside
 
 NAMES = ["ready", "version", "services", "clients", "unanswered", "questions", "contents", "content_bytes", "asks_total", "grants_total", "denials_total",
-         "unscanned_total", "timeouts_total", "dropped_lines_total", "uptime_seconds", "service_seconds", "memory_bytes"]
+         "unscanned_total", "timeouts_total", "dropped_lines_total", "uptime_seconds", "service_seconds", "memory_bytes", "parts", "open_contents"]
 # Figures that time or the system decides.
 LOOSE = {"uptime_seconds", "service_seconds", "memory_bytes"}
 
@@ -35,7 +36,7 @@ def bytes_at(path):
 
 def figures_at(path):
     got = bytes_at(path)
-    return dict(zip(NAMES, struct.unpack(">17Q", got[1:]))) if len(got) == 137 and got[0] == 1 else got
+    return dict(zip(NAMES, struct.unpack(">19Q", got[1:]))) if len(got) == 153 and got[0] == 2 else got
 
 
 def exact(figures):
@@ -106,6 +107,32 @@ def late(cases, program):
         service.end.close()
 
 
+def parts(cases, program):
+    """The second connection of the service, and contents in parts without an answer."""
+    with Guard(program) as guard:
+        path = guard.opens + ".status"
+        service = Service(guard, 7, b"XX")
+        guard.await_line(b"service of version 7 connected\n")
+        second = connected(guard.service + ".parts")
+        base = {"ready": 1, "version": 7, "services": 1}
+        said(cases, "one that has not greeted takes no parts", base, awaited(path, base))
+        second.sendall(greeting(7))
+        base["parts"] = 1
+        said(cases, "one that has takes them", base, awaited(path, base))
+        client = connected(guard.opens)
+        client.sendall(frame(5, number(1), b"\0") + frame(6, number(1), b"A"))
+        base |= {"clients": 1, "asks_total": 1, "unanswered": 1, "open_contents": 1}
+        said(cases, "a content that is open", base, awaited(path, base))
+        client.sendall(frame(7, number(1), b"\1", number(1)))
+        cases.same("it is given up", heard(client, 14), frame(3, number(1), b"\15"))
+        base = {name: figure for name, figure in base.items() if name not in ("unanswered", "open_contents")} | {"denials_total": 1}
+        said(cases, "none is open", base, awaited(path, base))
+        second.close()
+        del base["parts"]
+        said(cases, "the connection is gone", base, awaited(path, base))
+        service.end.close()
+
+
 def served(service, client, count):
     """So many bytes of a client, whose contents the service judges meanwhile."""
     import select
@@ -151,7 +178,7 @@ def forms(cases, program):
         status, out, err = run(program, "metrics", guard.opens)
         metrics = out.decode().splitlines()
         names = [line.split(" ")[0] for line in metrics[2::3]]
-        cases.same("metrics", (status, len(metrics), names, err), (0, 51, ["avguard_" + name for name in NAMES], b""))
+        cases.same("metrics", (status, len(metrics), names, err), (0, 3 * len(NAMES), ["avguard_" + name for name in NAMES], b""))
         kinds = {line.split(" ")[2]: line.split(" ")[3] for line in metrics[1::3]}
         cases.same("types", kinds, {"avguard_" + name: "counter" if name.endswith("_total") else "gauge" for name in NAMES})
         cases.check("helps", all(line.startswith(f"# HELP {name} ") for line, name in zip(metrics[0::3], names)), metrics[0::3])
@@ -225,10 +252,10 @@ def no_guard(cases, program):
             got = run(program, command, "--wait", "1", opens)
             cases.same(f"{command} without a guard", got, (4, b"", b"avguard: %s: no guard listens\n" % os.fsencode(path)))
             cases.check(f"{command} waits", 0.9 < time.time() - begun < 4, time.time() - begun)
-        report = b"\1" + bytes(136)
-        for name, text, fine in (("nothing", b"", False), ("a byte less", report[:-1], False), ("a byte more", report + b"\0", False), ("another format", b"\2" + report[1:], False),
+        report = b"\2" + bytes(152)
+        for name, text, fine in (("nothing", b"", False), ("a byte less", report[:-1], False), ("a byte more", report + b"\0", False), ("another format", b"\1" + report[1:], False),
                                  ("text", b"ready 1\n", False), ("a report", report, True)):
-            for size in (1, 137, 4096):
+            for size in (1, 153, 4096):
                 with socket.socket(socket.AF_UNIX) as door:
                     door.bind(path)
                     door.listen(4)
@@ -293,7 +320,7 @@ def main():
     if len(sys.argv) != 2:
         sys.exit("usage: tests/status.py PROGRAM")
     cases = Cases()
-    for part in (figures, late, let_through, forms, crowds, no_guard, paths):
+    for part in (figures, late, let_through, parts, forms, crowds, no_guard, paths):
         try:
             part(cases, os.path.abspath(sys.argv[1]))
         except Exception as fault:

@@ -95,6 +95,16 @@ pub fn figures_of(report: &Report) -> [Figure; FIGURES]
             report.service_seconds,
         ),
         gauge("memory_bytes", "memory of the guard", report.memory_bytes),
+        gauge(
+            "parts",
+            "1 if the service takes contents in parts, else 0",
+            report.parts,
+        ),
+        gauge(
+            "open_contents",
+            "contents in parts without an answer",
+            report.open_contents,
+        ),
     ]
 }
 

@@ -7,13 +7,13 @@ use crate::counts::Counts;
 use std::alloc::{AllocError, Global};
 
 /// How many figures there are.
-pub const FIGURES: usize = 17;
+pub const FIGURES: usize = 19;
 
 /// The first byte of a report's bytes.
-pub const FORMAT: u8 = 1;
+pub const FORMAT: u8 = 2;
 
 /// How many bytes a report has: its format, and eight a figure.
-pub const REPORT_SIZE: usize = 137;
+pub const REPORT_SIZE: usize = 153;
 
 /// A guard at one moment.
 #[derive(Clone, Copy, Debug, PartialEq, Eq)]
@@ -41,6 +41,10 @@ pub struct Report {
     pub service_seconds: u64,
     /// The memory that the guard's process has; 0 where the system doesn't tell.
     pub memory_bytes: u64,
+    /// 1 if the service has a second connection, for contents in parts, else 0.
+    pub parts: u64,
+    /// Contents in parts that have no answer yet.
+    pub open_contents: u64,
 }
 
 // The figures in their order.
@@ -66,6 +70,8 @@ pub(crate) fn numbers_of(report: &Report) -> [u64; FIGURES]
         report.uptime_seconds,
         report.service_seconds,
         report.memory_bytes,
+        report.parts,
+        report.open_contents,
     ]
 }
 
@@ -106,7 +112,7 @@ pub fn report_in(bytes: &[u8]) -> Option<Report>
 
 #[tactic(auto, unfolding(crate::specs::Report::figures_in))]
 fn figures_in(bytes: &[u8]) -> Report
-    requires { 137 ≤ length bytes.now }
+    requires { 153 ≤ length bytes.now }
     ensures { result ≡ figures_in bytes.now }
 {
     Report {
@@ -122,12 +128,14 @@ fn figures_in(bytes: &[u8]) -> Report
         uptime_seconds: u64_at(bytes, 113),
         service_seconds: u64_at(bytes, 121),
         memory_bytes: u64_at(bytes, 129),
+        parts: u64_at(bytes, 137),
+        open_contents: u64_at(bytes, 145),
     }
 }
 
 #[tactic(auto, unfolding(crate::specs::Report::counts_in))]
 fn counts_in(bytes: &[u8]) -> Counts
-    requires { 137 ≤ length bytes.now }
+    requires { 153 ≤ length bytes.now }
     ensures { result ≡ counts_in bytes.now }
 {
     Counts {
