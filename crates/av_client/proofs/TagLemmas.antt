@@ -109,3 +109,7 @@ forgot_stays answers mid new (Some b) heard is k a at =
 -- an answer that came stays
 pub heard_answer : (old new : List (Option Reply)) (place : ℕ) → Hears old new → HasAnswer old place → HasAnswer new place
 heard_answer old new place heard (a, at) = (a, heard.stays place a at)
+
+-- what was heard first, and then stays
+pub stays_on : (a b c : List (Option Reply)) → Hears a b → Stays b c → Stays a c
+stays_on a b c heard stays k x at = stays k x (heard.stays k x at)

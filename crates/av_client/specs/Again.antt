@@ -17,6 +17,18 @@ abbrev pub cause_of : LargeAnswer → LargeCause
 cause_of (Denied tag cause) = cause
 cause_of (Unscanned tag generation cause) = cause
 
+-- a content was given up
+abbrev pub gives_up : LargeCause → Bool
+gives_up AskAgain = false
+gives_up TooLarge = false
+gives_up GivenUp = true
+gives_up NoParts = false
+
+-- a reply says so, and nothing more
+abbrev pub is_given_up : Reply → Bool
+is_given_up (Open a) = false
+is_given_up (Large a) = gives_up (cause_of a)
+
 -- a small content whose service takes no parts is asked about as one
 abbrev pub way_after : LargeCause → Bool → Option Way
 way_after AskAgain is_small = Some Parts

@@ -1,5 +1,6 @@
 -- What a client asks, and where its answers stand.
-use Rattle.std.specs.Prelude.{ℕ, ◌≡◌, ◌+◌, ◌⊎◌, List, [], ◌∷◌, ◌++◌, length, take, Option, None, Some, slice_get, slice_set}
+use Rattle.std.specs.Io.KnownBytes.{IsAtEnd}
+use Rattle.std.specs.Prelude.{ℕ, ◌≡◌, ◌+◌, ◌⊎◌, Bool, false, true, List, [], ◌∷◌, ◌++◌, length, take, Option, None, Some, slice_get, slice_set}
 use Rattle.av_asks.specs.Spelling as ask
 use Rattle.av_asks.specs.declared.answer.OpenAnswer.{OpenAnswer}
 use Rattle.av_asks.specs.declared.answer.OpenAnswer.TheVariants as open_answer
@@ -75,6 +76,21 @@ IsOwedEach owed answers = owed ≡ unanswered answers
 -- the answer at a place has come
 abbrev pub HasAnswer : List (Option Reply) → ℕ → Type 0
 HasAnswer answers place = (a : Reply) × (slice_get answers place ≡ Some (Some a))
+
+-- a reply grants the open
+abbrev pub is_grant : Reply → Bool
+is_grant (Open (Granted open_id least stream generation version)) = true
+is_grant (Open (Denied open_id cause)) = false
+is_grant (Open (Unscanned open_id stream generation cause)) = false
+is_grant (Large a) = false
+
+-- the answer at a place grants nothing
+abbrev pub IsRefused : List (Option Reply) → ℕ → Type 0
+IsRefused answers place = (a : Reply) × (slice_get answers place ≡ Some (Some a)) × (is_grant a ≡ false)
+
+-- all of a content was read, or the answer at a place grants nothing
+abbrev pub IsReadOrRefused : Option (List ℕ) → List (Option Reply) → ℕ → Type 0
+IsReadOrRefused rest answers place = IsAtEnd rest ⊎ IsRefused answers place
 
 -- the last answer was taken back, where it had come
 abbrev pub Forgets : List (Option Reply) → List (Option Reply) → Option Reply → Type 0

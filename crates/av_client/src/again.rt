@@ -56,7 +56,7 @@ fn way_after(cause: LargeCause, is_small: bool) -> Option<Way>
 }
 
 // Why a content in parts was not judged.
-fn cause_of(answer: LargeAnswer) -> LargeCause
+pub(crate) fn cause_of(answer: LargeAnswer) -> LargeCause
     ensures { result ≡ cause_of answer }
 {
     match answer {

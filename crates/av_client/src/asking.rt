@@ -1,14 +1,15 @@
-ghost use Rattle.std.specs.Prelude.{◌≡◌, ◌≤◌, ◌+◌, ◌-◌, ◌<◌, ◌++◌, ◌∷◌, [], length, true, vec_len, None, IfErr, IfOk, IsSome, OnErr, OnOk};
+ghost use Rattle.std.specs.Prelude.{◌≡◌, ◌≤◌, ◌+◌, ◌-◌, ◌<◌, ◌++◌, ◌∷◌, [], length, true, vec_len, None, Option, IfErr, IfOk, IsSome, OnErr, OnOk};
 ghost use Rattle.std.specs.Io.KnownBytes.{IsAtEnd};
 ghost use Rattle.std.specs.List.{All};
 ghost use Rattle.std.specs.Vec.{vec_capacity};
 ghost use Rattle.av_asks.specs.Spelling.{ask_frame};
-ghost use Rattle.av_client.specs.Asking.{AreAtTheirTags, Forgets, HasAnswer, Hears, IsGuardless, IsKept, IsOwedEach, Stays, ask_of, told_of};
+ghost use Rattle.av_client.specs.Asking.{AreAtTheirTags, Forgets, HasAnswer, Hears, IsGuardless, IsKept, IsOwedEach, IsReadOrRefused, IsRefused, Stays, ask_of, told_of};
 ghost use Rattle.av_client.specs.Again.{taken_after};
+ghost use Rattle.av_client.specs.declared.reply.Reply.{Reply};
 
 use crate::again::taken_after;
-use crate::reply::{Reply, told};
-use crate::sending::{SendingFault, label_of, send_content, send_given_up};
+use crate::reply::{Reply, is_given_up, is_grant, told};
+use crate::sending::{Early, SendingFault, label_of, send_content, send_given_up};
 use av_asks::{ContentAnswer, ContentAnswerFeed, How, put_ask};
 use av_base::Refusal;
 use av_sockets::{Duplex, Hearing, Meeting, Saying, SocketFault, connect};
@@ -35,6 +36,18 @@ pub struct Asker<'a, R> {
     owed: usize,
     room: Vec<u8>,
     takes_parts: bool,
+}
+
+// What comes to a client that is owed the answer to one content alone.
+#[derive(Drop)]
+struct Coming<'a, 'b, R> {
+    duplex: &'b Duplex<'a, R>,
+}
+
+impl<'a, 'b, R: Clock> Early for Coming<'a, 'b, R> {
+    fn has_answer(&self) -> bool {
+        self.duplex.has_come()
+    }
 }
 
 /// Why a content has no answer.
@@ -116,30 +129,78 @@ impl<'a, R: Net + Clock> Asker<'a, R> {
     }
 
     /// Asks about a content of any size, which goes to the guard in parts as a reader gives it, and waits for its answer. Where the
-    /// reader fails the content is given up, and has no place among the answers.
-    #[tactic(auto, using(crate::proofs::TagLemmas::asked_stays, crate::proofs::TagLemmas::asked_tags, crate::proofs::TagLemmas::forgot_stays))]
+    /// reader fails the content is given up, and has no place among the answers. Where an answer comes before all was sent the rest is
+    /// not read; such an answer grants nothing.
+    #[tactic(auto, using(crate::proofs::TagLemmas::stays_on))]
     pub fn ask_in_parts<C: Read>(&mut self, name: &str, content: &mut C) -> Result<(), AskingFault>
         ensures place { OnOk result (length self.new.answers.items ≡ length self.old.answers.items + 1) }
         ensures answered { OnOk result (HasAnswer self.new.answers.items (length self.old.answers.items)) }
-        ensures read { OnOk result (IsAtEnd (C.remaining content.new)) }
+        ensures read { OnOk result (IsReadOrRefused (C.remaining content.new) self.new.answers.items (length self.old.answers.items)) }
+        ensures fewer { OnOk result (self.new.owed < 128) }
+        ensures each { IsOwedEach self.old.owed self.old.answers.items → IsOwedEach self.new.owed self.new.answers.items }
+        ensures stays { Stays self.old.answers.items self.new.answers.items }
+        ensures tags { AreAtTheirTags self.old.answers.items → AreAtTheirTags self.new.answers.items }
+    {
+        // (so that what comes while it is sent is its answer)
+        self.finish()?;
+        self.ask_alone(name, content)
+    }
+
+    // The same where nothing else is owed.
+    #[tactic(auto, using(crate::proofs::TagLemmas::asked_stays, crate::proofs::TagLemmas::asked_tags, crate::proofs::TagLemmas::forgot_stays))]
+    fn ask_alone<C: Read>(&mut self, name: &str, content: &mut C) -> Result<(), AskingFault>
+        ensures place { OnOk result (length self.new.answers.items ≡ length self.old.answers.items + 1) }
+        ensures answered { OnOk result (HasAnswer self.new.answers.items (length self.old.answers.items)) }
+        ensures read { OnOk result (IsReadOrRefused (C.remaining content.new) self.new.answers.items (length self.old.answers.items)) }
         ensures fewer { OnOk result (self.new.owed < 128) }
         ensures each { IsOwedEach self.old.owed self.old.answers.items → IsOwedEach self.new.owed self.new.answers.items }
         ensures stays { Stays self.old.answers.items self.new.answers.items }
         ensures tags { AreAtTheirTags self.old.answers.items → AreAtTheirTags self.new.answers.items }
     {
         let place = self.reserve_place()?;
-        let mut saying = Saying {
-            duplex: &self.duplex,
-        };
-        let how = match send_content(self.alloc, place as u64, name, content, &mut saying) {
-            Ok(how) => how,
-            Err(fault) => return Err(fault_of(fault)),
-        };
+        let how = self.send_under(place, name, content)?;
         self.take_place();
         self.await_answer(place)?;
         match how {
             How::Whole => Ok(()),
-            How::GivenUp => {
+            How::GivenUp => self.settle_given_up(place),
+        }
+    }
+
+    // Sends a content under the tag of a place, as long as nothing comes.
+    fn send_under<C: Read>(
+        &self,
+        place: usize,
+        name: &str,
+        content: &mut C,
+    ) -> Result<How, AskingFault>
+        ensures whole { IfOk result (λ how. how ≡ How.Whole → IsAtEnd (C.remaining content.new)) }
+        ensures large { ¬ (result ≡ Err AskingFault.TooLarge) }
+    {
+        let mut saying = Saying {
+            duplex: &self.duplex,
+        };
+        let early = Coming {
+            duplex: &self.duplex,
+        };
+        match send_content(self.alloc, place as u64, name, content, &mut saying, &early) {
+            Ok(how) => Ok(how),
+            Err(fault) => Err(fault_of(fault)),
+        }
+    }
+
+    // The content at a place was given up, and has an answer: one that only says so is taken back. No such content can be granted.
+    fn settle_given_up(&mut self, place: usize) -> Result<(), AskingFault>
+        ensures same { OnOk result (self.new ≡ self.old) }
+        ensures refused { OnOk result (IsRefused self.new.answers.items place) }
+        ensures taken { OnErr result ((last : Option Reply) × Forgets self.old.answers.items self.new.answers.items last) }
+        ensures each { IsOwedEach self.old.owed self.old.answers.items → IsOwedEach self.new.owed self.new.answers.items }
+        ensures tags { AreAtTheirTags self.old.answers.items → AreAtTheirTags self.new.answers.items }
+    {
+        match self.answers.get(place) {
+            Some(Some(reply)) if is_grant(reply) => Err(AskingFault::Lost),
+            Some(Some(reply)) if !is_given_up(reply) => Ok(()),
+            _ => {
                 self.forget_last();
                 Err(AskingFault::Unread)
             }

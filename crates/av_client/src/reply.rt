@@ -1,7 +1,9 @@
 ghost use Rattle.std.specs.Prelude.{◌≡◌};
-ghost use Rattle.av_client.specs.Asking.{answer_of, told_of};
+ghost use Rattle.av_client.specs.Again.{is_given_up};
+ghost use Rattle.av_client.specs.Asking.{answer_of, is_grant, told_of};
 
-use av_asks::{ContentAnswer, LargeAnswer, OpenAnswer};
+use crate::again::cause_of;
+use av_asks::{ContentAnswer, LargeAnswer, LargeCause, OpenAnswer};
 use av_base::{OpenId, StreamId, Version};
 use av_pend::Answer;
 
@@ -67,5 +69,22 @@ fn open(answer: OpenAnswer) -> Answer
             generation,
             cause,
         },
+    }
+}
+
+// Whether it grants the open.
+pub(crate) fn is_grant(reply: &Reply) -> bool
+    ensures { result ≡ is_grant reply.now }
+{
+    matches!(reply, Reply::Open(Answer::Granted { .. }))
+}
+
+// Whether it says that the content was given up, and nothing more.
+pub(crate) fn is_given_up(reply: &Reply) -> bool
+    ensures { result ≡ is_given_up reply.now }
+{
+    match reply {
+        Reply::Open(_) => false,
+        Reply::Large(answer) => matches!(cause_of(*answer), LargeCause::GivenUp),
     }
 }

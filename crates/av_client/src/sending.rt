@@ -24,6 +24,12 @@ pub enum SendingFault {
     Write,
 }
 
+/// Who sees whether a content is to be sent to its end.
+pub trait Early {
+    /// Whether an answer to the content has come, so that the rest of it need not be sent.
+    fn has_answer(&self) -> bool;
+}
+
 impl From<AllocError> for SendingFault {
     ghost use Rattle.std.specs.Prelude.{◌≡◌};
     ghost use Rattle.av_client.specs.declared.sending.SendingFault.TheVariants.{Memory};
@@ -36,22 +42,23 @@ impl From<AllocError> for SendingFault {
 }
 
 /// Writes a content under a tag as a guard takes one of any size: its beginning with as much of the name as a label has room for, in
-/// parts all that a reader gives, and its end. Where the reader fails the content is given up behind the parts before. Each read
-/// gives one part of at most 131,072 bytes.
+/// parts all that a reader gives, and its end. Where the reader fails, or an answer has come, the content is given up behind the parts
+/// before. Each read gives one part of at most 131,072 bytes.
 #[tactic(auto, using(crate::proofs::SendLemmas::all_sent))]
-pub fn send_content<C: Read, W: Write>(
+pub fn send_content<C: Read, W: Write, L: Early>(
     alloc: Global,
     tag: u64,
     name: &str,
     content: &mut C,
     out: &mut W,
+    early: &L,
 ) -> Result<How, SendingFault>
     ensures { IfOk result (λ how. IsSent tag (take 255 name.now) how (C.remaining content.old) (C.remaining content.new) (W.contents out.old) (W.contents out.new)) }
 {
     let mut room = Vec::new(alloc);
     let mut piece = vec![in alloc; 0u8; PART]?;
     send_begin(&mut room, tag, name, out)?;
-    let sent = send_parts(&mut room, &mut piece, tag, content, out)?;
+    let sent = send_parts(&mut room, &mut piece, tag, content, out, early)?;
     send_end(&mut room, tag, sent, out)?;
     Ok(sent.how)
 }
@@ -97,21 +104,22 @@ fn send_begin<W: Write>(
     write_frame(room, out)
 }
 
-// Writes a part for each read, until there is nothing more or a read fails. No content has as many bytes as can't be counted.
+// Writes a part for each read, until there is nothing more, a read fails, or an answer has come. No content has as many bytes as can't be counted.
 #[tactic(auto, using(crate::proofs::SendLemmas::none_brought, crate::proofs::SendLemmas::more_brought, crate::proofs::SendLemmas::kept_brought, crate::proofs::SendLemmas::end_brought))]
-fn send_parts<C: Read, W: Write>(
+fn send_parts<C: Read, W: Write, L: Early>(
     room: &mut Vec<u8>,
     piece: &mut [u8],
     tag: u64,
     content: &mut C,
     out: &mut W,
+    early: &L,
 ) -> Result<Sent, SendingFault>
     requires { length piece.old ≡ PART }
     ensures { IfOk result (λ sent. SendsParts tag sent (C.remaining content.old) (C.remaining content.new) (W.contents out.old) (W.contents out.new)) }
 {
     let mut count = 0u64;
     'parts: for _ in 0..u64::MAX {
-        if count > u64::MAX - PART as u64 {
+        if count > u64::MAX - PART as u64 || early.has_answer() {
             break;
         }
         let Ok(read) = content.read(piece) else {

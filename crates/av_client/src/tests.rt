@@ -1,8 +1,9 @@
 use crate::again::{Chance, Way, next_way};
 use crate::reply::Reply;
-use crate::sending::{SendingFault, send_content, send_given_up};
+use crate::sending::{Early, SendingFault, send_content, send_given_up};
 use av_asks::{How, LargeAnswer, LargeCause};
 use av_fakes::{FakeReader, FakeWriter, Fault, may_refuse, refuse_no_more};
+use std::cell::Cell;
 use std::test::Fail;
 
 // Frames of a content under the tag 7 and the name a: its beginning, parts of two bytes and of one, and its end, whole or given up.
@@ -14,11 +15,64 @@ const C: &[u8] = b"\0\0\0\x0a\x06\0\0\0\0\0\0\0\x07C";
 
 const END_OF_3: &[u8] = b"\0\0\0\x12\x07\0\0\0\0\0\0\0\x07\0\0\0\0\0\0\0\0\x03";
 
+const END_OF_2: &[u8] = b"\0\0\0\x12\x07\0\0\0\0\0\0\0\x07\0\0\0\0\0\0\0\0\x02";
+
 const END_OF_0: &[u8] = b"\0\0\0\x12\x07\0\0\0\0\0\0\0\x07\0\0\0\0\0\0\0\0\0";
 
 const UP_AT_2: &[u8] = b"\0\0\0\x12\x07\0\0\0\0\0\0\0\x07\x01\0\0\0\0\0\0\0\x02";
 
 const UP_AT_0: &[u8] = b"\0\0\0\x12\x07\0\0\0\0\0\0\0\x07\x01\0\0\0\0\0\0\0\0";
+
+// No answer comes.
+#[derive(Drop)]
+struct Never;
+
+impl Early for Never {
+    fn has_answer(&self) -> bool {
+        false
+    }
+}
+
+// An answer comes behind so many looks.
+#[derive(Drop)]
+struct Behind {
+    looks: Cell<u32>,
+}
+
+impl Early for Behind {
+    fn has_answer(&self) -> bool {
+        let left = self.looks.get();
+        self.looks.set(left.saturating_sub(1));
+        left == 0
+    }
+}
+
+#[test]
+fn what_follows_an_early_answer_is_not_sent(rt: HostRuntime) -> Result<(), Fail> {
+    let rows: [(u32, How, &[&[u8]]); 4] = [
+        (0, How::GivenUp, &[BEGIN, UP_AT_0]),
+        (1, How::GivenUp, &[BEGIN, AB, UP_AT_2]),
+        (2, How::Whole, &[BEGIN, AB, END_OF_2]),
+        (3, How::Whole, &[BEGIN, AB, END_OF_2]),
+    ];
+    for (looks, how, frames) in rows {
+        let mut reader = FakeReader::new(b"AB").in_pieces_of(2);
+        let mut writer = FakeWriter::new(rt.alloc());
+        let early = Behind {
+            looks: Cell::new(looks),
+        };
+        let sent = send_content(rt.alloc(), 7, "a", &mut reader, &mut writer, &early)?;
+        let mut wanted = Vec::new(rt.alloc());
+        for frame in frames {
+            wanted.extend_from_slice(frame)?;
+        }
+        assert!(rt;
+            sent == how && writer.taken() == wanted.as_slice(),
+            "{looks}"
+        );
+    }
+    Ok(())
+}
 
 #[test]
 fn a_content_goes_in_a_frame_for_each_read(rt: HostRuntime) -> Result<(), Fail> {
@@ -36,7 +90,7 @@ fn a_content_goes_in_a_frame_for_each_read(rt: HostRuntime) -> Result<(), Fail> 
             None => reader,
         };
         let mut writer = FakeWriter::new(rt.alloc()).in_pieces_of(5);
-        let sent = send_content(rt.alloc(), 7, "a", &mut reader, &mut writer)?;
+        let sent = send_content(rt.alloc(), 7, "a", &mut reader, &mut writer, &Never)?;
         assert_eq!(rt; sent, how);
         let mut wanted = Vec::new(rt.alloc());
         for frame in frames {
@@ -52,7 +106,7 @@ fn a_long_content_goes_in_parts_of_131072_bytes(rt: HostRuntime) -> Result<(), F
     let content = vec![in rt.alloc(); 65u8; 300_000]?;
     let mut reader = FakeReader::new(content.as_slice());
     let mut writer = FakeWriter::new(rt.alloc());
-    let sent = send_content(rt.alloc(), 1, "a", &mut reader, &mut writer)?;
+    let sent = send_content(rt.alloc(), 1, "a", &mut reader, &mut writer, &Never)?;
     assert_eq!(rt; sent, How::Whole);
     assert_eq!(rt; writer.taken().len(), 15 + 3 * 13 + 300_000 + 22);
     assert_eq!(rt; writer.writes(), 5);
@@ -88,7 +142,7 @@ fn a_write_that_fails_is_told(rt: HostRuntime) -> Result<(), Fail> {
         for fault in [Fault::Fails { write }, Fault::TakesNothing { write }] {
             let mut reader = FakeReader::new(b"ABC").in_pieces_of(2);
             let mut writer = FakeWriter::new(rt.alloc()).with(fault);
-            let sent = send_content(rt.alloc(), 7, "a", &mut reader, &mut writer);
+            let sent = send_content(rt.alloc(), 7, "a", &mut reader, &mut writer, &Never);
             assert_eq!(rt; sent, Err(SendingFault::Write), "{fault:?}");
         }
     }
@@ -100,7 +154,7 @@ fn refused_or_not_a_content_is_sent(rt: HostRuntime) -> Result<(), Fail> {
     let mut writer = FakeWriter::new(rt.alloc());
     let mut reader = FakeReader::new(b"ABC");
     may_refuse(rt.alloc());
-    let sent = send_content(rt.alloc(), 7, "a", &mut reader, &mut writer);
+    let sent = send_content(rt.alloc(), 7, "a", &mut reader, &mut writer, &Never);
     refuse_no_more(rt.alloc());
     match sent {
         Ok(how) => assert_eq!(rt; how, How::Whole),

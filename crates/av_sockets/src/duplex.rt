@@ -119,6 +119,17 @@ impl<'a, C: Clock> Duplex<'a, C> {
         }
     }
 
+    /// Whether something has come that was not read yet, as far as that can be seen without waiting.
+    pub fn has_come(&self) -> bool {
+        match self.inside.try_borrow_mut() {
+            Ok(mut inside) => {
+                let _ = inside.read_ahead(&self.line);
+                inside.kept.len() > inside.given
+            }
+            Err(_) => false,
+        }
+    }
+
     /// From now on the next frame is waited for without an end, as long as it has not begun, and a read that waits at this
     /// moment ends with WouldBlock.
     pub fn wake_at(&self, moment: Duration) {
