@@ -5,3 +5,4 @@ pub mod NumberLemmas
 pub mod StateLemmas
 pub mod PromiseLemmas
 pub mod FollowLemmas
+pub mod JudgedLemmas

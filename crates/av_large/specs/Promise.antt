@@ -101,3 +101,33 @@ abbrev pub LargeGrantsAreClean : Type 0
 LargeGrantsAreClean =
     (es : List Event) (sets : List Compiled) → SaysRight sets at_first [] es
     → AllByRecursion (λ (t : Told). IsJust sets (written_in at_first [] es) t t.answer) (told_in at_first es)
+
+-- ---- put together with a judge behind each connection
+
+-- A word was said by a judge over the connection over which these orders were sent. It began with a set, and what happened to it is
+-- orders that were sent, the first of all, and newer sets. All its sets are among these.
+pub record IsOfJudge (sets : List Compiled) (sent : List Order) (w : Word) : Type 0 where
+  pub set : Compiled
+  pub happened : List Happening
+  pub judging : Judging
+  pub words : List Word
+  pub more : List Order
+  pub went : judged happened (begun set) [] ≡ Ok (judging, words)
+  pub said : Among w words
+  pub obeyed : sent ≡ orders_of happened ++ more
+  pub known : AllByRecursion (λ (s : Compiled). Among s sets) (sets_of set happened)
+
+abbrev pub IsSaidByJudge : List Compiled → List Order → Event → Type 0
+IsSaidByJudge sets sent (Hears floor w) = IsOfJudge sets sent w
+IsSaidByJudge sets sent e = Unit {0}
+
+-- each word that comes was said by a judge over its connection
+unfoldable pub AreOfJudges : List Compiled → State → List Order → List Event → Type 0
+AreOfJudges sets g sent [] = Unit {0}
+AreOfJudges sets g sent (e ∷ es) = IsSaidByJudge sets sent e × AreOfJudges sets (step_of g e).state (sent_after sent e (step_of g e).orders) es
+
+-- then grants are clean; patterns have 1 to 64 bytes, as those of every signature set
+abbrev pub JudgedGrantsAreClean : Type 0
+JudgedGrantsAreClean =
+    (es : List Event) (sets : List Compiled) → AllByRecursion (λ (s : Compiled). AreSolid s.patterns) sets → AreOfJudges sets at_first [] es
+    → AllByRecursion (λ (t : Told). IsJust sets (written_in at_first [] es) t t.answer) (told_in at_first es)

@@ -1,7 +1,7 @@
 //! Laws, each the contract of a function that does nothing: a call hands its law to the caller.
 
 ghost use Rattle.av_large.specs.Laws.{LargeAsksAreAnsweredOnce, NothingFollowsTheEnd, NumbersRise, WordsGrantAtTheFloor};
-ghost use Rattle.av_large.specs.Promise.{JudgesSayRight, LargeGrantsAreClean};
+ghost use Rattle.av_large.specs.Promise.{JudgedGrantsAreClean, JudgesSayRight, LargeGrantsAreClean};
 
 /// Only a word of the service grants, and each grant names the guard's floor of its moment.
 pub fn words_grant_at_the_floor()
@@ -21,8 +21,10 @@ pub fn numbers_rise()
 {}
 
 /// A grant is of a content that its client wrote whole under its tag, and that is clean under a set of the version that is named.
-/// It is assumed that each word was right of orders that were sent over its connection, as each word of a judge is that got them.
+/// It is assumed that each word was right of orders that were sent over its connection, as each word of a judge is that got them. Where
+/// a judge of av_parts said each, nothing more is assumed.
 pub fn large_grants_are_clean()
     ensures grants { LargeGrantsAreClean }
     ensures judges { JudgesSayRight }
+    ensures together { JudgedGrantsAreClean }
 {}

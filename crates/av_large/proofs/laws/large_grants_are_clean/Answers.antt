@@ -1,3 +1,4 @@
+use Rattle.av_large.proofs.JudgedLemmas.{judged_grants_are_clean}
 use Rattle.av_large.proofs.PromiseLemmas.{grants_are_clean, judges_say_right}
 use Rattle.av_large.proofs.laws.large_grants_are_clean.Goals as goal
 
@@ -6,3 +7,6 @@ returns-clause-grants c = grants_are_clean
 
 pub returns-clause-judges : goal.returns-clause-judges
 returns-clause-judges c = judges_say_right
+
+pub returns-clause-together : goal.returns-clause-together
+returns-clause-together c = judged_grants_are_clean
