@@ -2,7 +2,7 @@
 _avtool() {
     local word=${COMP_WORDS[COMP_CWORD]} before=${COMP_WORDS[COMP_CWORD - 1]} command=${COMP_WORDS[1]-} options
     if [ "$COMP_CWORD" = 1 ]; then
-        COMPREPLY=($(compgen -W "chart generate import help --help --version" -- "$word"))
+        COMPREPLY=($(compgen -W "chart generate import merge help --help --version" -- "$word"))
         return
     fi
     case $before in
@@ -15,7 +15,8 @@ _avtool() {
     chart) options="--from --to --help" ;;
     generate) options="--seed --commands --profile --help" ;;
     import) options="--set-version --any-target --format-1 --all --help" ;;
-    help) options="chart generate import" ;;
+    merge) options="--set-version --output --help" ;;
+    help) options="chart generate import merge" ;;
     *) options="--help" ;;
     esac
     case $command:$word in

@@ -78,14 +78,14 @@ avscan.1)
     see_also avguard.1 avtool.1 avsig.5 avscript.5
     ;;
 avguard.1)
-    command_page avguard "answer other programs whether a content may be opened" "$2" run ask status metrics check-config
+    command_page avguard "answer other programs whether a content may be opened" "$2" run ask status metrics paths check-config
     echo .SH "CONFIGURATION FILES"
     part "### Configuration files"
     of_all
     see_also avscan.1 avsig.5
     ;;
 avtool.1)
-    command_page avtool "draw scripts, make random ones, take signatures of other products" "$2" chart generate import
+    command_page avtool "draw scripts, make random ones, take signatures of other products, merge signature files" "$2" chart generate import merge
     of_all
     see_also avscan.1 avsig.5 avscript.5
     ;;

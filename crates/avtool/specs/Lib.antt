@@ -1,3 +1,4 @@
 pub mod Chart
 pub mod Generate
 pub mod Import
+pub mod Merge

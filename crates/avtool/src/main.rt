@@ -1,9 +1,10 @@
-//! The program that draws scripts, makes random ones, and takes signatures of other products.
+//! The program that draws scripts, makes random ones, takes signatures of other products, and merges signature files.
 #![tactic(auto)]
 
 mod chart;
 mod generate;
 mod import;
+mod merge;
 
 use av_program::{Errors, Output, command_line, held, say_output_fault};
 use av_status::faults::out_of_memory;
@@ -12,6 +13,7 @@ use avtool_words::{PROGRAM, Request, read_words};
 use chart::chart_named;
 use generate::generate;
 use import::import_named;
+use merge::merge_named;
 use std::alloc::Global;
 use std::cell::Cell;
 use std::io::{BufWriter, Error, Write};
@@ -68,6 +70,7 @@ fn done<W: Write>(
         Request::Chart(chart) => chart_named(rt, alloc, *chart, out, &mut err),
         Request::Generate(script) => generate(alloc, *script, out, &mut err),
         Request::Import(import) => import_named(rt, alloc, import, out, &mut err),
+        Request::Merge(merge) => merge_named(rt, alloc, merge, out, &mut err),
     };
     say_output_fault(rt, alloc, fault, &mut err);
     status

@@ -6,11 +6,12 @@ use av_words::{Absent, Kind, Word, command_of, with};
 use clap::Command;
 use std::alloc::{AllocError, Global};
 
-/// The command line: a command each that draws a script, makes one, and takes signatures of other products.
+/// The command line: a command each that draws a script, makes one, takes signatures of other products, and merges signature sets.
 pub fn avtool_command<'a>(alloc: Global) -> Result<Command<'a>, AllocError> {
     let command = with(program(alloc), chart_command(alloc))?;
     let command = with(command, generate_command(alloc))?;
-    with(command, import_command(alloc))
+    let command = with(command, import_command(alloc))?;
+    with(command, merge_command(alloc))
 }
 
 // The program without its commands.
@@ -18,13 +19,14 @@ fn program<'a>(alloc: Global) -> Command<'a> {
     Command::new(alloc, PROGRAM)
         .version("0.1.0")
         .about(
-            "Draws scripts of avscan, makes random ones, and takes signatures of other products.",
+            "Draws scripts of avscan, makes random ones, takes signatures of other products, and merges signature files.",
         )
         .after_help(
             "Examples:\
              \n  avtool chart examples/late_reply.avs > late_reply.svg             draw a script\
              \n  avtool generate --seed 1 --commands 100 | avscan run -            run a random one\
              \n  avtool import --set-version 7 examples/other.ndb > set.avsig      take signatures of ClamAV or YARA\
+             \n  avtool merge first.avsig second.avsig > set.avsig                 make one signature file of several\
              \n\nExit status: 0 all done, 1 input refused, 2 usage, 3 memory, 4 device.",
         )
         .subcommand_required(true)
@@ -72,6 +74,42 @@ fn import_command<'a>(alloc: Global) -> Result<Command<'a>, AllocError> {
         &[IMPORTED_FILES, SET_VERSION, ANY_TARGET, FORMAT_1, ALL],
     )
 }
+
+fn merge_command<'a>(alloc: Global) -> Result<Command<'a>, AllocError> {
+    command_of(
+        alloc,
+        "merge",
+        "Writes one signature file that finds what several find",
+        "Signatures come in the order of the files and of their lines. One that an earlier file has, name and pattern, is left out.\
+         \nA name that an earlier file has with another pattern is a fault, and nothing is written.\
+         \n\nExample:\
+         \n  avtool merge --output set.avsig examples/test.avsig examples/ranges.avsig",
+        &[MERGED_FILES, MERGED_VERSION, OUTPUT],
+    )
+}
+
+const MERGED_FILES: Word = Word {
+    name: "file",
+    kind: Kind::RequiredFiles { shown: "SET" },
+    help: "Signature files, each with signatures",
+};
+
+const MERGED_VERSION: Word = Word {
+    name: "set-version",
+    kind: Kind::Number {
+        shown: "N",
+        least: 1,
+        greatest: 18_446_744_073_709_551_615,
+        absent: Absent::MeansNothing,
+    },
+    help: "The version of the signature file that is written, 1 to 2^64 - 1 [default: the greatest of the files]",
+};
+
+const OUTPUT: Word = Word {
+    name: "output",
+    kind: Kind::Value { shown: "FILE" },
+    help: "Writes FILE in one step, in place of standard output",
+};
 
 const IMPORTED_FILES: Word = Word {
     name: "file",

@@ -9,6 +9,8 @@ pub enum Request<'a> {
     Generate(Generate),
     /// Write a signature file with the signatures of files of other products.
     Import(Import<'a>),
+    /// Write a signature file of several.
+    Merge(Merge<'a>),
 }
 
 /// The script in this file, or on standard input for `-`, of which the lines `from` to `to` are drawn, counted from 1.
@@ -45,4 +47,13 @@ pub struct Taking {
     pub has_format_1: bool,
     /// Nothing is written where anything was left out.
     pub wants_all: bool,
+}
+
+/// Which signature files are merged, the version of the one that is written if it isn't the greatest of theirs, and the file that is
+/// written instead of standard output.
+#[derive(Drop)]
+pub struct Merge<'a> {
+    pub files: Vec<&'a str>,
+    pub version: Option<u64>,
+    pub output: Option<&'a str>,
 }

@@ -152,3 +152,36 @@ fn signatures_are_taken_as_is_asked_for(rt: HostRuntime) -> Result<(), Fail> {
     }
     Ok(())
 }
+
+// How many files are merged, under which version and into which file, as a line asks for.
+fn merge_of<'a>(
+    alloc: Global,
+    words: &'a [&'a str],
+) -> Option<(usize, Option<u64>, Option<&'a str>)> {
+    match request_of(alloc, words) {
+        Some(Request::Merge(it)) => Some((it.files.len(), it.version, it.output)),
+        _ => None,
+    }
+}
+
+#[test]
+fn sets_are_merged_as_is_asked_for(rt: HostRuntime) -> Result<(), Fail> {
+    let alloc = rt.alloc();
+    for (line, merge) in [
+        ("merge a", Some((1, None, None))),
+        ("merge a b c", Some((3, None, None))),
+        ("merge --set-version 1 a b", Some((2, Some(1), None))),
+        (
+            "merge a b --set-version 18446744073709551615 --output c",
+            Some((2, Some(18_446_744_073_709_551_615), Some("c"))),
+        ),
+        ("merge --set-version 0 a", None),
+        ("merge --set-version 18446744073709551616 a", None),
+        ("merge --output c", None),
+        ("merge", None),
+    ] {
+        let words = words_of(alloc, line).unwrap_or(Vec::new(alloc));
+        assert!(&rt; merge_of(alloc, words.as_slice()) == merge, "{line}");
+    }
+    Ok(())
+}

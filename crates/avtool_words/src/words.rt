@@ -2,7 +2,7 @@ ghost use Rattle.std.specs.Prelude.{IfErr};
 ghost use Rattle.av_words.specs.Words.{IsOfWords};
 
 use crate::commands::avtool_command;
-use crate::request::{Chart, Generate, Import, Request, Taking};
+use crate::request::{Chart, Generate, Import, Merge, Request, Taking};
 use av_status::faults::out_of_memory;
 use av_status::status::Status;
 use av_words::matched::{files_of, number_of, text_of};
@@ -37,6 +37,7 @@ fn request_of<'a>(alloc: Global, matches: &ArgMatches<'a>) -> Result<Request<'a>
     match matches.subcommand() {
         Some(("generate", generate)) => Ok(generate_of(generate)),
         Some(("import", import)) => import_of(alloc, import),
+        Some(("merge", merge)) => merge_of(alloc, merge),
         Some((_, chart)) => Ok(chart_of(chart)),
         None => Ok(chart_of(matches)),
     }
@@ -63,6 +64,14 @@ fn import_of<'a>(alloc: Global, matches: &ArgMatches<'a>) -> Result<Request<'a>,
         files: files_of(alloc, matches)?,
         version: number_of(matches, "set-version"),
         taking: taking_of(matches),
+    }))
+}
+
+fn merge_of<'a>(alloc: Global, matches: &ArgMatches<'a>) -> Result<Request<'a>, AllocError> {
+    Ok(Request::Merge(Merge {
+        files: files_of(alloc, matches)?,
+        version: matches.get_one::<u64>("set-version"),
+        output: matches.get_str("output"),
     }))
 }
 

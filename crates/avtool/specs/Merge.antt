@@ -1,0 +1,46 @@
+-- What a merge of signature files writes.
+use Rattle.std.specs.Prelude.{ℕ, ◌≡◌, ◌≤◌, ◌<◌, ◌⊎◌, List, length, Option, None, Some, Ok, unwrap_or}
+use Rattle.std.specs.Io.KnownBytes.{Appends}
+use Rattle.std.specs.List.{AllByRecursion}
+use Rattle.av_base.specs.Device.{AppendsPrefix}
+use Rattle.av_merge.specs.Merge.{IsMergeOf, Merged}
+use Rattle.av_sigset.specs.File.{MayStand}
+use Rattle.av_sigset.specs.Judge.{set_of}
+use Rattle.av_sigset.specs.Set.{NumberedSet}
+use Rattle.av_sigset.specs.Spelling.{spelling}
+use Rattle.av_status.specs.declared.status.Status.{Status}
+use Rattle.av_status.specs.declared.status.Status.TheVariants.{Device}
+use Rattle.avtool_words.specs.declared.request.Merge.{Merge}
+
+-- sets of files: each has signatures, which may be in one file
+abbrev pub AreOfFiles : List NumberedSet → Type 0
+AreOfFiles sets = AllByRecursion (λ s. (0 < length s.signatures) × MayStand s.signatures) sets
+
+-- the merge of so many sets of files
+abbrev pub IsMergeOfFiles : ℕ → Merged → Type 0
+IsMergeOfFiles count m = (sets : List NumberedSet) × (length sets ≡ count) × AreOfFiles sets × IsMergeOf sets m
+
+-- the merge under the version that was asked for, or the greatest of its sets
+abbrev pub set_for : Merge → Merged → NumberedSet
+set_for asked m = record { version = unwrap_or asked.version m.version; signatures = m.signatures }
+
+-- the text of the merge of as many sets as were named
+pub record IsMergeFor (asked : Merge) (text : List ℕ) : Type 0 where
+  pub merged : Merged
+  pub of_files : IsMergeOfFiles (length asked.files.items) merged
+  pub spelt : text ≡ spelling (set_for asked merged)
+
+-- it is read as that merge, if its version is one of a file
+pub record IsMergeFile (asked : Merge) (text : List ℕ) : Type 0 where
+  pub merge : IsMergeFor asked text
+  pub reads_back : 1 ≤ unwrap_or asked.version merge.merged.version → set_of text ≡ Ok (set_for asked merge.merged)
+
+-- the text goes to standard output, unless a file was named
+abbrev pub GoesOut : {A : Type 0} → Option A → Option (List ℕ) → Option (List ℕ) → List ℕ → Type 0
+GoesOut None old new text = Appends old new text
+GoesOut (Some path) old new text = new ≡ old
+
+-- a fault leaves standard output as it was, or with a front of the text if a write failed
+abbrev pub Leaves : Merge → Status → Option (List ℕ) → Option (List ℕ) → Type 0
+Leaves asked status old new =
+    (new ≡ old) ⊎ ((status ≡ Device) × ((text : List ℕ) × IsMergeFor asked text × AppendsPrefix old new text))
