@@ -12,8 +12,8 @@ use Rattle.av_clamd.specs.declared.door.Sending.TheVariants.{Whole, InParts}
 use Rattle.av_clamd.specs.declared.door.Way.{Way}
 use Rattle.av_clamd.specs.declared.door.Way.TheVariants.{Collected, Relayed, Dropped}
 use Rattle.av_clamd.specs.declared.door.TheConstants.{LONGEST, MAX_CONTENT, MOST_KEPT}
-use Rattle.av_clamd.specs.Text.{answered, end_of, is_marked, word_of}
-use Rattle.av_clamd.specs.Door.{Opened, Told, answers, by_reading, by_way, content_with, enlarged, finished, goes_in_parts, handed_out, heard_of, in_command, in_size, next_number, obeyed, sized, step, told_at_end}
+use Rattle.av_clamd.specs.Text.{answered, end_of, is_marked, path_taken, word_of}
+use Rattle.av_clamd.specs.Door.{Opened, Told, answers, by_reading, by_way, content_with, enlarged, finished, goes_in_parts, asks_about, handed_out, heard_of, in_command, in_size, next_number, obeyed, sized, step, told_at_end}
 use Rattle.av_clamd.specs.Laws.{BeginsLittle, HasLeft, HoldsNone, IsSmall, KeepsAtMost, KeepsTo, StaysLess, StaysLittle, coming}
 
 pub begins_little : BeginsLittle
@@ -53,12 +53,16 @@ answers_good : (most : ℕ) (o : Option (List ℕ)) (d : Opened) → IsCalm most
 answers_good most (Some text) d is = ((is.0, omega (arith, is.1, after_coming d.session d.way), after_left d.session, is.2), (tt, tt))
 answers_good most None d is = ((is.0, omega (arith, is.1), tt, is.2), (tt, tt))
 
+asks_good : (most : ℕ) (o : Option (List ℕ)) (word : List ℕ) (d : Opened) → IsCalm most d → IsGood most (asks_about o word d)
+asks_good most (Some path) word d is = ((is.0, omega (arith, is.1, after_coming d.session d.way), after_left d.session, is.2), (tt, tt))
+asks_good most None word d is = answers_good most (answered d.paths word) d is
+
 obeyed_good : (most : ℕ) (marked : Bool) (word : List ℕ) (d : Opened) → IsCalm most d → IsGood most (obeyed marked word d)
 obeyed_good most marked word d is =
     either most (bytes_eq word (codes "INSTREAM") && marked) _ _ (λ e. ((is.0, omega arith, tt, tt), tt))
     (λ e. either most (bytes_eq word (codes "IDSESSION") && marked && not d.session) _ _ (λ e. ((is.0, omega (arith, is.1), tt, is.2), tt))
     (λ e. either most (bytes_eq word (codes "END") && d.session) _ _ (λ e. ((is.0, omega (arith, is.1), tt, is.2), tt))
-    (λ e. answers_good most (answered word) d is)))
+    (λ e. asks_good most (path_taken d.paths word) word d is)))
 
 command_good : (most b : ℕ) (d : Opened) → IsCalm most d → d.reading ≡ Command → IsGood most (in_command b d)
 command_good most b d is reading =

@@ -1,4 +1,5 @@
 pub mod HearLemmas
 pub mod KeptLemmas
+pub mod PathLemmas
 pub mod ReplyLemmas
 pub mod WholeLemmas

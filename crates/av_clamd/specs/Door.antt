@@ -11,11 +11,13 @@ use Rattle.av_clamd.specs.declared.door.Heard.{Heard}
 use Rattle.av_clamd.specs.declared.door.Heard.TheVariants as heard
 use Rattle.av_clamd.specs.declared.door.TheConstants.{LONGEST, MAX_CONTENT, MOST_KEPT}
 use Rattle.std.specs.Str.{bytes_eq}
-use Rattle.av_clamd.specs.Text.{answered, end_of, is_marked, line_of, word_of}
+use Rattle.av_clamd.specs.declared.text.Paths.{Paths}
+use Rattle.av_clamd.specs.declared.text.Paths.TheVariants.{Refused, Taken}
+use Rattle.av_clamd.specs.Text.{answered, end_of, goes_on, is_marked, line_of, path_taken, word_of}
 
 -- A door: what is read next; the bytes of the command, or of a piece's length, that came so far; the content so far, where it is
--- collected; what is done with its bytes; whether a session was begun, and how many commands it has had; and how the last
--- command ended.
+-- collected; what is done with its bytes; whether a session was begun, and how many commands it has had; how the last command ended;
+-- and what becomes of paths.
 pub record Opened : Type 0 where
   pub reading : Reading
   pub begun : List ℕ
@@ -24,15 +26,18 @@ pub record Opened : Type 0 where
   pub session : Bool
   pub number : ℕ
   pub end : ℕ
+  pub paths : Paths
 
 -- What came of a byte: a line that is said, or a content that is asked about, under its command's number and end. Of a content that
--- comes in parts: that it begins, with its first bytes; one of its bytes; that it ends.
+-- comes in parts: that it begins, with its first bytes; one of its bytes; that it ends. Or a path that is asked about, and whether that
+-- goes on past the first infected file.
 pub data Told : Type 0 where
   Said : List ℕ → Told
   Asked : ℕ → ℕ → List ℕ → Told
   Began : ℕ → ℕ → List ℕ → Told
   Brought : ℕ → Told
   Ended : Told
+  Named : ℕ → ℕ → Bool → List ℕ → Told
 
 -- what was heard, with its bytes
 abbrev pub told : Heard → List Told
@@ -41,10 +46,15 @@ told (heard.Ask number end content) = Asked number end content.items ∷ []
 told (heard.Begin number end first) = Began number end first.items ∷ []
 told (heard.More bytes) = map Brought bytes.now
 told heard.End = Ended ∷ []
+told (heard.Path number end is_many path) = Named number end is_many path.items ∷ []
 
 -- a door that nobody spoke to
 abbrev pub fresh : Opened
-fresh = record { reading = Command; begun = []; content = []; way = Collected; session = false; number = 0; end = 10 }
+fresh = record { reading = Command; begun = []; content = []; way = Collected; session = false; number = 0; end = 10; paths = Refused }
+
+-- the same, of a door that takes paths
+abbrev pub fresh_with_paths : Opened
+fresh_with_paths = record fresh { paths = Taken }
 
 -- outside of a session a reply is the last
 abbrev pub after_reply : Opened → Reading
@@ -59,13 +69,22 @@ abbrev pub answers : Option (List ℕ) → Opened → Opened × List Told
 answers (Some text) d = says text (after_reply d) d
 answers None d = says (if d.session then codes "Command invalid inside IDSESSION. ERROR" else codes "UNKNOWN COMMAND") Nothing d
 
+-- a path is asked about
+abbrev pub names : Bool → List ℕ → Opened → Opened × List Told
+names is_many path d = (record d { reading = after_reply d }, Named d.number d.end is_many path ∷ [])
+
+-- a word that asks about a path that is taken, or any other
+abbrev pub asks_about : Option (List ℕ) → List ℕ → Opened → Opened × List Told
+asks_about (Some path) word d = names (goes_on word) path d
+asks_about None word d = answers (answered d.paths word) d
+
 -- a word, and whether its command was marked
 abbrev pub obeyed : Bool → List ℕ → Opened → Opened × List Told
 obeyed marked word d =
     if bytes_eq word (codes "INSTREAM") && marked then (record d { reading = Size; content = []; way = Collected }, [])
     else if bytes_eq word (codes "IDSESSION") && marked && not d.session then (record d { reading = Command; session = true }, [])
     else if bytes_eq word (codes "END") && d.session then (record d { reading = Nothing }, [])
-    else answers (answered word) d
+    else asks_about (path_taken d.paths word) word d
 
 -- the number of the next command: they count in a session alone
 abbrev pub next_number : Opened → ℕ
@@ -179,6 +198,7 @@ HasBytes (Some (heard.Ask number end content)) = Unit {0}
 HasBytes (Some (heard.Begin number end first)) = Unit {0}
 HasBytes (Some (heard.More bytes)) = 1 ≤ length bytes.now
 HasBytes (Some heard.End) = Unit {0}
+HasBytes (Some (heard.Path number end is_many path)) = Unit {0}
 
 -- a door took bytes, and this came of them
 abbrev pub Gives : Opened → Option Heard → Opened × List Told → Type 0

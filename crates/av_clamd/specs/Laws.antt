@@ -10,8 +10,9 @@ use Rattle.av_clamd.specs.declared.door.Way.TheVariants.{Collected, Relayed, Dro
 use Rattle.av_clamd.specs.declared.door.TheConstants.{LONGEST, MAX_CONTENT, MOST_KEPT}
 use Rattle.av_clamd.specs.declared.reply.Spoken.{Spoken}
 use Rattle.av_clamd.specs.declared.reply.Spoken.TheVariants.{Clean}
-use Rattle.av_clamd.specs.Text.{reply_of}
-use Rattle.av_clamd.specs.Door.{Opened, Told, Said, Asked, Began, Brought, Ended, after_reply, fresh, heard_of, onto}
+use Rattle.av_clamd.specs.declared.text.Paths.TheVariants.{Refused}
+use Rattle.av_clamd.specs.Text.{path_reply_of, reply_of}
+use Rattle.av_clamd.specs.Door.{Opened, Told, Said, Asked, Began, Brought, Ended, Named, after_reply, fresh, heard_of, onto}
 
 -- two pieces do what both together do
 abbrev pub IsCutAnywhere : Type 0
@@ -57,6 +58,7 @@ IsSmall most (Asked number end content) = length content ≤ most
 IsSmall most (Began number end first) = length first ≤ MOST_KEPT
 IsSmall most (Brought b) = Unit {0}
 IsSmall most Ended = Unit {0}
+IsSmall most (Named number end is_many path) = Unit {0}
 
 -- whatever comes, a door that keeps no more of a content than so much goes on so
 abbrev pub KeepsTo : ℕ → Sending → Type 0
@@ -75,6 +77,21 @@ StaysLittle = (sending : Sending) → KeepsTo MAX_CONTENT sending
 -- while they go in parts it keeps at most 65,536
 abbrev pub StaysLess : Type 0
 StaysLess = KeepsTo MOST_KEPT InParts
+
+-- what came is no path
+abbrev pub IsNoPath : Told → Type 0
+IsNoPath (Said line) = Unit {0}
+IsNoPath (Asked number end content) = Unit {0}
+IsNoPath (Began number end first) = Unit {0}
+IsNoPath (Brought b) = Unit {0}
+IsNoPath Ended = Unit {0}
+IsNoPath (Named number end is_many path) = ⊥
+
+-- a door that refuses paths goes on so whatever comes, and hands none out
+abbrev pub HandsNoPathOut : Type 0
+HandsNoPathOut =
+    (sending : Sending) (bytes : List ℕ) (d : Opened) → d.paths ≡ Refused
+    → ((heard_of sending bytes d).0.paths ≡ Refused) × AllByRecursion IsNoPath (heard_of sending bytes d).1
 
 -- a content as a client sends it: each piece after its length in four bytes, and then the length 0
 abbrev pub spelled : List (List ℕ) → List ℕ
@@ -113,3 +130,9 @@ PartsAreTheWhole =
 -- the reply of a content that was granted is the reply of no other
 abbrev pub IsOkForCleanAlone : Type 0
 IsOkForCleanAlone = (number end : ℕ) (verdict : Spoken) → reply_of number end verdict ≡ reply_of number end Clean → verdict ≡ Clean
+
+-- the reply of a path that was granted is the reply of no other verdict, and of no other verdict about another path
+abbrev pub IsPathOkForCleanAlone : Type 0
+IsPathOkForCleanAlone =
+    (number end : ℕ) (path other : List ℕ) (verdict : Spoken)
+    → path_reply_of number end other verdict ≡ path_reply_of number end path Clean → verdict ≡ Clean

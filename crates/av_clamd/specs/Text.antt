@@ -1,8 +1,12 @@
-use Rattle.std.specs.Prelude.{ℕ, ◌≡◌, Vec, ◌-◌, ◌==◌, ◌&&◌, ◌||◌, Bool, false, nat_lt, List, [], ◌∷◌, ◌++◌, length, take, drop, Option, None, Some, codes, decimal, slice_index, if◌then◌else◌}
+use Rattle.std.specs.Prelude.{ℕ, ◌≡◌, Vec, ◌-◌, ◌==◌, ◌&&◌, ◌||◌, Bool, false, not, nat_lt, List, [], ◌∷◌, ◌++◌, length, take, drop, Option, None, Some, is_some, codes, decimal, slice_index, if◌then◌else◌}
 use Rattle.std.specs.Str.{bytes_eq}
 use Rattle.std.specs.declared.alloc.Global.{Global}
+use Rattle.av_clamd.specs.declared.reply.Failing.{Failing}
+use Rattle.av_clamd.specs.declared.reply.Failing.TheVariants.{NotBelow, Unreadable, NoAnswer, NoMemory}
 use Rattle.av_clamd.specs.declared.reply.Spoken.{Spoken}
-use Rattle.av_clamd.specs.declared.reply.Spoken.TheVariants.{Clean, Found, FoundAt, TooLarge, NoVerdict}
+use Rattle.av_clamd.specs.declared.reply.Spoken.TheVariants.{Clean, Found, FoundAt, Infected, TooLarge, NoVerdict, Failed}
+use Rattle.av_clamd.specs.declared.text.Paths.{Paths}
+use Rattle.av_clamd.specs.declared.text.Paths.TheVariants.{Refused, Taken}
 
 -- a line of the command of a number, which is 0 outside of a session: the number, what is said, and how the command ended
 abbrev pub numbered : ℕ → List ℕ
@@ -24,17 +28,30 @@ why_text cause = codes "cause " ++ decimal cause ++ codes ". ERROR"
 abbrev pub cause_text : ℕ → List ℕ
 cause_text cause = codes "no verdict, " ++ why_text cause
 
+-- why nobody was asked, or gave an answer
+abbrev pub failing_text : Failing → List ℕ
+failing_text NotBelow = codes "File path check failure: not below a folder of --below. ERROR"
+failing_text Unreadable = codes "cannot read. ERROR"
+failing_text NoAnswer = codes "no answer of the guard. ERROR"
+failing_text NoMemory = codes "no memory. ERROR"
+
 -- what is said of a verdict: OK of a content that was granted alone
 abbrev pub verdict_text : Spoken → List ℕ
 verdict_text Clean = codes "OK"
 verdict_text (Found name) = name.now ++ codes " FOUND"
 verdict_text (FoundAt index version) = place_text index version
+verdict_text Infected = codes "infected FOUND"
 verdict_text TooLarge = codes "INSTREAM size limit exceeded. ERROR"
 verdict_text (NoVerdict cause) = cause_text cause
+verdict_text (Failed failing) = failing_text failing
 
 -- the reply to a content
 abbrev pub reply_of : ℕ → ℕ → Spoken → List ℕ
 reply_of number end verdict = line_of number (codes "stream: " ++ verdict_text verdict) end
+
+-- the reply to a path
+abbrev pub path_reply_of : ℕ → ℕ → List ℕ → Spoken → List ℕ
+path_reply_of number end path verdict = line_of number (path ++ codes ": " ++ verdict_text verdict) end
 
 -- what is told of a client that says nothing
 abbrev pub timed_out : ℕ → List ℕ
@@ -74,18 +91,33 @@ path_of word =
     first_some (behind (codes "SCAN ") word) (first_some (behind (codes "CONTSCAN ") word)
     (first_some (behind (codes "MULTISCAN ") word) (behind (codes "ALLMATCHSCAN ") word)))
 
+-- the same, where paths are taken
+abbrev pub path_taken : Paths → List ℕ → Option (List ℕ)
+path_taken Refused word = None
+path_taken Taken word = path_of word
+
+-- a word that asks about a folder goes on past its first infected file, unless it is SCAN
+abbrev pub goes_on : List ℕ → Bool
+goes_on word = not (is_some (behind (codes "SCAN ") word))
+
 -- what is said to a path: no file is opened for anybody
 abbrev pub refused_path : Option (List ℕ) → Option (List ℕ)
 refused_path None = None
 refused_path (Some path) = Some (path ++ codes ": no path is read here, send the content (INSTREAM). ERROR")
 
+-- the commands that are known, after the version
+abbrev pub commands_text : Paths → List ℕ
+commands_text Refused = codes "Vizdroun 1| COMMANDS: PING VERSION VERSIONCOMMANDS INSTREAM IDSESSION END"
+commands_text Taken =
+    codes "Vizdroun 1| COMMANDS: SCAN CONTSCAN MULTISCAN ALLMATCHSCAN PING VERSION VERSIONCOMMANDS INSTREAM IDSESSION END"
+
 -- what is said to a word that is answered by a line, where it is one
-unfoldable pub answered : List ℕ → Option (List ℕ)
-answered word =
+unfoldable pub answered : Paths → List ℕ → Option (List ℕ)
+answered paths word =
     if bytes_eq word (codes "PING") then Some (codes "PONG")
     else if bytes_eq word (codes "VERSION") then Some (codes "Vizdroun 1")
     else if bytes_eq word (codes "VERSIONCOMMANDS")
-    then Some (codes "Vizdroun 1| COMMANDS: PING VERSION VERSIONCOMMANDS INSTREAM IDSESSION END")
+    then Some (commands_text paths)
     else refused_path (path_of word)
 
 -- a text, where one is wanted

@@ -1,10 +1,11 @@
 ghost use Rattle.std.specs.Prelude.{◌≡◌, ◌≤◌, ◌+◌, ◌<◌, ◌^◌, false, drop, length, take, IfOk, IfSome, None, OnErr, OnOk};
+ghost use Rattle.std.specs.Option.{option_copied};
 ghost use Rattle.av_clamd.specs.declared.door.Reading.TheVariants.{Nothing, Piece};
 ghost use Rattle.av_clamd.specs.declared.door.Way.TheVariants.{Collected};
-ghost use Rattle.av_clamd.specs.Text.{answered};
-ghost use Rattle.av_clamd.specs.Door.{Gives, HasBytes, Steps, after_reply, answers, commanded, enlarged, finished, fresh, goes_in_parts, heard_of, in_command, in_size, is_nothing, is_piece, is_relayed, kept_of, obeyed, onto, option_told, pieced, relay_left, says, sized, step};
+ghost use Rattle.av_clamd.specs.Text.{answered, goes_on, path_taken};
+ghost use Rattle.av_clamd.specs.Door.{Gives, HasBytes, Steps, after_reply, answers, commanded, enlarged, finished, fresh, fresh_with_paths, goes_in_parts, heard_of, in_command, in_size, is_nothing, is_piece, is_relayed, kept_of, names, obeyed, onto, option_told, pieced, relay_left, says, sized, step};
 
-use crate::text::{answered, end_of, is_marked, line_of, word_of};
+use crate::text::{Paths, answered, end_of, goes_on, is_marked, line_of, path_taken, word_of};
 use std::alloc::{AllocError, Global};
 use std::marker::Model;
 use std::mem;
@@ -49,6 +50,14 @@ pub enum Heard<'a> {
     More(&'a [u8]),
     /// The content that comes in parts is whole.
     End,
+    /// The file or the folder of this path is asked about, by a door that takes paths. After the first infected file of a folder the
+    /// others are asked about only if `is_many`. Each reply wants the command's number and end.
+    Path {
+        number: u64,
+        end: u8,
+        is_many: bool,
+        path: Vec<u8>,
+    },
 }
 
 // What a door reads next.
@@ -87,6 +96,7 @@ pub struct Door {
     session: bool,
     number: u64,
     end: u8,
+    paths: Paths,
 }
 
 impl Model for Door {
@@ -94,13 +104,26 @@ impl Model for Door {
 
     ghost Value = { Opened };
 
-    ghost view = { λ d. record { reading = d.reading; begun = d.begun.items; content = d.content.items; way = d.way; session = d.session; number = d.number; end = d.end } };
+    ghost view = { λ d. record { reading = d.reading; begun = d.begun.items; content = d.content.items; way = d.way; session = d.session; number = d.number; end = d.end; paths = d.paths } };
 }
 
 impl Door {
-    /// The door of a client that said nothing yet. It takes no memory.
+    /// The door of a client that said nothing yet. It refuses paths. It takes no memory.
     pub fn new(alloc: Global) -> Door
         ensures { result ≡ fresh }
+    {
+        Door::of(alloc, Paths::Refused)
+    }
+
+    /// The same, of a door that takes paths.
+    pub fn with_paths(alloc: Global) -> Door
+        ensures { result ≡ fresh_with_paths }
+    {
+        Door::of(alloc, Paths::Taken)
+    }
+
+    fn of(alloc: Global, paths: Paths) -> Door
+        ensures { result ≡ record fresh { paths = paths } }
     {
         Door {
             alloc,
@@ -111,6 +134,7 @@ impl Door {
             session: false,
             number: 0,
             end: b'\n',
+            paths,
         }
     }
 
@@ -242,14 +266,31 @@ impl Door {
             self.reading = Reading::Nothing;
             return Ok(None);
         }
-        self.answer(word)
+        match path_taken(self.paths, word) {
+            Some(path) => self.name(goes_on(word), path),
+            None => self.answer(word),
+        }
+    }
+
+    // A path is asked about.
+    fn name<'a>(&mut self, is_many: bool, path: &[u8]) -> Result<Option<Heard<'a>>, AllocError>
+        ensures { Steps self.new result (names is_many path.now self.old) }
+    {
+        self.reading = self.after_reply();
+        let path = path.to_vec(self.alloc)?;
+        Ok(Some(Heard::Path {
+            number: self.number,
+            end: self.end,
+            is_many,
+            path,
+        }))
     }
 
     fn answer<'a>(&mut self, word: &[u8]) -> Result<Option<Heard<'a>>, AllocError>
-        ensures { Steps self.new result (answers (answered word.now) self.old) }
+        ensures { Steps self.new result (answers (answered self.old.paths word.now) self.old) }
     {
         let next = self.after_reply();
-        match answered(self.alloc, word)? {
+        match answered(self.alloc, self.paths, word)? {
             Some(text) => self.say(&text, next),
             None if self.session => {
                 self.say(b"Command invalid inside IDSESSION. ERROR", Reading::Nothing)

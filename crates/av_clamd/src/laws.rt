@@ -1,6 +1,6 @@
 //! Laws of what is heard, each the contract of a function that does nothing: a call hands its law to the caller.
 
-ghost use Rattle.av_clamd.specs.Laws.{AsksAboutTheWhole, BeginsLittle, IsCutAnywhere, IsOkForCleanAlone, PartsAreTheWhole, StaysLess, StaysLittle};
+ghost use Rattle.av_clamd.specs.Laws.{AsksAboutTheWhole, BeginsLittle, HandsNoPathOut, IsCutAnywhere, IsOkForCleanAlone, IsPathOkForCleanAlone, PartsAreTheWhole, StaysLess, StaysLittle};
 
 /// What comes in two pieces is heard as what comes at once, wherever it is cut.
 pub fn it_is_heard_however_it_is_cut()
@@ -22,7 +22,14 @@ pub fn contents_are_what_was_sent()
     ensures parts { PartsAreTheWhole }
 {}
 
-/// `stream: OK` is spelled for a content that was granted, and for nothing else, whatever a signature's name is.
+/// A door that refuses paths hands none out, whatever a client sends.
+pub fn a_refused_path_is_not_handed_out()
+    ensures { HandsNoPathOut }
+{}
+
+/// `stream: OK` is spelled for a content that was granted, and for nothing else, whatever a signature's name is. So is `PATH: OK`, and no
+/// other path or name makes that reply.
 pub fn ok_is_spelled_for_clean_alone()
-    ensures { IsOkForCleanAlone }
+    ensures stream { IsOkForCleanAlone }
+    ensures path { IsPathOkForCleanAlone }
 {}

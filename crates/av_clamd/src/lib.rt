@@ -16,4 +16,4 @@ mod tests;
 mod text;
 
 pub use door::{Door, Heard, Sending};
-pub use reply::{Spoken, put_reply, put_timed_out};
+pub use reply::{Failing, Spoken, put_path_reply, put_reply, put_timed_out};

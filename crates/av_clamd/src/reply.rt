@@ -1,5 +1,5 @@
 ghost use Rattle.std.specs.Prelude.{◌≡◌, ◌++◌, OnErr, OnOk};
-ghost use Rattle.av_clamd.specs.Text.{cause_text, place_text, reply_of, timed_out, verdict_text, why_text};
+ghost use Rattle.av_clamd.specs.Text.{cause_text, failing_text, path_reply_of, place_text, reply_of, timed_out, verdict_text, why_text};
 
 use crate::text::{numbered, put_number};
 use std::alloc::AllocError;
@@ -13,10 +13,27 @@ pub enum Spoken<'a> {
     Found(&'a [u8]),
     /// A signature occurs in it whose name isn't known: where it stands in the set of which version.
     FoundAt { index: u64, version: u64 },
+    /// A signature occurs in it, and no more is known.
+    Infected,
     /// It came in parts and had more bytes than are judged.
     TooLarge,
     /// It could not be judged, for the cause of this number, whether it is let through or not.
     NoVerdict { cause: u8 },
+    /// Nobody was asked about it, or gave an answer.
+    Failed(Failing),
+}
+
+/// Why nobody was asked about a content, or gave an answer.
+#[derive(Clone, Copy, Debug, PartialEq, Eq)]
+pub enum Failing {
+    /// Its path is not below a folder whose files may be asked about.
+    NotBelow,
+    /// It could not be read.
+    Unreadable,
+    /// The guard was not there, or gave no answer.
+    NoAnswer,
+    /// Memory was refused.
+    NoMemory,
 }
 
 /// Appends the reply to a content, under the number and the end of its command. Where memory is refused nothing is appended.
@@ -37,6 +54,27 @@ pub fn put_reply(
     out.extend_from_slice(&line)
 }
 
+/// Appends the reply to a path, under the number and the end of its command. Where memory is refused nothing is appended. The path is
+/// one that makes no line of its own: it has no control character.
+pub fn put_path_reply(
+    out: &mut Vec<u8>,
+    number: u64,
+    end: u8,
+    path: &[u8],
+    verdict: &Spoken<'_>,
+) -> Result<(), AllocError>
+    ensures ok { OnOk result (out.new.items ≡ out.old.items ++ path_reply_of number end path.now verdict.now) }
+    ensures err { OnErr result (out.new.items ≡ out.old.items) }
+{
+    let alloc = *out.allocator();
+    let mut reply = numbered(alloc, number)?;
+    reply.extend_from_slice(path)?;
+    reply.extend_from_slice(b": ")?;
+    put_verdict(&mut reply, *verdict)?;
+    reply.push(end)?;
+    out.extend_from_slice(&reply)
+}
+
 // Appends what is said of a verdict.
 fn put_verdict(line: &mut Vec<u8>, verdict: Spoken<'_>) -> Result<(), AllocError>
     ensures { OnOk result (line.new.items ≡ line.old.items ++ verdict_text verdict.entry) }
@@ -48,8 +86,22 @@ fn put_verdict(line: &mut Vec<u8>, verdict: Spoken<'_>) -> Result<(), AllocError
             line.extend_from_slice(b" FOUND")
         }
         Spoken::FoundAt { index, version } => put_place(line, index, version),
+        Spoken::Infected => line.extend_from_slice(b"infected FOUND"),
         Spoken::TooLarge => line.extend_from_slice(b"INSTREAM size limit exceeded. ERROR"),
         Spoken::NoVerdict { cause } => put_cause(line, u64::from(cause)),
+        Spoken::Failed(failing) => line.extend_from_slice(failing_text(failing)),
+    }
+}
+
+// Why nobody was asked, or gave an answer.
+fn failing_text(failing: Failing) -> &'static [u8]
+    ensures { result.now ≡ failing_text failing }
+{
+    match failing {
+        Failing::NotBelow => b"File path check failure: not below a folder of --below. ERROR",
+        Failing::Unreadable => b"cannot read. ERROR",
+        Failing::NoAnswer => b"no answer of the guard. ERROR",
+        Failing::NoMemory => b"no memory. ERROR",
     }
 }
 

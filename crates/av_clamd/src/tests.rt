@@ -1,14 +1,15 @@
 mod rows;
 
 use crate::door::{Door, Heard, Sending};
-use crate::reply::{Spoken, put_reply, put_timed_out};
-use crate::tests::rows::{LONG, REPLIES, ROWS};
+use crate::reply::{Failing, Spoken, put_path_reply, put_reply, put_timed_out};
+use crate::tests::rows::{LONG, PATH_REPLIES, PATHS, REPLIES, ROWS};
 use av_fakes::{may_refuse, refuse_no_more};
 use std::alloc::{AllocError, Global};
 use std::test::Fail;
 
 // Writes what was heard: S and a line, or A, a number, an end and a content, each with a bar behind it. Of a content in parts B,
-// the number and the end, what came of it so far, a stroke, the bytes of all its parts, and a bar where it ends.
+// the number and the end, what came of it so far, a stroke, the bytes of all its parts, and a bar where it ends. Of a path P, the number,
+// the end, M where it goes on past the first infected file and else F, the path, and a bar.
 fn write_down(all: &[Heard<'_>], out: &mut Vec<u8>) -> Result<(), Fail> {
     for heard in all {
         match heard {
@@ -33,6 +34,18 @@ fn write_down(all: &[Heard<'_>], out: &mut Vec<u8>) -> Result<(), Fail> {
             }
             Heard::More(bytes) => out.extend_from_slice(bytes)?,
             Heard::End => out.push(b'|')?,
+            Heard::Path {
+                number,
+                end,
+                is_many,
+                path,
+            } => {
+                let many = if *is_many { b'M' } else { b'F' };
+                let number = b'0'.wrapping_add((*number % 10) as u8);
+                out.extend_from_slice(&[b'P', number, *end, many])?;
+                out.extend_from_slice(path)?;
+                out.push(b'|')?;
+            }
         }
     }
     Ok(())
@@ -74,7 +87,18 @@ fn heard(
     first: usize,
     second: usize,
 ) -> Result<Vec<u8>, Fail> {
-    let mut door = Door::new(alloc);
+    heard_at(alloc, Door::new(alloc), sending, bytes, (first, second))
+}
+
+// The same of a door that was just made, cut at two places.
+fn heard_at(
+    alloc: Global,
+    mut door: Door,
+    sending: Sending,
+    bytes: &[u8],
+    cuts: (usize, usize),
+) -> Result<Vec<u8>, Fail> {
+    let (first, second) = cuts;
     let mut out = Vec::new(alloc);
     let (front, rest) = bytes.split_at(first.min(bytes.len()));
     let (middle, back) = rest.split_at(second.min(rest.len()));
@@ -95,6 +119,44 @@ fn each_exchange_is_heard_however_it_is_cut(rt: HostRuntime) -> Result<(), Fail>
             assert!(rt; parts.as_slice() == *wanted, "at {cut}, in parts");
         }
     }
+    Ok(())
+}
+
+#[test]
+fn paths_are_handed_out_where_they_are_taken(rt: HostRuntime) -> Result<(), Fail> {
+    for (bytes, wanted) in PATHS.as_slice() {
+        for cut in 0..=bytes.len() {
+            let door = Door::with_paths(rt.alloc());
+            let out = heard_at(rt.alloc(), door, Sending::InParts, bytes, (cut, 1))?;
+            assert!(rt; out.as_slice() == *wanted, "at {cut}");
+        }
+    }
+    Ok(())
+}
+
+#[test]
+fn each_verdict_of_a_path_is_spoken_as_clamd_speaks_it(rt: HostRuntime) -> Result<(), Fail> {
+    for (number, end, path, verdict, wanted) in PATH_REPLIES.as_slice() {
+        let mut out = Vec::new(rt.alloc());
+        out.push(b'<')?;
+        put_path_reply(&mut out, *number, *end, path, verdict)?;
+        assert!(rt; out.as_slice() == *wanted);
+    }
+    Ok(())
+}
+
+#[test]
+fn refused_or_not_a_path_is_replied_to(rt: HostRuntime) -> Result<(), Fail> {
+    let mut out = Vec::new(rt.alloc());
+    let verdict = Spoken::Failed(Failing::Unreadable);
+    may_refuse(rt.alloc());
+    let first = put_path_reply(&mut out, 5, 0, b"/a", &verdict);
+    refuse_no_more(rt.alloc());
+    if first.is_err() {
+        assert!(rt; out.is_empty());
+        put_path_reply(&mut out, 5, 0, b"/a", &verdict)?;
+    }
+    assert!(rt; out.as_slice() == b"5: /a: cannot read. ERROR\0".as_slice());
     Ok(())
 }
 

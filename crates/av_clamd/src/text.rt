@@ -1,10 +1,19 @@
 //! The words of commands, and the lines that answer them.
 
 ghost use Rattle.std.specs.Prelude.{◌≡◌, ◌++◌, IfOk, OnErr, OnOk, decimal, option_copied};
-ghost use Rattle.av_clamd.specs.Text.{IsText, answered, behind, end_of, is_marked, line_of, numbered, path_of, word_of};
+ghost use Rattle.av_clamd.specs.Text.{IsText, answered, behind, commands_text, end_of, goes_on, is_marked, line_of, numbered, path_of, path_taken, word_of};
 
 use itoa::Buffer;
 use std::alloc::{AllocError, Global};
+
+// What becomes of a path that a client names.
+#[derive(Clone, Copy, Debug, PartialEq, Eq)]
+pub enum Paths {
+    // Its command is answered with an error.
+    Refused,
+    // It is handed out.
+    Taken,
+}
 
 // How a command ends that begins with these bytes.
 pub fn end_of(begun: &[u8]) -> u8
@@ -67,10 +76,39 @@ fn path_of(word: &[u8]) -> Option<&[u8]>
     behind(b"ALLMATCHSCAN ", word)
 }
 
+// The path that a word asks about, where paths are taken.
+pub fn path_taken(paths: Paths, word: &[u8]) -> Option<&[u8]>
+    ensures { option_copied result ≡ path_taken paths word.now }
+{
+    match paths {
+        Paths::Refused => None,
+        Paths::Taken => path_of(word),
+    }
+}
+
+// Whether a word that asks about a folder goes on past its first infected file.
+pub fn goes_on(word: &[u8]) -> bool
+    ensures { result ≡ goes_on word.now }
+{
+    behind(b"SCAN ", word).is_none()
+}
+
+// The commands that are known, after the version.
+fn commands_text(paths: Paths) -> &'static [u8]
+    ensures { result.now ≡ commands_text paths }
+{
+    match paths {
+        Paths::Refused =>
+            b"Vizdroun 1| COMMANDS: PING VERSION VERSIONCOMMANDS INSTREAM IDSESSION END",
+        Paths::Taken =>
+            b"Vizdroun 1| COMMANDS: SCAN CONTSCAN MULTISCAN ALLMATCHSCAN PING VERSION VERSIONCOMMANDS INSTREAM IDSESSION END",
+    }
+}
+
 // What is said to a word that is answered by a line, where it is one.
 #[tactic(auto, unfolding(crate::specs::Text::answered))]
-pub fn answered(alloc: Global, word: &[u8]) -> Result<Option<Vec<u8>>, AllocError>
-    ensures { IfOk result (λ o. IsText o (answered word.now)) }
+pub fn answered(alloc: Global, paths: Paths, word: &[u8]) -> Result<Option<Vec<u8>>, AllocError>
+    ensures { IfOk result (λ o. IsText o (answered paths word.now)) }
 {
     if word == b"PING".as_slice() {
         return Ok(Some(b"PONG".to_vec(alloc)?));
@@ -79,8 +117,7 @@ pub fn answered(alloc: Global, word: &[u8]) -> Result<Option<Vec<u8>>, AllocErro
         return Ok(Some(b"Vizdroun 1".to_vec(alloc)?));
     }
     if word == b"VERSIONCOMMANDS".as_slice() {
-        let text = b"Vizdroun 1| COMMANDS: PING VERSION VERSIONCOMMANDS INSTREAM IDSESSION END";
-        return Ok(Some(text.to_vec(alloc)?));
+        return Ok(Some(commands_text(paths).to_vec(alloc)?));
     }
     let Some(path) = path_of(word) else {
         return Ok(None);

@@ -1,7 +1,7 @@
 //! Exchanges as bytes: what a client sends, and what its door makes of it, as `write_down` has it.
 
 use crate::door::Sending;
-use crate::reply::Spoken;
+use crate::reply::{Failing, Spoken};
 
 pub const ROWS: [(&[u8], &[u8]); 35] = [
     (b"", b"O"),
@@ -71,6 +71,68 @@ pub const ROWS: [(&[u8], &[u8]); 35] = [
         b"S1: /a b: no path is read here, send the content (INSTREAM). ERROR\n|S2: /c: no path is read here, send the content (INSTREAM). ERROR\0|S3: /d: no path is read here, send the content (INSTREAM). ERROR\0|O",
     ),
     (b"zSCAN \0", b"SUNKNOWN COMMAND\0|D"),
+];
+
+// What a door that takes paths makes of them.
+pub const PATHS: [(&[u8], &[u8]); 9] = [
+    (b"zSCAN /etc/hostname\0", b"P0\0F/etc/hostname|D"),
+    (b"nCONTSCAN /a b\n", b"P0\nM/a b|D"),
+    (b"MULTISCAN /a\r\n", b"P0\nM/a|D"),
+    (
+        b"zIDSESSION\0nSCAN /a\nzMULTISCAN c\0zALLMATCHSCAN /d\0zEND\0",
+        b"P1\nF/a|P2\0Mc|P3\0M/d|D",
+    ),
+    (b"zSCAN /a\nb\0", b"P0\0F/a\nb|D"),
+    (b"zSCAN \0", b"SUNKNOWN COMMAND\0|D"),
+    (b"zSCANS /a\0", b"SUNKNOWN COMMAND\0|D"),
+    (b"zPING\0", b"SPONG\0|D"),
+    (
+        b"zVERSIONCOMMANDS\0",
+        b"SVizdroun 1| COMMANDS: SCAN CONTSCAN MULTISCAN ALLMATCHSCAN PING VERSION VERSIONCOMMANDS INSTREAM IDSESSION END\0|D",
+    ),
+];
+
+// A command's number and end, its path, a verdict, and the reply behind a byte.
+pub const PATH_REPLIES: [(u64, u8, &[u8], Spoken<'static>, &[u8]); 9] = [
+    (0, 0, b"/a", Spoken::Clean, b"</a: OK\0"),
+    (7, b'\n', b"/a b", Spoken::Clean, b"<7: /a b: OK\n"),
+    (0, 0, b"/a", Spoken::Infected, b"</a: infected FOUND\0"),
+    (0, 0, b"/a", Spoken::Found(b"Eicar"), b"</a: Eicar FOUND\0"),
+    (
+        0,
+        0,
+        b"/a",
+        Spoken::NoVerdict { cause: 12 },
+        b"</a: no verdict, cause 12. ERROR\0",
+    ),
+    (
+        0,
+        0,
+        b"",
+        Spoken::Failed(Failing::NotBelow),
+        b"<: File path check failure: not below a folder of --below. ERROR\0",
+    ),
+    (
+        0,
+        0,
+        b"/a",
+        Spoken::Failed(Failing::Unreadable),
+        b"</a: cannot read. ERROR\0",
+    ),
+    (
+        0,
+        0,
+        b"/a",
+        Spoken::Failed(Failing::NoAnswer),
+        b"</a: no answer of the guard. ERROR\0",
+    ),
+    (
+        0,
+        0,
+        b"/a",
+        Spoken::Failed(Failing::NoMemory),
+        b"</a: no memory. ERROR\0",
+    ),
 ];
 
 // Bytes of a long exchange, each time with so many zeros behind them.
