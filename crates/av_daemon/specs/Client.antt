@@ -4,6 +4,7 @@ use Rattle.std.specs.Borrow.{Bor}
 use Rattle.std.specs.declared.alloc.Global.{Global}
 use Rattle.av_asks.specs.LargeAnswers.{cause_number, large_frame}
 use Rattle.av_asks.specs.Speaking.{after, begun_of, bytewise_of, fresh, heard_of as said_of, left_of as to_come}
+use Rattle.av_asks.specs.Contents.{newer_frame}
 use Rattle.av_asks.specs.Spelling.{answer_frame}
 use Rattle.av_asks.specs.declared.answer.OpenAnswer.{OpenAnswer}
 use Rattle.av_asks.specs.declared.answer.OpenAnswer.TheVariants as open_answer
@@ -56,6 +57,7 @@ came line speech kept =
       has_asked = false;
       is_done = false;
       within = None;
+      watch = None;
       place = Free;
       notes = [];
       is_sending = false;
@@ -89,6 +91,11 @@ abbrev pub farewell : Speech → Bool → List ℕ
 farewell (Opens reader) has_asked = if has_asked then [] else refusal_frame OtherSocket
 farewell (Clamd door) has_asked = []
 
+-- what a client is told of the version, where it asked under a tag
+abbrev pub newer_text : Option ℕ → ℕ → List ℕ
+newer_text None version = []
+newer_text (Some tag) version = newer_frame tag version
+
 -- what is left of a frame of which so many bytes came, and which has so many, where that is known
 abbrev pub begun_left : ℕ → ℕ → Left
 begun_left came total =
@@ -117,6 +124,7 @@ thing_of (Some (says.Ask a)) = Some (thing.Asked a.tag (Some a.label) a.content)
 thing_of (Some (says.Begin tag label)) = Some (thing.Begun tag (Some label) None)
 thing_of (Some (says.Part tag some)) = Some (thing.Part some)
 thing_of (Some (says.End tag h)) = Some (thing.Ended (ending_of h))
+thing_of (Some (says.Watch tag version)) = Some (thing.Watches tag version)
 
 -- What a client says next at the socket for opens, with so many bytes of a piece: that, and then what the rest of the piece says, is what
 -- the whole piece says.
@@ -147,6 +155,7 @@ IsWords given (Some (heard.Begin number end first)) waiting told =
     (given ≡ Some (thing.Begun (tag_of number end) None (Some first))) × (told ≡ waiting)
 IsWords given (Some (heard.More bytes)) waiting told = (given ≡ Some (thing.Part bytes)) × (told ≡ waiting)
 IsWords given (Some heard.End) waiting told = (given ≡ Some (thing.Ended ending.Whole)) × (told ≡ waiting)
+IsWords given (Some (heard.Path number end is_many path)) waiting told = ⊥
 
 -- What a client of clamd says next, with so many bytes of a piece: that, and then what the rest of the piece says, is what the whole
 -- piece says. Contents go in parts, or not.

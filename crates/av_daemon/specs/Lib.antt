@@ -10,3 +10,4 @@ pub mod Service
 pub mod Told
 pub mod Parts
 pub mod Relaying
+pub mod Watches

@@ -1,5 +1,5 @@
 -- A connection of which no call waits.
-use Rattle.std.specs.Prelude.{ℕ, ◌≡◌, ◌-◌, ◌==◌, ◌&&◌, ◌||◌, Bool, false, true, nat_lt, if◌then◌else◌, List, length, drop, ◌≤◌, Option, None, Some, is_none}
+use Rattle.std.specs.Prelude.{ℕ, ◌≡◌, ◌+◌, ◌-◌, ◌==◌, ◌&&◌, ◌||◌, Bool, false, true, min, nat_le, nat_lt, if◌then◌else◌, List, length, drop, ◌≤◌, Option, None, Some, is_none}
 use Rattle.std.specs.declared.time.Duration.{Duration}
 use Rattle.mio.specs.declared.event.event.Event.{Event}
 use Rattle.mio.specs.Event.{is_error, is_read_closed, is_readable, is_writable, is_write_closed}
@@ -39,9 +39,18 @@ IsWithin End room = Unit {0}
 abbrev pub IsEndOf : List ℕ → List ℕ → Type 0
 IsEndOf rest all = rest ≡ drop (length all - length rest) all
 
--- since when the other side takes nothing of what waits: never where nothing waits, from now on where it took something or
--- nothing waited before, and else as before
-abbrev pub since_of : Duration → List ℕ → List ℕ → Option Duration → Option Duration
-since_of now before rest since =
-    if length rest == 0 then None else
-    (if nat_lt (length rest) (length before) || is_none since then Some now else since)
+-- how many bytes the other side has taken since it is waited for, once these are left
+abbrev pub taken_by : Line → List ℕ → ℕ
+taken_by l rest = min (l.taken + (length (unsent l) - length rest)) 18446744073709551615
+
+-- it is waited for from now on: it has taken as many as it is to take, or it was not waited for
+abbrev pub begins_anew : Line → List ℕ → Bool
+begins_anew l rest = nat_le l.least (taken_by l rest) || is_none l.since
+
+-- since when the other side takes less of what waits than it is to take: never where nothing waits
+abbrev pub since_of : Line → Duration → List ℕ → Option Duration
+since_of l now rest = if length rest == 0 then None else (if begins_anew l rest then Some now else l.since)
+
+-- how many bytes it has taken since
+abbrev pub taken_of : Line → List ℕ → ℕ
+taken_of l rest = if length rest == 0 then 0 else (if begins_anew l rest then 0 else taken_by l rest)

@@ -1,15 +1,15 @@
-ghost use Rattle.std.specs.Prelude.{◌≡◌, ◌+◌, ◌-◌, ◌≤◌, ◌++◌, [], length, min, true, false, IfOk, OnOk};
+ghost use Rattle.std.specs.Prelude.{◌≡◌, ◌+◌, ◌-◌, ◌≤◌, ◌++◌, [], length, min, true, false, IfOk, OnOk, None};
 ghost use Rattle.av_clamd.specs.Door.{fresh};
-ghost use Rattle.av_daemon.specs.Client.{Hears, IsWords, SaysNext, SaysOne, begun_left, came, ending_of, farewell, is_of_clamd, is_over, kind_of, late_text, left_of, of_tag, open_answer_of, open_text, part_left, silent, spoken_answer, spoken_cause, spoken_of, tag_of, thing_of, told_text};
+ghost use Rattle.av_daemon.specs.Client.{Hears, IsWords, SaysNext, SaysOne, begun_left, came, ending_of, farewell, is_of_clamd, is_over, kind_of, late_text, left_of, newer_text, of_tag, open_answer_of, open_text, part_left, silent, spoken_answer, spoken_cause, spoken_of, tag_of, thing_of, told_text};
 ghost use Rattle.av_daemon.specs.declared.client.Speech.TheVariants.{Opens, Clamd};
 
 use crate::line::{Came, Line};
 use crate::told::{LargeTold, WRITTEN};
 use av_asks::{
     Ask, ClientHeard, ClientReader, ClientSays, How, LargeAnswer, LargeCause, OpenAnswer,
-    put_answer, put_large_answer,
+    put_answer, put_large_answer, put_newer,
 };
-use av_base::{ByteList, Cause, Generation};
+use av_base::{ByteList, Cause, Generation, Version};
 use av_clamd::{Door, Heard, Sending, Spoken, put_reply, put_timed_out};
 use av_guard::Answered;
 use av_large::Ending;
@@ -33,6 +33,8 @@ pub struct Client {
     is_done: bool,
     /// The content in parts that it is within.
     pub within: Option<Open>,
+    /// The tag by which it wants to be told of a newer version.
+    pub watch: Option<u64>,
     /// Whether it waits to be read until the service takes more of contents in parts.
     pub place: Place,
     /// What it asked about and was not answered yet, where there is a log.
@@ -91,6 +93,11 @@ pub enum Thing<'a> {
     Part(&'a [u8]),
     /// The content that it is within ends.
     Ended(Ending),
+    /// It wants to be told of a newer version than this one.
+    Watches {
+        tag: u64,
+        version: u64,
+    },
 }
 
 /// Why a client is let go.
@@ -132,6 +139,7 @@ impl Client {
             has_asked: false,
             is_done: false,
             within: None,
+            watch: None,
             place: Place::Free,
             notes: Notes::new(alloc),
             is_sending: false,
@@ -294,6 +302,18 @@ impl Client {
         }
     }
 
+    /// It is told that this is the version now, if it wants to be told of a newer one: once.
+    pub fn tell_newer(&mut self, version: Version) -> Result<(), Lost>
+        ensures told { OnOk result (self.new.line.waiting.items ≡ self.old.line.waiting.items ++ newer_text self.old.watch version) }
+        ensures once { self.new.watch ≡ None }
+        ensures same { self.new ≡ record self.old { line = self.new.line; watch = self.new.watch } }
+    {
+        if let Some(tag) = self.watch.take() {
+            put_newer(&mut self.line.waiting, tag, version)?;
+        }
+        Ok(())
+    }
+
     /// It is not told the answer that it waited for last: it broke off.
     pub fn forgive(&mut self)
         ensures { self.new ≡ record self.old { owed = self.old.owed - 1 } }
@@ -369,6 +389,7 @@ fn thing_of<'b>(said: Option<ClientSays<'b>>) -> Option<Thing<'b>>
         }
         ClientSays::Part { some, .. } => Some(Thing::Part(some)),
         ClientSays::End { how, .. } => Some(Thing::Ended(ending_of(how))),
+        ClientSays::Watch { tag, version } => Some(Thing::Watches { tag, version }),
     }
 }
 
@@ -424,6 +445,8 @@ fn words_of<'b>(heard: Option<Heard<'b>>, out: &mut Vec<u8>) -> Result<Option<Th
         },
         Some(Heard::More(bytes)) => Thing::Part(bytes),
         Some(Heard::End) => Thing::Ended(Ending::Whole),
+        // Its door takes no paths.
+        Some(Heard::Path { .. }) => return Err(Lost),
     };
     Ok(Some(thing))
 }

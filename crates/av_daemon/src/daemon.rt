@@ -6,6 +6,7 @@ mod relaying;
 mod reporting;
 mod sending;
 mod telling;
+mod watching;
 
 use crate::belief::Belief;
 use crate::client::Client;
@@ -17,6 +18,7 @@ use crate::names::Names;
 use crate::parts::Parts;
 use crate::recorder::{MOST_WAITING, Recorder};
 use crate::service::Service;
+use crate::watches::Watches;
 use av_base::{Mode, Version};
 use av_guard::Guard;
 use av_health::Counts;
@@ -126,6 +128,8 @@ pub struct Daemon<'a, R: Files> {
     parts: Option<Parts>,
     large: Large,
     most: Sizes,
+    // Who wants to be told of a newer version.
+    watches: Watches,
     // Since when a content has waited for its next bytes, or for its verdict.
     contents: Waits,
     // Clients that are not read until the second connection takes more, in their order.
@@ -182,6 +186,7 @@ impl<'a, R: Files + Net + Clock> Daemon<'a, R> {
             parts: None,
             large: Large::new(alloc),
             most: asked.most,
+            watches: Watches::new(alloc),
             contents: Waits::new(alloc),
             parked: VecDeque::new(alloc),
             sending: VecDeque::new(alloc),

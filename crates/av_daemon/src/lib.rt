@@ -21,6 +21,7 @@ mod process;
 mod recorder;
 mod service;
 mod told;
+mod watches;
 
 pub use guarding::{Doors, Guarding, Sizes, guard_at};
 pub use recorder::Logging;

@@ -1,5 +1,5 @@
 ghost use Rattle.std.specs.Prelude.{◌≡◌, ◌≤◌, [], false, length, max, true, vec_len, None};
-ghost use Rattle.av_daemon.specs.Line.{IsEndOf, IsWithin, has_more, may_send, noted, since_of, unsent};
+ghost use Rattle.av_daemon.specs.Line.{IsEndOf, IsWithin, has_more, may_send, noted, since_of, taken_of, unsent};
 
 use mio::event::Event;
 use mio::net::UnixStream;
@@ -15,6 +15,9 @@ const MANY: usize = 65_536;
 // So much room stays where nothing waits.
 const KEPT: usize = 1_024;
 
+/// How many bytes the other side is to take in the time for which it is waited, unless less waits for it.
+pub const LEAST: usize = 4_096;
+
 /// One end of a connection, of which no call waits: what is to go out is kept until the other side takes it.
 #[derive(Drop)]
 pub struct Line {
@@ -24,8 +27,10 @@ pub struct Line {
     pub waiting: Vec<u8>,
     // How many of the waiting bytes have gone out.
     sent: usize,
-    // Since when the other side has taken nothing of what waits.
+    // Since when the other side has taken less of what waits than it is to take, and how many bytes it took since.
     since: Option<Duration>,
+    taken: usize,
+    least: usize,
     may_read: bool,
     // The other side takes no more.
     is_closed: bool,
@@ -43,10 +48,10 @@ pub enum Came {
 }
 
 impl Line {
-    /// Over a connection that does not block.
-    pub fn new(alloc: Global, stream: UnixStream) -> Line
+    /// Over a connection that does not block, whose other side is to take so many bytes in the time for which it is waited.
+    pub fn new(alloc: Global, stream: UnixStream, least: usize) -> Line
         ensures empty { unsent result ≡ [] }
-        ensures taken { result.since ≡ None }
+        ensures taken { (result.since ≡ None) × (result.taken ≡ 0) × (result.least ≡ least) }
         ensures open { (result.may_read ≡ true) × (result.is_closed ≡ false) }
     {
         Line {
@@ -55,6 +60,8 @@ impl Line {
             waiting: Vec::new(alloc),
             sent: 0,
             since: None,
+            taken: 0,
+            least,
             may_read: true,
             is_closed: false,
         }
@@ -111,7 +118,7 @@ impl Line {
         self.waiting.len().saturating_sub(self.sent)
     }
 
-    /// Since when the other side has taken nothing, though something waits for it.
+    /// Since when the other side has taken less than it is to take, though something waits for it.
     pub fn since(&self) -> Option<Duration>
         ensures { result ≡ self.now.since }
     {
@@ -144,15 +151,22 @@ impl Line {
     /// Sends as much as the other side takes, and says whether the connection still stands.
     pub fn send(&mut self, now: Duration) -> bool
         ensures rest { IsEndOf (unsent self.new) (unsent self.old) }
-        ensures since { self.new.since ≡ since_of now (unsent self.old) (unsent self.new) self.old.since }
-        ensures same { (self.new.may_read ≡ self.old.may_read) × (self.new.is_closed ≡ self.old.is_closed) }
+        ensures since { self.new.since ≡ since_of self.old now (unsent self.new) }
+        ensures taken { self.new.taken ≡ taken_of self.old (unsent self.new) }
+        ensures same { (self.new.may_read ≡ self.old.may_read) × (self.new.is_closed ≡ self.old.is_closed) × (self.new.least ≡ self.old.least) }
     {
-        let before = self.sent;
+        let before = self.waiting();
         let stands = self.send_all();
-        if self.waiting() == 0 {
+        let rest = self.waiting();
+        let taken = self.taken.saturating_add(before.saturating_sub(rest));
+        if rest == 0 {
             self.since = None;
-        } else if self.sent > before || self.since.is_none() {
+            self.taken = 0;
+        } else if taken >= self.least || self.since.is_none() {
             self.since = Some(now);
+            self.taken = 0;
+        } else {
+            self.taken = taken;
         }
         self.tidy();
         stands
@@ -184,7 +198,7 @@ impl Line {
     // Lets go of what has gone out.
     fn tidy(&mut self)
         ensures unsent { unsent self.new ≡ unsent self.old }
-        ensures same { (self.new.since ≡ self.old.since) × (self.new.may_read ≡ self.old.may_read) × (self.new.is_closed ≡ self.old.is_closed) }
+        ensures same { (self.new.since ≡ self.old.since) × (self.new.taken ≡ self.old.taken) × (self.new.least ≡ self.old.least) × (self.new.may_read ≡ self.old.may_read) × (self.new.is_closed ≡ self.old.is_closed) }
     {
         if self.sent >= self.waiting.len() {
             if self.waiting.capacity() > KEPT {

@@ -11,6 +11,9 @@ use std::time::Duration;
 // Once so many bytes wait to go out, no client within a content is read.
 const FULL: usize = 262_144;
 
+/// How many bytes the service is to take in the time for which it is waited, unless less waits for it.
+pub const LEAST: usize = 65_536;
+
 // Once so many wait, the connection is given up.
 const MOST_WAITING: usize = 1_048_576;
 

@@ -3,7 +3,7 @@
 use super::{AT_ONCE, Daemon, FIRST, SERVING, SUCCEEDING, Stop, millis};
 use crate::client::{Client, Place};
 use crate::door::Door;
-use crate::line::Line;
+use crate::line::{LEAST, Line};
 use crate::service::Service;
 use av_guard::Guard;
 use av_log::Entry;
@@ -33,14 +33,14 @@ impl<'a, R: Files + Net + Clock> Daemon<'a, R> {
             let Some(stream) = self.doors.opens.next() else {
                 break;
             };
-            let client = Client::of_opens(self.alloc, Line::new(self.alloc, stream));
+            let client = Client::of_opens(self.alloc, Line::new(self.alloc, stream, LEAST));
             self.admit(guard, client, now)?;
         }
         'clamd: for _ in 0..AT_ONCE {
             let Some(stream) = next_of(&mut self.doors.clamd) else {
                 break;
             };
-            let client = Client::of_clamd(self.alloc, Line::new(self.alloc, stream));
+            let client = Client::of_clamd(self.alloc, Line::new(self.alloc, stream, LEAST));
             self.admit(guard, client, now)?;
         }
         'looks: for _ in 0..AT_ONCE {
@@ -89,6 +89,7 @@ impl<'a, R: Files + Net + Clock> Daemon<'a, R> {
     // A client is gone, of which the turns know already: it is told nothing any more, and what it began is dropped.
     pub(super) fn remove(&mut self, guard: &mut Guard, client: u64) -> Result<(), Stop> {
         guard.client_lost(client);
+        self.watches.forget(client);
         let connection = client.saturating_add(FIRST);
         if let Some(who) = self.clients.remove(&connection) {
             if who.place == Place::Parked {
@@ -106,7 +107,7 @@ impl<'a, R: Files + Net + Clock> Daemon<'a, R> {
 
     // One that may be a scanning service: it takes the service's place, or stands by, or is turned away.
     fn accept_service(&mut self, stream: UnixStream, now: Duration) -> Result<(), Stop> {
-        let mut line = Line::new(self.alloc, stream);
+        let mut line = Line::new(self.alloc, stream, LEAST);
         match self.turns.service_came(millis(now)) {
             Arrived::Place => {
                 if line.register(self.doors.poll.registry(), SERVING).is_err() {

@@ -2,6 +2,7 @@
 
 use super::relaying::Beginning;
 use super::telling::Reply;
+use super::watching::Watch;
 use super::{ASKS, Daemon, FIRST, Stop, TURNS, millis};
 use crate::client::{Lost, Thing};
 use crate::told::{LargeTold, unjudged};
@@ -214,6 +215,9 @@ impl<'a, R: Files + Net + Clock> Daemon<'a, R> {
             Thing::Ended(ending) => {
                 self.end_content(guard, client, ending, now)?;
                 return Ok(true);
+            }
+            Thing::Watches { tag, version } => {
+                return self.watch(guard, client, Watch { tag, version }, now);
             }
             Thing::Said(bytes) => {
                 return self.count(client, turns::Thing::Said(bytes as u64), now);

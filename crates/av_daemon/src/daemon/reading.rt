@@ -69,6 +69,7 @@ impl<'a, R: Files + Net + Clock> Daemon<'a, R> {
             Ok(given) => given,
             Err(_) => return self.lose_service(guard, now),
         };
+        self.tell_newer(guard, now)?;
         self.settle(guard, given, millis(now))?;
         if !guard.connected() {
             return self.lose_service(guard, now);

@@ -374,7 +374,7 @@ impl<'a, R: Files + Net + Clock> Daemon<'a, R> {
             }
             self.lose_parts(guard, now)?;
         }
-        let mut line = Line::new(self.alloc, stream);
+        let mut line = Line::new(self.alloc, stream, parts::LEAST);
         if line.register(self.doors.poll.registry(), RELAYING).is_ok() {
             self.parts = Some(Parts::new(line, now));
             self.goes_on = true;

@@ -1,7 +1,7 @@
 //! What the guard says of itself.
 
 use super::Daemon;
-use crate::line::Line;
+use crate::line::{LEAST, Line};
 use crate::process::memory;
 use av_guard::Guard;
 use av_health::{Report, report_bytes};
@@ -16,7 +16,7 @@ impl<'a, R: Files + Net + Clock> Daemon<'a, R> {
         let Ok(bytes) = report_bytes(self.alloc, &self.report(guard, now)) else {
             return;
         };
-        let mut line = Line::new(self.alloc, stream);
+        let mut line = Line::new(self.alloc, stream, LEAST);
         if line.waiting.extend_from_slice(bytes.as_slice()).is_ok() {
             let _ = line.send(now);
         }
@@ -41,6 +41,8 @@ impl<'a, R: Files + Net + Clock> Daemon<'a, R> {
                 None => 0,
             },
             memory_bytes: memory(self.rt),
+            parts: if self.large.takes_parts() { 1 } else { 0 },
+            open_contents: self.large.len() as u64,
         }
     }
 
