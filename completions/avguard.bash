@@ -2,7 +2,7 @@
 _avguard() {
     local word=${COMP_WORDS[COMP_CWORD]} before=${COMP_WORDS[COMP_CWORD - 1]} command=${COMP_WORDS[1]-} options
     if [ "$COMP_CWORD" = 1 ]; then
-        COMPREPLY=($(compgen -W "run ask status metrics check-config help --help --version" -- "$word"))
+        COMPREPLY=($(compgen -W "run ask status metrics paths check-config help --help --version" -- "$word"))
         return
     fi
     case $before in
@@ -12,6 +12,14 @@ _avguard() {
         ;;
     --keep)
         COMPREPLY=($(compgen -W "0 67108864 1073741824" -- "$word"))
+        return
+        ;;
+    --clients)
+        COMPREPLY=($(compgen -W "1 16 64" -- "$word"))
+        return
+        ;;
+    --below)
+        mapfile -t COMPREPLY < <(compgen -d -- "$word")
         return
         ;;
     --questions)
@@ -28,7 +36,8 @@ _avguard() {
     ask) options="--recursive --keep-going --infected --json --print0 --files-from --null --found-status --summary --wait --quiet --help" ;;
     status) options="--json --wait --help" ;;
     metrics) options="--wait --help" ;;
-    help) options="run ask status metrics check-config" ;;
+    paths) options="--below --wait --clients --mode --help" ;;
+    help) options="run ask status metrics paths check-config" ;;
     *) options="--help" ;;
     esac
     case $command:$word in

@@ -1,10 +1,11 @@
 # Completion of avguard for fish.
-set -l commands run ask status metrics check-config help
+set -l commands run ask status metrics paths check-config help
 complete -c avguard -n "not __fish_seen_subcommand_from $commands" -f
 complete -c avguard -n "not __fish_seen_subcommand_from $commands" -a run -d "Answer opens that other programs ask about"
 complete -c avguard -n "not __fish_seen_subcommand_from $commands" -a ask -d "Ask a guard whether files may be opened"
 complete -c avguard -n "not __fish_seen_subcommand_from $commands" -a status -d "Ask a guard how it is"
 complete -c avguard -n "not __fish_seen_subcommand_from $commands" -a metrics -d "Print how a guard is, as Prometheus reads it"
+complete -c avguard -n "not __fish_seen_subcommand_from $commands" -a paths -d "Open files for clients of clamd that name paths"
 complete -c avguard -n "not __fish_seen_subcommand_from $commands" -a check-config -d "Look at a configuration file of avguard run"
 complete -c avguard -n "not __fish_seen_subcommand_from $commands" -a help -d "Print a help text"
 complete -c avguard -n "not __fish_seen_subcommand_from $commands" -s V -l version -d "Print the version"
@@ -19,8 +20,8 @@ complete -c avguard -n "__fish_seen_subcommand_from ask" -l files-from -r -d "A 
 complete -c avguard -n "__fish_seen_subcommand_from ask" -s 0 -l null -d "A zero byte ends each name of the list"
 complete -c avguard -n "__fish_seen_subcommand_from ask" -l found-status -d "End with status 5 or 6 where something is infected"
 complete -c avguard -n "__fish_seen_subcommand_from ask" -l summary -d "Say at the end how many files were scanned"
-complete -c avguard -n "__fish_seen_subcommand_from run ask status metrics" -l wait -x -a "5 30 60 300" -d "Seconds to wait for the other side"
-complete -c avguard -n "__fish_seen_subcommand_from run" -l mode -x -a "600 660 666" -d "Who may join at the socket"
+complete -c avguard -n "__fish_seen_subcommand_from run ask status metrics paths" -l wait -x -a "5 30 60 300" -d "Seconds to wait for the other side"
+complete -c avguard -n "__fish_seen_subcommand_from run paths" -l mode -x -a "600 660 666" -d "Who may join at the socket"
 complete -c avguard -n "__fish_seen_subcommand_from run" -l service-mode -x -a "600 660 666" -d "Who may join as the service"
 complete -c avguard -n "__fish_seen_subcommand_from run" -l least -x -d "The least version that is believed"
 complete -c avguard -n "__fish_seen_subcommand_from run" -l most-version -x -d "The greatest version that a service may begin with"
@@ -37,4 +38,6 @@ complete -c avguard -n "__fish_seen_subcommand_from run" -l max-size -x -d "The 
 complete -c avguard -n "__fish_seen_subcommand_from run" -l stream-max-size -x -a "26214399" -d "The most bytes of a content of a client of clamd"
 complete -c avguard -n "__fish_seen_subcommand_from run" -l clamd -r -d "A socket for clients of clamd"
 complete -c avguard -n "__fish_seen_subcommand_from run" -l names -r -d "The signature file whose names they are told"
+complete -c avguard -n "__fish_seen_subcommand_from paths" -l below -x -a "(__fish_complete_directories)" -d "A folder whose files clients may name"
+complete -c avguard -n "__fish_seen_subcommand_from paths" -l clients -x -a "1 16 64" -d "Clients that are served at a time"
 complete -c avguard -n "__fish_seen_subcommand_from help" -x -a "$commands"

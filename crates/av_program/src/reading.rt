@@ -5,7 +5,7 @@ use av_files::{Input, MAX_FILE, TURNS};
 use av_status::faults::{Reasons, say_reason};
 use std::alloc::Global;
 use std::fs;
-use std::fs::{File, Files};
+use std::fs::{File, Files, OpenFile};
 use std::io::{Error, IsTerminal, Read, Write};
 use std::os::unix::fs::MetadataExt;
 
@@ -54,7 +54,7 @@ pub fn open_file(rt: &HostRuntime, name: &str) -> Option<File> {
 /// A regular file that a walk met, open. The path is looked at once more, without following a link, and what was opened has to be that
 /// very file. So no link is followed, and nothing but a regular file is read. A FIFO that takes the place of the file between this
 /// look and the opening is waited for.
-pub fn open_met(rt: &HostRuntime, path: &str) -> Option<File> {
+pub fn open_met<R: Files>(rt: &R, path: &str) -> Option<R::File> {
     let met = fs::symlink_metadata(rt, path).ok()?;
     if !met.is_file() {
         return None;

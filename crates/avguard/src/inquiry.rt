@@ -7,9 +7,8 @@ ghost use Rattle.av_status.specs.declared.status.Status.TheVariants.{Device};
 ghost use Rattle.avguard.specs.Ask.{failed_of};
 
 use crate::guarding::Guards;
-use av_base::device::read_into;
-use av_client::{Asker, AskingFault, Chance, Reply, Way, next_way};
-use av_files::{MAX_FILE, TURNS};
+use av_client::{Asker, AskingFault, Reply, Way};
+use av_paths::{ask_content, kept_size, manner_of, way_again};
 use av_program::{Source, open_file, open_met, say_why};
 use av_sockets::SocketFault;
 use av_sockets::fault::socket_failed;
@@ -18,10 +17,7 @@ use av_status::{Progress, Status};
 use avguard_words::Ask;
 use std::alloc::Global;
 use std::fs::File;
-use std::io::{Read, Write};
-
-// The most bytes of a file that is asked about as one where contents in parts are taken.
-const SHORT: usize = 65_536;
+use std::io::Write;
 
 // What is asked, and the system that it is asked on.
 #[derive(Drop)]
@@ -78,21 +74,6 @@ pub(crate) fn ask_one<R: Guards, E: Write>(
     Ok(())
 }
 
-// How the file that was asked about last is asked about again, where it is. One without a size can't be had once more.
-fn way_again(answers: &[Option<Reply>], tries: u32, size: Option<u64>) -> Option<Way> {
-    match answers.last() {
-        Some(Some(reply)) => next_way(
-            *reply,
-            Chance {
-                tries,
-                is_kept: size.is_some(),
-                is_small: size.unwrap_or(0) <= MAX_FILE as u64,
-            },
-        ),
-        _ => None,
-    }
-}
-
 // Opens a file and asks about it, from its beginning. It gives the file's size where it can be had once more.
 fn ask_once<R: Guards, E: Write>(
     asking: &Asking<'_, R>,
@@ -119,70 +100,10 @@ fn ask_once<R: Guards, E: Write>(
     }
 }
 
-// How a file is asked about: as one where it has at most so many bytes, and otherwise in parts or in vain.
-#[derive(Clone, Copy)]
-struct Manner {
-    most: usize,
-    is_in_vain: bool,
-}
-
-// A file that can't be had once more is asked about as one where it is small enough, since a reply may want that, and else in parts.
-fn manner_of(way: Way, size: Option<u64>) -> Manner {
-    match (way, size) {
-        (Way::Parts, Some(_)) => Manner {
-            most: SHORT,
-            is_in_vain: false,
-        },
-        (Way::One, Some(_)) => Manner {
-            most: MAX_FILE,
-            is_in_vain: true,
-        },
-        (_, None) => Manner {
-            most: MAX_FILE,
-            is_in_vain: false,
-        },
-    }
-}
-
-// Asks about a content, of which no more is held than the buffer has room for.
-fn ask_content<R: Guards>(
-    asker: &mut Asker<'_, R>,
-    name: &str,
-    content: File,
-    manner: Manner,
-    buffer: &mut [u8],
-) -> Result<(), AskingFault>
-    ensures asked { OnOk result (length asker.new.answers.items ≡ length asker.old.answers.items + 1) }
-    ensures tags { AreAtTheirTags asker.old.answers.items → AreAtTheirTags asker.new.answers.items }
-    ensures owed { IsOwedEach asker.old.owed asker.old.answers.items → IsOwedEach asker.new.owed asker.new.answers.items }
-{
-    let mut front = content.take((manner.most as u64).saturating_add(1));
-    let Ok(count) = read_into(&mut front, buffer, TURNS) else {
-        return Err(AskingFault::Unread);
-    };
-    let begun = buffer.get(..count).unwrap_or(b"".as_slice());
-    if count <= manner.most {
-        return asker.ask(name, begun);
-    }
-    if manner.is_in_vain {
-        return asker.ask_in_vain(name);
-    }
-    let mut whole = begun.chain(front.into_inner());
-    asker.ask_in_parts(name, &mut whole)
-}
-
 fn open_found(rt: &HostRuntime, file: &Found) -> Option<File> {
     match file.source {
         Source::Met => open_met(rt, file.name.as_str()),
         _ => open_file(rt, file.name.as_str()),
-    }
-}
-
-// The size of a file that can be opened anew. What comes through a pipe is gone once it was read.
-fn kept_size(file: &File) -> Option<u64> {
-    match file.metadata() {
-        Ok(metadata) if metadata.is_file() => Some(metadata.len()),
-        _ => None,
     }
 }
 

@@ -1,10 +1,12 @@
-//! The program that guards opens of other programs, asks a guard about files and how it is, and looks at a guard's configuration file.
+//! The program that guards opens of other programs, asks a guard about files and how it is, opens paths for clients of clamd, and looks
+//! at a guard's configuration file.
 #![tactic(auto)]
 
 mod ask;
 mod configuring;
 mod guarding;
 mod inquiry;
+mod paths;
 mod reporting;
 mod told;
 
@@ -14,7 +16,8 @@ use av_status::faults::out_of_memory;
 use av_status::{Prefixed, Status};
 use avguard_words::{PROGRAM, Request, read_words};
 use configuring::{check_config, guard_configured};
-use guarding::{Guards, guard_named};
+use guarding::guard_named;
+use paths::{Systems, open_named};
 use reporting::print_report;
 use std::alloc::Global;
 use std::cell::Cell;
@@ -27,7 +30,13 @@ fn main(rt: HostRuntime) -> ExitCode {
 }
 
 // Takes the words of the command line as text. The system is taken twice, the second time for sockets.
-fn started<R: Guards>(rt: &HostRuntime, system: &R, alloc: Global) -> Status {
+fn started<R: Systems>(rt: &HostRuntime, system: &R, alloc: Global) -> Status
+where
+    R::File: Send,
+    R::Dir: Send,
+    R::Stream: Send,
+    R::Listener: Send,
+{
     let mut err = Prefixed::new(PROGRAM, rt.stderr());
     match command_line(rt, alloc, &mut err) {
         Ok(words) => asked(rt, system, alloc, &words),
@@ -36,19 +45,31 @@ fn started<R: Guards>(rt: &HostRuntime, system: &R, alloc: Global) -> Status {
 }
 
 // Does what the words ask for.
-fn asked<R: Guards>(rt: &HostRuntime, system: &R, alloc: Global, words: &Vec<String>) -> Status {
+fn asked<R: Systems>(rt: &HostRuntime, system: &R, alloc: Global, words: &Vec<String>) -> Status
+where
+    R::File: Send,
+    R::Dir: Send,
+    R::Stream: Send,
+    R::Listener: Send,
+{
     let fault = Cell::new(None);
     answered(rt, system, alloc, words, &fault)
 }
 
 // The same, with the place for a fault of standard output.
-fn answered<R: Guards>(
+fn answered<R: Systems>(
     rt: &HostRuntime,
     system: &R,
     alloc: Global,
     words: &Vec<String>,
     fault: &Cell<Option<Error>>,
-) -> Status {
+) -> Status
+where
+    R::File: Send,
+    R::Dir: Send,
+    R::Stream: Send,
+    R::Listener: Send,
+{
     let mut err = Prefixed::new(PROGRAM, Errors::new(rt.stderr(), fault));
     let stdout = Output::new(rt.stdout(), fault);
     let Ok(mut out) = BufWriter::new(alloc, stdout) else {
@@ -61,19 +82,26 @@ fn answered<R: Guards>(
 }
 
 // Does what is asked for, and gives the reason where standard output failed.
-fn done<R: Guards, W: Write>(
+fn done<R: Systems, W: Write>(
     rt: &HostRuntime,
     system: &R,
     alloc: Global,
     request: &Request<'_>,
     fault: &Cell<Option<Error>>,
     out: &mut W,
-) -> Status {
+) -> Status
+where
+    R::File: Send,
+    R::Dir: Send,
+    R::Stream: Send,
+    R::Listener: Send,
+{
     let mut err = Prefixed::new(PROGRAM, Errors::new(rt.stderr(), fault));
     let status = match request {
         Request::Guard(guard) => guard_named(rt, system, alloc, *guard, &mut err),
         Request::Configured(asked) => guard_configured(rt, system, alloc, *asked, &mut err),
         Request::CheckConfig(file) => check_config(rt, alloc, file, out, &mut err),
+        Request::Paths(paths) => open_named(system, alloc, paths, &mut err),
         Request::Report(report) => print_report(system, alloc, *report, out, &mut err),
         Request::Ask(ask) => {
             let err = &mut progress(rt, PROGRAM, fault, &ask.named);

@@ -4,12 +4,17 @@ use Rattle.std.specs.Str.{bytes_eq}
 use Rattle.av_words.specs.Words.{IsSocketPath}
 use Rattle.avguard_words.specs.Settings.{HasUseOfNames}
 use Rattle.avguard_words.specs.declared.request.Guard.{Guard as Guarding}
+use Rattle.avguard_words.specs.declared.request.Paths.{Paths as Opening}
 use Rattle.avguard_words.specs.declared.request.Request.{Request}
-use Rattle.avguard_words.specs.declared.request.Request.TheVariants.{Guard, Configured, CheckConfig, Ask, Report}
+use Rattle.avguard_words.specs.declared.request.Request.TheVariants.{Guard, Configured, CheckConfig, Ask, Report, Paths}
 
 -- the sockets of a guard can be ones
 abbrev pub HasSockets : Guarding → Type 0
 HasSockets g = IsSocketPath g.opens.now × (IsSocketPath g.service.now × IfSome g.clamd (λ clamd. IsSocketPath clamd.now))
+
+-- the sockets of a program that opens paths can be ones
+abbrev pub HaveSockets : Opening → Type 0
+HaveSockets p = IsSocketPath p.door.now × IsSocketPath p.opens.now
 
 -- two sockets have different paths
 abbrev pub Differ : List ℕ → List ℕ → Type 0
@@ -26,6 +31,7 @@ AsksForApart (Configured asked) = ⊤
 AsksForApart (CheckConfig file) = ⊤
 AsksForApart (Ask ask) = ⊤
 AsksForApart (Report report) = ⊤
+AsksForApart (Paths paths) = Differ paths.door.now paths.opens.now
 
 -- a guard that is asked for has names only for clients of clamd
 abbrev pub AsksForUseOfNames : Request → Type 0
@@ -34,6 +40,7 @@ AsksForUseOfNames (Configured asked) = ⊤
 AsksForUseOfNames (CheckConfig file) = ⊤
 AsksForUseOfNames (Ask ask) = ⊤
 AsksForUseOfNames (Report report) = ⊤
+AsksForUseOfNames (Paths paths) = ⊤
 
 -- the sockets that are asked for can be ones
 abbrev pub AsksForSockets : Request → Type 0
@@ -42,3 +49,4 @@ AsksForSockets (Configured asked) = ⊤
 AsksForSockets (CheckConfig file) = ⊤
 AsksForSockets (Ask ask) = IsSocketPath ask.opens.now
 AsksForSockets (Report report) = IsSocketPath report.opens.now
+AsksForSockets (Paths paths) = HaveSockets paths

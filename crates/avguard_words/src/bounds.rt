@@ -32,6 +32,12 @@ pub const QUESTIONS: Bounds = Bounds {
     greatest: 256,
 };
 
+/// Of the clients that a program which opens paths serves at a time.
+pub const CLIENTS: Bounds = Bounds {
+    least: 1,
+    greatest: 64,
+};
+
 /// Of a version.
 pub const VERSIONS: Bounds = Bounds {
     least: 0,

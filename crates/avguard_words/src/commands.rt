@@ -1,21 +1,23 @@
 //! The commands of avguard, their words and their help.
 
-use crate::bounds::{KEEP, QUESTIONS, SIZES, VERSIONS, WAIT};
+use crate::bounds::{CLIENTS as CLIENTS_AT_ONCE, KEEP, QUESTIONS, SIZES, VERSIONS, WAIT};
 use crate::words::PROGRAM;
 use av_words::rows::{
     DENIED, FILES_FROM, JSON, KEEP_GOING, NOT_GRANTED, NULL, PRINT0, QUIET, RECURSIVE, SUMMARY,
 };
 use av_words::word::add_args;
 use av_words::{Absent, Kind, Word, command_of, with};
-use clap::{Arg, Command};
+use clap::{Arg, ArgAction, Command};
 use std::alloc::{AllocError, Global};
 
-/// The command line: a command that guards, one that asks a guard, two that ask it how it is, and one that looks at a configuration file.
+/// The command line: a command that guards, one that asks a guard, two that ask it how it is, one that opens paths for clients, and one
+/// that looks at a configuration file.
 pub fn avguard_command<'a>(alloc: Global) -> Result<Command<'a>, AllocError> {
     let command = with(program(alloc), run_command(alloc))?;
     let command = with(command, ask_command(alloc))?;
     let command = with(command, status_command(alloc))?;
     let command = with(command, metrics_command(alloc))?;
+    let command = with(command, paths_command(alloc))?;
     with(command, check_config_command(alloc))
 }
 
@@ -95,6 +97,75 @@ const OPTIONS: [Word; 18] = [
     LOG_GRANTS,
     LOG_JSON,
 ];
+
+fn paths_command<'a>(alloc: Global) -> Result<Command<'a>, AllocError> {
+    let mut args = Vec::new(alloc);
+    add_args(alloc, &[DOOR, OPENS_OF_GUARD], &mut args)?;
+    args.push(
+        Arg::new(alloc, "below")
+            .help(BELOW)
+            .long("below")
+            .value_name("FOLDER")
+            .action(ArgAction::Append)
+            .required(true),
+    )?;
+    add_args(alloc, &[WAIT_FOR_PATHS, CLIENTS, MODE_OF_DOOR], &mut args)?;
+    Command::new(alloc, "paths")
+        .about("Opens files for clients of clamd that name paths, and asks a guard about them")
+        .after_help(PATHS_HELP)
+        .args(args)
+}
+
+const BELOW: &str = "A folder whose files, and those below it, clients may name; an absolute path";
+
+const PATHS_HELP: &str =
+    "Some programs that speak to clamd send no contents but paths: `clamdscan FILE`, c-icap, amavis. They come to DOOR; the files \
+         are read\
+         \nwith the rights of this program, and their contents go to the guard at OPENS. `OK` is said of a grant alone. It runs until \
+         it is ended\
+         \nby a signal.\
+         \n\nExample, beside `avguard run opens.socket service.socket`:\
+         \n  avguard paths paths.socket opens.socket --below /srv/mail\
+         \n  echo LocalSocket $PWD/paths.socket > clamd.conf\
+         \n  clamdscan -c clamd.conf /srv/mail";
+
+const DOOR: Word = Word {
+    name: "door",
+    kind: Kind::Required { shown: "DOOR" },
+    help: "Where to make the socket for clients of clamd that name paths: a path of 1 to 107 bytes",
+};
+
+const WAIT_FOR_PATHS: Word = Word {
+    name: "wait",
+    kind: Kind::Number {
+        shown: "SECONDS",
+        least: WAIT.least,
+        greatest: WAIT.greatest,
+        absent: Absent::Means("30"),
+    },
+    help: "How long an answer of the guard may take, a client to send a command, and to take a reply",
+};
+
+const CLIENTS: Word = Word {
+    name: "clients",
+    kind: Kind::Number {
+        shown: "N",
+        least: CLIENTS_AT_ONCE.least,
+        greatest: CLIENTS_AT_ONCE.greatest,
+        absent: Absent::Means("16"),
+    },
+    help: "How many clients are served at a time, 1 to 64; others wait",
+};
+
+const MODE_OF_DOOR: Word = Word {
+    name: "mode",
+    kind: Kind::Choice {
+        shown: "MODE",
+        values: &["600", "660", "666"],
+        default: "600",
+    },
+    help: "Who may come to DOOR: the owner, also the group, or anybody",
+};
 
 fn check_config_command<'a>(alloc: Global) -> Result<Command<'a>, AllocError> {
     command_of(

@@ -24,7 +24,7 @@ pub mod words;
 
 pub use config::{MAX_CONFIG, config_table};
 pub use misfit::config_too_long;
-pub use request::{Ask, Configured, Guard, Report, Request, View};
+pub use request::{Ask, Configured, Guard, Paths, Report, Request, View};
 pub use settings::{NOTHING_SAID, Settings};
 pub use shown::config_lines;
 pub use sockets::configured;

@@ -16,6 +16,8 @@ pub enum Request<'a> {
     Ask(Ask<'a>),
     /// Ask a guard how it is.
     Report(Report<'a>),
+    /// Open paths for clients of clamd and ask a guard about them, until the program is ended.
+    Paths(Paths<'a>),
 }
 
 /// Where a guard is joined, and how it answers.
@@ -92,4 +94,21 @@ pub struct Ask<'a> {
     pub named: Named<'a>,
     pub finding: Finding,
     pub wait: u64,
+}
+
+/// Where clients name paths, and which of them a guard is asked about.
+#[derive(Drop)]
+pub struct Paths<'a> {
+    /// The socket to which they come.
+    pub door: &'a str,
+    /// The guard's socket for opens.
+    pub opens: &'a str,
+    /// The folders whose files may be asked about.
+    pub below: Vec<&'a str>,
+    /// The most seconds of an answer, a command and a reply.
+    pub wait: u64,
+    /// How many clients are served at a time.
+    pub clients: u64,
+    /// The rights of the socket to which they come.
+    pub mode: u32,
 }

@@ -291,10 +291,11 @@ fn refusal_of<'a>(alloc: Global, line: &str, err: &mut FakeWriter) -> Option<Sta
 #[test]
 fn two_sockets_of_a_guard_have_two_paths(rt: HostRuntime) -> Result<(), Fail> {
     let alloc = rt.alloc();
-    let rows: [(&str, &[u8]); 3] = [
+    let rows: [(&str, &[u8]); 4] = [
         ("run o o", b"o: two sockets have one path\n"),
         ("run o s --clamd o", b"o: two sockets have one path\n"),
         ("run o s --clamd s", b"s: two sockets have one path\n"),
+        ("paths o o --below /a", b"o: two sockets have one path\n"),
     ];
     for (line, fault) in rows {
         let mut err = FakeWriter::new(alloc);
@@ -303,6 +304,39 @@ fn two_sockets_of_a_guard_have_two_paths(rt: HostRuntime) -> Result<(), Fail> {
     }
     let mut err = FakeWriter::new(alloc);
     assert_eq!(rt; refusal_of(alloc, "run o s --clamd c", &mut err), None);
+    Ok(())
+}
+
+// The folders, the wait, the clients and the rights of a program that opens paths, where the words ask for one.
+fn opening_of(alloc: Global, line: &str) -> Option<(usize, u64, u64, u32)> {
+    match request_of(alloc, words_of(alloc, line)?.as_slice()) {
+        Some(Request::Paths(paths)) if paths.door == "d" && paths.opens == "o" => {
+            Some((paths.below.len(), paths.wait, paths.clients, paths.mode))
+        }
+        _ => None,
+    }
+}
+
+#[test]
+fn paths_are_opened_as_the_words_say(rt: HostRuntime) -> Result<(), Fail> {
+    let alloc = rt.alloc();
+    for (line, wanted) in [
+        ("paths d o --below /a", Some((1, 30, 16, 0o600))),
+        (
+            "paths d o --below /a --below /b --wait 1 --clients 64 --mode 666",
+            Some((2, 1, 64, 0o666)),
+        ),
+        ("paths d o", None),
+        ("paths d --below /a", None),
+        ("paths o o --below /a", None),
+        ("paths  o --below /a", None),
+        ("paths d o --below /a --clients 0", None),
+        ("paths d o --below /a --clients 65", None),
+        ("paths d o --below /a --wait 86401", None),
+        ("paths d o --below /a --mode 777", None),
+    ] {
+        assert!(&rt; opening_of(alloc, line) == wanted, "{line}");
+    }
     Ok(())
 }
 

@@ -1,13 +1,13 @@
 ghost use Rattle.std.specs.Prelude.{◌≡◌, IfErr, IfOk};
 ghost use Rattle.av_status.specs.declared.status.Status.TheVariants.{Usage};
 ghost use Rattle.av_words.specs.Words.{IsOfWords};
-ghost use Rattle.avguard_words.specs.Words.{AsksForApart, AsksForSockets, AsksForUseOfNames};
+ghost use Rattle.avguard_words.specs.Words.{AsksForApart, AsksForSockets, AsksForUseOfNames, Differ, HaveSockets};
 
 use crate::commands::avguard_command;
-use crate::request::{Ask, Configured, Report, Request, View};
+use crate::request::{Ask, Configured, Paths, Report, Request, View};
 use crate::settings::Settings;
 use crate::sockets::with_sockets;
-use av_status::faults::{bad_socket, out_of_memory};
+use av_status::faults::{bad_socket, out_of_memory, same_socket};
 use av_status::status::Status;
 use av_words::matched::{finding_of, mode_of, named_of, number_of, text_of};
 use av_words::{bad_socket_of, matches_of, say_usage};
@@ -49,6 +49,7 @@ fn request_of<'a>(alloc: Global, matches: &ArgMatches<'a>) -> Result<Request<'a>
         Some(("ask", ask)) => ask_of(alloc, ask),
         Some(("status", status)) => Ok(Request::Report(report_of(status, view_of(status)))),
         Some(("metrics", metrics)) => Ok(Request::Report(report_of(metrics, View::Metrics))),
+        Some(("paths", paths)) => paths_of(alloc, paths),
         Some(("check-config", check)) => Ok(Request::CheckConfig(text_of(check, "file"))),
         Some((_, run)) => Ok(run_of(run)),
         None => Ok(run_of(matches)),
@@ -139,6 +140,21 @@ fn ask_of<'a>(alloc: Global, matches: &ArgMatches<'a>) -> Result<Request<'a>, Al
     }))
 }
 
+fn paths_of<'a>(alloc: Global, matches: &ArgMatches<'a>) -> Result<Request<'a>, AllocError> {
+    let mut below = Vec::new(alloc);
+    if let Some(folders) = matches.get_strs("below") {
+        below.extend_from_slice(folders)?;
+    }
+    Ok(Request::Paths(Paths {
+        door: text_of(matches, "door"),
+        opens: text_of(matches, "opens"),
+        below,
+        wait: number_of(matches, "wait"),
+        clients: number_of(matches, "clients"),
+        mode: mode_of(matches, "mode"),
+    }))
+}
+
 fn view_of(matches: &ArgMatches<'_>) -> View {
     if matches.get_flag("json") {
         View::Json
@@ -180,9 +196,31 @@ fn in_order<'a, E: Write>(request: Request<'a>, err: &mut E) -> Result<Request<'
             Some(socket) => Err(bad_socket(err, socket)),
             None => Ok(Request::Report(report)),
         },
+        Request::Paths(paths) => match paths_in_order(paths, err) {
+            Ok(paths) => Ok(Request::Paths(paths)),
+            Err(status) => Err(status),
+        },
         Request::Configured(asked) => Ok(Request::Configured(asked)),
         Request::CheckConfig(file) => Ok(Request::CheckConfig(file)),
     }
+}
+
+// The same, where its two sockets can be ones, with different paths.
+fn paths_in_order<'a, E: Write>(paths: Paths<'a>, err: &mut E) -> Result<Paths<'a>, Status>
+    ensures sockets { IfOk result HaveSockets }
+    ensures apart { IfOk result (λ p. Differ p.door.now p.opens.now) }
+    ensures fault { IfErr result (λ status. status ≡ Usage) }
+{
+    if let Some(socket) = bad_socket_of(paths.door) {
+        return Err(bad_socket(err, socket));
+    }
+    if let Some(socket) = bad_socket_of(paths.opens) {
+        return Err(bad_socket(err, socket));
+    }
+    if paths.door == paths.opens {
+        return Err(same_socket(err, paths.door));
+    }
+    Ok(paths)
 }
 
 // Names are for clients of clamd: clap's own words for an option that another one requires.

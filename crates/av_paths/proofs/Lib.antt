@@ -1,0 +1,5 @@
+pub mod ContentLemmas
+pub mod CourseLemmas
+pub mod ReplyLemmas
+pub mod ToldLemmas
+pub mod VerdictLemmas
