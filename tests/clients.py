@@ -5,11 +5,12 @@ them built in.
 The client in C and that in Python are asked about files that are clean, infected, empty, as long as an ask may be, longer, not there; with
 no guard, one that lets through, one that goes away or says what is no answer, and stopped while they wait. A guard of bytes answers contents
 in parts early, with each cause of theirs, or never. The helper for fanotify holds `cat` of clean and of infected files, `cp` of a library,
-python3 and a file of 4 GiB, where the machine lets it. clamdscan, clamonacc, rspamd and pyclamd ask at --clamd, where they are
+python3 and a file of 4 GiB, where the machine lets it. With -k it has the kernel remember what was granted (kept.py). clamdscan, clamonacc, rspamd and pyclamd ask at --clamd, where they are
 installed (Debian: clamdscan, clamav-daemon, rspamd, python3-pyclamd); each that was not run is named.
 The last line says how many passed and how many failed."""
 import filecmp, glob, os, re, shutil, signal, socket, struct, subprocess, sys, tempfile, threading, time
 
+import kept
 from cases import Cases
 from programs import program_beside
 
@@ -619,8 +620,18 @@ def is_marked(process):
     return False
 
 
+def versions(cases, room):
+    """What programs hear of newer signatures."""
+    kept.named(cases, room, CLIENT)
+
+
+def remembered(cases, room):
+    """What the helper has the kernel remember, with -k."""
+    kept.kept(cases, room, lambda *words: Holder(room, "watched", *words))
+
+
 def words_of_holder(cases, room):
-    for words, status in (([], 2), (["x"], 2), (["-z", "o", "f"], 2), (["-p", "x", "o", "f"], 2), (["-p", "0", "o", "f"], 2), (["-j", "0", "o", "f"], 2), (["-j", "65", "o", "f"], 2), (["-j", "+1", "o", "f"], 2), (["-h"], 0)):
+    for words, status in (([], 2), (["x"], 2), (["-z", "o", "f"], 2), (["-p", "x", "o", "f"], 2), (["-p", "0", "o", "f"], 2), (["-j", "0", "o", "f"], 2), (["-j", "65", "o", "f"], 2), (["-j", "+1", "o", "f"], 2), (["-k", "0", "o", "f"], 2), (["-k", "65537", "o", "f"], 2), (["-h"], 0)):
         got, out, err = run(room, [room.holder], *words)
         text = out if status == 0 else err
         cases.check(f"avguard-onaccess {words}", got == status and text.startswith(b"usage: ") and not (out and err) or b"invalid option" in err, f"{got}, {out!r}, {err!r}")
@@ -748,7 +759,7 @@ def main():
     if len(sys.argv) != 2:
         sys.exit("usage: tests/clients.py PROGRAM")
     cases = Cases()
-    for part in (answers, embedded, statuses, let_through, denied, nobody, parts_of_bytes, strangers, stopped, words_of_holder, held, clamdscan, pyclamd, clamonacc, rspamd):
+    for part in (answers, embedded, statuses, let_through, denied, nobody, parts_of_bytes, strangers, stopped, words_of_holder, held, versions, remembered, clamdscan, pyclamd, clamonacc, rspamd):
         begun = time.time()
         with tempfile.TemporaryDirectory() as folder:
             room = Room(os.path.abspath(sys.argv[1]), folder)

@@ -145,10 +145,10 @@ def lemmas(checks):
 def fault_lines(checks):
     # (a test of a library has its lines without the program's name, which its standard error puts in front)
     tested = "".join(text_of(path) for path in ("crates/av_status/src/tests.rt", "crates/av_words/src/tests.rt", "crates/avscan_words/src/tests.rt", "crates/avguard_words/src/tests.rt", "crates/avscan/src/tests.rt"))
-    given = "".join(text_of(path) for path in glob.glob(os.path.join(ROOT, "tests", "*", "*.case")) + glob.glob(os.path.join(ROOT, "tests", "import", "*.err"))) + "".join(text_of(path) for path in ("tests/program.py", "tests/files.py", "tests/tables.py", "tests/sockets.py", "tests/watch.py", "tests/chart.py", "tests/guard.py", "tests/large.py", "tests/clients.py", "tests/attacks.py", "tests/waits.py", "tests/config.py", "tests/status.py", "tests/import.py", "tests/generate.py"))
+    given = "".join(text_of(path) for path in glob.glob(os.path.join(ROOT, "tests", "*", "*.case")) + glob.glob(os.path.join(ROOT, "tests", "import", "*.err"))) + "".join(text_of(path) for path in ("tests/program.py", "tests/files.py", "tests/tables.py", "tests/sockets.py", "tests/watch.py", "tests/chart.py", "tests/guard.py", "tests/large.py", "tests/paths.py", "tests/clients.py", "tests/attacks.py", "tests/waits.py", "tests/config.py", "tests/status.py", "tests/import.py", "tests/merge.py", "tests/generate.py"))
     for line in re.findall(r"\| `(av(?:scan|guard|tool): [^`]*)` \|", text_of("docs/FORMATS.md")):
         pattern = re.escape(line).replace(r"\.\.", ".*")
-        for word, form in (("N", r"(\d+|%d)"), ("K", r"(\d+|%d)"), ("FILE", r".*"), ("SOCKET", r".*"), ("LIST", r".*"), ("SET", r".*"), ("OPENS", r".*"), ("SERVICE", r".*"), ("WORDS", r".*"), ("V", r"(\d+|%d)"), ("W", r"(\d+|%d)")):
+        for word, form in (("N", r"(\d+|%d)"), ("K", r"(\d+|%d)"), ("FILE", r".*"), ("FOLDER", r".*"), ("NAME", r".*"), ("SOCKET", r".*"), ("LIST", r".*"), ("SET", r".*"), ("OPENS", r".*"), ("SERVICE", r".*"), ("WORDS", r".*"), ("V", r"(\d+|%d)"), ("W", r"(\d+|%d)")):
             pattern = re.sub(rf"\b{word}\b", lambda _: form, pattern)
         in_tests = re.search(pattern.partition(r":\ ")[2], tested)
         checks.check(in_tests or re.search(pattern, given), f"docs/FORMATS.md: no case has the line {line}")
@@ -193,7 +193,7 @@ def help_of(program, *words):
     return subprocess.run([program, *words, "--help"], stdout=subprocess.PIPE, text=True, timeout=60).stdout
 
 
-COMMANDS = {"avscan": ["run", "scan", "host", "filter", "service", "check"], "avguard": ["run", "ask", "status", "metrics", "check-config"], "avtool": ["chart", "generate", "import"]}
+COMMANDS = {"avscan": ["run", "scan", "host", "filter", "service", "check"], "avguard": ["run", "ask", "status", "metrics", "paths", "check-config"], "avtool": ["chart", "generate", "import", "merge"]}
 
 
 def manual(checks, program):

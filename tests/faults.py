@@ -195,7 +195,7 @@ def main():
     tool = program_beside(program, "avtool")
     with tempfile.TemporaryDirectory() as work:
         library = built(work)
-        for words in ([program, "run", SCRIPT], [program, "run", "--json", SCRIPT], [program, "scan", SET, LETTER, EICAR], [program, "check", SET], [tool, "chart", SCRIPT], [tool, "generate", "--seed", "2", "--commands", "60"]):
+        for words in ([program, "run", SCRIPT], [program, "run", "--json", SCRIPT], [program, "scan", SET, LETTER, EICAR], [program, "check", SET], [tool, "chart", SCRIPT], [tool, "generate", "--seed", "2", "--commands", "60"], [tool, "merge", SET, SET]):
             each_call(cases, library, words)
         for words in ([program, "scan", "--json", "-k", SET, LETTER, EICAR], [program, "scan", "-r", SET, EXAMPLES], [program, "scan", "-j", "4", "-r", SET, EXAMPLES]):
             each_call(cases, library, words, some_of)

@@ -685,6 +685,60 @@ def places(cases, program):
             cases.check("a signal ends it", again.returncode == -signal.SIGTERM, again.returncode)
 
 
+def watches(cases, program):
+    """Clients that want to be told of a newer version: each once, none too early, and before an answer that names that version."""
+    watch = lambda tag, version: frame(8, number(tag), number(version))
+    newer = lambda tag, version: frame(9, number(tag), number(version))
+    with Guard(program) as guard:
+        one, two, three = (connected(guard.opens) for _ in range(3))
+        one.sendall(watch(7, 0))
+        cases.check("nothing is told before a service is there", is_silent(one))
+        service = Service(guard, 3, b"XX")
+        cases.same("its version is told", heard(one, 21), newer(7, 3))
+        one.sendall(watch(1 << 63, 2))
+        cases.same("a newer one is told at once", heard(one, 21), newer(1 << 63, 3))
+        one.sendall(watch(8, 3) + watch(9, 3))
+        two.sendall(watch(1, 3) + watch(2, (1 << 64) - 1))
+        for byte in watch(3, 5) + ask(4, b"A"):
+            three.send(bytes([byte]))
+        served(service, three)
+        cases.same("an ask beside a watch is answered", heard(three, 29), frame(2, number(4), number(2), number(3)))
+        cases.check("none is told of the version that it named", is_silent(one) and is_silent(two) and is_silent(three))
+        three.sendall(watch(6, 3) + ask(5, b"B"))
+        time.sleep(SETTLED)
+        service.learn(4, b"YY")
+        cases.same("the last that a client named counts", heard(one, 21), newer(9, 4))
+        cases.check("each is told once", is_silent(one))
+        cases.check("none is newer than the greatest version", is_silent(two))
+        cases.same("a version is told before an answer that names it", heard(three, 21), newer(6, 4))
+        served(service, three)
+        cases.same("and then that answer", heard(three, 29), frame(2, number(5), number(2), number(4)))
+        many = [connected(guard.opens) for _ in range(200)]
+        for tag, end in enumerate(many):
+            end.sendall(watch(tag, 4) * 40)
+        many[0].close()
+        time.sleep(SETTLED)
+        service.learn(9, b"ZZ")
+        cases.same("many are told", [heard(end, 21) for end in many[1:]], [newer(tag, 9) for tag in range(1, 200)])
+        for size in (0, 15, 17):
+            end = connected(guard.opens)
+            end.sendall(frame(8, bytes(size)))
+            cases.same(f"a body of {1 + size} bytes is none", rest(end), TURNED_AWAY)
+        service.end.close()
+        guard.await_line(b"service lost\n")
+        one.sendall(watch(1, 9))
+        Service(guard, 9, b"ZZ")
+        cases.check("the same version of another service is not newer", guard.await_line(b"connected\n", 2) and is_silent(one))
+
+
+def served(service, client):
+    """The service answers what is asked until something came for the client."""
+    limit = time.time() + SECONDS
+    while not select.select([client], [], [], 0.01)[0] and time.time() < limit:
+        if select.select([service.end], [], [], 0)[0]:
+            service.turn()
+
+
 def idle(cases, program):
     """Nothing spins while nothing is to be done."""
     with Guard(program) as guard:
@@ -702,7 +756,7 @@ def main():
         sys.exit("usage: tests/guard.py PROGRAM [SCHEDULES]")
     cases, program = Cases(), os.path.abspath(sys.argv[1])
     count = int(sys.argv[2]) if len(sys.argv) == 3 else 2000
-    for part in (rows, cut, asks, places, idle, memory, hostile_services, hostile_clients, lambda *words: schedules(*words, count)):
+    for part in (rows, cut, asks, watches, places, idle, memory, hostile_services, hostile_clients, lambda *words: schedules(*words, count)):
         begun, name = time.time(), part.__name__.replace("<lambda>", "schedules")
         try:
             part(cases, program)

@@ -526,6 +526,34 @@ def an_older_service(cases, program, _):
             cases.same(f"a long stream of clamd's clients is refused {mode}", heard(door, 44), b"stream: INSTREAM size limit exceeded. ERROR\0")
 
 
+def answers_that_come_early(cases, program, _):
+    """`ask` sends no more of a file once its answer has come, and takes no grant of what it gave up."""
+    granted, infected = frame(2, number(0), number(2), number(1)), frame(3, number(0), b"\2")
+    rows = ((infected, 0, b"file denied cause 2\n", b""),
+            (frame(3, number(0), bytes([12])), 4, b"file denied cause 12\n", b""),
+            (frame(4, number(0), number(2), bytes([12])), 4, b"file unscanned generation 2 cause 12\n", b""),
+            (granted, 4, b"", b"avguard: %s: the guard was lost\n"))
+    for answer, status, out, err in rows:
+        with tempfile.TemporaryDirectory() as folder:
+            path, file = os.path.join(folder, "o"), os.path.join(folder, "file")
+            with open(file, "wb") as whole:
+                whole.truncate(256 << 20)
+            with socket.socket(socket.AF_UNIX) as door:
+                door.bind(path)
+                door.listen()
+                ask = subprocess.Popen([small.program_beside(program, "avguard"), "ask", path, "file"], cwd=folder, stdin=subprocess.DEVNULL, stdout=subprocess.PIPE, stderr=subprocess.PIPE)
+                client, _ = door.accept()
+                with client:
+                    got = heard(client, READ)
+                    client.sendall(answer)
+                    got += rest(client)
+                    printed = ask.communicate(timeout=SECONDS)
+            bodies, _ = frames(got)
+            ends = [body[9] for body in bodies if body[0] == 7]
+            cases.same(f"what ask prints of {answer.hex()}", (ask.returncode, *printed), (status, out, err % path.encode() if err else err))
+            cases.check("little of the file was sent, and not as a whole one", len(got) < 16 << 20 and ends in ([], [1]), f"{len(got)} bytes, {ends}")
+
+
 def what_keeps_coming_is_not_late(cases, program, _):
     """A content may take longer than --wait to come, at either socket, as long as some of it comes within each --wait."""
     with Guard(program, "--wait", "3") as guard:
@@ -783,16 +811,33 @@ def served_at_last(guard, client, noise):
 
 
 def clamdscan(cases, program, mib):
+    """Files of two sizes, clean and with a signature in their last bytes: alone, as a folder, and as a folder in a session. Then files about as
+    long as the guard takes: a longer one is never OK."""
     if not shutil.which("clamdscan"):
         print("clamdscan is not installed: it was not run", file=sys.stderr)
         return
-    with Whole(program, "--stream-max-size", str(1 << 30), "--names", "/dev/null") as guard:
-        config = guard.write("clamd.conf", b"LocalSocket %s\nStreamMaxLength 2000M\n" % guard.clamd.encode())
-        for size in (5_000_000, 100_000_000 if mib >= 1024 else 10_000_000):
-            for last, status, line in ((b"", 0, b": OK\n"), (b"XX", 1, b": signature-0-of-version-1 FOUND\n")):
-                path = guard.write("file", bytes(size - len(last)) + last)
-                done = subprocess.run(["clamdscan", f"--config-file={config}", "--stream", "--no-summary", path], capture_output=True, timeout=SECONDS)
-                cases.check(f"clamdscan of {size} bytes {last}", done.returncode == status and done.stdout.endswith(line), f"{done.returncode}, {done.stdout!r}, {done.stderr!r}")
+    sizes, most, found = (5_000_000, 100_000_000 if mib >= 1024 else 10_000_000), 1 << 20, ": signature-0-of-version-1 FOUND"
+    for limit in (1 << 30, most):
+        with Whole(program, "--stream-max-size", str(limit)) as guard:
+            config = guard.write("clamd.conf", b"LocalSocket %s\nStreamMaxLength 2000M\n" % guard.clamd.encode())
+            os.mkdir(folder := os.path.join(guard.folder, "folder"))
+            wanted = {}
+            for size in sizes if limit > most else (most, most + 1):
+                for last in (b"", b"XX"):
+                    path = guard.write(f"folder/{size}{last.decode()}", bytes(size - len(last)) + last)
+                    wanted[path] = "INSTREAM size limit exceeded. ERROR" if size > limit else found[2:] if last else "OK"
+            for path, line in wanted.items():
+                status = {"OK": 0, found[2:]: 1}.get(line, 2)
+                cases.same(f"clamdscan of {path}", asked_of_clamd(config, path), (status, [f"{path}: {line}"]))
+            for words in ([], ["--multiscan"]):
+                lines = sorted(f"{path}: {line}" for path, line in wanted.items() if line != "OK")
+                cases.same(f"clamdscan of a folder {words}, at most {limit}", asked_of_clamd(config, folder, *words), (1, lines))
+
+
+def asked_of_clamd(config, path, *words):
+    """The status of clamdscan, and the lines that it prints of files."""
+    done = subprocess.run(["clamdscan", f"--config-file={config}", "--stream", "--no-summary", *words, path], capture_output=True, timeout=3 * SECONDS)
+    return done.returncode, sorted((done.stdout + done.stderr).decode().splitlines())
 
 
 def main():
@@ -801,7 +846,7 @@ def main():
     cases, program, mib = Cases(), os.path.abspath(sys.argv[1]), int(sys.argv[2]) if len(sys.argv) == 3 else 8192
     most = resource.getrlimit(resource.RLIMIT_NOFILE)[1]
     resource.setrlimit(resource.RLIMIT_NOFILE, (most, most))
-    for part_of in (lambda *words: rows(*words[:2]), lines, an_older_service, a_newer_set_amid_a_content, a_service_that_takes_nothing, what_keeps_coming_is_not_late, schedules, hostile, clamdscan,
+    for part_of in (lambda *words: rows(*words[:2]), lines, answers_that_come_early, an_older_service, a_newer_set_amid_a_content, a_service_that_takes_nothing, what_keeps_coming_is_not_late, schedules, hostile, clamdscan,
                     a_byte_a_second_slows_nobody, memory_stays_flat):
         begun, name = time.time(), part_of.__name__.replace("<lambda>", "rows")
         try:

@@ -34,7 +34,7 @@ def devices(cases, program):
     jobs = [("one line", [program, "run", "-"], short), ("3,000 lines", [program, "run", "-"], LONG), ("3,000 objects", [program, "run", "--json", "-"], LONG),
             ("a file scanned", [program, "scan", SET, LETTER], b""), ("3,000 files as JSON", [program, "scan", "--json", SET] + [LETTER] * 3000, b""), ("3,000 files scanned", [program, "scan", SET] + [LETTER] * 3000, b""),
             ("a help text", [program, "--help"], b""), ("a help text of avguard", [program_beside(program, "avguard"), "--help"], b""), ("a picture", [program_beside(program, "avtool"), "chart", SCRIPT], b""),
-            ("a random script", [program_beside(program, "avtool"), "generate", "--seed", "1", "--commands", "9"], b""), ("an import", [program_beside(program, "avtool"), "import", IMPORTED[2]], b"")]
+            ("a random script", [program_beside(program, "avtool"), "generate", "--seed", "1", "--commands", "9"], b""), ("an import", [program_beside(program, "avtool"), "import", IMPORTED[2]], b""), ("a merge", [program_beside(program, "avtool"), "merge", SET, SET], b"")]
     for name, words, given in jobs:
         before = run(words, given, stdout=subprocess.DEVNULL).stderr
         told = (4, before + b"%s: device\n" % named(words[0]))
@@ -57,7 +57,7 @@ def memory(cases, program):
         library = built(work, "fail_nth")
         tool = program_beside(program, "avtool")
         for words in ([program, "run", SCRIPT], [program, "run", "--json", SCRIPT], [program, "scan", SET, LETTER], [program, "scan", "--json", "-k", SET, LETTER], [program, "--help"],
-                      [program_beside(program, "avguard"), "--help"], [tool, "chart", SCRIPT], [tool, "generate", "--seed", "2", "--commands", "60"], [tool, "import", *IMPORTED]):
+                      [program_beside(program, "avguard"), "--help"], [tool, "chart", SCRIPT], [tool, "generate", "--seed", "2", "--commands", "60"], [tool, "import", *IMPORTED], [tool, "merge", SET, SET]):
             name = " ".join([os.path.basename(words[0]), *words[1:]])
             whole = run(words, stdout=subprocess.PIPE)
             refused, in_a_row, number = 0, 0, 0
@@ -276,9 +276,9 @@ def helps(cases, program):
     of_guard = [(["--help"], [b"avguard run opens.socket service.socket", b"avscan service service.socket", b"avguard ask opens.socket", b"Exit status: 0 all done, 1 input refused, 2 usage, 3 memory, 4 device"]),
                 (["run", "--help"], [b"--service-mode <MODE>", b"--least <V>", b"--most-version <V>", b"--state <FILE>", b"--log <FILE>", b"--log-grants", b"--log-json", b"--clamd <CLAMD>"]), (["ask", "--help"], [b"OPENS", b"--keep-going", b"--wait <SECONDS>"])]
     of_tool = [(["--help"], [b"avtool chart examples/late_reply.avs", b"avtool generate --seed 1", b"avtool import --set-version 7", b"Exit status: 0 all done, 1 input refused, 2 usage, 3 memory, 4 device."]),
-               (["chart", "--help"], [b"--from <LINE>", b"--to <LINE>"]), (["generate", "--help"], [b"--seed <N>", b"--commands <M>"]), (["import", "--help"], [b"--set-version <N>", b"--any-target"])]
+               (["chart", "--help"], [b"--from <LINE>", b"--to <LINE>"]), (["generate", "--help"], [b"--seed <N>", b"--commands <M>"]), (["import", "--help"], [b"--set-version <N>", b"--any-target"]), (["merge", "--help"], [b"<SET>...", b"--set-version <N>", b"--output <FILE>"])]
     bad = [["scan"], ["scan", SET], ["run"], ["run", "a", "b"], ["judge"], ["--nothing"]]
-    bad_for_guard, bad_for_tool = [[], ["run"], ["run", "o"], ["ask"], ["ask", "o"], ["guard", "o", "s"], ["--nothing"]], [[], ["chart"], ["generate"], ["import"], ["run", SCRIPT], ["--nothing"]]
+    bad_for_guard, bad_for_tool = [[], ["run"], ["run", "o"], ["ask"], ["ask", "o"], ["guard", "o", "s"], ["--nothing"]], [[], ["chart"], ["generate"], ["import"], ["merge"], ["run", SCRIPT], ["--nothing"]]
     for name, texts, bad in (("avscan", texts, bad), ("avguard", of_guard, bad_for_guard), ("avtool", of_tool, bad_for_tool)):
         at = program if name == "avscan" else program_beside(program, name)
         for words, wanted in texts:
@@ -345,7 +345,7 @@ def reasons(cases, program):
         no_file = unread(gone, "No such file or directory (os error 2)")
         rows = [(["scan", bad, LETTER], of_set), (["host", bad, LETTER], of_set), (["service", pipe, bad], of_set), (["avguard", "run", pipe + "o", pipe + "s", "--clamd", pipe + "c", "--names", bad], of_set),
                 (["scan", gone, LETTER], no_file), (["scan", SET, gone], no_file), (["scan", "-k", SET, gone], no_file), (["host", SET, gone], no_file), (["filter", pipe + "f", gone], no_file),
-                (["scan", "-k", "--files-from", gone, SET], no_file), (["run", gone], no_file), (["avtool", "import", gone], no_file), (["avtool", "chart", gone], no_file),
+                (["scan", "-k", "--files-from", gone, SET], no_file), (["run", gone], no_file), (["avtool", "import", gone], no_file), (["avtool", "merge", SET, gone], no_file), (["avtool", "chart", gone], no_file),
                 (["scan", SET, work], unread(work, "is a folder (-r scans it)")), (["host", SET, work], unread(work, "is a folder")), (["scan", work, LETTER], unread(work, "is a folder")),
                 (["scan", SET, pipe], unread(pipe, "is no regular file")), (["run", script], (1, b"", ["line 2: bad script"]))]
         for words, (status, out, lines) in rows:

@@ -11,6 +11,8 @@ As a module it asks for a program:
     with Guard("/run/avscan-guard/opens.socket", seconds=30) as guard:
         is_granted = guard.judged(content).startswith("granted")        # bytes of any length
         is_granted = guard.judged_file(file).startswith("granted")      # a file that was opened by open(name, "rb")
+    with Guard("/run/avscan-guard/opens.socket") as guard:
+        for version in guard.versions(): ...                            # of the signatures, and each newer one as it comes
 """
 import io, os, select, socket, struct, sys
 
@@ -109,6 +111,19 @@ class Guard:
             other, words = self.received()
             self.told[other] = words
         return self.told.pop(tag)
+
+    def versions(self, seconds=None):
+        """Yields the version of the signatures by which the guard answers, once a service has connected, and then each newer one as it
+        comes; None if none came for so many seconds. Lost at a guard that has none of this. The connection is for this alone."""
+        version = 0
+        while True:
+            self.send(8, 0, struct.pack(">Q", version))
+            while not select.select([self.socket], [], [], seconds)[0]:
+                yield None
+            size, kind, _, version = struct.unpack(">IBQQ", self.exactly(21))
+            if (size, kind) != (17, 9):
+                raise Lost
+            yield version
 
     def send(self, kind, tag, *fields):
         body = struct.pack(">BQ", kind, tag) + b"".join(fields)

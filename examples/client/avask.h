@@ -12,12 +12,19 @@
  *     said = some < 0 ? av_give_up(&parts, &answer) : av_end(&parts, &answer);
  *     if (said == AV_DENIED && answer.cause == AV_AGAIN) ...          // from the beginning of the file once more
  *
+ * A program that keeps grants hears of newer signatures over a connection of its own:
+ *
+ *     uint64_t version;
+ *     int told = guard >= 0 ? av_watch(guard) : AV_LOST;
+ *     while (told != AV_LOST && (told = av_version(guard, -1, &version)) == AV_VERSION) ...       // drops grants of older versions
+ *
  * It is C11 and C++11. Nothing is allocated, and nothing is needed but the C library of a Unix. A connection carries one content at a
  * time, so threads take one each. A guard that sends or takes nothing for 60 s is lost; av_wait sets another bound. docs/FORMATS.md has
  * the frames, in "Asking a guard" and "Contents in parts". */
 #ifndef AVASK_H
 #define AVASK_H
 #include <errno.h>
+#include <poll.h>
 #include <stdint.h>
 #include <string.h>
 #include <sys/socket.h>
@@ -32,6 +39,7 @@ enum { AV_SECONDS = 60 };   /* how long the guard may send or take nothing, unle
 /* What is said of a content. The last three are no answers of the guard. AV_OPEN: none came yet. AV_LOST: the connection is of no use any
  * more and is to be closed. AV_TOO_LARGE: nothing was asked, and the connection is as it was. */
 enum { AV_GRANTED = 2, AV_DENIED = 3, AV_UNSCANNED = 4, AV_OPEN = 0, AV_LOST = -1, AV_TOO_LARGE = -2 };
+enum { AV_VERSION = 9 }; /* av_version: the guard named one */
 
 /* Some causes of a content that was denied or not scanned. The last four are of contents in parts alone. */
 enum {
@@ -239,5 +247,30 @@ static inline int av_end(struct av_content *content, struct av_answer *answer) {
 static inline int av_give_up(struct av_content *content, struct av_answer *answer) {
     int said = av_close(content, 1, answer);
     return said == AV_GRANTED ? content->said = AV_LOST : said;
+}
+
+static inline int av_newer_than(int guard, uint64_t version) {
+    unsigned char frame[21] = {0, 0, 0, 17, 8}; /* kind 8 under the tag 0 */
+    for (int i = 0; i < 8; i++) frame[13 + i] = (unsigned char)(version >> (56 - 8 * i));
+    return av_send(guard, frame, sizeof frame) < 0 ? AV_LOST : 0;
+}
+
+/* Asks the guard for its versions: 0, or AV_LOST. From then on the connection is for av_version alone. An older guard closes it. */
+static inline int av_watch(int guard) {
+    return av_newer_than(guard, 0);
+}
+
+/* Waits at most so many milliseconds, without end if below 0, for the version of the signatures by which the guard answers: the first comes
+ * once a service has connected, and then each newer one. AV_VERSION, AV_OPEN if none came, or AV_LOST: then nobody reports newer versions,
+ * and no grant should be kept. */
+static inline int av_version(int guard, int milliseconds, uint64_t *version) {
+    unsigned char told[21];
+    struct pollfd at = {guard, POLLIN, 0};
+    int some = poll(&at, 1, milliseconds);
+    if (some == 0 || (some < 0 && errno == EINTR)) return AV_OPEN;
+    if (some < 0 || av_receive(guard, told, sizeof told) < 0 || av_number(told, 4) != 17 || told[4] != AV_VERSION) return AV_LOST;
+    *version = av_number(told + 13, 8);
+    if (av_newer_than(guard, *version) == AV_LOST) return AV_LOST;
+    return AV_VERSION;
 }
 #endif
