@@ -124,10 +124,9 @@ const PATHS_HELP: &str =
          \nwith the rights of this program, and their contents go to the guard at OPENS. `OK` is said of a grant alone. It runs until \
          it is ended\
          \nby a signal.\
-         \n\nExample, beside `avguard run opens.socket service.socket`:\
+         \n\nExample, beside `avguard run opens.socket service.socket`, where clamd.conf has `LocalSocket /PATH/paths.socket`:\
          \n  avguard paths paths.socket opens.socket --below /srv/mail\
-         \n  echo LocalSocket $PWD/paths.socket > clamd.conf\
-         \n  clamdscan -c clamd.conf /srv/mail";
+         \n  clamdscan /srv/mail";
 
 const DOOR: Word = Word {
     name: "door",
