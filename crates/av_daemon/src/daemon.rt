@@ -76,6 +76,9 @@ const CHANGES: usize = 256;
 
 const PIECE: usize = 65_536;
 
+// How many bytes of a part are read at a time, at most: a small ask of another client waits for no more.
+const RELAYED: usize = 8_192;
+
 /// Why the guard ends.
 #[derive(Clone, Copy, Debug, PartialEq, Eq)]
 pub enum Stop {

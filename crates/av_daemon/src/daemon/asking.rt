@@ -3,7 +3,7 @@
 use super::relaying::Beginning;
 use super::telling::Reply;
 use super::watching::Watch;
-use super::{ASKS, Daemon, FIRST, Stop, TURNS, millis};
+use super::{ASKS, Daemon, FIRST, RELAYED, Stop, TURNS, millis};
 use crate::client::{Lost, Thing};
 use crate::told::{LargeTold, unjudged};
 use av_base::{ByteList, Cause, Refusal};
@@ -115,7 +115,7 @@ impl<'a, R: Files + Net + Clock> Daemon<'a, R> {
         };
         let most = match who.part_left() {
             0 => bytes.min(kept) as usize,
-            left => left,
+            left => left.min(RELAYED),
         };
         let room = buffer.len().min(most);
         if room == 0 || who.is_done() {

@@ -6,7 +6,7 @@ ghost use Rattle.av_daemon.specs.Relaying.{held, waits_behind};
 use super::asking::Broken;
 use super::sending::is_late;
 use super::telling::Reply;
-use super::{Daemon, FIRST, PIECE, RELAYING, Stop, millis};
+use super::{Daemon, FIRST, RELAYED, RELAYING, Stop, millis};
 use crate::client::{Open, Place};
 use crate::line::Line;
 use crate::parts::{self, Parts, word_number};
@@ -331,7 +331,7 @@ impl<'a, R: Files + Net + Clock> Daemon<'a, R> {
             let Some(client) = self.parked.pop_front() else {
                 return Ok(());
             };
-            room = room.saturating_sub(PIECE);
+            room = room.saturating_sub(RELAYED);
             self.call(client, now)?;
         }
         Ok(())
