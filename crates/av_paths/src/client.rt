@@ -198,22 +198,31 @@ fn ask_stream<R: Opens>(
     (asked, content.is_over())
 }
 
-// Reads what follows of a content that has its answer already.
+// Reads what follows of a content that has its answer already, as long as one wait.
 fn pass_over<R: Opens>(
     place: &Place<'_, R>,
     line: &mut Line<'_, R>,
     door: &mut Door,
 ) -> Result<(), Lost> {
     let mut buffer = vec![in place.alloc; 0u8; PIECE]?;
+    let until = line.until()?;
     let mut content = Streamed::new(line, door, Vec::new(place.alloc));
     'pieces: for _ in 0..u64::MAX {
         match content.read(&mut buffer) {
             Ok(0) => return Ok(()),
-            Ok(_) => {}
-            Err(_) => break,
+            Ok(_) if is_before(place, until) => {}
+            _ => break,
         }
     }
     Err(Lost::Gone)
+}
+
+// Whether a moment has not come.
+fn is_before<R: Opens>(place: &Place<'_, R>, moment: Duration) -> bool {
+    match place.system.monotonic() {
+        Ok(now) => now.as_nanos() < moment.as_nanos(),
+        Err(_) => false,
+    }
 }
 
 fn say_stream<R: Opens>(
