@@ -1,0 +1,4 @@
+pub mod Class
+pub mod Glob
+pub mod Reading
+pub mod Row
