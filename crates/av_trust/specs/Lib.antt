@@ -1,0 +1,4 @@
+pub mod Hmac
+pub mod Key
+pub mod Signed
+pub mod Trust
