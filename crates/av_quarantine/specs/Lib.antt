@@ -1,0 +1,4 @@
+pub mod Laws
+pub mod Looks
+pub mod Naming
+pub mod Steps
