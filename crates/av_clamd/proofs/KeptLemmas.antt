@@ -55,7 +55,7 @@ answers_good most None d is = ((is.0, omega (arith, is.1), tt, is.2), (tt, tt))
 
 asks_good : (most : ℕ) (o : Option (List ℕ)) (word : List ℕ) (d : Opened) → IsCalm most d → IsGood most (asks_about o word d)
 asks_good most (Some path) word d is = ((is.0, omega (arith, is.1, after_coming d.session d.way), after_left d.session, is.2), (tt, tt))
-asks_good most None word d is = answers_good most (answered d.paths word) d is
+asks_good most None word d is = answers_good most (answered d.about d.paths word) d is
 
 obeyed_good : (most : ℕ) (marked : Bool) (word : List ℕ) (d : Opened) → IsCalm most d → IsGood most (obeyed marked word d)
 obeyed_good most marked word d is =

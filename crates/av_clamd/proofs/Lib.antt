@@ -1,3 +1,4 @@
+pub mod DateLemmas
 pub mod HearLemmas
 pub mod KeptLemmas
 pub mod PathLemmas

@@ -29,7 +29,7 @@ answers_good (Some text) d is = (is, (tt, tt))
 answers_good None d is = (is, (tt, tt))
 
 asks_good : (word : List ℕ) (d : Opened) → d.paths ≡ Refused → IsGood (asks_about (path_taken d.paths word) word d)
-asks_good word d is = subst (λ o. IsGood (asks_about o word d)) (sym (ap (λ p. path_taken p word) is)) (answers_good (answered d.paths word) d is)
+asks_good word d is = subst (λ o. IsGood (asks_about o word d)) (sym (ap (λ p. path_taken p word) is)) (answers_good (answered d.about d.paths word) d is)
 
 obeyed_good : (marked : Bool) (word : List ℕ) (d : Opened) → d.paths ≡ Refused → IsGood (obeyed marked word d)
 obeyed_good marked word d is =

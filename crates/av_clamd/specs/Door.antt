@@ -1,6 +1,7 @@
 use Rattle.std.specs.Prelude.{ℕ, ◌≡◌, ◌≤◌, ◌+◌, ◌-◌, ◌==◌, ◌&&◌, Bool, true, false, not, nat_lt, List, [], ◌∷◌, ◌++◌, length, map, nat_le, take, Option, None, Some, Result, Ok, Err, codes, min, if◌then◌else◌}
 use Rattle.std.specs.Int.{w32, from_be_bytes}
 use Rattle.std.specs.declared.alloc.AllocError.{AllocError}
+use Rattle.av_clamd.specs.declared.about.About.{About}
 use Rattle.av_clamd.specs.declared.door.Reading.{Reading}
 use Rattle.av_clamd.specs.declared.door.Reading.TheVariants.{Command, Size, Piece, Nothing}
 use Rattle.av_clamd.specs.declared.door.Sending.{Sending}
@@ -17,7 +18,7 @@ use Rattle.av_clamd.specs.Text.{answered, end_of, goes_on, is_marked, line_of, p
 
 -- A door: what is read next; the bytes of the command, or of a piece's length, that came so far; the content so far, where it is
 -- collected; what is done with its bytes; whether a session was begun, and how many commands it has had; how the last command ended;
--- and what becomes of paths.
+-- what becomes of paths; and what is known of the guard.
 pub record Opened : Type 0 where
   pub reading : Reading
   pub begun : List ℕ
@@ -27,6 +28,7 @@ pub record Opened : Type 0 where
   pub number : ℕ
   pub end : ℕ
   pub paths : Paths
+  pub about : Option About
 
 -- What came of a byte: a line that is said, or a content that is asked about, under its command's number and end. Of a content that
 -- comes in parts: that it begins, with its first bytes; one of its bytes; that it ends. Or a path that is asked about, and whether that
@@ -50,7 +52,7 @@ told (heard.Path number end is_many path) = Named number end is_many path.items 
 
 -- a door that nobody spoke to
 abbrev pub fresh : Opened
-fresh = record { reading = Command; begun = []; content = []; way = Collected; session = false; number = 0; end = 10; paths = Refused }
+fresh = record { reading = Command; begun = []; content = []; way = Collected; session = false; number = 0; end = 10; paths = Refused; about = None }
 
 -- the same, of a door that takes paths
 abbrev pub fresh_with_paths : Opened
@@ -76,7 +78,7 @@ names is_many path d = (record d { reading = after_reply d }, Named d.number d.e
 -- a word that asks about a path that is taken, or any other
 abbrev pub asks_about : Option (List ℕ) → List ℕ → Opened → Opened × List Told
 asks_about (Some path) word d = names (goes_on word) path d
-asks_about None word d = answers (answered d.paths word) d
+asks_about None word d = answers (answered d.about d.paths word) d
 
 -- a word, and whether its command was marked
 abbrev pub obeyed : Bool → List ℕ → Opened → Opened × List Told

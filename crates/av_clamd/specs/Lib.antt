@@ -1,3 +1,4 @@
+pub mod About
 pub mod Text
 pub mod Door
 pub mod Laws

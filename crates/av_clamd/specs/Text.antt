@@ -1,6 +1,8 @@
 use Rattle.std.specs.Prelude.{ℕ, ◌≡◌, Vec, ◌-◌, ◌==◌, ◌&&◌, ◌||◌, Bool, false, not, nat_lt, List, [], ◌∷◌, ◌++◌, length, take, drop, Option, None, Some, is_some, codes, decimal, slice_index, if◌then◌else◌}
 use Rattle.std.specs.Str.{bytes_eq}
 use Rattle.std.specs.declared.alloc.Global.{Global}
+use Rattle.av_clamd.specs.About.{stats_text, version_text}
+use Rattle.av_clamd.specs.declared.about.About.{About}
 use Rattle.av_clamd.specs.declared.reply.Failing.{Failing}
 use Rattle.av_clamd.specs.declared.reply.Failing.TheVariants.{NotBelow, Unreadable, NoAnswer, NoMemory}
 use Rattle.av_clamd.specs.declared.reply.Spoken.{Spoken}
@@ -105,19 +107,40 @@ abbrev pub refused_path : Option (List ℕ) → Option (List ℕ)
 refused_path None = None
 refused_path (Some path) = Some (path ++ codes ": no path is read here, send the content (INSTREAM). ERROR")
 
+-- how the list of commands begins: with those for paths, where they are known
+abbrev pub path_commands : Paths → List ℕ
+path_commands Refused = codes "| COMMANDS:"
+path_commands Taken = codes "| COMMANDS: SCAN CONTSCAN MULTISCAN ALLMATCHSCAN"
+
+-- the command for what a guard tells of itself, where that is known
+abbrev pub stats_command : Option About → List ℕ
+stats_command None = []
+stats_command (Some about) = codes " STATS"
+
+-- the commands of every door
+unfoldable pub common_commands : Option About → List ℕ
+common_commands about = codes " PING VERSION VERSIONCOMMANDS" ++ stats_command about ++ codes " INSTREAM IDSESSION END"
+
 -- the commands that are known, after the version
-abbrev pub commands_text : Paths → List ℕ
-commands_text Refused = codes "Vizdroun 1| COMMANDS: PING VERSION VERSIONCOMMANDS INSTREAM IDSESSION END"
-commands_text Taken =
-    codes "Vizdroun 1| COMMANDS: SCAN CONTSCAN MULTISCAN ALLMATCHSCAN PING VERSION VERSIONCOMMANDS INSTREAM IDSESSION END"
+unfoldable pub commands_of : Option About → Paths → List ℕ
+commands_of about paths = path_commands paths ++ common_commands about
+
+-- what is said to VERSIONCOMMANDS
+abbrev pub commands_text : Option About → Paths → List ℕ
+commands_text about paths = version_text about ++ commands_of about paths
+
+-- what is said to STATS, where something is known
+abbrev pub stats_told : Option About → Option (List ℕ)
+stats_told None = None
+stats_told (Some about) = Some (stats_text about)
 
 -- what is said to a word that is answered by a line, where it is one
-unfoldable pub answered : Paths → List ℕ → Option (List ℕ)
-answered paths word =
+unfoldable pub answered : Option About → Paths → List ℕ → Option (List ℕ)
+answered about paths word =
     if bytes_eq word (codes "PING") then Some (codes "PONG")
-    else if bytes_eq word (codes "VERSION") then Some (codes "Vizdroun 1")
-    else if bytes_eq word (codes "VERSIONCOMMANDS")
-    then Some (commands_text paths)
+    else if bytes_eq word (codes "VERSION") then Some (version_text about)
+    else if bytes_eq word (codes "VERSIONCOMMANDS") then Some (commands_text about paths)
+    else if bytes_eq word (codes "STATS") then stats_told about
     else refused_path (path_of word)
 
 -- a text, where one is wanted

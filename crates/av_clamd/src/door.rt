@@ -1,10 +1,11 @@
-ghost use Rattle.std.specs.Prelude.{◌≡◌, ◌≤◌, ◌+◌, ◌<◌, ◌^◌, false, drop, length, take, IfOk, IfSome, None, OnErr, OnOk};
+ghost use Rattle.std.specs.Prelude.{◌≡◌, ◌≤◌, ◌+◌, ◌<◌, ◌^◌, false, drop, length, take, IfOk, IfSome, None, OnErr, OnOk, Some};
 ghost use Rattle.std.specs.Option.{option_copied};
 ghost use Rattle.av_clamd.specs.declared.door.Reading.TheVariants.{Nothing, Piece};
 ghost use Rattle.av_clamd.specs.declared.door.Way.TheVariants.{Collected};
 ghost use Rattle.av_clamd.specs.Text.{answered, goes_on, path_taken};
 ghost use Rattle.av_clamd.specs.Door.{Gives, HasBytes, Steps, after_reply, answers, commanded, enlarged, finished, fresh, fresh_with_paths, goes_in_parts, heard_of, in_command, in_size, is_nothing, is_piece, is_relayed, kept_of, names, obeyed, onto, option_told, pieced, relay_left, says, sized, step};
 
+use crate::about::About;
 use crate::text::{Paths, answered, end_of, goes_on, is_marked, line_of, path_taken, word_of};
 use std::alloc::{AllocError, Global};
 use std::marker::Model;
@@ -97,6 +98,7 @@ pub struct Door {
     number: u64,
     end: u8,
     paths: Paths,
+    about: Option<About>,
 }
 
 impl Model for Door {
@@ -104,7 +106,7 @@ impl Model for Door {
 
     ghost Value = { Opened };
 
-    ghost view = { λ d. record { reading = d.reading; begun = d.begun.items; content = d.content.items; way = d.way; session = d.session; number = d.number; end = d.end; paths = d.paths } };
+    ghost view = { λ d. record { reading = d.reading; begun = d.begun.items; content = d.content.items; way = d.way; session = d.session; number = d.number; end = d.end; paths = d.paths; about = d.about } };
 }
 
 impl Door {
@@ -135,7 +137,15 @@ impl Door {
             number: 0,
             end: b'\n',
             paths,
+            about: None,
         }
+    }
+
+    /// Learns how the guard is now: VERSION names its set from now on, and STATS is answered.
+    pub fn learn(&mut self, about: About)
+        ensures { self.new ≡ record self.old { about = Some about } }
+    {
+        self.about = Some(about);
     }
 
     /// Takes bytes that the client sent, cut anywhere, up to the first of which something came. It answers how many bytes it took,
@@ -287,10 +297,10 @@ impl Door {
     }
 
     fn answer<'a>(&mut self, word: &[u8]) -> Result<Option<Heard<'a>>, AllocError>
-        ensures { Steps self.new result (answers (answered self.old.paths word.now) self.old) }
+        ensures { Steps self.new result (answers (answered self.old.about self.old.paths word.now) self.old) }
     {
         let next = self.after_reply();
-        match answered(self.alloc, self.paths, word)? {
+        match answered(self.alloc, self.about, self.paths, word)? {
             Some(text) => self.say(&text, next),
             None if self.session => {
                 self.say(b"Command invalid inside IDSESSION. ERROR", Reading::Nothing)

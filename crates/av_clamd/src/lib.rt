@@ -8,6 +8,7 @@
 //! ```
 #![tactic(auto)]
 
+pub mod about;
 pub mod door;
 pub mod laws;
 pub mod reply;
@@ -15,5 +16,6 @@ pub mod reply;
 mod tests;
 mod text;
 
+pub use about::{About, date_of};
 pub use door::{Door, Heard, Sending};
 pub use reply::{Failing, Spoken, put_path_reply, put_reply, put_timed_out};

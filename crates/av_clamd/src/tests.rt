@@ -1,5 +1,6 @@
 mod rows;
 
+use crate::about::{About, date_of};
 use crate::door::{Door, Heard, Sending};
 use crate::reply::{Failing, Spoken, put_path_reply, put_reply, put_timed_out};
 use crate::tests::rows::{LONG, PATH_REPLIES, PATHS, REPLIES, ROWS};
@@ -381,6 +382,92 @@ fn what_grows_too_long_ends_a_connection_once_it_was_read(rt: HostRuntime) -> Re
     );
     assert!(rt; hear_all(rt.alloc(), &mut door, &content)?.is_empty() && !door.is_done());
     assert!(rt; hear_all(rt.alloc(), &mut door, b"\0\0\0\0")?.is_empty() && door.is_done());
+    Ok(())
+}
+
+// A guard whose service judges, with three contents that wait.
+const ABOUT: About = About {
+    version: 27_500,
+    date: *b"Sun Nov 29 16:59:53 2026",
+    is_ready: true,
+    waiting: 3,
+};
+
+// What a door says to a word that has learned this.
+fn told(alloc: Global, mut door: Door, about: About, word: &[u8]) -> Result<Vec<u8>, Fail> {
+    door.learn(about);
+    heard_at(alloc, door, Sending::Whole, word, (2, 1))
+}
+
+#[test]
+fn a_door_tells_what_it_has_learned(rt: HostRuntime) -> Result<(), Fail> {
+    let alloc = rt.alloc();
+    let version = told(alloc, Door::new(alloc), ABOUT, b"zVERSION\0")?;
+    let wanted = b"SVizdroun 1/27500/Sun Nov 29 16:59:53 2026\0|D";
+    assert!(&rt; version.as_slice() == wanted.as_slice(), "version");
+    let none = About {
+        version: 0,
+        is_ready: false,
+        waiting: 0,
+        ..ABOUT
+    };
+    let version = told(alloc, Door::new(alloc), none, b"VERSION\n")?;
+    assert!(&rt;
+        version.as_slice() == b"SVizdroun 1\n|D".as_slice(),
+        "no version"
+    );
+    let commands = told(alloc, Door::new(alloc), none, b"nVERSIONCOMMANDS\n")?;
+    let wanted =
+        b"SVizdroun 1| COMMANDS: PING VERSION VERSIONCOMMANDS STATS INSTREAM IDSESSION END\n|D";
+    assert!(&rt; commands.as_slice() == wanted.as_slice(), "commands");
+    Ok(())
+}
+
+#[test]
+fn the_state_is_told_as_clamd_tells_it(rt: HostRuntime) -> Result<(), Fail> {
+    let alloc = rt.alloc();
+    let stats = told(alloc, Door::new(alloc), ABOUT, b"nSTATS\n")?;
+    let wanted =
+        b"SPOOLS: 1\n\nSTATE: VALID PRIMARY\nTHREADS: live 1  idle 0 max 1 idle-timeout 0\nQUEUE: 3 items\n\n\
+        MEMSTATS: heap N/A mmap N/A used N/A free N/A releasable N/A pools 1 pools_used N/A pools_total N/A\nEND\n|D";
+    assert!(&rt; stats.as_slice() == wanted.as_slice(), "ready");
+    let away = About {
+        is_ready: false,
+        waiting: 0,
+        ..ABOUT
+    };
+    let stats = told(alloc, Door::new(alloc), away, b"zSTATS\0")?;
+    let wanted =
+        b"SPOOLS: 1\n\nSTATE: INVALID PRIMARY\nTHREADS: live 1  idle 0 max 1 idle-timeout 0\nQUEUE: 0 items\n\n\
+        MEMSTATS: heap N/A mmap N/A used N/A free N/A releasable N/A pools 1 pools_used N/A pools_total N/A\nEND\0|D";
+    assert!(&rt; stats.as_slice() == wanted.as_slice(), "not ready");
+    let unknown = heard(alloc, Sending::Whole, b"zSTATS\0", 1, 1)?;
+    assert!(&rt;
+        unknown.as_slice() == b"SUNKNOWN COMMAND\0|D".as_slice(),
+        "unknown"
+    );
+    Ok(())
+}
+
+// Seconds since 1970, and the date of them.
+const DATES: [(u64, &[u8; 24]); 7] = [
+    (0, b"Thu Jan  1 00:00:00 1970"),
+    (784_111_777, b"Sun Nov  6 08:49:37 1994"),
+    (951_782_399, b"Mon Feb 28 23:59:59 2000"),
+    (951_782_400, b"Tue Feb 29 00:00:00 2000"),
+    (1_796_057_993, b"Mon Nov 30 16:59:53 2026"),
+    (253_402_300_799, b"Fri Dec 31 23:59:59 9999"),
+    (u64::MAX, b"Fri Dec 31 23:59:59 9999"),
+];
+
+#[test]
+fn a_date_is_as_clamd_has_it(rt: HostRuntime) -> Result<(), Fail> {
+    for (seconds, wanted) in DATES {
+        assert!(rt;
+            date_of(seconds).as_slice() == wanted.as_slice(),
+            "{seconds}"
+        );
+    }
     Ok(())
 }
 

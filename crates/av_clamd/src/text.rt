@@ -1,8 +1,10 @@
 //! The words of commands, and the lines that answer them.
 
 ghost use Rattle.std.specs.Prelude.{◌≡◌, ◌++◌, IfOk, OnErr, OnOk, decimal, option_copied};
-ghost use Rattle.av_clamd.specs.Text.{IsText, answered, behind, commands_text, end_of, goes_on, is_marked, line_of, numbered, path_of, path_taken, word_of};
+ghost use Rattle.av_clamd.specs.About.{version_text};
+ghost use Rattle.av_clamd.specs.Text.{IsText, answered, behind, commands_of, commands_text, common_commands, end_of, goes_on, is_marked, line_of, numbered, path_commands, path_of, path_taken, refused_path, stats_command, stats_told, word_of};
 
+use crate::about::{About, put_stats, put_version};
 use itoa::Buffer;
 use std::alloc::{AllocError, Global};
 
@@ -93,33 +95,122 @@ pub fn goes_on(word: &[u8]) -> bool
     behind(b"SCAN ", word).is_none()
 }
 
-// The commands that are known, after the version.
-fn commands_text(paths: Paths) -> &'static [u8]
-    ensures { result.now ≡ commands_text paths }
+// How the list of commands begins: with those for paths, where they are known.
+fn path_commands(paths: Paths) -> &'static [u8]
+    ensures { result.now ≡ path_commands paths }
 {
     match paths {
-        Paths::Refused =>
-            b"Vizdroun 1| COMMANDS: PING VERSION VERSIONCOMMANDS INSTREAM IDSESSION END",
-        Paths::Taken =>
-            b"Vizdroun 1| COMMANDS: SCAN CONTSCAN MULTISCAN ALLMATCHSCAN PING VERSION VERSIONCOMMANDS INSTREAM IDSESSION END",
+        Paths::Refused => b"| COMMANDS:",
+        Paths::Taken => b"| COMMANDS: SCAN CONTSCAN MULTISCAN ALLMATCHSCAN",
     }
+}
+
+// The command for what a guard tells of itself, where that is known.
+fn stats_command(about: Option<About>) -> &'static [u8]
+    ensures { result.now ≡ stats_command about }
+{
+    match about {
+        None => b"",
+        Some(_) => b" STATS",
+    }
+}
+
+// Appends the commands of every door.
+#[tactic(auto, unfolding(crate::specs::Text::common_commands))]
+fn put_common(out: &mut Vec<u8>, about: Option<About>) -> Result<(), AllocError>
+    ensures { OnOk result (out.new.items ≡ out.old.items ++ common_commands about) }
+{
+    put_between(
+        out,
+        b" PING VERSION VERSIONCOMMANDS",
+        stats_command(about),
+        b" INSTREAM IDSESSION END",
+    )
+}
+
+// Appends the commands that are known, after the version.
+#[tactic(auto, unfolding(crate::specs::Text::commands_of))]
+fn put_commands(out: &mut Vec<u8>, about: Option<About>, paths: Paths) -> Result<(), AllocError>
+    ensures { OnOk result (out.new.items ≡ out.old.items ++ commands_of about paths) }
+{
+    out.extend_from_slice(path_commands(paths))?;
+    put_common(out, about)
+}
+
+// Appends what stands between two texts, with them.
+pub fn put_between(
+    out: &mut Vec<u8>,
+    before: &[u8],
+    what: &[u8],
+    behind: &[u8],
+) -> Result<(), AllocError>
+    ensures { OnOk result (out.new.items ≡ out.old.items ++ (before.now ++ what.now ++ behind.now)) }
+{
+    out.extend_from_slice(before)?;
+    out.extend_from_slice(what)?;
+    out.extend_from_slice(behind)
+}
+
+// What is said to VERSIONCOMMANDS.
+fn commands_text(alloc: Global, about: Option<About>, paths: Paths) -> Result<Vec<u8>, AllocError>
+    ensures { IfOk result (λ text. text.items ≡ commands_text about paths) }
+{
+    let mut text = version_text(alloc, about)?;
+    put_commands(&mut text, about, paths)?;
+    Ok(text)
+}
+
+// What is said to VERSION.
+fn version_text(alloc: Global, about: Option<About>) -> Result<Vec<u8>, AllocError>
+    ensures { IfOk result (λ text. text.items ≡ version_text about) }
+{
+    let mut text = Vec::new(alloc);
+    put_version(&mut text, about)?;
+    Ok(text)
+}
+
+// What is said to STATS, where something is known.
+fn stats_told(alloc: Global, about: Option<About>) -> Result<Option<Vec<u8>>, AllocError>
+    ensures { IfOk result (λ o. IsText o (stats_told about)) }
+{
+    let Some(about) = about else {
+        return Ok(None);
+    };
+    let mut text = Vec::new(alloc);
+    put_stats(&mut text, about)?;
+    Ok(Some(text))
 }
 
 // What is said to a word that is answered by a line, where it is one.
 #[tactic(auto, unfolding(crate::specs::Text::answered))]
-pub fn answered(alloc: Global, paths: Paths, word: &[u8]) -> Result<Option<Vec<u8>>, AllocError>
-    ensures { IfOk result (λ o. IsText o (answered paths word.now)) }
+pub fn answered(
+    alloc: Global,
+    about: Option<About>,
+    paths: Paths,
+    word: &[u8],
+) -> Result<Option<Vec<u8>>, AllocError>
+    ensures { IfOk result (λ o. IsText o (answered about paths word.now)) }
 {
     if word == b"PING".as_slice() {
         return Ok(Some(b"PONG".to_vec(alloc)?));
     }
     if word == b"VERSION".as_slice() {
-        return Ok(Some(b"Vizdroun 1".to_vec(alloc)?));
+        return Ok(Some(version_text(alloc, about)?));
     }
     if word == b"VERSIONCOMMANDS".as_slice() {
-        return Ok(Some(commands_text(paths).to_vec(alloc)?));
+        return Ok(Some(commands_text(alloc, about, paths)?));
     }
-    let Some(path) = path_of(word) else {
+    if word == b"STATS".as_slice() {
+        return stats_told(alloc, about);
+    }
+    refused_path(alloc, path_of(word))
+}
+
+// What is said to a path: no file is opened for anybody.
+fn refused_path(alloc: Global, path: Option<&[u8]>) -> Result<Option<Vec<u8>>, AllocError>
+    ensures { IfOk result (λ o. IsText o (refused_path (option_copied path.entry))) }
+{
+    let Some(path) = path else {
         return Ok(None);
     };
     let mut text = path.to_vec(alloc)?;
