@@ -12,7 +12,7 @@ names =
     codes "ready" ∷ codes "version" ∷ codes "services" ∷ codes "clients" ∷ codes "unanswered" ∷ codes "questions" ∷ codes "contents"
     ∷ codes "content_bytes" ∷ codes "asks_total" ∷ codes "grants_total" ∷ codes "denials_total" ∷ codes "unscanned_total"
     ∷ codes "timeouts_total" ∷ codes "dropped_lines_total" ∷ codes "uptime_seconds" ∷ codes "service_seconds"
-    ∷ codes "memory_bytes" ∷ codes "parts" ∷ codes "open_contents" ∷ []
+    ∷ codes "memory_bytes" ∷ codes "parts" ∷ codes "open_contents" ∷ codes "signatures" ∷ codes "version_time_seconds" ∷ []
 
 -- a line: the name, a space and the number
 abbrev pub text_line : Figure → List ℕ

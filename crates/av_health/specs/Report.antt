@@ -10,7 +10,8 @@ unfoldable pub numbers_of : Report → List ℕ
 numbers_of r =
     r.ready ∷ r.version ∷ r.services ∷ r.clients ∷ r.unanswered ∷ r.questions ∷ r.contents ∷ r.content_bytes
     ∷ r.counts.asks ∷ r.counts.grants ∷ r.counts.denials ∷ r.counts.unscanned ∷ r.counts.timeouts ∷ r.counts.dropped_lines
-    ∷ r.uptime_seconds ∷ r.service_seconds ∷ r.memory_bytes ∷ r.parts ∷ r.open_contents ∷ []
+    ∷ r.uptime_seconds ∷ r.service_seconds ∷ r.memory_bytes ∷ r.parts ∷ r.open_contents
+    ∷ r.signatures ∷ r.version_time ∷ []
 
 -- a number in eight bytes, the highest first
 unfoldable pub field8 : ℕ → List ℕ
@@ -23,7 +24,7 @@ fields (n ∷ numbers) = field8 n ++ fields numbers
 
 -- a report's one spelling: the format, and its figures
 abbrev pub spelled : Report → List ℕ
-spelled r = 2 ∷ fields (numbers_of r)
+spelled r = 3 ∷ fields (numbers_of r)
 
 -- the number of eight bytes from a place on
 abbrev pub number8 : List ℕ → ℕ → ℕ
@@ -56,11 +57,13 @@ figures_in bytes = record {
   memory_bytes = number8 bytes 129;
   parts = number8 bytes 137;
   open_contents = number8 bytes 145;
+  signatures = number8 bytes 153;
+  version_time = number8 bytes 161;
 }
 
 -- the report that bytes are the spelling of: so many, of this format
 abbrev pub report_of : List ℕ → Option Report
-report_of bytes = if length bytes == 153 then (if get_or bytes 0 0 == 2 then Some (figures_in bytes) else None) else None
+report_of bytes = if length bytes == 169 then (if get_or bytes 0 0 == 3 then Some (figures_in bytes) else None) else None
 
 -- what is spelled is read back
 abbrev pub ReportsAreReadBack : Type 0

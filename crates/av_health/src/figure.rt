@@ -105,6 +105,16 @@ pub fn figures_of(report: &Report) -> [Figure; FIGURES]
             "contents in parts without an answer",
             report.open_contents,
         ),
+        gauge(
+            "signatures",
+            "signatures of that set, or 0 where --names has none of this version",
+            report.signatures,
+        ),
+        gauge(
+            "version_time_seconds",
+            "when the guard took up that version, in seconds since 1970",
+            report.version_time,
+        ),
     ]
 }
 

@@ -7,13 +7,13 @@ use crate::counts::Counts;
 use std::alloc::{AllocError, Global};
 
 /// How many figures there are.
-pub const FIGURES: usize = 19;
+pub const FIGURES: usize = 21;
 
 /// The first byte of a report's bytes.
-pub const FORMAT: u8 = 2;
+pub const FORMAT: u8 = 3;
 
 /// How many bytes a report has: its format, and eight a figure.
-pub const REPORT_SIZE: usize = 153;
+pub const REPORT_SIZE: usize = 169;
 
 /// A guard at one moment.
 #[derive(Clone, Copy, Debug, PartialEq, Eq)]
@@ -45,6 +45,10 @@ pub struct Report {
     pub parts: u64,
     /// Contents in parts that have no answer yet.
     pub open_contents: u64,
+    /// Signatures of the set of that version, where the guard has it for their names; else 0.
+    pub signatures: u64,
+    /// When the guard took up that version, in seconds since 1970; 0 before the first.
+    pub version_time: u64,
 }
 
 // The figures in their order.
@@ -72,6 +76,8 @@ pub(crate) fn numbers_of(report: &Report) -> [u64; FIGURES]
         report.memory_bytes,
         report.parts,
         report.open_contents,
+        report.signatures,
+        report.version_time,
     ]
 }
 
@@ -112,7 +118,7 @@ pub fn report_in(bytes: &[u8]) -> Option<Report>
 
 #[tactic(auto, unfolding(crate::specs::Report::figures_in))]
 fn figures_in(bytes: &[u8]) -> Report
-    requires { 153 ≤ length bytes.now }
+    requires { 169 ≤ length bytes.now }
     ensures { result ≡ figures_in bytes.now }
 {
     Report {
@@ -130,12 +136,14 @@ fn figures_in(bytes: &[u8]) -> Report
         memory_bytes: u64_at(bytes, 129),
         parts: u64_at(bytes, 137),
         open_contents: u64_at(bytes, 145),
+        signatures: u64_at(bytes, 153),
+        version_time: u64_at(bytes, 161),
     }
 }
 
 #[tactic(auto, unfolding(crate::specs::Report::counts_in))]
 fn counts_in(bytes: &[u8]) -> Counts
-    requires { 153 ≤ length bytes.now }
+    requires { 169 ≤ length bytes.now }
     ensures { result ≡ counts_in bytes.now }
 {
     Counts {

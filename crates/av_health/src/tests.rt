@@ -5,7 +5,7 @@ use av_base::{Cause, Version};
 use av_log::Judged;
 use std::test::Fail;
 
-// A report whose figures are 1, 2, .. 19.
+// A report whose figures are 1, 2, .. 21.
 const COUNTED: Report = Report {
     ready: 1,
     version: 2,
@@ -28,17 +28,19 @@ const COUNTED: Report = Report {
     memory_bytes: 17,
     parts: 18,
     open_contents: 19,
+    signatures: 20,
+    version_time: 21,
 };
 
 #[test]
 fn a_report_has_a_format_and_eight_bytes_a_figure(rt: HostRuntime) -> Result<(), Fail> {
     let bytes = report_bytes(rt.alloc(), &COUNTED)?;
     assert!(&rt;
-        bytes.len() == REPORT_SIZE && bytes[0] == 2,
+        bytes.len() == REPORT_SIZE && bytes[0] == 3,
         "{}",
         bytes.len()
     );
-    for place in 0..19usize {
+    for place in 0..21usize {
         let at = 1 + 8 * place;
         let field = bytes.get(at..at + 8).unwrap_or(b"".as_slice());
         let last = place as u8 + 1;
@@ -56,7 +58,7 @@ fn other_bytes_are_no_report(rt: HostRuntime) -> Result<(), Fail> {
     bytes.push(0)?;
     assert!(&rt; report_in(bytes.as_slice()) == None, "a byte more");
     let _ = bytes.pop();
-    bytes[0] = 1;
+    bytes[0] = 2;
     assert!(&rt; report_in(bytes.as_slice()) == None, "another format");
     Ok(())
 }
@@ -68,13 +70,14 @@ fn figures_are_shown_by_their_names(rt: HostRuntime) -> Result<(), Fail> {
     let wanted =
         b"ready 1\nversion 2\nservices 3\nclients 4\nunanswered 5\nquestions 6\ncontents 7\ncontent_bytes 8\nasks_total 9\n\
         grants_total 10\ndenials_total 11\nunscanned_total 12\ntimeouts_total 13\ndropped_lines_total 14\nuptime_seconds 15\n\
-        service_seconds 16\nmemory_bytes 17\nparts 18\nopen_contents 19\n";
+        service_seconds 16\nmemory_bytes 17\nparts 18\nopen_contents 19\nsignatures 20\nversion_time_seconds 21\n";
     assert!(&rt; text.as_slice() == wanted.as_slice(), "text");
     let json = json_of(rt.alloc(), &figures)?;
     let object =
         b"{\"ready\":1,\"version\":2,\"services\":3,\"clients\":4,\"unanswered\":5,\"questions\":6,\"contents\":7,\"content_bytes\":8,\
         \"asks_total\":9,\"grants_total\":10,\"denials_total\":11,\"unscanned_total\":12,\"timeouts_total\":13,\"dropped_lines_total\":14,\
-        \"uptime_seconds\":15,\"service_seconds\":16,\"memory_bytes\":17,\"parts\":18,\"open_contents\":19}\n";
+        \"uptime_seconds\":15,\"service_seconds\":16,\"memory_bytes\":17,\"parts\":18,\"open_contents\":19,\
+        \"signatures\":20,\"version_time_seconds\":21}\n";
     assert!(&rt; json.as_slice() == object.as_slice(), "json");
     let metrics = metrics_of(rt.alloc(), &figures[8..10])?;
     let lines =

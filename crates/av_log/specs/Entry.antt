@@ -4,6 +4,8 @@ use Rattle.std.specs.Borrow.{Bor}
 use Rattle.av_asks.specs.LargeAnswers.{cause_number, cause_text}
 use Rattle.av_asks.specs.declared.large_answer.LargeCause.{LargeCause}
 use Rattle.av_base.specs.Cause.{number_of}
+use Rattle.av_base.specs.Port.{port_number}
+use Rattle.av_base.specs.declared.port.Port.{Port}
 use Rattle.av_base.specs.declared.cause.Cause.{Cause}
 use Rattle.av_base.specs.declared.cause.Cause.TheVariants as cause
 use Rattle.av_json.specs.Cause.{why_of}
@@ -83,16 +85,21 @@ happened what how = Word (codes "event") what ∷ Word (codes "state") how ∷ [
 abbrev pub versioned : List ℕ → List ℕ → ℕ → List Item
 versioned what how version = happened what how ++ Number (codes "version") version ∷ []
 
+-- what became of the service of a port
+abbrev pub at_port : List ℕ → Port → List Item
+at_port how port = happened (codes "service") how ++ Number (codes "port") (port_number port) ∷ []
+
 -- the items of a line
 abbrev pub items_of : Entry → List Item
 items_of (entry.Told t) = Word (codes "event") (codes "answer") ∷ told_items t
-items_of (entry.Connected version) = versioned (codes "service") (codes "connected") version
-items_of entry.Lost = happened (codes "service") (codes "lost")
-items_of (entry.Newer version) = versioned (codes "service") (codes "newer") version
+items_of (entry.Connected port version) = versioned (codes "service") (codes "connected") version ++ Number (codes "port") (port_number port) ∷ []
+items_of (entry.Lost port) = at_port (codes "lost") port
+items_of (entry.Newer port version) = versioned (codes "service") (codes "newer") version ++ Number (codes "port") (port_number port) ∷ []
 items_of (entry.Older version least) = versioned (codes "service") (codes "refused") version ++ Number (codes "least") least ∷ []
 items_of (entry.Above version most) = versioned (codes "service") (codes "refused") version ++ Number (codes "most") most ∷ []
 items_of entry.Silent = happened (codes "service") (codes "silent")
-items_of entry.Stuck = happened (codes "service") (codes "stuck")
+items_of (entry.Stuck port) = at_port (codes "stuck") port
+items_of (entry.Quiet port) = at_port (codes "quiet") port
 items_of (entry.PartsConnected version) = versioned (codes "parts") (codes "connected") version
 items_of entry.PartsLost = happened (codes "parts") (codes "lost")
 items_of (entry.PartsOlder version least) = versioned (codes "parts") (codes "refused") version ++ Number (codes "least") least ∷ []

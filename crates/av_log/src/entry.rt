@@ -1,12 +1,13 @@
 //! What a line says.
 
 ghost use Rattle.std.specs.Prelude.{◌≡◌, ◌++◌, ◌∷◌, [], codes, map, IfOk, OnOk};
-ghost use Rattle.av_log.specs.Entry.{asked_items, asker_items, cause_items, denial_items, end_items, found_items, happened, is_logged, items_of, judged_items, label_items, large_cause_items, large_items, name_items, told_items, versioned, way_of};
+ghost use Rattle.av_base.specs.Port.{port_number};
+ghost use Rattle.av_log.specs.Entry.{asked_items, asker_items, at_port, cause_items, denial_items, end_items, found_items, happened, is_logged, items_of, judged_items, label_items, large_cause_items, large_items, name_items, told_items, versioned, way_of};
 ghost use Rattle.av_log.specs.Words.{Bytes, Number, Word, item_of};
 
 use crate::field::Field;
 use av_asks::LargeCause;
-use av_base::{Cause, Version};
+use av_base::{Cause, Port, Version};
 use av_json::why;
 use std::alloc::{AllocError, Global};
 
@@ -76,20 +77,22 @@ pub struct Told<'a> {
 #[derive(Clone, Copy)]
 pub enum Entry<'a> {
     Told(Told<'a>),
-    /// A service with a set of this version is there.
-    Connected(Version),
-    /// The service is gone.
-    Lost,
-    /// The service has a newer set.
-    Newer(Version),
+    /// A service with a set of this version is there, at this port.
+    Connected { port: Port, version: Version },
+    /// The service of a port is gone.
+    Lost(Port),
+    /// The service of a port has a newer set.
+    Newer { port: Port, version: Version },
     /// A service was turned away, whose set is older than the least that is believed.
     Older { version: Version, least: Version },
     /// A service was turned away, whose set is above the most that is believed.
     Above { version: Version, most: Version },
-    /// The service did not greet.
+    /// A service did not greet.
     Silent,
-    /// The service answered none of many questions in a row.
-    Stuck,
+    /// The service of a port answered none of many questions in a row.
+    Stuck(Port),
+    /// The service of a port answered none of its questions for too long, and the other one is asked.
+    Quiet(Port),
     /// The second connection of the service is there, for contents in parts, under a set of this version.
     PartsConnected(Version),
     /// The second connection of the service is gone.
@@ -128,9 +131,15 @@ fn put_entry<'a>(fields: &mut Vec<Field<'a>>, entry: &Entry<'a>) -> Result<(), A
             put_word(fields, "event", "answer")?;
             put_told(fields, told)
         }
-        Entry::Connected(version) => put_version(fields, "service", "connected", *version),
-        Entry::Lost => put_event(fields, "service", "lost"),
-        Entry::Newer(version) => put_version(fields, "service", "newer", *version),
+        Entry::Connected { port, version } => {
+            put_version(fields, "service", "connected", *version)?;
+            put_port(fields, *port)
+        }
+        Entry::Lost(port) => put_at_port(fields, "lost", *port),
+        Entry::Newer { port, version } => {
+            put_version(fields, "service", "newer", *version)?;
+            put_port(fields, *port)
+        }
         Entry::Older { version, least } => {
             put_version(fields, "service", "refused", *version)?;
             put_number(fields, "least", least.get())
@@ -140,7 +149,8 @@ fn put_entry<'a>(fields: &mut Vec<Field<'a>>, entry: &Entry<'a>) -> Result<(), A
             put_number(fields, "most", most.get())
         }
         Entry::Silent => put_event(fields, "service", "silent"),
-        Entry::Stuck => put_event(fields, "service", "stuck"),
+        Entry::Stuck(port) => put_at_port(fields, "stuck", *port),
+        Entry::Quiet(port) => put_at_port(fields, "quiet", *port),
         Entry::PartsConnected(version) => put_version(fields, "parts", "connected", *version),
         Entry::PartsLost => put_event(fields, "parts", "lost"),
         Entry::PartsOlder { version, least } => {
@@ -154,6 +164,20 @@ fn put_entry<'a>(fields: &mut Vec<Field<'a>>, entry: &Entry<'a>) -> Result<(), A
             put_number(fields, "lines", *lines)
         }
     }
+}
+
+// Puts what became of the service of a port.
+fn put_at_port<'a>(fields: &mut Vec<Field<'a>>, how: &'a str, port: Port) -> Result<(), AllocError>
+    ensures { OnOk result (map item_of fields.new.items ≡ map item_of fields.old.items ++ at_port how.now port) }
+{
+    put_event(fields, "service", how)?;
+    put_port(fields, port)
+}
+
+fn put_port(fields: &mut Vec<Field<'_>>, port: Port) -> Result<(), AllocError>
+    ensures { OnOk result (map item_of fields.new.items ≡ map item_of fields.old.items ++ Number (codes "port") (port_number port) ∷ []) }
+{
+    put_number(fields, "port", u64::from(port.number()))
 }
 
 fn put_told<'a>(fields: &mut Vec<Field<'a>>, told: &Told<'a>) -> Result<(), AllocError>

@@ -3,7 +3,7 @@ use crate::line::{Form, put_line};
 use crate::queue::Queue;
 use crate::stamp::stamp_of;
 use av_asks::LargeCause;
-use av_base::{Cause, Version};
+use av_base::{Cause, Port, Version};
 use std::alloc::{AllocError, Global};
 use std::test::Fail;
 
@@ -87,6 +87,35 @@ fn a_version_has_its_event(rt: HostRuntime) -> Result<(), Fail> {
         words.as_slice()
             == b"time=1970-01-01T00:00:00.000Z event=service state=refused version=3 least=7\n".as_slice()
     );
+    Ok(())
+}
+
+#[test]
+fn a_service_has_lines_that_name_its_port(rt: HostRuntime) -> Result<(), Fail> {
+    let version = Version::new(7);
+    for (entry, text) in [
+        (
+            Entry::Connected {
+                port: Port::One,
+                version,
+            },
+            b"state=connected version=7 port=1\n".as_slice(),
+        ),
+        (Entry::Lost(Port::Two), b"state=lost port=2\n".as_slice()),
+        (
+            Entry::Newer {
+                port: Port::Two,
+                version,
+            },
+            b"state=newer version=7 port=2\n".as_slice(),
+        ),
+        (Entry::Stuck(Port::One), b"state=stuck port=1\n".as_slice()),
+        (Entry::Quiet(Port::Two), b"state=quiet port=2\n".as_slice()),
+    ] {
+        let begun = b"time=1970-01-01T00:00:00.000Z event=service ".as_slice();
+        let wanted = [begun, text].concat(rt.alloc())?;
+        assert!(&rt; line(rt.alloc(), Form::Words, &entry)? == wanted);
+    }
     Ok(())
 }
 
