@@ -9,6 +9,13 @@ pub const SCRIPT: Word = Word {
     help: "The script's file, or - for standard input",
 };
 
+/// The key that signature files have to be signed with.
+pub const TRUST: Word = Word {
+    name: "trust",
+    kind: Kind::Value { shown: "KEY" },
+    help: "Takes a SET only if `avtool sign` signed it with the key of this file",
+};
+
 /// Folders stand for files.
 pub const RECURSIVE: Word = Word {
     name: "recursive",

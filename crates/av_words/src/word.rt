@@ -37,6 +37,10 @@ pub enum Kind {
     Value {
         shown: &'static str,
     },
+    /// A value that a command can't be without.
+    RequiredValue {
+        shown: &'static str,
+    },
     /// A value that is of use only with the other option.
     ValueWith {
         shown: &'static str,
@@ -89,6 +93,9 @@ fn arg_of<'a>(alloc: Global, word: Word) -> Result<Arg<'a>, AllocError> {
         Kind::Letter(letter) => Ok(flag(arg, word.name).short(letter)),
         Kind::FlagWithout { other } => flag(arg, word.name).conflicts_with(other),
         Kind::Value { shown } => Ok(arg.long(word.name).value_name(shown)),
+        Kind::RequiredValue { shown } => {
+            Ok(arg.long(word.name).value_name(shown).required(true))
+        }
         Kind::ValueWith { shown, other } => {
             arg.long(word.name).value_name(shown).requires_arg(other)
         }
