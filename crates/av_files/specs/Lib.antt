@@ -6,3 +6,5 @@ pub mod Scan
 pub mod Streams
 pub mod Volume
 pub mod Walk
+pub mod Findings
+pub mod Under

@@ -1,5 +1,5 @@
 -- The entries of a folder.
-use Rattle.std.specs.Prelude.{ℕ, ◌≡◌, ◌&&◌, Bool, not, List, [], ◌∷◌, map, reverse}
+use Rattle.std.specs.Prelude.{ℕ, ◌≡◌, ◌==◌, ◌&&◌, Bool, true, false, not, List, [], ◌∷◌, Option, None, Some, map, reverse}
 use Rattle.std.specs.Borrow.{Bor}
 use Rattle.std.specs.Cmp.Lexicographic.{slice_cmp}
 use Rattle.std.specs.List.{filter}
@@ -20,3 +20,13 @@ pub record AreTurned (text : List ℕ) (names : List (List ℕ)) : Type 0 where
   pub same : IsPermutation listed sorted
   pub ascending : IsSorted (λ a b. slice_cmp nat_cmp a.now b.now) sorted
   pub turned : names ≡ filter is_entry (reverse (map (λ n. n.now) sorted))
+
+-- an entry is kept, unless it is left out
+abbrev pub IsKeptUnless : {A : Type 0} → Bool → A → Option A → Type 0
+IsKeptUnless is_out path None = is_out ≡ true
+IsKeptUnless is_out path (Some kept) = (is_out ≡ false) × (kept ≡ path)
+
+-- a folder is on another device than the one that counts, if one does
+abbrev pub is_elsewhere : Option ℕ → ℕ → Bool
+is_elsewhere None device = false
+is_elsewhere (Some wanted) device = not (wanted == device)

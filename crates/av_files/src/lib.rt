@@ -8,23 +8,29 @@
 #![tactic(auto)]
 
 pub mod contents;
+pub mod finding;
 pub mod listed;
 pub mod object;
 pub mod opened;
 pub mod quoted;
 pub mod scan;
 pub mod scanner;
+pub mod scanners;
 pub mod streams;
 #[cfg(test)]
 mod tests;
+pub mod under;
 pub mod walk;
 
 pub use contents::{Contents, GROUP_BYTES, content_of, counted_bytes};
+pub use finding::{Finding, is_found};
 pub use listed::{Failing, with_listed};
 pub use object::line_failed;
 pub use opened::{Opened, conclude_opened, count_opened, print_opened};
 pub use quoted::quoted_name;
-pub use scan::{Scanned, is_infected, print_one, print_scanned, scan_files};
+pub use scan::{Scanned, is_infected, print_scanned, scan_files};
 pub use scanner::{Input, MAX_FILE, Scanner, admit_set, read_set};
+pub use scanners::{NamedScanner, Scanners};
 pub use streams::{TURNS, VOLUME, add_file, empty_volume, look_at, say_refused};
-pub use walk::{Met, Walk};
+pub use under::{Under, print_one};
+pub use walk::{Bounds, Met, Walk};

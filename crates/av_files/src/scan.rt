@@ -5,9 +5,8 @@ ghost use Rattle.std.specs.Io.KnownBytes.{Appends};
 ghost use Rattle.av_base.specs.Device.{Writes};
 ghost use Rattle.av_files.specs.Scan.{Scans, is_infected, line_of, name_found, object_of, scanned_of, shown_line, shown_lines, tally_of, verdict_text};
 ghost use Rattle.av_status.specs.Status.{EndsWell, IsFault};
-ghost use Rattle.av_status.specs.Tally.{with_scanned};
 ghost use Rattle.av_status.specs.declared.status.Status.TheVariants.{Found};
-ghost use Rattle.av_status.specs.declared.tally.Form.TheVariants.{Lines, ZeroEnded};
+ghost use Rattle.av_files.specs.Quoted.{quoted};
 
 use crate::object::{line_failed, new_line};
 use crate::quoted::quoted_name;
@@ -112,23 +111,6 @@ fn tally_of(scanned: &[Scanned<'_>]) -> Tally
     tally
 }
 
-/// Writes the line of a file that was scanned, where it is to be shown, and counts the file. A line of JSON is built in `room`.
-pub fn print_one<W: Write>(
-    alloc: Global,
-    scanner: &Scanner,
-    file: Scanned<'_>,
-    wishes: Wishes,
-    tally: &mut Tally,
-    room: &mut Vec<u8>,
-    out: &mut W,
-) -> Result<(), LineFault>
-    ensures line { Writes result (W.contents out.old) (W.contents out.new) (shown_line wishes scanner.now file.entry) }
-    ensures counted { tally.new ≡ with_scanned tally.old (is_infected file.entry.verdict) }
-{
-    tally.add_scanned(is_infected(file.verdict));
-    print_shown(alloc, scanner.set(), file, wishes, room, out)
-}
-
 /// Whether a signature was found.
 pub fn is_infected(verdict: Verdict) -> bool
     ensures { result ≡ is_infected verdict }
@@ -177,7 +159,7 @@ fn print_shown<W: Write>(
 }
 
 // Writes the line of a file in this form.
-fn print_in<W: Write>(
+pub(crate) fn print_in<W: Write>(
     alloc: Global,
     form: Form,
     set: &SignatureSet,
@@ -188,39 +170,41 @@ fn print_in<W: Write>(
     ensures { Writes result (W.contents out.old) (W.contents out.new) (line_of form set.now file.entry) }
 {
     match form {
-        Form::Lines => print_line(set, file, room, out),
+        Form::Lines => print_line(set, file, b"\n", room, out),
         Form::Json => print_object(alloc, set, file, room, out),
-        Form::ZeroEnded => print_ended(set, file, out),
+        Form::ZeroEnded => print_ended(set, file, b"\0", out),
     }
 }
 
-// Writes the line of a file in words, and its name in quotes where it needs them.
-fn print_line<W: Write>(
+// Writes the line of a file in words with what ends it, and its name in quotes where it needs them.
+pub(crate) fn print_line<W: Write>(
     set: &SignatureSet,
     file: Scanned<'_>,
+    end: &[u8],
     room: &mut Vec<u8>,
     out: &mut W,
 ) -> Result<(), LineFault>
-    ensures { Writes result (W.contents out.old) (W.contents out.new) (line_of Lines set.now file.entry) }
+    ensures { Writes result (W.contents out.old) (W.contents out.new) (verdict_text set.now (quoted file.entry.name.now) file.entry.verdict end.now) }
 {
     let Ok(name) = quoted_name(file.name.as_bytes(), room) else {
         return Err(LineFault::NoMemory);
     };
-    match print_verdict(set, name, file.verdict, b"\n", out) {
+    match print_verdict(set, name, file.verdict, end, out) {
         Ok(()) => Ok(()),
         Err(_) => Err(LineFault::Write),
     }
 }
 
-// Writes the line of a file in words under its name as it is, ended by a zero byte.
-fn print_ended<W: Write>(
+// Writes the line of a file in words with what ends it, under its name as it is.
+pub(crate) fn print_ended<W: Write>(
     set: &SignatureSet,
     file: Scanned<'_>,
+    end: &[u8],
     out: &mut W,
 ) -> Result<(), LineFault>
-    ensures { Writes result (W.contents out.old) (W.contents out.new) (line_of ZeroEnded set.now file.entry) }
+    ensures { Writes result (W.contents out.old) (W.contents out.new) (verdict_text set.now file.entry.name.now file.entry.verdict end.now) }
 {
-    match print_verdict(set, file.name.as_bytes(), file.verdict, b"\0", out) {
+    match print_verdict(set, file.name.as_bytes(), file.verdict, end, out) {
         Ok(()) => Ok(()),
         Err(_) => Err(LineFault::Write),
     }
@@ -254,7 +238,7 @@ fn print_object<W: Write>(
 }
 
 // The name of the signature that was found.
-fn name_found(set: &SignatureSet, verdict: Verdict) -> &[u8]
+pub(crate) fn name_found(set: &SignatureSet, verdict: Verdict) -> &[u8]
     ensures { result.now ≡ name_found set.now verdict }
 {
     match verdict {

@@ -1,18 +1,20 @@
-ghost use Rattle.std.specs.Prelude.{◌≡◌, ◌<◌, ◌≤◌, length, IfErr, IfOk, IfSome, IsErrOf, OnOk, Some};
+ghost use Rattle.std.specs.Prelude.{◌≡◌, ◌≤◌, ◌+◌, ◌++◌, [], ℕ, List, length, IfErr, IfOk, OnOk, Some};
 ghost use Rattle.std.specs.Option.{option_copied};
 ghost use Rattle.av_match.specs.Match.{verdict};
+ghost use Rattle.av_match.specs.Scanning.{IsScan};
 ghost use Rattle.av_sigset.specs.Set.{patterns_of};
+ghost use Rattle.av_files.specs.Findings.{compiled_of};
 ghost use Rattle.av_files.specs.Scan.{HasVerdict, IsAdmitted, SpellsSet};
 ghost use Rattle.av_status.specs.Status.{IsFault};
 ghost use Rattle.av_status.specs.declared.status.Status.TheVariants.{Refused};
 
-use av_base::{ReadFault, Refusal, Verdict};
+use av_base::{Refusal, Verdict};
 use av_match::{Automaton, Scan};
 use av_sigset::SignatureSet;
 use av_status::faults::{EmptySets, bad_set, empty_set, out_of_memory, too_large, unreadable};
 use av_status::status::Status;
 use std::alloc::Global;
-use std::io::{Read, Write};
+use std::io::Write;
 use std::marker::Model;
 
 /// The most bytes of a signature file, and of a file that is scanned where nothing else is asked for.
@@ -124,27 +126,30 @@ impl Scanner {
         Ok(judge(&self.set, &self.automaton, content))
     }
 
-    /// The verdict of all bytes that a reader has left, at most `most` of them, which go through the buffer a piece at a time.
-    /// Where there is none, one line to `err` says why: a read failed, or there are more bytes.
-    pub fn scan_pieces<R: Read, E: Write>(
-        &self,
-        name: &str,
-        reader: &mut R,
-        buffer: &mut [u8],
-        most: u64,
-        err: &mut E,
-    ) -> Result<Verdict, Status>
-        requires { 0 < length buffer.old }
-        ensures verdict { IfOk result (λ v. IfSome (R.remaining reader.old) (λ content. HasVerdict self.now (Some content) v)) }
-        ensures short { IfOk result (λ v. IfSome (R.remaining reader.old) (λ content. length content ≤ most)) }
-        ensures long { IsErrOf result Refused → IfSome (R.remaining reader.old) (λ content. most < length content) }
-        ensures status { IfErr result (λ status. IsFault status) }
+    // A scan of a content of so many bytes, of which none has come.
+    pub(crate) fn start(&self, most: u64) -> Scan
+        ensures { IsScan (compiled_of self.now) most [] result }
     {
-        match judge_pieces(&self.set, &self.automaton, reader, buffer, most) {
-            Ok(verdict) => Ok(verdict),
-            Err(ReadFault::TooLong) => Err(too_large(err, name)),
-            Err(_) => Err(unreadable(err, name)),
-        }
+        Scan::start(self.set.version(), most)
+    }
+
+    // A scan of a content, with a piece more.
+    pub(crate) fn fed(&self, scan: Scan, piece: &[u8]) -> Scan
+        ensures { (bytes : ℕ) (c : List ℕ) → IsScan (compiled_of self.now) bytes c scan → length c + length piece.now ≤ bytes
+            → IsScan (compiled_of self.now) bytes (c ++ piece.now) result }
+    {
+        let mut scan = scan;
+        let _ = scan.feed(&self.automaton, piece);
+        scan
+    }
+
+    // The verdict of a content that was scanned.
+    pub(crate) fn end(&self, scan: Scan) -> Verdict
+        ensures { (bytes : ℕ) (c : List ℕ) → IsScan (compiled_of self.now) bytes c scan → result ≡ verdict (patterns_of self.now.signatures) c }
+    {
+        // Read for the prover: the patterns of a set have their lengths.
+        let _version = self.set.version();
+        scan.end()
     }
 
     /// The set.
@@ -175,36 +180,4 @@ fn judge(set: &SignatureSet, automaton: &Automaton, content: &[u8]) -> Verdict
     let mut scan = Scan::start(set.version(), content.len() as u64);
     let _ = scan.feed(automaton, content);
     scan.end()
-}
-
-// The verdict of all bytes that a reader has left, piece by piece. No fault is NoMemory.
-fn judge_pieces<R: Read>(
-    set: &SignatureSet,
-    automaton: &Automaton,
-    reader: &mut R,
-    buffer: &mut [u8],
-    most: u64,
-) -> Result<Verdict, ReadFault>
-    requires room { 0 < length buffer.old }
-    requires built { automaton.now ≡ record { version = set.now.version; patterns = patterns_of set.now.signatures } }
-    ensures verdict { IfOk result (λ v. IfSome (R.remaining reader.old) (λ content. v ≡ verdict (patterns_of set.now.signatures) content)) }
-    ensures short { IfOk result (λ v. IfSome (R.remaining reader.old) (λ content. length content ≤ most)) }
-    ensures long { IsErrOf result ReadFault.TooLong → IfSome (R.remaining reader.old) (λ content. most < length content) }
-{
-    let mut scan = Scan::start(set.version(), most);
-    let mut left = most;
-    'pieces: for _ in 0..u64::MAX {
-        let Ok(count) = reader.read(buffer) else {
-            return Err(ReadFault::Device);
-        };
-        if count == 0 {
-            return Ok(scan.end());
-        }
-        if count as u64 > left {
-            return Err(ReadFault::TooLong);
-        }
-        left -= count as u64;
-        let _ = scan.feed(automaton, &buffer[..count]);
-    }
-    Err(ReadFault::Device)
 }

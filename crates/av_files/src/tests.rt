@@ -1,17 +1,20 @@
 ghost use Rattle.std.specs.Prelude.{◌≡◌, IfSome};
 
 use crate::contents::{Contents, content_of};
+use crate::finding::Finding;
 use crate::listed::{Failing, listed, with_listed};
 use crate::opened::{Opened, conclude_opened, count_opened, print_opened};
 use crate::quoted::quoted_name;
 use crate::scan::scan_files;
 use crate::scanner::{Input, Scanner, admit_set};
+use crate::scanners::{NamedScanner, Scanners};
 use crate::streams::look_at;
-use av_base::{Cause, Generation, OpenId, StreamId, Verdict, Version};
+use av_base::{Cause, Generation, OpenId, ReadFault, StreamId, Verdict, Version};
 use av_fakes::{FakeReader, FakeWriter, Fault};
 use av_pend::Answer;
 use av_status::faults::EmptySets;
 use av_status::{Form, Shown, Status, Tally, Wishes};
+use std::alloc::{AllocError, Global};
 use std::collections::BTreeSet;
 use std::test::Fail;
 
@@ -272,12 +275,26 @@ fn lines_that_can_not_be_written_are_told(rt: HostRuntime) -> Result<(), Fail> {
     Ok(())
 }
 
-#[test]
-fn a_content_in_pieces_has_the_verdict_of_the_whole(rt: HostRuntime) -> Result<(), Fail> {
-    let mut err = FakeWriter::new(rt.alloc());
-    let Ok(scanner) = Scanner::read(rt.alloc(), input("set", Some(SET)), &mut err) else {
-        panic!(rt; "no set");
+// Two sets of the same signatures.
+fn two_sets(alloc: Global) -> Result<Scanners, Fail> {
+    let mut sets = Scanners::of(alloc, named(alloc, "first")?)?;
+    sets.add(named(alloc, "second")?)?;
+    Ok(sets)
+}
+
+fn named(alloc: Global, name: &str) -> Result<NamedScanner, Fail> {
+    let mut err = FakeWriter::new(alloc);
+    let Ok(scanner) = Scanner::read(alloc, input(name, Some(SET)), &mut err) else {
+        return Err(AllocError.into());
     };
+    Ok(NamedScanner::new(String::from_str(alloc, name)?, scanner))
+}
+
+#[test]
+fn a_content_in_pieces_has_the_verdict_of_the_whole_under_each_set(
+    rt: HostRuntime,
+) -> Result<(), Fail> {
+    let sets = two_sets(rt.alloc())?;
     let infected = Verdict::Infected {
         index: 0,
         end_at: 5,
@@ -293,37 +310,32 @@ fn a_content_in_pieces_has_the_verdict_of_the_whole(rt: HostRuntime) -> Result<(
             let mut buffer = [0u8; 7];
             for most in [content.len() as u64, 100] {
                 let mut reader = FakeReader::new(content).in_pieces_of(piece);
-                let got = scanner.scan_pieces("a", &mut reader, &mut buffer, most, &mut err);
-                assert!(&rt; got == Ok(verdict));
+                let Ok(found) = sets.scan_pieces(rt.alloc(), &mut reader, &mut buffer, most) else {
+                    panic!(rt; "no findings");
+                };
+                let wanted = [Finding { set: 0, verdict }, Finding { set: 1, verdict }];
+                assert!(&rt; found.as_slice() == wanted.as_slice());
             }
         }
     }
-    assert!(&rt; err.taken().is_empty());
     Ok(())
 }
 
 #[test]
 fn a_content_that_is_too_long_or_fails_is_told(rt: HostRuntime) -> Result<(), Fail> {
-    let mut err = FakeWriter::new(rt.alloc());
-    let Ok(scanner) = Scanner::read(rt.alloc(), input("set", Some(SET)), &mut err) else {
-        panic!(rt; "no set");
-    };
+    let sets = two_sets(rt.alloc())?;
     let content = b"AAAXXA".as_slice();
     for piece in 1..8 {
         let mut buffer = [0u8; 4];
-        let mut err = FakeWriter::new(rt.alloc());
         let mut reader = FakeReader::new(content).in_pieces_of(piece);
-        let got = scanner.scan_pieces("a", &mut reader, &mut buffer, 5, &mut err);
-        assert!(&rt; got == Err(Status::Refused));
-        assert_eq!(rt; err.taken(), b"a: TooLarge\n".as_slice());
+        let got = sets.scan_pieces(rt.alloc(), &mut reader, &mut buffer, 5);
+        assert!(&rt; matches!(got, Err(ReadFault::TooLong)));
     }
     for place in 1..8 {
         let mut buffer = [0u8; 4];
-        let mut err = FakeWriter::new(rt.alloc());
         let mut reader = FakeReader::new(content).in_pieces_of(1).failing_at(place);
-        let got = scanner.scan_pieces("a", &mut reader, &mut buffer, 6, &mut err);
-        assert!(&rt; got == Err(Status::Device));
-        assert_eq!(rt; err.taken(), b"a: cannot read\n".as_slice());
+        let got = sets.scan_pieces(rt.alloc(), &mut reader, &mut buffer, 6);
+        assert!(&rt; matches!(got, Err(ReadFault::Device)));
     }
     Ok(())
 }

@@ -1,13 +1,16 @@
 ghost use Rattle.std.specs.Prelude.{◌≡◌, map, IfOk};
-ghost use Rattle.av_files.specs.Walk.{AreTurned, is_entry};
+ghost use Rattle.av_files.specs.Walk.{AreTurned, IsKeptUnless, is_elsewhere, is_entry};
+ghost use Rattle.av_glob.specs.Glob.{is_left_out};
 
 use crate::listed::listed;
 use crate::streams::TURNS;
 use av_base::ReadFault;
 use av_base::device::read_whole;
+use av_glob::{Glob, any_leaves_out};
 use std::alloc::{AllocError, Global};
 use std::fs;
 use std::fs::Files;
+use std::os::unix::fs::MetadataExt;
 
 /// What a walk comes to, with its path.
 #[derive(Drop)]
@@ -18,6 +21,25 @@ pub enum Met {
     Unreadable(String),
     /// An entry that can't be looked at, since its name is not UTF-8.
     NotText(Vec<u8>),
+}
+
+/// What a walk leaves out of all that is below its folder.
+#[derive(Clone, Copy)]
+pub struct Bounds<'a> {
+    /// Each entry whose path one of these globs matches. It is not looked at.
+    pub globs: &'a [Glob],
+    /// Each folder on another device than the folder of the walk.
+    pub is_one_device: bool,
+}
+
+impl<'a> Bounds<'a> {
+    /// Nothing is left out.
+    pub fn none() -> Bounds<'a> {
+        Bounds {
+            globs: &[],
+            is_one_device: false,
+        }
+    }
 }
 
 // A folder whose entries wait, the last in order first.
@@ -39,25 +61,54 @@ pub struct Walk<'a, R> {
     folders: Vec<Folder>,
     // What is met before any entry.
     first: Option<Met>,
+    bounds: Bounds<'a>,
+    // That of the folder of the walk, where no other is entered.
+    device: Option<u64>,
+    left_out: u64,
 }
 
 impl<'a, R: Files> Walk<'a, R> {
-    /// A walk through this folder, which may be a link to one. Where it can't be read, that is all it comes to.
+    /// A walk through this folder, which may be a link to one. If it can't be read, that is all it comes to.
     pub fn new(files: &'a R, alloc: Global, folder: &str) -> Result<Walk<'a, R>, AllocError> {
+        Walk::within(files, alloc, folder, Bounds::none())
+    }
+
+    /// The same, within these bounds. The folder itself is never left out.
+    pub fn within(
+        files: &'a R,
+        alloc: Global,
+        folder: &str,
+        bounds: Bounds<'a>,
+    ) -> Result<Walk<'a, R>, AllocError> {
         let mut walk = Walk {
             files,
             alloc,
             folders: Vec::new(alloc),
             first: None,
+            bounds,
+            device: None,
+            left_out: 0,
         };
         let mut followed = String::from_str(alloc, folder)?;
         if !folder.ends_with('/') {
             followed.push('/')?;
         }
         let path = String::from_str(alloc, folder)?;
+        if bounds.is_one_device {
+            let Ok(metadata) = fs::metadata(files, followed.as_str()) else {
+                walk.first = Some(Met::Unreadable(path));
+                return Ok(walk);
+            };
+            walk.device = Some(metadata.dev());
+        }
         let names = names_of(files, alloc, followed.as_str())?;
         walk.first = walk.enter(path, names)?;
         Ok(walk)
+    }
+
+    /// How many entries were left out so far: each folder counts once, whatever is below it.
+    pub fn left_out(&self) -> u64 {
+        self.left_out
     }
 
     /// What comes next, nothing at the end.
@@ -70,6 +121,10 @@ impl<'a, R: Files> Walk<'a, R> {
                 return Ok(None);
             }
             let Some(path) = self.next_path()? else {
+                continue;
+            };
+            let Some(path) = kept(self.alloc, self.bounds.globs, path)? else {
+                self.leave_out();
                 continue;
             };
             if let Some(met) = self.look(path)? {
@@ -107,6 +162,10 @@ impl<'a, R: Files> Walk<'a, R> {
             return Ok(Some(Met::Unreadable(path)));
         };
         if metadata.is_dir() {
+            if is_elsewhere(self.device, metadata.dev()) {
+                self.leave_out();
+                return Ok(None);
+            }
             let names = names_of(self.files, self.alloc, path.as_str())?;
             return self.enter(path, names);
         }
@@ -114,6 +173,10 @@ impl<'a, R: Files> Walk<'a, R> {
             return Ok(Some(Met::File(path)));
         }
         Ok(None)
+    }
+
+    fn leave_out(&mut self) {
+        self.left_out = self.left_out.saturating_add(1);
     }
 
     // Goes on with the entries of a folder, where they could be read.
@@ -127,6 +190,27 @@ impl<'a, R: Files> Walk<'a, R> {
         };
         self.folders.push(Folder { path, names })?;
         Ok(None)
+    }
+}
+
+// The path of an entry, unless a glob matches it.
+fn kept(alloc: Global, globs: &[Glob], path: Vec<u8>) -> Result<Option<Vec<u8>>, AllocError>
+    ensures { IfOk result (IsKeptUnless (is_left_out globs.now path.items) path) }
+{
+    if any_leaves_out(alloc, globs, path.as_slice())? {
+        Ok(None)
+    } else {
+        Ok(Some(path))
+    }
+}
+
+// Whether a folder is on another device than this one, where that counts.
+fn is_elsewhere(wanted: Option<u64>, device: u64) -> bool
+    ensures { result ≡ is_elsewhere wanted device }
+{
+    match wanted {
+        Some(wanted) => wanted != device,
+        None => false,
     }
 }
 
