@@ -1,4 +1,5 @@
 pub mod NameLemmas
 pub mod WayLemmas
 pub mod LineLemmas
+pub mod MatchLemmas
 pub mod EndLemmas

@@ -3,15 +3,15 @@
 
 ghost use Rattle.std.specs.Prelude.{◌≡◌, ◌<◌, ℕ, IfSome, List, length};
 ghost use Rattle.std.specs.Arc.{arc_value};
-ghost use Rattle.av_base.specs.declared.verdict.Verdict.{Verdict};
-ghost use Rattle.av_scan.specs.Told.{IsVerdict};
+ghost use Rattle.av_files.specs.declared.finding.Finding.{Finding};
+ghost use Rattle.av_scan.specs.Told.{AreFindings};
 
 use crate::judging::{Means, judge};
 use crate::opening::Opening;
 use crate::scanning::Scanning;
 use crate::told::Entry;
 use crate::truth::{Judged, Truth};
-use av_files::{MAX_FILE, Scanner};
+use av_files::{MAX_FILE, Scanners};
 use crossbeam_channel::{Receiver, Sender, bounded};
 use std::alloc::Global;
 use std::io::Read;
@@ -24,6 +24,10 @@ pub(crate) const PIECE: usize = MAX_FILE + 2;
 
 /// As many files are under way at most.
 pub(crate) const ROOM: usize = 1_024;
+
+// So many bytes are left free where threads are started, for what is found in as many files: a thread that has no memory of its own is
+// given a page of the system for each. So where memory is short there are fewer threads, and none misses a file for want of it.
+const RESERVE: usize = 2 * ROOM * 4_096;
 
 /// A file to scan, and its place in the line-up.
 #[derive(Drop)]
@@ -57,10 +61,10 @@ impl Crew {
         O: Opening<F>,
         R: Threads + Wait + Copy + Send + 'static,
     >(
-        scanning: &Scanning<R, O>,
-        scanner: &Arc<Scanner, Global>,
+        scanning: &Scanning<'_, R, O>,
+        scanners: &Arc<Scanners, Global>,
     ) -> Option<(Crew, Receiver<Done<T>>)>
-        requires { (name : List ℕ) (v : Verdict) → IsVerdict (O.is_of scanning.now.files) F.remaining (arc_value scanner.now) name v → T.is_true name v }
+        requires { (name : List ℕ) (fs : List Finding) → AreFindings scanning.now.matches (O.is_of scanning.now.files) F.remaining (arc_value scanners.now) name fs → T.is_true name fs }
     {
         if scanning.jobs < 2 {
             return None;
@@ -69,14 +73,16 @@ impl Crew {
         let (works, left) = bounded::<Work, Global>(alloc, ROOM).ok()?;
         let (done, dones) = bounded::<Done<T>, Global>(alloc, ROOM).ok()?;
         let mut threads = Vec::with_capacity(alloc, scanning.jobs).ok()?;
+        let reserve: Vec<u8> = Vec::with_capacity(alloc, RESERVE).ok()?;
         'threads: for _ in 0..scanning.jobs {
-            let Some(thread) = start_worker::<T, F, O, R>(scanning, scanner, &left, &done) else {
+            let Some(thread) = start_worker::<T, F, O, R>(scanning, scanners, &left, &done) else {
                 break;
             };
             if threads.push(thread).is_err() {
                 break;
             }
         }
+        drop(reserve);
         if threads.is_empty() {
             return None;
         }
@@ -114,27 +120,30 @@ fn start_worker<
     O: Opening<F>,
     R: Threads + Wait + Copy + Send + 'static,
 >(
-    scanning: &Scanning<R, O>,
-    scanner: &Arc<Scanner, Global>,
+    scanning: &Scanning<'_, R, O>,
+    scanners: &Arc<Scanners, Global>,
     works: &Receiver<Work>,
     dones: &Sender<Done<T>>,
 ) -> Option<JoinHandle<()>>
-    requires { (name : List ℕ) (v : Verdict) → IsVerdict (O.is_of scanning.now.files) F.remaining (arc_value scanner.now) name v → T.is_true name v }
+    requires { (name : List ℕ) (fs : List Finding) → AreFindings scanning.now.matches (O.is_of scanning.now.files) F.remaining (arc_value scanners.now) name fs → T.is_true name fs }
 {
-    let mut buffer = vec![in scanning.alloc; 0u8; PIECE].ok()?;
-    let scanner = shared(scanner)?;
+    let mut buffer = scanning.buffer(PIECE)?;
+    let scanners = shared(scanners)?;
     let works = works.clone().ok()?;
     let dones = dones.clone().ok()?;
-    let (rt, files, max_size) = (scanning.rt, scanning.files, scanning.max_size);
+    let (rt, alloc, files) = (scanning.rt, scanning.alloc, scanning.files);
+    let (matches, max_size) = (scanning.matches, scanning.max_size);
     thread::spawn(
         &rt,
         move ||
             requires room { 0 < length buffer.items }
-            requires truth { (name : List ℕ) (v : Verdict) → IsVerdict (O.is_of files) F.remaining (arc_value scanner) name v → T.is_true name v }
+            requires truth { (name : List ℕ) (fs : List Finding) → AreFindings matches (O.is_of files) F.remaining (arc_value scanners) name fs → T.is_true name fs }
         {
             let means = Means {
+                alloc,
                 files: &files,
-                scanner: &*scanner,
+                scanners: &*scanners,
+                matches,
                 max_size,
             };
             serve::<T, F, O, R>(&rt, means, &works, &dones, &mut buffer);
@@ -143,11 +152,11 @@ fn start_worker<
     .ok()
 }
 
-// The scanner, for one thread more.
-fn shared(scanner: &Arc<Scanner, Global>) -> Option<Arc<Scanner, Global>>
-    ensures { IfSome result (λ shared. arc_value shared ≡ arc_value scanner.now) }
+// The sets, for one thread more.
+fn shared(scanners: &Arc<Scanners, Global>) -> Option<Arc<Scanners, Global>>
+    ensures { IfSome result (λ shared. arc_value shared ≡ arc_value scanners.now) }
 {
-    scanner.clone().ok()
+    scanners.clone().ok()
 }
 
 // Scans what comes, until nothing more comes or nobody takes what is done.
@@ -159,7 +168,7 @@ fn serve<T: Truth, F: Read + Drop, O: Opening<F>, R: Wait>(
     buffer: &mut [u8],
 )
     requires room { 0 < length buffer.old }
-    requires truth { (name : List ℕ) (v : Verdict) → IsVerdict (O.is_of means.files.now) F.remaining means.scanner.now name v → T.is_true name v }
+    requires truth { (name : List ℕ) (fs : List Finding) → AreFindings means.matches (O.is_of means.files.now) F.remaining means.scanners.now name fs → T.is_true name fs }
 {
     'works: for _ in rt.forever() {
         let Ok(work) = works.recv(rt) else {

@@ -2,23 +2,25 @@
 
 ghost use Rattle.std.specs.Prelude.{◌≡◌, ◌∷◌, [], ℕ, List, Some, IfErr, IfOk, IfSome, OnErr, OnOk, map};
 ghost use Rattle.std.specs.Arc.{arc_value};
-ghost use Rattle.av_base.specs.declared.verdict.Verdict.{Verdict};
+ghost use Rattle.av_files.specs.declared.finding.Finding.{Finding};
 ghost use Rattle.av_scan.specs.Outcome.{AreScanned, AreScannedSoFar, Ends};
-ghost use Rattle.av_scan.specs.Told.{IsVerdict, name_of};
+ghost use Rattle.av_scan.specs.Told.{AreFindings, name_of};
 ghost use Rattle.av_status.specs.Status.{IsFault};
 ghost use Rattle.av_status.specs.Tally.{no_files};
 
 use crate::coming::{Coming, come, is_due, over};
+use crate::ending::end_well;
 use crate::feed::{Feed, Folders};
 use crate::judging::Means;
 use crate::line_up::LineUp;
-use crate::on::{By, end_well, line_up};
+use crate::moving::put_away;
+use crate::on::{By, line_up};
 use crate::opening::Opening;
-use crate::report::{Reporting, report, say_missed};
+use crate::report::{Reporting, report, say_unscanned};
 use crate::scanning::Scanning;
-use crate::told::Told;
+use crate::told::{Told, unscanned_of};
 use crate::truth::{Judged, Truth};
-use av_files::Scanner;
+use av_files::{Bounds, Scanners};
 use av_status::faults::{device_failed, out_of_memory};
 use av_status::{Progress, Status, Tally};
 use std::alloc::Global;
@@ -39,16 +41,18 @@ pub fn scan_all<
     W: Write,
     E: Write,
 >(
-    scanning: &Scanning<R, O>,
-    scanner: Scanner,
-    names: &[&str],
+    scanning: &Scanning<'_, R, O>,
+    scanners: Scanners,
+    names: &[&[u8]],
     out: &mut W,
     err: &mut Progress<'_, C, E>,
 ) -> Status
-    ensures { Ends (IsVerdict (O.is_of scanning.now.files) F.remaining scanner) scanning.now.wishes scanner no_files (W.contents out.old) (W.contents out.new) (Some (map (λ n. n.now) names.now)) result }
+    ensures { Ends (AreFindings scanning.now.matches (O.is_of scanning.now.files) F.remaining scanners) scanning.now.wishes scanners no_files (W.contents out.old) (W.contents out.new) (Some (map (λ n. n.now) names.now)) result }
 {
-    match Arc::new(scanning.alloc, scanner) {
-        Ok(scanner) => { all_truly::<Brand, F, O, R, C, W, E>(scanning, &scanner, names, out, err) }
+    match Arc::new(scanning.alloc, scanners) {
+        Ok(scanners) => {
+            all_truly::<Brand, F, O, R, C, W, E>(scanning, &scanners, names, out, err)
+        }
         Err(_) => out_of_memory(err),
     }
 }
@@ -63,23 +67,29 @@ fn all_truly<
     W: Write,
     E: Write,
 >(
-    scanning: &Scanning<R, O>,
-    scanner: &Arc<Scanner, Global>,
-    names: &[&str],
+    scanning: &Scanning<'_, R, O>,
+    scanners: &Arc<Scanners, Global>,
+    names: &[&[u8]],
     out: &mut W,
     err: &mut Progress<'_, C, E>,
 ) -> Status
-    requires { (name : List ℕ) (v : Verdict) → IsVerdict (O.is_of scanning.now.files) F.remaining (arc_value scanner.now) name v → T.is_true name v }
-    ensures { Ends T.is_true scanning.now.wishes (arc_value scanner.now) no_files (W.contents out.old) (W.contents out.new) (Some (map (λ n. n.now) names.now)) result }
+    requires { (name : List ℕ) (fs : List Finding) → AreFindings scanning.now.matches (O.is_of scanning.now.files) F.remaining (arc_value scanners.now) name fs → T.is_true name fs }
+    ensures { Ends T.is_true scanning.now.wishes (arc_value scanners.now) no_files (W.contents out.old) (W.contents out.new) (Some (map (λ n. n.now) names.now)) result }
 {
-    let Some(mut line) = line_up::<T, F, O, R>(scanning, scanner) else {
+    let Some(mut line) = line_up::<T, F, O, R>(scanning, scanners) else {
         return out_of_memory(err);
     };
     let by = By {
         scanning,
-        scanner: &**scanner,
+        scanners: &**scanners,
     };
-    let mut feed = Feed::new(&scanning.rt, scanning.alloc, names, Folders::Refused);
+    let mut feed = Feed::new(
+        &scanning.rt,
+        scanning.alloc,
+        names,
+        Folders::Refused,
+        Bounds::none(),
+    );
     let judged = judge_all::<T, F, O, R, C, E>(by, &mut line, &mut feed, names.len(), err);
     line.end(&scanning.rt);
     match judged {
@@ -96,15 +106,17 @@ fn judge_all<T: Truth, F: Read + Drop, O: Opening<F>, R: Files + Wait, C: Clock,
     count: usize,
     err: &mut Progress<'_, C, E>,
 ) -> Result<Vec<Judged<T>>, Status>
-    requires truth { (name : List ℕ) (v : Verdict) → IsVerdict (O.is_of by.scanning.now.files) F.remaining by.scanner.now name v → T.is_true name v }
+    requires truth { (name : List ℕ) (fs : List Finding) → AreFindings by.scanning.now.matches (O.is_of by.scanning.now.files) F.remaining by.scanners.now name fs → T.is_true name fs }
     requires empty { line.old ≡ [] }
     ensures names { IfOk result (λ all. IfSome feed.old (λ names. map (λ j. name_of j.told) all.items ≡ names)) }
     ensures fault { IfErr result (λ status. IsFault status) }
 {
     let rt = &by.scanning.rt;
     let means = Means {
+        alloc: by.scanning.alloc,
         files: &by.scanning.files,
-        scanner: by.scanner,
+        scanners: by.scanners,
+        matches: by.scanning.matches,
         max_size: by.scanning.max_size,
     };
     let mut all = Vec::new(by.scanning.alloc);
@@ -121,7 +133,13 @@ fn judge_all<T: Truth, F: Read + Drop, O: Opening<F>, R: Files + Wait, C: Clock,
             };
         };
         if let Told::Missed { entry, status } = &judged.told {
-            return Err(say_missed::<F, O, Progress<'_, C, E>>(means.files, entry, *status, err));
+            let unscanned = unscanned_of(&entry.met, *status);
+            return Err(say_unscanned::<F, O, Progress<'_, C, E>>(
+                means.files,
+                entry,
+                unscanned,
+                err,
+            ));
         }
         if all.push(judged).is_err() {
             return Err(out_of_memory(err));
@@ -132,38 +150,38 @@ fn judge_all<T: Truth, F: Read + Drop, O: Opening<F>, R: Files + Wait, C: Clock,
 }
 
 // Writes the lines of files that were all scanned, and ends the run.
-fn print_all<T: Truth, F, O: Opening<F>, R, C: Clock, W: Write, E: Write>(
+fn print_all<T: Truth, F, O: Opening<F>, R: Files, C: Clock, W: Write, E: Write>(
     by: By<'_, R, O>,
     all: &[Judged<T>],
     out: &mut W,
     err: &mut Progress<'_, C, E>,
 ) -> Status
-    ensures { Ends T.is_true by.entry.scanning.now.wishes by.entry.scanner.now no_files (W.contents out.old) (W.contents out.new) (Some (map (λ j. name_of j.told) all.now)) result }
+    ensures { Ends T.is_true by.entry.scanning.now.wishes by.entry.scanners.now no_files (W.contents out.old) (W.contents out.new) (Some (map (λ j. name_of j.told) all.now)) result }
 {
     err.wipe();
-    let wishes = by.scanning.wishes;
+    let (alloc, wishes) = (by.scanning.alloc, by.scanning.wishes);
     let mut tally = Tally::new();
     match print_each::<T, F, O, R, C, W, E>(by, all, &mut tally, out, err) {
-        Ok(()) => end_well(tally, wishes, out, err),
+        Ok(()) => end_well(alloc, tally, wishes, None, out, err),
         Err(status) => status,
     }
 }
 
-fn print_each<T: Truth, F, O: Opening<F>, R, C: Clock, W: Write, E: Write>(
+fn print_each<T: Truth, F, O: Opening<F>, R: Files, C: Clock, W: Write, E: Write>(
     by: By<'_, R, O>,
     all: &[Judged<T>],
     tally: &mut Tally,
     out: &mut W,
     err: &mut Progress<'_, C, E>,
 ) -> Result<(), Status>
-    ensures scanned { OnOk result (AreScanned T.is_true by.entry.scanning.now.wishes by.entry.scanner.now tally.old tally.new (W.contents out.old) (W.contents out.new) (Some (map (λ j. name_of j.told) all.now))) }
-    ensures so_far { OnErr result (AreScannedSoFar T.is_true by.entry.scanning.now.wishes by.entry.scanner.now (W.contents out.old) (W.contents out.new)) }
+    ensures scanned { OnOk result (AreScanned T.is_true by.entry.scanning.now.wishes by.entry.scanners.now tally.old tally.new (W.contents out.old) (W.contents out.new) (Some (map (λ j. name_of j.told) all.now))) }
+    ensures so_far { OnErr result (AreScannedSoFar T.is_true by.entry.scanning.now.wishes by.entry.scanners.now (W.contents out.old) (W.contents out.new)) }
     ensures fault { IfErr result (λ status. IsFault status) }
 {
     let reporting = Reporting {
         alloc: by.scanning.alloc,
         files: &by.scanning.files,
-        scanner: by.scanner,
+        scanners: by.scanners,
         wishes: by.scanning.wishes,
         is_live: by.scanning.is_live,
     };
@@ -171,6 +189,7 @@ fn print_each<T: Truth, F, O: Opening<F>, R, C: Clock, W: Write, E: Write>(
     let mut rest = all;
     'files: while let Some((judged, after)) = rest.split_first() {
         report::<F, O, W, Progress<'_, C, E>>(reporting, &judged.told, tally, &mut room, out, err)?;
+        put_away(by.scanning, &judged.told, tally, err);
         rest = after;
     }
     Ok(())

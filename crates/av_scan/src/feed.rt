@@ -6,7 +6,7 @@ ghost use Rattle.av_scan.specs.declared.feed.Folders.TheVariants.{Refused};
 
 use crate::opening::Origin;
 use crate::told::Entry;
-use av_files::{Met, Walk};
+use av_files::{Bounds, Met, Walk};
 use std::alloc::{AllocError, Global};
 use std::fs;
 use std::fs::Files;
@@ -26,9 +26,12 @@ pub enum Folders {
 struct Names<'a, R> {
     files: &'a R,
     alloc: Global,
-    names: &'a [&'a str],
+    names: &'a [&'a [u8]],
     next: usize,
     walk: Option<Walk<'a, R>>,
+    bounds: Bounds<'a>,
+    // By walks that are over.
+    left_out: u64,
 }
 
 /// The files that come to a scan, in their order. Contracts see the names that are left, where no folder stands for files.
@@ -48,8 +51,14 @@ impl<'a, R> Model for Feed<'a, R> {
 }
 
 impl<'a, R: Files> Feed<'a, R> {
-    /// The files of these names, and what folders stand for.
-    pub fn new(files: &'a R, alloc: Global, names: &'a [&'a str], folders: Folders) -> Feed<'a, R>
+    /// The files of these names, and what folders stand for, within these bounds. A name that is no text is passed on as one.
+    pub fn new(
+        files: &'a R,
+        alloc: Global,
+        names: &'a [&'a [u8]],
+        folders: Folders,
+        bounds: Bounds<'a>,
+    ) -> Feed<'a, R>
         ensures { result ≡ left_of folders 0 names.now }
     {
         let left = Names {
@@ -58,8 +67,19 @@ impl<'a, R: Files> Feed<'a, R> {
             names,
             next: 0,
             walk: None,
+            bounds,
+            left_out: 0,
         };
         Feed { left, folders }
+    }
+
+    /// How many entries were left out so far, where folders stand for files and something may be left out.
+    pub fn left_out(&self) -> Option<u64> {
+        let bounds = self.left.bounds;
+        if self.folders == Folders::Refused || (bounds.globs.is_empty() && !bounds.is_one_device) {
+            return None;
+        }
+        Some(self.left.left_out())
     }
 
     /// What comes next, nothing at the end.
@@ -99,17 +119,30 @@ impl<'a, R: Files> Names<'a, R> {
         };
         let met = walk.next()?;
         if met.is_none() {
+            self.left_out = self.left_out.saturating_add(walk.left_out());
             self.walk = None;
         }
         Ok(met)
     }
 
+    // How many entries all walks left out.
+    fn left_out(&self) -> u64 {
+        match &self.walk {
+            Some(walk) => self.left_out.saturating_add(walk.left_out()),
+            None => self.left_out,
+        }
+    }
+
     // Begins a walk through a folder of this name, if it is that of one.
-    fn enter(&mut self, name: &str) -> Result<bool, AllocError> {
+    fn enter(&mut self, name: &[u8]) -> Result<bool, AllocError> {
+        let Ok(name) = str::from_utf8(name) else {
+            return Ok(false);
+        };
         if !is_folder(self.files, name) {
             return Ok(false);
         }
-        self.walk = Some(Walk::new(self.files, self.alloc, name)?);
+        let walk = Walk::within(self.files, self.alloc, name, self.bounds)?;
+        self.walk = Some(walk);
         Ok(true)
     }
 
@@ -127,12 +160,20 @@ impl<'a, R: Files> Names<'a, R> {
 }
 
 // A file that was named.
-fn named(alloc: Global, name: &str) -> Result<Entry, AllocError>
+fn named(alloc: Global, name: &[u8]) -> Result<Entry, AllocError>
     ensures { IfOk result (λ entry. path_of entry.met ≡ name.now) }
 {
-    let met = Met::File(String::from_str(alloc, name)?);
     let origin = Origin::Named;
-    Ok(Entry { met, origin })
+    match str::from_utf8(name) {
+        Ok(name) => {
+            let met = Met::File(String::from_str(alloc, name)?);
+            Ok(Entry { met, origin })
+        }
+        Err(_) => {
+            let met = Met::NotText(name.to_vec(alloc)?);
+            Ok(Entry { met, origin })
+        }
+    }
 }
 
 // Whether a name is that of a folder, or of a link to one.

@@ -1,42 +1,55 @@
-// The verdict of one file.
+// What is found in one file.
 
-ghost use Rattle.std.specs.Prelude.{◌≡◌, ◌<◌, ℕ, List, length, IfErr, IfOk};
-ghost use Rattle.av_base.specs.declared.verdict.Verdict.{Verdict};
+ghost use Rattle.std.specs.Prelude.{◌≡◌, ◌<◌, ℕ, List, length, IfErr, IfOk, IfSome};
+ghost use Rattle.av_files.specs.declared.finding.Finding.{Finding};
 ghost use Rattle.av_status.specs.Status.{IsFault};
-ghost use Rattle.av_scan.specs.Told.{IsVerdict, judged_of, name_of, path_of};
+ghost use Rattle.av_scan.specs.Matches.{found_in};
+ghost use Rattle.av_scan.specs.Told.{AreFindings, judged_of, name_of, path_of};
 
+use crate::matches::matches_in;
 use crate::opening::{Opening, Origin};
+use crate::scanning::Matches;
 use crate::told::{Entry, Told};
 use crate::truth::{Judged, Truth};
-use av_base::Verdict;
-use av_files::{Met, Scanner};
+use av_base::ReadFault;
+use av_base::device::read_into;
+use av_files::{Finding, Met, Scanners};
+use av_quarantine::Seen;
 use av_status::Status;
-use std::io;
+use std::alloc::Global;
 use std::io::Read;
 
-/// By what files are judged: where they come from, the scanner, and how many bytes each may have.
+/// By what files are judged: the memory, where they come from, the sets, which signatures are reported, and how many bytes a file may
+/// have.
 #[derive(Clone, Copy)]
 pub struct Means<'a, O> {
+    pub alloc: Global,
     pub files: &'a O,
-    pub scanner: &'a Scanner,
+    pub scanners: &'a Scanners,
+    pub matches: Matches,
     pub max_size: u64,
 }
 
-/// What becomes of an entry. Of a file without a verdict the status says why: Refused that it is too large, Device that it can't be read.
+/// What becomes of an entry. Of a file that was not scanned the status says why: Refused that it is too large, Device
+/// that it can't be read, Memory that there is none for what is found in it.
 pub fn judge<T: Truth, F: Read + Drop, O: Opening<F>>(
     means: Means<'_, O>,
     entry: Entry,
     buffer: &mut [u8],
 ) -> Judged<T>
     requires room { 0 < length buffer.old }
-    requires truth { (name : List ℕ) (v : Verdict) → IsVerdict (O.is_of means.files.now) F.remaining means.scanner.now name v → T.is_true name v }
+    requires truth { (name : List ℕ) (fs : List Finding) → AreFindings means.matches (O.is_of means.files.now) F.remaining means.scanners.now name fs → T.is_true name fs }
     ensures name { name_of result.told ≡ path_of entry.met }
     ensures buffer { length buffer.new ≡ length buffer.old }
 {
     let Entry { met, origin } = entry;
     match met {
-        Met::File(name) => match verdict_of::<F, O>(means, name.as_str(), origin, buffer) {
-            Ok(verdict) => Judged::new(Told::Scanned { name, verdict }),
+        Met::File(name) => match found_under::<F, O>(means, name.as_str(), origin, buffer) {
+            Ok(Found { findings, seen }) => Judged::new(Told::Scanned {
+                name,
+                findings,
+                seen,
+            }),
             Err(status) => {
                 let met = Met::File(name);
                 missed(Entry { met, origin }, status)
@@ -59,22 +72,68 @@ fn missed<T: Truth>(entry: Entry, status: Status) -> Judged<T>
     Judged::new(Told::Missed { entry, status })
 }
 
-// The verdict of a file.
-fn verdict_of<F: Read + Drop, O: Opening<F>>(
+// What is found in a file under each set, and which file that is, as far as it is known.
+#[derive(Drop)]
+struct Found {
+    findings: Vec<Finding>,
+    seen: Option<Seen>,
+}
+
+// What is found under a name. The file is opened once, and read once.
+fn found_under<F: Read + Drop, O: Opening<F>>(
     means: Means<'_, O>,
     name: &str,
     origin: Origin,
     buffer: &mut [u8],
-) -> Result<Verdict, Status>
+) -> Result<Found, Status>
     requires { 0 < length buffer.old }
-    ensures verdict { IfOk result (IsVerdict (O.is_of means.entry.files.now) F.remaining means.entry.scanner.now name.now) }
+    ensures findings { IfOk result (λ found. AreFindings means.entry.matches (O.is_of means.entry.files.now) F.remaining means.entry.scanners.now name.now found.findings.items) }
     ensures status { IfErr result (λ status. IsFault status) }
     ensures buffer { length buffer.new ≡ length buffer.old }
 {
     let Some(mut file) = means.files.opened(name, origin) else {
         return Err(Status::Device);
     };
-    means
-        .scanner
-        .scan_pieces(name, &mut file, buffer, means.max_size, &mut io::sink())
+    let seen = means.files.seen(&file);
+    match found_in::<F, O>(means, &mut file, buffer) {
+        Ok(findings) => Ok(Found { findings, seen }),
+        Err(fault) => Err(status_of(fault)),
+    }
+}
+
+// What is found in a file that is open.
+fn found_in<F: Read, O: Copy>(
+    means: Means<'_, O>,
+    file: &mut F,
+    buffer: &mut [u8],
+) -> Result<Vec<Finding>, ReadFault>
+    requires { 0 < length buffer.old }
+    ensures findings { IfOk result (λ found. IfSome (F.remaining file.old) (λ content. found.items ≡ found_in means.entry.matches means.entry.scanners.now content)) }
+    ensures buffer { length buffer.new ≡ length buffer.old }
+{
+    match means.matches {
+        Matches::First => {
+            means
+                .scanners
+                .scan_pieces(means.alloc, file, buffer, means.max_size)
+        }
+        Matches::All => {
+            let count = read_into(file, buffer, u64::MAX)?;
+            if count as u64 > means.max_size {
+                return Err(ReadFault::TooLong);
+            }
+            matches_in(means.alloc, means.scanners, &buffer[..count])
+        }
+    }
+}
+
+// The status for a file that was not read to its end.
+fn status_of(fault: ReadFault) -> Status
+    ensures { IsFault result }
+{
+    match fault {
+        ReadFault::TooLong => Status::Refused,
+        ReadFault::Device => Status::Device,
+        ReadFault::NoMemory => Status::Memory,
+    }
 }

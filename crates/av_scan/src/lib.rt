@@ -2,8 +2,8 @@
 //! other in the same order, each with the verdict of its file.
 //!
 //! ```text
-//! let mut feed = Feed::new(&rt, alloc, names, Folders::Entered);
-//! let status = scan_on(&scanning, &scanner, &mut feed, Tally::new(), &mut out, &mut err);
+//! let mut feed = Feed::new(&rt, alloc, names, Folders::Entered, bounds);
+//! let status = scan_on(&scanning, &scanners, &mut feed, Tally::new(), &mut out, &mut err);
 //! ```
 #![tactic(auto)]
 
@@ -11,9 +11,12 @@ mod arrivals;
 mod coming;
 mod crew;
 mod ended;
+mod ending;
 pub mod feed;
 mod judging;
 mod line_up;
+mod matches;
+mod moving;
 mod on;
 pub mod opening;
 mod report;
@@ -21,9 +24,10 @@ pub mod scanning;
 pub mod told;
 mod truth;
 
+pub use av_quarantine::Seen;
 pub use ended::scan_all;
 pub use feed::{Feed, Folders};
 pub use on::scan_on;
 pub use opening::{Opening, Origin};
-pub use scanning::{MAX_JOBS, Scanning, jobs_of};
-pub use told::{Entry, Told};
+pub use scanning::{MAX_JOBS, Matches, Scanning, jobs_of};
+pub use told::{Entry, Told, Unscanned};

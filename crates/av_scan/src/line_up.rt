@@ -1,8 +1,8 @@
 // Files in the order in which they came, some of them under way: names go in at the back, and what became of them comes out at the front.
 
 ghost use Rattle.std.specs.Prelude.{◌≡◌, ◌<◌, ◌++◌, ◌∷◌, [], ℕ, List, IfOk, length, MatchOption, MatchResult};
-ghost use Rattle.av_base.specs.declared.verdict.Verdict.{Verdict};
-ghost use Rattle.av_scan.specs.Told.{IsVerdict, name_of, path_of};
+ghost use Rattle.av_files.specs.declared.finding.Finding.{Finding};
+ghost use Rattle.av_scan.specs.Told.{AreFindings, name_of, path_of};
 
 use crate::arrivals::Arrivals;
 use crate::crew::{Crew, Done, ROOM, Work};
@@ -109,7 +109,7 @@ impl<T: Truth> LineUp<T> {
         rt: &R,
         means: Means<'_, O>,
     ) -> Option<Judged<T>>
-        requires { (name : List ℕ) (v : Verdict) → IsVerdict (O.is_of means.files.now) F.remaining means.scanner.now name v → T.is_true name v }
+        requires { (name : List ℕ) (fs : List Finding) → AreFindings means.matches (O.is_of means.files.now) F.remaining means.scanners.now name fs → T.is_true name fs }
         ensures { MatchOption result ((self.old ≡ []) × (self.new ≡ [])) (λ judged. self.old ≡ name_of judged.told ∷ self.new) }
     {
         let place = self.places.pop_front()?;
@@ -155,7 +155,7 @@ fn fitting<T: Truth, F: Read + Drop, O: Opening<F>>(
     buffer: &mut [u8],
 ) -> Judged<T>
     requires room { 0 < length buffer.old }
-    requires truth { (name : List ℕ) (v : Verdict) → IsVerdict (O.is_of means.files.now) F.remaining means.scanner.now name v → T.is_true name v }
+    requires truth { (name : List ℕ) (fs : List Finding) → AreFindings means.matches (O.is_of means.files.now) F.remaining means.scanners.now name fs → T.is_true name fs }
     ensures name { name_of result.told ≡ path_of entry.met }
     ensures buffer { length buffer.new ≡ length buffer.old }
 {

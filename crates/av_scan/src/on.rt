@@ -2,23 +2,25 @@
 
 ghost use Rattle.std.specs.Prelude.{◌≡◌, [], ℕ, List, IfErr, IfSome, OnErr, OnOk};
 ghost use Rattle.std.specs.Arc.{arc_value};
-ghost use Rattle.av_base.specs.declared.verdict.Verdict.{Verdict};
-ghost use Rattle.av_scan.specs.Outcome.{AreScanned, AreScannedSoFar, Ends, IsEndOf};
-ghost use Rattle.av_scan.specs.Told.{IsVerdict};
+ghost use Rattle.av_files.specs.declared.finding.Finding.{Finding};
+ghost use Rattle.av_scan.specs.Outcome.{AreScanned, AreScannedSoFar, Ends};
+ghost use Rattle.av_scan.specs.Told.{AreFindings};
 ghost use Rattle.av_status.specs.Status.{IsFault};
 
 use crate::coming::{Coming, come, is_due, over};
 use crate::crew::{Crew, PIECE};
+use crate::ending::end_well;
 use crate::feed::Feed;
 use crate::judging::Means;
 use crate::line_up::LineUp;
+use crate::moving::put_away;
 use crate::opening::Opening;
 use crate::report::{Reporting, report};
 use crate::scanning::Scanning;
 use crate::truth::Truth;
-use av_files::Scanner;
+use av_files::Scanners;
 use av_status::faults::{device_failed, out_of_memory};
-use av_status::{Progress, Status, Tally, Wishes, conclude};
+use av_status::{Progress, Status, Tally};
 use std::alloc::Global;
 use std::fs::Files;
 use std::io::{Read, Write};
@@ -39,18 +41,18 @@ pub fn scan_on<
     W: Write,
     E: Write,
 >(
-    scanning: &Scanning<R, O>,
-    scanner: Scanner,
+    scanning: &Scanning<'_, R, O>,
+    scanners: Scanners,
     feed: &mut Feed<'_, R>,
     tally: Tally,
     out: &mut W,
     err: &mut Progress<'_, C, E>,
 ) -> Status
-    ensures { Ends (IsVerdict (O.is_of scanning.now.files) F.remaining scanner) scanning.now.wishes scanner tally (W.contents out.old) (W.contents out.new) feed.old result }
+    ensures { Ends (AreFindings scanning.now.matches (O.is_of scanning.now.files) F.remaining scanners) scanning.now.wishes scanners tally (W.contents out.old) (W.contents out.new) feed.old result }
 {
-    match Arc::new(scanning.alloc, scanner) {
-        Ok(scanner) => {
-            scan_truly::<Brand, F, O, R, C, W, E>(scanning, &scanner, feed, tally, out, err)
+    match Arc::new(scanning.alloc, scanners) {
+        Ok(scanners) => {
+            scan_truly::<Brand, F, O, R, C, W, E>(scanning, &scanners, feed, tally, out, err)
         }
         Err(_) => out_of_memory(err),
     }
@@ -66,45 +68,36 @@ fn scan_truly<
     W: Write,
     E: Write,
 >(
-    scanning: &Scanning<R, O>,
-    scanner: &Arc<Scanner, Global>,
+    scanning: &Scanning<'_, R, O>,
+    scanners: &Arc<Scanners, Global>,
     feed: &mut Feed<'_, R>,
     mut tally: Tally,
     out: &mut W,
     err: &mut Progress<'_, C, E>,
 ) -> Status
-    requires { (name : List ℕ) (v : Verdict) → IsVerdict (O.is_of scanning.now.files) F.remaining (arc_value scanner.now) name v → T.is_true name v }
-    ensures { Ends T.is_true scanning.now.wishes (arc_value scanner.now) tally (W.contents out.old) (W.contents out.new) feed.old result }
+    requires { (name : List ℕ) (fs : List Finding) → AreFindings scanning.now.matches (O.is_of scanning.now.files) F.remaining (arc_value scanners.now) name fs → T.is_true name fs }
+    ensures { Ends T.is_true scanning.now.wishes (arc_value scanners.now) tally (W.contents out.old) (W.contents out.new) feed.old result }
 {
-    let Some(mut line) = line_up::<T, F, O, R>(scanning, scanner) else {
+    let Some(mut line) = line_up::<T, F, O, R>(scanning, scanners) else {
         return out_of_memory(err);
     };
     let by = By {
         scanning,
-        scanner: &**scanner,
+        scanners: &**scanners,
     };
     let done = scan_line::<T, F, O, R, C, W, E>(by, &mut line, feed, &mut tally, out, err);
     line.end(&scanning.rt);
     match done {
-        Ok(()) => end_well(tally, scanning.wishes, out, err),
+        Ok(()) => end_well(
+            scanning.alloc,
+            tally,
+            scanning.wishes,
+            feed.left_out(),
+            out,
+            err,
+        ),
         Err(status) => tally.worst.or_graver(status),
     }
-}
-
-/// Leaves no line in a buffer, and ends the run.
-pub(crate) fn end_well<C: Clock, W: Write, E: Write>(
-    tally: Tally,
-    wishes: Wishes,
-    out: &mut W,
-    err: &mut Progress<'_, C, E>,
-) -> Status
-    ensures { IsEndOf wishes tally (W.contents out.old) (W.contents out.new) result }
-{
-    err.wipe();
-    if out.flush().is_err() {
-        return tally.worst.or_graver(device_failed(err));
-    }
-    conclude(err, tally, wishes)
 }
 
 /// A line-up with its threads, where there is memory for it.
@@ -113,15 +106,13 @@ pub(crate) fn line_up<
     F: Read + Drop + Send + 'static,
     O: Opening<F>,
     R: Threads + Wait + Copy + Send + 'static,
->(scanning: &Scanning<R, O>, scanner: &Arc<Scanner, Global>) -> Option<LineUp<T>>
-    requires { (name : List ℕ) (v : Verdict) → IsVerdict (O.is_of scanning.now.files) F.remaining (arc_value scanner.now) name v → T.is_true name v }
+>(scanning: &Scanning<'_, R, O>, scanners: &Arc<Scanners, Global>) -> Option<LineUp<T>>
+    requires { (name : List ℕ) (fs : List Finding) → AreFindings scanning.now.matches (O.is_of scanning.now.files) F.remaining (arc_value scanners.now) name fs → T.is_true name fs }
     ensures { IfSome result (λ line. line ≡ []) }
 {
     let piece = if scanning.jobs < 2 { PIECE } else { STAND_IN };
-    let Ok(buffer) = vec![in scanning.alloc; 0u8; piece] else {
-        return None;
-    };
-    let crew = Crew::start::<T, F, O, R>(scanning, scanner);
+    let buffer = scanning.buffer(piece)?;
+    let crew = Crew::start::<T, F, O, R>(scanning, scanners);
     match LineUp::new(scanning.alloc, crew, buffer) {
         Ok(line) => Some(line),
         Err(_) => None,
@@ -131,8 +122,8 @@ pub(crate) fn line_up<
 /// By what files are scanned and reported.
 #[derive(Clone, Copy)]
 pub(crate) struct By<'a, R, O> {
-    pub(crate) scanning: &'a Scanning<R, O>,
-    pub(crate) scanner: &'a Scanner,
+    pub(crate) scanning: &'a Scanning<'a, R, O>,
+    pub(crate) scanners: &'a Scanners,
 }
 
 // Scans what comes, until nothing more comes, and reports each file once it is the first.
@@ -152,22 +143,24 @@ fn scan_line<
     out: &mut W,
     err: &mut Progress<'_, C, E>,
 ) -> Result<(), Status>
-    requires truth { (name : List ℕ) (v : Verdict) → IsVerdict (O.is_of by.scanning.now.files) F.remaining by.scanner.now name v → T.is_true name v }
+    requires truth { (name : List ℕ) (fs : List Finding) → AreFindings by.scanning.now.matches (O.is_of by.scanning.now.files) F.remaining by.scanners.now name fs → T.is_true name fs }
     requires empty { line.old ≡ [] }
-    ensures scanned { OnOk result (AreScanned T.is_true by.entry.scanning.now.wishes by.entry.scanner.now tally.old tally.new (W.contents out.old) (W.contents out.new) feed.old) }
-    ensures so_far { OnErr result (AreScannedSoFar T.is_true by.entry.scanning.now.wishes by.entry.scanner.now (W.contents out.old) (W.contents out.new)) }
+    ensures scanned { OnOk result (AreScanned T.is_true by.entry.scanning.now.wishes by.entry.scanners.now tally.old tally.new (W.contents out.old) (W.contents out.new) feed.old) }
+    ensures so_far { OnErr result (AreScannedSoFar T.is_true by.entry.scanning.now.wishes by.entry.scanners.now (W.contents out.old) (W.contents out.new)) }
     ensures fault { IfErr result (λ status. IsFault status) }
 {
     let rt = &by.scanning.rt;
     let means = Means {
+        alloc: by.scanning.alloc,
         files: &by.scanning.files,
-        scanner: by.scanner,
+        scanners: by.scanners,
+        matches: by.scanning.matches,
         max_size: by.scanning.max_size,
     };
     let reporting = Reporting {
         alloc: by.scanning.alloc,
         files: &by.scanning.files,
-        scanner: by.scanner,
+        scanners: by.scanners,
         wishes: by.scanning.wishes,
         is_live: by.scanning.is_live,
     };
@@ -182,6 +175,7 @@ fn scan_line<
             return over(coming, err);
         };
         report::<F, O, W, Progress<'_, C, E>>(reporting, &judged.told, tally, &mut room, out, err)?;
+        put_away(by.scanning, &judged.told, tally, err);
         err.step_on("scanned", tally.scanned);
     }
     Err(device_failed(err))

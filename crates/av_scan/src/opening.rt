@@ -1,5 +1,6 @@
 //! Files as they are opened by their names.
 
+use av_quarantine::Seen;
 use std::io::Write;
 
 /// How a file came to be scanned.
@@ -21,6 +22,9 @@ pub trait Opening<F>: Copy + Send + Sync + 'static {
     /// The file of this name, open, where it can be.
     fn opened(&self, name: &str, origin: Origin) -> Option<F>
         ensures { IfSome result (is_of self.now name.now) };
+
+    /// Which file an open one is, where the system says so.
+    fn seen(&self, file: &F) -> Option<Seen>;
 
     /// Gives the reason why a file could not be read, where that is wanted.
     fn explain<E: Write>(&self, name: &str, origin: Origin, err: &mut E);

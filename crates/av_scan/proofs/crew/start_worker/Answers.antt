@@ -2,12 +2,12 @@ use denote.Param.Send.{sendable}
 use Rattle.std.proofs.Common.{rules, ◌≡◌, subst}
 use Rattle.std.proofs.Crossing.{crosses}
 use Rattle.std.specs.Arc.{arc_value}
-use Rattle.av_scan.specs.Told.{IsVerdict}
+use Rattle.av_scan.specs.Told.{AreFindings}
 use Rattle.av_scan.proofs.crew.start_worker.Goals as goal
 
 pub spawn-requires-after_bounds : goal.spawn-requires-after_bounds
 spawn-requires-after_bounds g c κs within =
-    let same : arc_value c.in_ok-scanner.scanner ≡ arc_value c.args.scanner.now = search rules in (
+    let same : arc_value c.in_ok-scanners.scanners ≡ arc_value c.args.scanners.now = search rules in (
       c.type_bounds.static-T,
       (
         c.type_bounds.static-F,
@@ -18,7 +18,7 @@ spawn-requires-after_bounds g c κs within =
             (
               search rules,
               (
-                (λ name v is. c.requires name v (subst (λ set. IsVerdict (g.O.Opening.is_of c.args.scanning.now.files) g.F.Read.remaining set name v) same is)),
+                (λ name fs is. c.requires name fs (subst (λ sets. AreFindings c.args.scanning.now.matches (g.O.Opening.is_of c.args.scanning.now.files) g.F.Read.remaining sets name fs) same is)),
                 search (sendable, crosses),
               ),
             ),

@@ -17,10 +17,10 @@ returns-in-Ok g c =
     subst (λ left. IfSome left (λ names. map (λ j. name_of j.told) c.in-Ok.all.items ≡ names)) c.new-feed.ensures c.in-Ok.ensures.names in
     let same = ap (λ all. Some (map (λ j. name_of j.told) all)) c.as_slice.ensures.value ∙ ap Some names in
     subst
-    (λ all. Ends g.T.Truth.is_true c.args.scanning.now.wishes (arc_value c.args.scanner.now) no_files (g.W.Write.contents c.args.out.now) (g.W.Write.contents c.print_all.new.out) all c.print_all.result)
+    (λ all. Ends g.T.Truth.is_true c.args.scanning.now.wishes (arc_value c.args.scanners.now) no_files (g.W.Write.contents c.args.out.now) (g.W.Write.contents c.print_all.new.out) all c.print_all.result)
     same
     (subst
-    (λ set. Ends g.T.Truth.is_true c.args.scanning.now.wishes set no_files (g.W.Write.contents c.args.out.now) (g.W.Write.contents c.print_all.new.out) (Some (map (λ j. name_of j.told) c.as_slice.result.now)) c.print_all.result)
+    (λ sets. Ends g.T.Truth.is_true c.args.scanning.now.wishes sets no_files (g.W.Write.contents c.args.out.now) (g.W.Write.contents c.print_all.new.out) (Some (map (λ j. name_of j.told) c.as_slice.result.now)) c.print_all.result)
     c.deref.ensures c.print_all.ensures)
 
 pub returns : goal.returns

@@ -9,9 +9,9 @@ pub returns-in-Ok : goal.returns-in-Ok
 returns-in-Ok g c =
     let scanned =
     subst
-    (λ before. AreScanned g.T.Truth.is_true c.args.by.scanning.now.wishes c.args.by.scanner.now before c.print_each.new.tally (g.W.Write.contents c.args.out.now) (g.W.Write.contents c.print_each.new.out) (Some (map (λ j. name_of j.told) c.args.all.now)))
+    (λ before. AreScanned g.T.Truth.is_true c.args.by.scanning.now.wishes c.args.by.scanners.now before c.print_each.new.tally (g.W.Write.contents c.args.out.now) (g.W.Write.contents c.print_each.new.out) (Some (map (λ j. name_of j.told) c.args.all.now)))
     c.new-tally.ensures c.in-Ok.ensures.scanned in
-    ended _ _ _ _ c.print_each.new.tally _ (g.W.Write.contents c.print_each.new.out) _ _ _ scanned c.end_well.ensures
+    ended _ _ _ _ c.print_each.new.tally _ _ (g.W.Write.contents c.print_each.new.out) _ _ _ scanned c.end_well.ensures
 
 pub returns-in-Err : goal.returns-in-Err
 returns-in-Err g c = failed c.in-Err.status Done c.in-Err.ensures.so_far c.in-Err.ensures.fault (alone c.in-Err.status c.in-Err.ensures.fault)

@@ -18,15 +18,15 @@ files-preserved g c =
     let is : c.files.rest.now ≡ c.in-Some.judged.now ∷ c.in-Some.after.now = search rules in
     let first =
     subst
-    (λ waiting. IsUnderWay g.T.Truth.is_true c.args.by.scanning.now.wishes c.args.by.scanner.now c.args.tally.now c.files.tally (g.W.Write.contents c.args.out.now) (g.W.Write.contents c.files.out) (Some (map (λ j. name_of j.told) c.args.all.now)) Over waiting None)
+    (λ waiting. IsUnderWay g.T.Truth.is_true c.args.by.scanning.now.wishes c.args.by.scanners.now c.args.tally.now c.files.tally (g.W.Write.contents c.args.out.now) (g.W.Write.contents c.files.out) (Some (map (λ j. name_of j.told) c.args.all.now)) Over waiting None)
     (ap (map (λ j. name_of j.told)) is) c.files.invariant in
-    one_told _ _ _ _ _ _ _ _ _ _ _ _ _ _ _ first (known _ _ c.in-Some.judged.now.holds) c.in_ok-report.ensures.line c.in_ok-report.ensures.counted
+    one_told _ _ _ _ _ _ _ _ _ _ _ _ _ _ _ _ first (known _ _ c.in-Some.judged.now.holds) c.in_ok-report.ensures.line c.in_ok-report.ensures.counted c.put_away.ensures
 
 pub returns-in_err-report-clause-so_far : goal.returns-in_err-report-clause-so_far
 returns-in_err-report-clause-so_far g c =
     let is : c.files.rest.now ≡ c.in-Some.judged.now ∷ c.in-Some.after.now = search rules in
     let first =
     subst
-    (λ waiting. IsUnderWay g.T.Truth.is_true c.args.by.scanning.now.wishes c.args.by.scanner.now c.args.tally.now c.files.tally (g.W.Write.contents c.args.out.now) (g.W.Write.contents c.files.out) (Some (map (λ j. name_of j.told) c.args.all.now)) Over waiting None)
+    (λ waiting. IsUnderWay g.T.Truth.is_true c.args.by.scanning.now.wishes c.args.by.scanners.now c.args.tally.now c.files.tally (g.W.Write.contents c.args.out.now) (g.W.Write.contents c.files.out) (Some (map (λ j. name_of j.told) c.args.all.now)) Over waiting None)
     (ap (map (λ j. name_of j.told)) is) c.files.invariant in
     on_err c.from_residual.result (told_in_part _ _ _ _ _ _ _ _ _ _ _ _ _ _ first (known _ _ c.in-Some.judged.now.holds) c.in_err-report.ensures.line)

@@ -1,7 +1,7 @@
 use Rattle.std.proofs.Common.{Some, map, subst, sym}
 use Rattle.av_scan.proofs.EndLemmas.{failed_at_first}
 use Rattle.av_scan.specs.Outcome.{Ends}
-use Rattle.av_scan.specs.Told.{IsVerdict}
+use Rattle.av_scan.specs.Told.{AreFindings}
 use Rattle.av_status.specs.Status.{IsFault}
 use Rattle.av_status.specs.Tally.{no_files}
 use Rattle.av_scan.proofs.ended.scan_all.Goals as goal
@@ -9,7 +9,7 @@ use Rattle.av_scan.proofs.ended.scan_all.Goals as goal
 pub returns-in-Ok : goal.returns-in-Ok
 returns-in-Ok g c =
     subst
-    (λ set. Ends (IsVerdict (g.O.Opening.is_of c.args.scanning.now.files) g.F.Read.remaining set) c.args.scanning.now.wishes set no_files (g.W.Write.contents c.args.out.now) (g.W.Write.contents c.all_truly.new.out) (Some (map (λ n. n.now) c.args.names.now)) c.all_truly.result)
+    (λ sets. Ends (AreFindings c.args.scanning.now.matches (g.O.Opening.is_of c.args.scanning.now.files) g.F.Read.remaining sets) c.args.scanning.now.wishes sets no_files (g.W.Write.contents c.args.out.now) (g.W.Write.contents c.all_truly.new.out) (Some (map (λ n. n.now) c.args.names.now)) c.all_truly.result)
     c.in-Ok.ensures.ok c.all_truly.ensures
 
 pub returns : goal.returns

@@ -13,7 +13,7 @@ on_err (Err e) p = p
 pub files-init : goal.files-init
 files-init g c =
     subst
-    (λ waiting. IsUnderWay g.T.Truth.is_true c.args.by.scanning.now.wishes c.args.by.scanner.now c.args.tally.now c.args.tally.now (g.W.Write.contents c.args.out.now) (g.W.Write.contents c.args.out.now) c.args.feed.now More waiting c.args.feed.now)
+    (λ waiting. IsUnderWay g.T.Truth.is_true c.args.by.scanning.now.wishes c.args.by.scanners.now c.args.tally.now c.args.tally.now (g.W.Write.contents c.args.out.now) (g.W.Write.contents c.args.out.now) c.args.feed.now More waiting c.args.feed.now)
     (sym c.requires.empty) (begun _ _ _ _ _ _)
 
 pub files-preserved : goal.files-preserved
@@ -22,9 +22,9 @@ files-preserved g c =
     let way = on_its_way _ _ _ _ _ _ _ _ _ _ _ _ _ _ c.files.invariant c.come-coming.ensures in
     let first =
     subst
-    (λ waiting. IsUnderWay g.T.Truth.is_true c.args.by.scanning.now.wishes c.args.by.scanner.now c.args.tally.now c.files.tally (g.W.Write.contents c.args.out.now) (g.W.Write.contents c.files.out) c.args.feed.now c.come-coming.result waiting c.come-coming.new.feed)
+    (λ waiting. IsUnderWay g.T.Truth.is_true c.args.by.scanning.now.wishes c.args.by.scanners.now c.args.tally.now c.files.tally (g.W.Write.contents c.args.out.now) (g.W.Write.contents c.files.out) c.args.feed.now c.come-coming.result waiting c.come-coming.new.feed)
     line way in
-    one_told _ _ _ _ _ _ _ _ _ _ _ _ _ _ _ first (known _ _ c.in-Some.judged.holds) c.in_ok-report.ensures.line c.in_ok-report.ensures.counted
+    one_told _ _ _ _ _ _ _ _ _ _ _ _ _ _ _ _ first (known _ _ c.in-Some.judged.holds) c.in_ok-report.ensures.line c.in_ok-report.ensures.counted c.put_away.ensures
 
 pub returns-in_err-report-clause-so_far : goal.returns-in_err-report-clause-so_far
 returns-in_err-report-clause-so_far g c =
@@ -32,6 +32,6 @@ returns-in_err-report-clause-so_far g c =
     let way = on_its_way _ _ _ _ _ _ _ _ _ _ _ _ _ _ c.files.invariant c.come-coming.ensures in
     let first =
     subst
-    (λ waiting. IsUnderWay g.T.Truth.is_true c.args.by.scanning.now.wishes c.args.by.scanner.now c.args.tally.now c.files.tally (g.W.Write.contents c.args.out.now) (g.W.Write.contents c.files.out) c.args.feed.now c.come-coming.result waiting c.come-coming.new.feed)
+    (λ waiting. IsUnderWay g.T.Truth.is_true c.args.by.scanning.now.wishes c.args.by.scanners.now c.args.tally.now c.files.tally (g.W.Write.contents c.args.out.now) (g.W.Write.contents c.files.out) c.args.feed.now c.come-coming.result waiting c.come-coming.new.feed)
     line way in
     on_err c.from_residual.result (told_in_part _ _ _ _ _ _ _ _ _ _ _ _ _ _ first (known _ _ c.in-Some.judged.holds) c.in_err-report.ensures.line)

@@ -1,14 +1,14 @@
 use Rattle.std.proofs.Common.{subst, sym}
 use Rattle.av_scan.proofs.EndLemmas.{failed_at_first}
 use Rattle.av_scan.specs.Outcome.{Ends}
-use Rattle.av_scan.specs.Told.{IsVerdict}
+use Rattle.av_scan.specs.Told.{AreFindings}
 use Rattle.av_status.specs.Status.{IsFault}
 use Rattle.av_scan.proofs.on.scan_on.Goals as goal
 
 pub returns-in-Ok : goal.returns-in-Ok
 returns-in-Ok g c =
     subst
-    (λ set. Ends (IsVerdict (g.O.Opening.is_of c.args.scanning.now.files) g.F.Read.remaining set) c.args.scanning.now.wishes set c.args.tally (g.W.Write.contents c.args.out.now) (g.W.Write.contents c.scan_truly.new.out) c.args.feed.now c.scan_truly.result)
+    (λ sets. Ends (AreFindings c.args.scanning.now.matches (g.O.Opening.is_of c.args.scanning.now.files) g.F.Read.remaining sets) c.args.scanning.now.wishes sets c.args.tally (g.W.Write.contents c.args.out.now) (g.W.Write.contents c.scan_truly.new.out) c.args.feed.now c.scan_truly.result)
     c.in-Ok.ensures.ok c.scan_truly.ensures
 
 pub returns : goal.returns

@@ -11,14 +11,14 @@ pub returns-in-Ok : goal.returns-in-Ok
 returns-in-Ok g c =
     let scanned =
     subst
-    (λ set. AreScanned g.T.Truth.is_true c.args.scanning.now.wishes set c.args.tally c.scan_line-done.new.tally (g.W.Write.contents c.args.out.now) (g.W.Write.contents c.scan_line-done.new.out) c.args.feed.now)
+    (λ sets. AreScanned g.T.Truth.is_true c.args.scanning.now.wishes sets c.args.tally c.scan_line-done.new.tally (g.W.Write.contents c.args.out.now) (g.W.Write.contents c.scan_line-done.new.out) c.args.feed.now)
     c.deref.ensures c.in-Ok.ensures.scanned in
-    ended _ _ _ _ c.scan_line-done.new.tally _ (g.W.Write.contents c.scan_line-done.new.out) _ _ _ scanned c.end_well.ensures
+    ended _ _ _ _ c.scan_line-done.new.tally _ _ (g.W.Write.contents c.scan_line-done.new.out) _ _ _ scanned c.end_well.ensures
 
 pub returns-in-Err : goal.returns-in-Err
 returns-in-Err g c =
     let so_far =
     subst
-    (λ set. AreScannedSoFar g.T.Truth.is_true c.args.scanning.now.wishes set (g.W.Write.contents c.args.out.now) (g.W.Write.contents c.scan_line-done.new.out))
+    (λ sets. AreScannedSoFar g.T.Truth.is_true c.args.scanning.now.wishes sets (g.W.Write.contents c.args.out.now) (g.W.Write.contents c.scan_line-done.new.out))
     c.deref.ensures c.in-Err.ensures.so_far in
     failed c.in-Err.status c.scan_line-done.new.tally.worst so_far c.in-Err.ensures.fault c.or_graver.ensures

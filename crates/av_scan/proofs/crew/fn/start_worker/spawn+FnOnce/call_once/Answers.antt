@@ -3,4 +3,4 @@ use Rattle.av_scan.proofs.crew.fn.start_worker.spawn+FnOnce.call_once.Goals as g
 
 pub spawn-requires : goal.spawn-requires
 spawn-requires g c =
-    (search rules, (search rules, (search rules, (search rules, (search rules, (search rules, (search rules, (search rules, (search rules, (search rules, (λ name v is. c.requires.1.1.1.1.1.1.1.1.1.0 name v is)))))))))))
+    (search rules, (search rules, (search rules, (search rules, (search rules, (search rules, (search rules, (search rules, (search rules, (search rules, (λ name fs is. c.requires.1.1.1.1.1.1.1.1.1.0 name fs is)))))))))))
