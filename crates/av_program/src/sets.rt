@@ -1,24 +1,29 @@
 ghost use Rattle.std.specs.Prelude.{IfErr, IfOk};
 ghost use Rattle.av_files.specs.Scan.{IsAdmitted};
+ghost use Rattle.av_sets.specs.Sets.{IsTrusted};
 ghost use Rattle.av_status.specs.Status.{IsFault};
 
 use crate::reading::{Source, read_file, reasons, say_why};
 use av_base::Refusal;
-use av_files::{Input, MAX_FILE, admit_set, read_set};
+use av_files::{Input, MAX_FILE, admit_set};
+use av_sets::read_trusted;
 use av_sigset::SignatureSet;
 use av_status::Status;
 use av_status::faults::{EmptySets, Reasons, out_of_memory, say_set_reason};
+use av_trust::{Trust, text_of};
 use std::alloc::Global;
 use std::io::Write;
 
-/// The set of the signature file of this name.
+/// The set of the signature file of this name, as far as it is trusted.
 pub fn set_named<E: Write>(
     rt: &HostRuntime,
     alloc: Global,
     name: &str,
+    trust: Trust<'_>,
     empty_sets: EmptySets,
     err: &mut E,
 ) -> Result<SignatureSet, Status>
+    ensures trusted { IfOk result (IsTrusted trust.entry) }
     ensures admitted { IfOk result (IsAdmitted empty_sets) }
     ensures status { IfErr result (λ status. IsFault status) }
 {
@@ -26,20 +31,26 @@ pub fn set_named<E: Write>(
         return Err(out_of_memory(err));
     };
     let file = read_file(rt, name, &mut buffer);
-    match read_set(alloc, file, err) {
+    match read_trusted(alloc, trust, file, err) {
         Ok(set) => match admit_set(&set, name, empty_sets, err) {
             Ok(()) => Ok(set),
             Err(status) => Err(status),
         },
         Err(status) => {
-            say_why_set(rt, alloc, file, err);
+            say_why_set(rt, alloc, file, trust, err);
             Err(status)
         }
     }
 }
 
 // Gives the reason why a signature file was refused, where reasons are given.
-fn say_why_set<E: Write>(rt: &HostRuntime, alloc: Global, file: Input<'_>, err: &mut E) {
+fn say_why_set<E: Write>(
+    rt: &HostRuntime,
+    alloc: Global,
+    file: Input<'_>,
+    trust: Trust<'_>,
+    err: &mut E,
+) {
     let reasons = reasons(rt);
     if reasons == Reasons::Omitted {
         return;
@@ -51,7 +62,10 @@ fn say_why_set<E: Write>(rt: &HostRuntime, alloc: Global, file: Input<'_>, err: 
     if content.len() > MAX_FILE {
         return;
     }
-    if let Err(Refusal::Fault(fault)) = SignatureSet::read(alloc, content) {
+    let Ok(text) = text_of(trust, content) else {
+        return;
+    };
+    if let Err(Refusal::Fault(fault)) = SignatureSet::read(alloc, text) {
         say_set_reason(err, reasons, file.name, fault);
     }
 }
