@@ -11,8 +11,6 @@ use Rattle.std.specs.Prelude.{◌||◌}
 use Rattle.std.specs.Set.{remove_key}
 use Rattle.std.specs.declared.cmp.Ordering.TheVariants.{Less, Equal, Greater}
 use Rattle.av_base.proofs.AmongLemmas.{among_left}
-use Rattle.av_base.specs.declared.port.Port.{Port}
-use Rattle.av_base.specs.declared.port.Port.TheVariants.{One, Two}
 use Rattle.av_base.specs.declared.refusal.Refusal.TheVariants.{Fault, NoMemory}
 use Rattle.av_filter.specs.Audit.{FilterEntry}
 use Rattle.av_filter.specs.Conduct.{FilterEvent, Changes, Disconnects, Receives, TimesOut}
@@ -31,7 +29,7 @@ use Rattle.av_guard.specs.Beginning.{begun, first_table, first_volume}
 use Rattle.av_guard.specs.Place.{Held, Missing, Spot, Unused}
 use Rattle.av_guard.specs.Run.{Call, Client, ClientLost, Asks, MakeRoom, Message, ServiceLost, TimeUp, Does, Lead, asks_in, given_by, taken_by, told_in}
 use Rattle.av_guard.specs.Room.{LetGo, MakesRoom, Ordered}
-use Rattle.av_guard.specs.State.{Gives, State, Turn, happens, hears_at, rests}
+use Rattle.av_guard.specs.State.{Gives, State, Turn, happens, rests}
 use Rattle.av_guard.specs.Telling.{is_here}
 use Rattle.av_guard.specs.Ask.{Ask}
 use Rattle.av_guard.specs.declared.fault.AskFault.TheVariants.{OpensSpent}
@@ -136,14 +134,10 @@ module _ (client tag : ℕ) (t0 : Table) (v0 : Store) (asks : List Ask) (told : 
     step_counts (MakeRoom (Ok (Some given))) new d stays = makes_room new given d
     step_counts (MakeRoom (Ok None)) new d stays = same old new d h
     step_counts (MakeRoom (Err e)) new d stays = same old new d h
-    step_counts (Message m (Ok given)) new d stays = came m.port refl
-      where
-        came : (port : Port) → m.port ≡ port → Counts old new (given.told.items ++ []) 0
-        came One is = heard new given (Receives m) (subst (λ p. Gives given new (hears_at p old m)) is d)
-        came Two is = gives old new given (rests old) 0 (subst (λ p. Gives given new (hears_at p old m)) is d) (same old old refl h)
+    step_counts (Message m (Ok given)) new d stays = heard new given (Receives m) d
     step_counts (Message m (Err e)) new d stays = same old new d h
-    step_counts (ServiceLost (Ok given)) new d stays = heard new given (Disconnects One) d
-    step_counts (ServiceLost (Err e)) new d stays = same old new d h
+    step_counts (ServiceLost port (Ok given)) new d stays = heard new given (Disconnects port) d
+    step_counts (ServiceLost port (Err e)) new d stays = same old new d h
     step_counts (TimeUp seq (Ok given)) new d stays = heard new given (TimesOut seq) d
     step_counts (TimeUp seq (Err e)) new d stays = same old new d h
 

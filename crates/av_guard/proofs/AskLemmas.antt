@@ -3,7 +3,7 @@ use Rattle.std.proofs.Common.{◌≡◌, ℕ, ◌+◌, ◌==◌, Bool, true, fal
 use Rattle.std.specs.Option.{option_map}
 use Rattle.std.specs.Result.{result_err}
 use Rattle.av_base.specs.Among.{Among}
-use Rattle.av_filter.proofs.EachLemmas.{each-append, each_weaker}
+use Rattle.av_filter.proofs.EachLemmas.{each_weaker}
 use Rattle.av_filter.proofs.FitLemmas.{event_fits}
 use Rattle.av_filter.specs.Audit.{FilterEntry}
 use Rattle.av_filter.specs.Conduct.{FilterEvent, Changes, Opens, filter_refusal, filter_step}
@@ -17,7 +17,6 @@ use Rattle.av_store.proofs.SeenLemmas.{next_free}
 use Rattle.av_filter.proofs.StoringLemmas.{at_last, created_as, created_is, creation_fits, creation_taken, stored_by}
 use Rattle.av_guard.proofs.LawLemmas.{opens_its_bytes}
 use Rattle.av_guard.proofs.PairLemmas.{of_two}
-use Rattle.av_guard.proofs.OnePortLemmas.{IsOfGuard}
 use Rattle.av_guard.proofs.PastLemmas.{Past, entry_of, past_more, present}
 use Rattle.av_guard.proofs.RunLemmas.{Made, made_of, undone_step, write_taken}
 use Rattle.av_guard.proofs.SoundLemmas.{IsNameOf, free_name, written_more, written_same}
@@ -44,16 +43,15 @@ use Rattle.av_store.specs.declared.stream.Stream.{Stream}
 
 module _ (t0 : Table) (v0 : Store) (asks : List Ask) (told : List Told) (sent : List Letter) where
   -- what stays of a guard whose history is longer by two events that told nothing
-  two_more : (history : List FilterEntry) (x y : FilterEntry) (g : State) (t : Table) (v : Store) → IsOfGuard x.event → IsOfGuard y.event → Story t0 v0 asks told sent history g → Past t0 v0 t v sent (history ++ x ∷ [] ++ y ∷ []) → Stands t v → AreWritten g.key v.streams → t.pended ≡ g.table.pended
+  two_more : (history : List FilterEntry) (x y : FilterEntry) (g : State) (t : Table) (v : Store) → Story t0 v0 asks told sent history g → Past t0 v0 t v sent (history ++ x ∷ [] ++ y ∷ []) → Stands t v → AreWritten g.key v.streams → t.pended ≡ g.table.pended
       → Story t0 v0 asks told sent (history ++ x ∷ [] ++ y ∷ []) (record g { table = t; volume = v })
-  two_more history x y g t v own_x own_y s past stands written same = record {
+  two_more history x y g t v s past stands written same = record {
     past = past;
     stands = stands;
     written = written;
     paired = subst (λ ps. ArePaired ps g.waiting) (sym same) s.paired;
     waiting = each_weaker (λ e. IsAsking asks history e.1) (λ e. IsAsking asks (history ++ x ∷ [] ++ y ∷ []) e.1) (λ e h. asking_more (history ++ x ∷ []) y asks e.1 (asking_more history x asks e.1 h)) g.waiting s.waiting;
     founded = each_weaker (IsFounded asks history) (IsFounded asks (history ++ x ∷ [] ++ y ∷ [])) (λ a h. founded_more (history ++ x ∷ []) y asks a (founded_more history x asks a h)) told s.founded;
-    events = each-append (λ z. IsOfGuard z.event) (history ++ x ∷ []) (y ∷ []) (each-append (λ z. IsOfGuard z.event) history (x ∷ []) s.events (own_x, tt)) (own_y, tt);
   }
 
   module _ (history : List FilterEntry) (g : State) (s : Story t0 v0 asks told sent history g) (name : List ℕ) (creates : result_err (create_of g.volume name) ≡ None) where
@@ -102,7 +100,7 @@ module _ (t0 : Table) (v0 : Store) (asks : List Ask) (told : List Told) (sent : 
         (past_more t0 v0 g.table made.volume sent (history ++ x ∷ []) second past_first here)) in
         let stands : Stands (stored g.table g.volume name c).table (stored g.table g.volume name c).volume = subst (λ (r : Reaction). Stands r.table r.volume) whole (event_fits g.table made.volume second stands_first here) in
         let pended : (stored g.table g.volume name c).table.pended ≡ g.table.pended = sym (ap (λ (t : Table). t.pended) kept_so.table) ∙ kept_so.pended in
-        (history ++ x ∷ [] ++ y ∷ [], two_more history x y g (stored g.table g.volume name c).table (stored g.table g.volume name c).volume tt tt s past stands (written_same _ _ _ there.1 (written_more _ _ _ name c s.written named)) pended)
+        (history ++ x ∷ [] ++ y ∷ [], two_more history x y g (stored g.table g.volume name c).table (stored g.table g.volume name c).volume s past stands (written_same _ _ _ there.1 (written_more _ _ _ name c s.written named)) pended)
 
     -- and its opens are counted as before
     pub kept_opens : (c : List ℕ) → IsThere g c (Unused name) → (kept g name c).volume.opens ≡ g.volume.opens
@@ -128,7 +126,7 @@ module _ (t0 : Table) (v0 : Store) (asks : List Ask) (told : List Told) (sent : 
         subst (λ ms. Past t0 v0 g.table (record g.volume { last = g.volume.last + 1 }) ms (history ++ x ∷ [] ++ y ∷ [])) (append-nil sent)
         (subst (λ (r : Reaction). Past t0 v0 r.table r.volume (sent ++ r.messages) (history ++ x ∷ [] ++ y ∷ [])) done.1 (past_more t0 v0 g.table made.volume sent (history ++ x ∷ []) second past_first done.0)) in
         let stands : Stands g.table (record g.volume { last = g.volume.last + 1 }) = subst (λ (r : Reaction). Stands r.table r.volume) done.1 (event_fits g.table made.volume second stands_first done.0) in
-        (history ++ x ∷ [] ++ y ∷ [], two_more history x y g g.table (record g.volume { last = g.volume.last + 1 }) tt tt s past stands s.written refl)
+        (history ++ x ∷ [] ++ y ∷ [], two_more history x y g g.table (record g.volume { last = g.volume.last + 1 }) s past stands s.written refl)
 
   -- memory was refused to an ask
   pub refused_story : (history : List FilterEntry) (old new : State) (c : List ℕ) → Story t0 v0 asks told sent history old → IsRefused old new c → (h : List FilterEntry) × Story t0 v0 asks told sent h new

@@ -30,7 +30,6 @@ use Rattle.av_guard.specs.declared.class.Class.TheVariants.{Asked, Known, New}
 use Rattle.av_guard.specs.declared.given.Given.{Given}
 use Rattle.av_guard.specs.declared.waiter.Waiter.{Waiter}
 use Rattle.av_store.specs.Rows.{stream_at}
-use Rattle.av_store.specs.Store.{Store}
 use Rattle.av_store.specs.declared.stream.Stream.{Stream}
 
 -- one who waits for a stream

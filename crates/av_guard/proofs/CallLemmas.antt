@@ -6,8 +6,6 @@ use Rattle.std.specs.List.{AllByRecursion as Each, flat_map}
 use Rattle.std.specs.Prelude.{nat_lt}
 use Rattle.av_base.proofs.AmongLemmas.{among_left, among_right}
 use Rattle.av_base.specs.Among.{Among}
-use Rattle.av_base.specs.declared.port.Port.{Port}
-use Rattle.av_base.specs.declared.port.Port.TheVariants.{One, Two}
 use Rattle.av_base.specs.declared.refusal.Refusal.{Refusal}
 use Rattle.av_base.specs.declared.refusal.Refusal.TheVariants.{Fault, NoMemory}
 use Rattle.av_filter.proofs.BoundLemmas.{leads_to}
@@ -17,15 +15,15 @@ use Rattle.av_filter.specs.Conduct.{FilterEvent, Changes, Disconnects, Receives,
 use Rattle.av_filter_table.specs.Table.{Table}
 use Rattle.av_frame.specs.Message.{Letter}
 use Rattle.av_guard.proofs.AskLemmas.{asked_story, refused_story}
-use Rattle.av_guard.proofs.FirstLemmas.{IsFirst, audit_first}
 use Rattle.av_guard.proofs.PastLemmas.{entry_of}
+use Rattle.av_guard.proofs.ServingLemmas.{audit_served}
 use Rattle.av_guard.proofs.SoundLemmas.{written_removed, written_same}
 use Rattle.av_guard.proofs.StoryLemmas.{Story, later, quiet_story}
 use Rattle.av_guard.specs.Asking.{GivesNothing, Refuses, Takes, ask_fault, asked, is_busy, place_of, refusal_of}
 use Rattle.av_guard.specs.Beginning.{begun, first_table, first_volume, limits_of}
 use Rattle.av_guard.specs.Run.{Call, Client, ClientLost, Asks, MakeRoom, Message, ServiceLost, TimeUp, Does, GuardsHaveHistory, IsFounded, Lead, asks_in, given_by, sent_in, taken_by, told_in}
 use Rattle.av_guard.specs.Room.{LetGo, MakesRoom, Ordered}
-use Rattle.av_guard.specs.State.{Gives, State, Turn, happens, hears_at, rests}
+use Rattle.av_guard.specs.State.{Gives, State, Turn, happens, rests}
 use Rattle.av_guard.specs.Telling.{is_here}
 use Rattle.av_guard.specs.Written.{AreWritten}
 use Rattle.av_guard.specs.Ask.{Ask}
@@ -81,7 +79,7 @@ module _ (t0 : Table) (v0 : Store) (asks : List Ask) (told : List Told) (sent : 
 
     -- others come or leave
     other : (clients : List ℕ) (last : ℕ) → Story t0 v0 asks told sent history (record old { clients = clients; last = last })
-    other clients last = record { past = s.past; stands = s.stands; written = s.written; paired = s.paired; waiting = s.waiting; founded = s.founded; events = s.events }
+    other clients last = record { past = s.past; stands = s.stands; written = s.written; paired = s.paired; waiting = s.waiting; founded = s.founded }
 
     -- a call that is an event of the filter
     heard : (new : State) (given : Given) (e : FilterEvent) → Story t0 v0 asks (told ++ (happens old e).told) (sent ++ (happens old e).messages) (history ++ entry_of old.table old.volume e ∷ []) (happens old e).state → Gives given new (happens old e)
@@ -100,7 +98,7 @@ module _ (t0 : Table) (v0 : Store) (asks : List Ask) (told : List Told) (sent : 
 
     let_go : (stream : ℕ) → filter_refusal old.table old.volume (Changes (Remove stream)) ≡ None
         → Story t0 v0 asks (told ++ (happens old (Changes (Remove stream))).told) (sent ++ (happens old (Changes (Remove stream))).messages) (history ++ entry_of old.table old.volume (Changes (Remove stream)) ∷ []) (happens old (Changes (Remove stream))).state
-    let_go stream ok = quiet_story t0 v0 asks told sent history old (Changes (Remove stream)) s tt refl tt ok (written_removed old.key old.table old.volume _ stream refl s.written)
+    let_go stream ok = quiet_story t0 v0 asks told sent history old (Changes (Remove stream)) s refl tt ok (written_removed old.key old.table old.volume _ stream refl s.written)
 
     makes_room : (new : State) (given : Given) → MakesRoom old new given → Left new (given.told.items ++ []) (given.messages.items ++ [])
     makes_room new given (LetGo stream crowded free ok g) = heard new given (Changes (Remove stream)) (let_go stream ok) g
@@ -120,16 +118,11 @@ module _ (t0 : Table) (v0 : Store) (asks : List Ask) (told : List Told) (sent : 
     step (MakeRoom (Ok (Some given))) new d all = makes_room new given d
     step (MakeRoom (Ok None)) new d all = same new d
     step (MakeRoom (Err e)) new d all = same new d
-    step (Message m (Ok given)) new d all = came m.port refl
-      where
-        came : (port : Port) → m.port ≡ port → Left new (given.told.items ++ []) (given.messages.items ++ [])
-        came One is =
-            heard new given (Receives m) (quiet_story t0 v0 asks told sent history old (Receives m) s is refl tt refl (quiet (Receives m) (leads_to old.table old.volume (Receives m)))) (subst (λ p. Gives given new (hears_at p old m)) is d)
-        came Two is = gives given new (rests old) (subst (λ p. Gives given new (hears_at p old m)) is d) (idle history old s)
+    step (Message m (Ok given)) new d all = heard new given (Receives m) (quiet_story t0 v0 asks told sent history old (Receives m) s refl tt refl (quiet (Receives m) (leads_to old.table old.volume (Receives m)))) d
     step (Message m (Err e)) new d all = same new d
-    step (ServiceLost (Ok given)) new d all = heard new given (Disconnects One) (quiet_story t0 v0 asks told sent history old (Disconnects One) s refl refl tt refl (quiet (Disconnects One) (leads_to old.table old.volume (Disconnects One)))) d
-    step (ServiceLost (Err e)) new d all = same new d
-    step (TimeUp seq (Ok given)) new d all = heard new given (TimesOut seq) (quiet_story t0 v0 asks told sent history old (TimesOut seq) s tt refl tt refl (quiet (TimesOut seq) (leads_to old.table old.volume (TimesOut seq)))) d
+    step (ServiceLost port (Ok given)) new d all = heard new given (Disconnects port) (quiet_story t0 v0 asks told sent history old (Disconnects port) s refl tt refl (quiet (Disconnects port) (leads_to old.table old.volume (Disconnects port)))) d
+    step (ServiceLost port (Err e)) new d all = same new d
+    step (TimeUp seq (Ok given)) new d all = heard new given (TimesOut seq) (quiet_story t0 v0 asks told sent history old (TimesOut seq) s refl tt refl (quiet (TimesOut seq) (leads_to old.table old.volume (TimesOut seq)))) d
     step (TimeUp seq (Err e)) new d all = same new d
 
 pub taken_among : (asks : List Ask) (more : List Ask) → Each (λ a. Among a (asks ++ more)) more
@@ -166,7 +159,6 @@ first_story settings = record {
   paired = record { each = λ n. refl; once = λ n. omega arith; streams = tt };
   waiting = tt;
   founded = tt;
-  events = tt;
 }
 
 pub guards_have_history : GuardsHaveHistory
@@ -177,9 +169,7 @@ guards_have_history settings calls g leads =
         legal = all.1.past.legal;
         leads = all.1.past.leads;
         sent = all.1.past.sends;
-        ports = All-from_recursion IsFirst (sent_in calls)
-            (subst (Each IsFirst) all.1.past.sends
-            (audit_first (first_table settings) (first_volume settings) [] all.0 (mounted_fits settings.mode _ (first_volume settings)) refl tt all.1.past.legal all.1.events tt));
+        ports = audit_served (first_table settings) (first_volume settings) all.0 tt all.1.past.legal;
         founded = All-from_recursion (IsFounded (asks_in calls) all.0) (told_in calls) all.1.founded;
       },
     )

@@ -1,13 +1,9 @@
 -- What is kept once a content is stored.
-use Rattle.std.proofs.Common.{◌≡◌, ℕ, ◌+◌, List, length, ap, sym, subst, ◌∙◌}
-use Rattle.av_filter.specs.Conduct.{Changes}
-use Rattle.av_filter.specs.Storing.{IsStored, created, stream_with}
+use Rattle.std.proofs.Common.{◌≡◌, ℕ, ◌+◌, List, length, ap, ◌∙◌}
+use Rattle.av_filter.specs.Storing.{IsStored, stream_with}
 use Rattle.av_filter_table.specs.Table.{Table}
-use Rattle.av_guard.proofs.OnePortLemmas.{still_alone}
 use Rattle.av_guard.proofs.SumLemmas.{count_more, sum_more}
 use Rattle.av_guard.specs.Asking.{bytes_in, bytes_kept}
-use Rattle.av_guard.specs.State.{HasOnePort}
-use Rattle.av_store.specs.Files.{Create, Write}
 use Rattle.av_store.specs.Store.{Store}
 
 -- the counts of it
@@ -16,9 +12,3 @@ more_count t t' v v' name c is = ap length is.streams ∙ count_more v.streams (
 
 pub more_bytes : (t t' : Table) (v v' : Store) (name c : List ℕ) → IsStored t v name c t' v' → bytes_kept v' ≡ bytes_kept v + length c
 more_bytes t t' v v' name c is = ap bytes_in is.streams ∙ sum_more v.streams (v.last + 1, stream_with name c)
-
--- the second port is as it was
-pub stored_alone : (t t' : Table) (v v' : Store) (name c : List ℕ) → IsStored t v name c t' v' → HasOnePort t → HasOnePort t'
-stored_alone t t' v v' name c is alone =
-    let r = created t v name in
-    subst HasOnePort (sym is.table) (still_alone r.table r.volume (Changes (Write (v.last + 1) 0 c)) (still_alone t v (Changes (Create name)) alone tt) tt)

@@ -1,8 +1,7 @@
 pub mod NameLemmas
 pub mod CountLemmas
 pub mod RoomLemmas
-pub mod OnePortLemmas
-pub mod FirstLemmas
+pub mod ServingLemmas
 pub mod SumLemmas
 pub mod KeepLemmas
 pub mod StateLemmas

@@ -19,7 +19,6 @@ use Rattle.av_filter.specs.Reaction.{Reaction}
 use Rattle.av_filter_table.specs.Table.{Table}
 use Rattle.av_frame.specs.Message.{Letter}
 use Rattle.av_guard.proofs.PairLemmas.{at_new, ids, key_more, keys, paired, stays}
-use Rattle.av_guard.proofs.OnePortLemmas.{IsOfGuard}
 use Rattle.av_guard.proofs.PastLemmas.{Past, answers_more, entry_of, past_more}
 use Rattle.av_guard.proofs.SoundLemmas.{at_most, number_free, one_more, still_awaited, written_same}
 use Rattle.av_guard.proofs.StayLemmas.{Comes, IsOf}
@@ -46,7 +45,6 @@ pub record Story (t0 : Table) (v0 : Store) (asks : List Ask) (told : List Told) 
   pub paired : ArePaired g.table.pended g.waiting
   pub waiting : Each (λ e. IsAsking asks history e.1) g.waiting
   pub founded : Each (IsFounded asks history) told
-  pub events : Each (λ x. IsOfGuard x.event) history
 
 -- after asks that were taken later
 pub later : (t0 : Table) (v0 : Store) (asks more : List Ask) (told : List Told) (sent : List Letter) (history : List FilterEntry) (g : State) → Story t0 v0 asks told sent history g → ((a : Ask) → Among a asks → Among a (asks ++ more)) → Story t0 v0 (asks ++ more) told sent history g
@@ -57,7 +55,6 @@ later t0 v0 asks more told sent history g s among = record {
   paired = s.paired;
   waiting = each_weaker (λ e. IsAsking asks history e.1) (λ e. IsAsking (asks ++ more) history e.1) (λ e h. asking_later asks more history e.1 h) g.waiting s.waiting;
   founded = each_weaker (IsFounded asks history) (IsFounded (asks ++ more) history) (founded_later asks more history) told s.founded;
-  events = s.events;
 }
 
 -- who waits after answers waited before
@@ -82,7 +79,6 @@ module _ (t0 : Table) (v0 : Store) (asks : List Ask) (told : List Told) (sent : 
     (once : (n : ℕ) → times n (keys g.waiting) ≤ 1)
     (streams : Each (λ p. IsAwaited g.waiting p.held.open_id p.held.stream) g.table.pended)
     (comes : Comes (IsAwaited g.waiting) 2 g.volume e)
-    (events : Each (λ x. IsOfGuard x.event) history) (own : IsOfGuard e)
     (waiting : Each (λ e. IsAsking asks history e.1) g.waiting) (founded : Each (IsFounded asks history) told)
     (ok : filter_refusal g.table g.volume e ≡ None) (stay : AreWritten g.key (filter_step g.table g.volume e).volume.streams) where
   abbrev pub x : FilterEntry
@@ -112,7 +108,6 @@ module _ (t0 : Table) (v0 : Store) (asks : List Ask) (told : List Told) (sent : 
     stands = event_fits g.table g.volume e stands ok;
     written = stay;
     paired = paired g.key g.table g.volume g.waiting e stands.fits written counts once streams comes;
-    events = each-append (λ x. IsOfGuard x.event) history (x ∷ []) events (own, tt);
     waiting = left_each (λ e. IsAsking asks longer e.1) r.answers g.waiting waits_on;
     founded =
         each-append (IsFounded asks longer) told (happens g e).told (each_weaker (IsFounded asks history) (IsFounded asks longer) (founded_more history x asks) told founded)
@@ -121,11 +116,11 @@ module _ (t0 : Table) (v0 : Store) (asks : List Ask) (told : List Told) (sent : 
   }
 
 -- an event that submits no open
-pub quiet_story : (t0 : Table) (v0 : Store) (asks : List Ask) (told : List Told) (sent : List Letter) (history : List FilterEntry) (g : State) (e : FilterEvent) → Story t0 v0 asks told sent history g → IsOfGuard e → opens_after g.volume.opens e ≡ g.volume.opens
+pub quiet_story : (t0 : Table) (v0 : Store) (asks : List Ask) (told : List Told) (sent : List Letter) (history : List FilterEntry) (g : State) (e : FilterEvent) → Story t0 v0 asks told sent history g → opens_after g.volume.opens e ≡ g.volume.opens
     → Comes (IsAwaited g.waiting) 2 g.volume e → filter_refusal g.table g.volume e ≡ None → AreWritten g.key (filter_step g.table g.volume e).volume.streams
     → Story t0 v0 asks (told ++ (happens g e).told) (sent ++ (happens g e).messages) (history ++ entry_of g.table g.volume e ∷ []) (happens g e).state
-quiet_story t0 v0 asks told sent history g e s own none comes ok stay =
-    event_story t0 v0 asks told sent history g e s.past s.stands s.written (λ n. omega (arith, s.paired.each n, ap (λ k. once_up_to k n) none)) (λ n. omega (arith, s.paired.each n, s.paired.once n)) s.paired.streams comes s.events own s.waiting s.founded ok stay
+quiet_story t0 v0 asks told sent history g e s none comes ok stay =
+    event_story t0 v0 asks told sent history g e s.past s.stands s.written (λ n. omega (arith, s.paired.each n, ap (λ k. once_up_to k n) none)) (λ n. omega (arith, s.paired.each n, s.paired.once n)) s.paired.streams comes s.waiting s.founded ok stay
 
 -- an open of a stream that has the content of an ask that was taken
 pub opens_story : (t0 : Table) (v0 : Store) (asks : List Ask) (told : List Told) (sent : List Letter) (history : List FilterEntry) (g : State) (w : Waiter) → Story t0 v0 asks told sent history g → IsAsking asks history w → filter_refusal g.table g.volume (Opens w.stream 0) ≡ None
@@ -138,6 +133,6 @@ opens_story t0 v0 asks told sent history g w s is ok =
     let streams : (filter_step g.table g.volume e).volume.streams ≡ g.volume.streams = ap (λ (u : Store). u.streams) (leads_to g.table g.volume e) in (
       history ++ entry_of g.table g.volume e ∷ [],
       event_story t0 v0 asks told sent history now e s.past s.stands s.written (λ n. omega (arith, key_more g.waiting k w n away, s.paired.each n, one_more g.volume.opens n))
-          (λ n. at_most g.table g.volume g.waiting w n s.stands.fits s.paired) (still_awaited g.table g.volume g.waiting w s.stands.fits s.paired g.table.pended s.stands.fits.taken s.paired.streams) (w, at_new g.waiting k w away, refl) s.events tt
+          (λ n. at_most g.table g.volume g.waiting w n s.stands.fits s.paired) (still_awaited g.table g.volume g.waiting w s.stands.fits s.paired g.table.pended s.stands.fits.taken s.paired.streams) (w, at_new g.waiting k w away, refl)
           (with_each (λ u. IsAsking asks history u) g.waiting k w s.waiting is) s.founded ok (written_same _ _ _ streams s.written),
     )

@@ -2,6 +2,7 @@ pub mod Naming
 pub mod Ask
 pub mod Telling
 pub mod State
+pub mod Serving
 pub mod Shelf
 pub mod Place
 pub mod Counts

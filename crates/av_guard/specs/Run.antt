@@ -4,15 +4,16 @@ use Rattle.std.specs.List.{flat_map}
 use Rattle.std.specs.declared.alloc.AllocError.{AllocError}
 use Rattle.av_base.specs.Among.{Among}
 use Rattle.av_base.specs.declared.cause.Cause.{Cause}
-use Rattle.av_base.specs.declared.port.Port.TheVariants.{One}
+use Rattle.av_base.specs.declared.port.Port.{Port}
 use Rattle.av_base.specs.declared.refusal.Refusal.{Refusal}
 use Rattle.av_filter.specs.Audit.{FilterEntry, IsFilterAudit, answers_given, filter_end, sent_down}
-use Rattle.av_filter.specs.Conduct.{FilterEvent, Changes, Disconnects, TimesOut}
+use Rattle.av_filter.specs.Conduct.{FilterEvent, Changes, Disconnects, Receives, TimesOut}
 use Rattle.av_frame.specs.Message.{Letter}
 use Rattle.av_guard.specs.Asking.{Refuses, Takes, refusal_of}
 use Rattle.av_guard.specs.Beginning.{Joins, begun, first_table, first_volume, left}
 use Rattle.av_guard.specs.Room.{RoomOf}
-use Rattle.av_guard.specs.State.{State, Turns, happens, hears}
+use Rattle.av_guard.specs.Serving.{AreForServices}
+use Rattle.av_guard.specs.State.{State, Turns, happens}
 use Rattle.av_guard.specs.declared.answered.Answered.{Answered}
 use Rattle.av_guard.specs.declared.answered.Answered.TheVariants as told
 use Rattle.av_guard.specs.Ask.{Ask}
@@ -30,7 +31,7 @@ pub data Call : Type 0 where
   Asks : (client tag : ℕ) (content : List ℕ) (result : Result Given (Refusal AskFault)) → Call
   MakeRoom : (result : Result (Option Given) AllocError) → Call
   Message : (message : Letter) (result : Result Given AllocError) → Call
-  ServiceLost : (result : Result Given AllocError) → Call
+  ServiceLost : (port : Port) (result : Result Given AllocError) → Call
   TimeUp : (seq : ℕ) (result : Result Given AllocError) → Call
 
 -- what the contract of the call says of the guard before and after
@@ -40,8 +41,8 @@ Does (ClientLost client) old new = new ≡ left old client
 Does (Asks client tag c (Ok given)) old new = (refusal_of old client c ≡ None) × Takes old new given client tag c
 Does (Asks client tag c (Err why)) old new = Refuses old new client c why
 Does (MakeRoom result) old new = RoomOf old new result
-Does (Message m result) old new = Turns old new result (hears old m)
-Does (ServiceLost result) old new = Turns old new result (happens old (Disconnects One))
+Does (Message m result) old new = Turns old new result (happens old (Receives m))
+Does (ServiceLost port result) old new = Turns old new result (happens old (Disconnects port))
 Does (TimeUp seq result) old new = Turns old new result (happens old (TimesOut seq))
 
 -- calls in turn lead from one state to another
@@ -54,7 +55,7 @@ abbrev pub given_by : Call → List Given
 given_by (Asks client tag c (Ok given)) = given ∷ []
 given_by (MakeRoom (Ok (Some given))) = given ∷ []
 given_by (Message m (Ok given)) = given ∷ []
-given_by (ServiceLost (Ok given)) = given ∷ []
+given_by (ServiceLost port (Ok given)) = given ∷ []
 given_by (TimeUp seq (Ok given)) = given ∷ []
 given_by _ = []
 
@@ -113,12 +114,12 @@ pub record IsFounded (asks : List Ask) (history : List FilterEntry) (t : Told) :
   pub rests : RestsOn history ask.content t.answer
 
 -- The history of a guard's filter since the guard was made: a legal audit that leads to its table and volume, whose messages are
--- those that the calls gave out, each for the first port, and on which each answer that they told rests.
+-- those that the calls gave out, each for a service that is there, and on which each answer that they told rests.
 pub record IsHistoryOf (settings : Settings) (calls : List Call) (g : State) (history : List FilterEntry) : Type 0 where
   pub legal : IsFilterAudit (first_table settings) (first_volume settings) history
   pub leads : filter_end (first_table settings) (first_volume settings) history ≡ record { table = g.table; volume = g.volume }
   pub sent : sent_down [] history ≡ sent_in calls
-  pub ports : All (λ m. m.port ≡ One) (sent_in calls)
+  pub ports : AreForServices (first_table settings) (first_volume settings) history
   pub founded : All (IsFounded (asks_in calls) history) (told_in calls)
 
 -- every guard has one

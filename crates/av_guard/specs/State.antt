@@ -1,12 +1,12 @@
 -- What a guard knows, and what an event of its filter does to it.
-use Rattle.std.specs.Prelude.{◌≡◌, ℕ, false, List, [], Result, Ok, Err}
+use Rattle.std.specs.Prelude.{◌≡◌, ℕ, List, [], MatchOption, Result, Ok, Err}
 use Rattle.std.specs.declared.random_state.RandomState.{RandomState}
 use Rattle.av_base.specs.declared.port.Port.{Port}
-use Rattle.av_base.specs.declared.port.Port.TheVariants.{One, Two}
-use Rattle.av_filter.specs.Conduct.{FilterEvent, Receives, filter_step}
+use Rattle.av_filter.specs.Conduct.{FilterEvent, Disconnects, filter_step, loses_all, moves}
 use Rattle.av_filter.specs.Reaction.{Reaction}
-use Rattle.av_filter_table.specs.Ports.{is_open}
-use Rattle.av_filter_table.specs.Table.{Table}
+use Rattle.av_filter.specs.Rows.{without}
+use Rattle.av_filter_table.specs.Ports.{least_port, without_port}
+use Rattle.av_filter_table.specs.Table.{Table, on_port}
 use Rattle.av_frame.specs.Message.{Letter}
 use Rattle.av_guard.specs.declared.given.Given.{Given}
 use Rattle.av_guard.specs.declared.given.Told.{Told}
@@ -23,10 +23,6 @@ pub record State : Type 0 where
   pub clients : List ℕ
   pub last : ℕ
   pub waiting : Waiters
-
--- A guard has one port, the first: no service is ever connected at the other.
-abbrev pub HasOnePort : Table → Type 0
-HasOnePort t = is_open Two t.connected ≡ false
 
 -- a state, and what was given out on the way to it
 pub record Turn : Type 0 where
@@ -51,14 +47,11 @@ happens g e = reacted g (filter_step g.table g.volume e)
 abbrev pub rests : State → Turn
 rests g = record { state = g; told = []; messages = [] }
 
--- a message comes at a port: at the second it is passed over
-abbrev pub hears_at : Port → State → Letter → Turn
-hears_at One g m = happens g (Receives m)
-hears_at Two g m = rests g
-
--- the same of a message with its port
-abbrev pub hears : State → Letter → Turn
-hears g m = hears_at m.port g m
+-- The service of a port is lost: where none is left at the other every question ends, and else those of the port are asked again at the other.
+abbrev pub LosesService : Table → Store → Port → Type 0
+LosesService t v port =
+    MatchOption (least_port (without_port port t.connected)) (filter_step t v (Disconnects port) ≡ loses_all (without t port) v)
+    (λ other. filter_step t v (Disconnects port) ≡ moves (without t port) v (on_port port t.questions))
 
 -- what was given and left is the turn's
 pub record Gives (given : Given) (new : State) (turn : Turn) : Type 0 where

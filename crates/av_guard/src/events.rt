@@ -1,9 +1,7 @@
 ghost use Rattle.std.specs.Prelude.{◌≡◌, ◌+◌, ◌<◌, ◌≤◌, [], None, IfOk, OnOk, length, vec_len};
 ghost use Rattle.std.specs.Vec.{vec_capacity};
-ghost use Rattle.av_base.specs.declared.port.Port.TheVariants.{One};
 ghost use Rattle.av_filter.specs.Call.{MeetsAlways};
 ghost use Rattle.av_filter.specs.Conduct.{Changes, Disconnects, Opens, Receives, TimesOut, filter_refusal, filter_step};
-ghost use Rattle.av_guard.specs.State.{HasOnePort};
 ghost use Rattle.av_store.specs.Files.{Remove};
 ghost use Rattle.av_store.specs.Store.{greatest};
 
@@ -24,45 +22,42 @@ pub(crate) fn room_for_answers(alloc: Global, filter: &Filter) -> Result<Vec<Tol
     }
 }
 
-/// A message comes to the filter, at the first port.
+/// A message comes to the filter.
 #[tactic(auto, unfolding(av_filter::specs::Conduct::filter_step))]
 pub(crate) fn receive(
     alloc: Global,
     mounted: &mut Mounted,
     message: &Message,
 ) -> Result<Out, AllocError>
-    requires first { message.now.port ≡ One }
-    requires alone { HasOnePort mounted.old.table }
     ensures event { MeetsAlways mounted.old.table mounted.old.volume mounted.new.table mounted.new.volume result
         (filter_step mounted.old.table mounted.old.volume (Receives message.now)) }
     ensures few { IfOk result (λ out. length out.answers.items ≤ length mounted.old.table.pended + 1) }
     ensures still { mounted.new.volume ≡ mounted.old.volume }
-    ensures alone { HasOnePort mounted.new.table }
 {
     mounted.message(alloc, message)
 }
 
-/// The service is lost.
+/// The service of a port is lost.
 #[tactic(auto, unfolding(av_filter::specs::Conduct::filter_step))]
-pub(crate) fn disconnect(alloc: Global, mounted: &mut Mounted) -> Result<Out, AllocError>
-    requires alone { HasOnePort mounted.old.table }
+pub(crate) fn disconnect(
+    alloc: Global,
+    mounted: &mut Mounted,
+    port: Port,
+) -> Result<Out, AllocError>
     ensures event { MeetsAlways mounted.old.table mounted.old.volume mounted.new.table mounted.new.volume result
-        (filter_step mounted.old.table mounted.old.volume (Disconnects One)) }
+        (filter_step mounted.old.table mounted.old.volume (Disconnects port)) }
     ensures few { IfOk result (λ out. length out.answers.items ≤ length mounted.old.table.pended + 1) }
     ensures still { mounted.new.volume ≡ mounted.old.volume }
-    ensures alone { HasOnePort mounted.new.table }
 {
-    mounted.disconnect(alloc, Port::One)
+    mounted.disconnect(alloc, port)
 }
 
 /// The time of a question is up.
 pub(crate) fn time_out(alloc: Global, mounted: &mut Mounted, seq: u64) -> Result<Out, AllocError>
-    requires alone { HasOnePort mounted.old.table }
     ensures event { MeetsAlways mounted.old.table mounted.old.volume mounted.new.table mounted.new.volume result
         (filter_step mounted.old.table mounted.old.volume (TimesOut seq)) }
     ensures few { IfOk result (λ out. length out.answers.items ≤ length mounted.old.table.pended + 1) }
     ensures still { mounted.new.volume ≡ mounted.old.volume }
-    ensures alone { HasOnePort mounted.new.table }
 {
     mounted.timeout(alloc, seq)
 }
@@ -74,12 +69,10 @@ pub(crate) fn open(
     mounted: &mut Mounted,
     stream: StreamId,
 ) -> Result<Out, AllocError>
-    requires left { mounted.old.volume.opens < greatest }
-    requires alone { HasOnePort mounted.old.table }
+    requires { mounted.old.volume.opens < greatest }
     ensures event { MeetsAlways mounted.old.table mounted.old.volume mounted.new.table mounted.new.volume result
         (filter_step mounted.old.table mounted.old.volume (Opens stream 0)) }
     ensures few { IfOk result (λ out. length out.answers.items ≤ length mounted.old.table.pended + 1) }
-    ensures alone { HasOnePort mounted.new.table }
 {
     match mounted.open(alloc, stream, Version::new(0)) {
         Ok(out) => Ok(out),
@@ -95,12 +88,10 @@ pub(crate) fn remove(
     mounted: &mut Mounted,
     stream: StreamId,
 ) -> Result<Out, AllocError>
-    requires alone { HasOnePort mounted.old.table }
     ensures event { MeetsAlways mounted.old.table mounted.old.volume mounted.new.table mounted.new.volume result
         (filter_step mounted.old.table mounted.old.volume (Changes (Remove stream))) }
     ensures taken { OnOk result (filter_refusal mounted.old.table mounted.old.volume (Changes (Remove stream)) ≡ None) }
     ensures few { IfOk result (λ out. length out.answers.items ≤ length mounted.old.table.pended + 1) }
-    ensures alone { HasOnePort mounted.new.table }
 {
     match mounted.remove(alloc, stream) {
         Ok(out) => Ok(out),

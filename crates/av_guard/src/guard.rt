@@ -2,9 +2,8 @@ ghost use Rattle.std.specs.Prelude.{◌≡◌, ◌+◌, ◌^◌, length, None, S
 ghost use Rattle.std.specs.BTreeMap.{is_at};
 ghost use Rattle.std.specs.Set.{remove_key};
 ghost use Rattle.std.specs.Ordering.{nat_cmp};
-ghost use Rattle.av_base.specs.declared.port.Port.TheVariants.{One};
 ghost use Rattle.av_filter.specs.Once.{times};
-ghost use Rattle.av_filter.specs.Conduct.{Disconnects, TimesOut, filter_step, loses_all};
+ghost use Rattle.av_filter.specs.Conduct.{Disconnects, Receives, TimesOut};
 ghost use Rattle.av_guard.specs.Asking.{AskedNow, GivesNothing, HasQuestion, Refuses, Takes, bytes_kept, class_of, is_crowded, opens, place_of, refusal_of};
 ghost use Rattle.av_guard.specs.Class.{IsTold, class_by, class_in, has_verdict, is_busy_with, may_ask};
 ghost use Rattle.av_guard.specs.Room.{IsFree, LetsGo, RoomOf};
@@ -12,9 +11,9 @@ ghost use Rattle.av_guard.specs.declared.class.Class.TheVariants.{Asked, Known};
 ghost use Rattle.av_guard.specs.Kept.{AsksNew, IsKeptBy};
 ghost use Rattle.av_guard.specs.Beginning.{Joins, NotBegun, begun};
 ghost use Rattle.av_guard.specs.Place.{IsPlace, Unused};
-ghost use Rattle.av_filter_table.specs.Ports.{is_open, none_open};
+ghost use Rattle.av_filter_table.specs.Ports.{is_open};
 ghost use Rattle.av_filter_table.specs.Table.{has_room};
-ghost use Rattle.av_guard.specs.State.{HasOnePort, Turns, happens, hears};
+ghost use Rattle.av_guard.specs.State.{LosesService, Turns, happens};
 ghost use Rattle.av_guard.specs.Waiting.{ArePaired};
 ghost use Rattle.av_guard.specs.Written.{AreWritten};
 ghost use Rattle.av_store.specs.Store.{greatest};
@@ -217,12 +216,11 @@ impl Guard {
         self.mounted.filter().floor()
     }
 
-    /// Whether a service is connected, at the one port that a guard has.
-    pub fn connected(&self) -> bool
-        ensures value { result ≡ is_open One self.now.table.connected }
-        ensures alone { HasOnePort self.now.table }
+    /// Whether a service is connected at this port. A question goes to the first port that has one.
+    pub fn connected(&self, port: Port) -> bool
+        ensures { result ≡ is_open port self.now.table.connected }
     {
-        self.mounted.filter().connected(Port::One)
+        self.mounted.filter().connected(port)
     }
 
     /// How many questions run.
@@ -255,15 +253,11 @@ impl Guard {
         self.shelf.bytes()
     }
 
-    /// A message of the service, which it may connect. One that comes at the second port is passed over: a guard has one service,
-    /// at the first. It costs a logarithm for each answer, and the bytes of the content that it reads.
+    /// A message of the service of a port, which it may connect. It costs a logarithm for each answer, and the bytes of the content
+    /// that it reads.
     pub fn message(&mut self, alloc: Global, message: &Message) -> Result<Given, AllocError>
-        ensures event { Turns self.old self.new result (hears self.old message.now) }
+        ensures event { Turns self.old self.new result (happens self.old (Receives message.now)) }
     {
-        match message.port() {
-            Port::One => {}
-            Port::Two => return Ok(Given::nothing(alloc)),
-        }
         let told = room_for_answers(alloc, self.mounted.filter())?;
         let out = receive(alloc, &mut self.mounted, message)?;
         let (clients, waiting) = (&self.clients, &mut self.waiting);
@@ -277,15 +271,16 @@ impl Guard {
         ))
     }
 
-    /// The service is lost, and a guard has no other: every question ends, and every open is answered by the mode. It costs a logarithm for each.
-    #[tactic(auto, using(crate::proofs::OnePortLemmas::all_lost))]
-    pub fn service_lost(&mut self, alloc: Global) -> Result<Given, AllocError>
-        ensures event { Turns self.old self.new result (happens self.old (Disconnects One)) }
-        ensures all { filter_step self.old.table self.old.volume (Disconnects One)
-            ≡ loses_all (record self.old.table { connected = none_open }) self.old.volume }
+    /// The service of a port is lost. If the other port has one, the questions are asked again there, and an open that was asked
+    /// again eight times is answered by the mode. Without another one every question ends, and every open is answered by the mode. It costs a
+    /// logarithm for each.
+    #[tactic(auto, using(crate::proofs::ServingLemmas::loses_service))]
+    pub fn service_lost(&mut self, alloc: Global, port: Port) -> Result<Given, AllocError>
+        ensures event { Turns self.old self.new result (happens self.old (Disconnects port)) }
+        ensures other { LosesService self.old.table self.old.volume port }
     {
         let told = room_for_answers(alloc, self.mounted.filter())?;
-        let out = disconnect(alloc, &mut self.mounted)?;
+        let out = disconnect(alloc, &mut self.mounted, port)?;
         let (clients, waiting) = (&self.clients, &mut self.waiting);
         Ok(settle(
             self.mounted.filter(),

@@ -2,7 +2,7 @@ mod say;
 
 use self::say::{given_is, hello, reply};
 use crate::{AskFault, Class, Guard, Settings, SettingsFault};
-use av_base::{Mode, Refusal, Refused};
+use av_base::{Mode, Port, Refusal, Refused};
 use av_fakes::{may_refuse, refuse_no_more};
 use std::alloc::Global;
 use std::hash::RandomState;
@@ -48,9 +48,12 @@ enum Step<'a> {
     // The clean reply to the question of this number, under this version, and one with the signature 0 that ends at 2.
     Clean(u64, u64),
     Infected(u64, u64),
+    // The clean reply at the second port.
+    OtherClean(u64, u64),
     Ask(u64, u64, &'a [u8]),
     Class(&'a [u8]),
     Lost,
+    OtherLost,
     TimeUp(u64),
     Leaves(u64),
 }
@@ -63,6 +66,7 @@ fn run(alloc: Global, guard: &mut Guard, step: &Step<'_>, said: &mut String) -> 
         Step::Updated(version) => guard.message(alloc, &say::updated(*version))?,
         Step::Clean(seq, version) => guard.message(alloc, &reply(*seq, *version, false))?,
         Step::Infected(seq, version) => guard.message(alloc, &reply(*seq, *version, true))?,
+        Step::OtherClean(seq, version) => guard.message(alloc, &say::other_reply(*seq, *version))?,
         Step::Ask(client, tag, content) => {
             match guard.ask(alloc, *client, *tag, content.to_vec(alloc)?) {
                 Ok(given) => given,
@@ -70,7 +74,8 @@ fn run(alloc: Global, guard: &mut Guard, step: &Step<'_>, said: &mut String) -> 
             }
         }
         Step::Class(content) => return Ok(write!(said, "{:?};", guard.class(content))?),
-        Step::Lost => guard.service_lost(alloc)?,
+        Step::Lost => guard.service_lost(alloc, Port::One)?,
+        Step::OtherLost => guard.service_lost(alloc, Port::Two)?,
         Step::TimeUp(seq) => guard.time_up(alloc, *seq)?,
         Step::Leaves(client) => {
             guard.client_lost(*client);
@@ -95,13 +100,13 @@ struct Case<'a> {
     questions: u64,
     steps: &'a [Step<'a>],
     // Answers as client.tag=.., scans as scan question stream generation length, classes and refusals, each followed by a
-    // semicolon.
+    // semicolon. What is for the second port has "second" in front.
     said: &'a str,
 }
 
 const MANY: u64 = 67_108_864;
 
-const CASES: [Case<'_>; 17] = [
+const CASES: [Case<'_>; 23] = [
     Case {
         name: "a client that left is told nothing",
         mode: Mode::FailClosed,
@@ -138,15 +143,19 @@ const CASES: [Case<'_>; 17] = [
         said: "scan 1 1 2 3;1.1=denied 6;",
     },
     Case {
-        name: "a greeting at the second port is passed over",
+        name: "a service at the second port is asked where it is alone",
         mode: Mode::FailClosed,
         keep: MANY,
         questions: 1_024,
-        steps: &[Step::Other(1), Step::Ask(1, 1, b"ABC")],
-        said: "1.1=denied 3;",
+        steps: &[
+            Step::Other(1),
+            Step::Ask(1, 1, b"ABC"),
+            Step::OtherClean(1, 1),
+        ],
+        said: "second scan 1 1 2 3;1.1=granted 2 1;",
     },
     Case {
-        name: "no second service takes over what a lost one leaves",
+        name: "the second service takes over what the first one leaves",
         mode: Mode::FailClosed,
         keep: MANY,
         questions: 1_024,
@@ -155,8 +164,105 @@ const CASES: [Case<'_>; 17] = [
             Step::Other(1),
             Step::Ask(1, 1, b"ABC"),
             Step::Lost,
+            Step::OtherClean(2, 1),
         ],
-        said: "scan 1 1 2 3;1.1=denied 6;",
+        said: "scan 1 1 2 3;second scan 2 1 2 3;1.1=granted 2 1;",
+    },
+    Case {
+        name: "a reply of the lost port is late",
+        mode: Mode::FailClosed,
+        keep: MANY,
+        questions: 1_024,
+        steps: &[
+            Step::Hello(1),
+            Step::Other(1),
+            Step::Ask(1, 1, b"ABC"),
+            Step::Lost,
+            Step::Clean(1, 1),
+            Step::Clean(2, 1),
+            Step::OtherClean(1, 1),
+        ],
+        said: "scan 1 1 2 3;second scan 2 1 2 3;",
+    },
+    Case {
+        name: "the first service is asked again once it is back",
+        mode: Mode::FailClosed,
+        keep: MANY,
+        questions: 1_024,
+        steps: &[
+            Step::Other(1),
+            Step::Hello(1),
+            Step::Ask(1, 1, b"ABC"),
+            Step::OtherLost,
+            Step::Clean(1, 1),
+        ],
+        said: "scan 1 1 2 3;1.1=granted 2 1;",
+    },
+    Case {
+        name: "an open survives eight losses and no more",
+        mode: Mode::FailClosed,
+        keep: MANY,
+        questions: 1_024,
+        steps: &[
+            Step::Hello(1),
+            Step::Other(1),
+            Step::Ask(1, 1, b"ABC"),
+            Step::Lost,
+            Step::Hello(1),
+            Step::OtherLost,
+            Step::Other(1),
+            Step::Lost,
+            Step::Hello(1),
+            Step::OtherLost,
+            Step::Other(1),
+            Step::Lost,
+            Step::Hello(1),
+            Step::OtherLost,
+            Step::Other(1),
+            Step::Lost,
+            Step::Hello(1),
+            Step::OtherLost,
+            Step::Other(1),
+            Step::Lost,
+        ],
+        said: "scan 1 1 2 3;second scan 2 1 2 3;scan 3 1 2 3;second scan 4 1 2 3;scan 5 1 2 3;second scan 6 1 2 3;scan 7 1 2 3;second scan 8 1 2 3;scan 9 1 2 3;1.1=denied 8;",
+    },
+    Case {
+        name: "the last of two services takes all with it",
+        mode: Mode::FailClosed,
+        keep: MANY,
+        questions: 1_024,
+        steps: &[
+            Step::Hello(1),
+            Step::Other(1),
+            Step::Ask(1, 1, b"ABC"),
+            Step::OtherLost,
+            Step::Lost,
+            Step::Ask(1, 2, b"ABC"),
+        ],
+        said: "scan 1 1 2 3;1.1=denied 6;1.2=denied 3;",
+    },
+    Case {
+        name: "an older verdict of the other service grants nothing",
+        mode: Mode::FailClosed,
+        keep: MANY,
+        questions: 1_024,
+        steps: &[
+            Step::Other(1),
+            Step::Ask(1, 1, b"ABC"),
+            Step::Hello(2),
+            Step::OtherClean(1, 1),
+            Step::Clean(2, 2),
+        ],
+        said: "second scan 1 1 2 3;scan 2 1 2 3;1.1=granted 2 2;",
+    },
+    Case {
+        name: "a time that is up aborts at the port that was asked",
+        mode: Mode::FailClosed,
+        keep: MANY,
+        questions: 1_024,
+        steps: &[Step::Other(1), Step::Ask(1, 1, b"ABC"), Step::TimeUp(1)],
+        said: "second scan 1 1 2 3;1.1=denied 5;second abort 1;",
     },
     Case {
         name: "a newer set is asked again",

@@ -100,7 +100,7 @@ steps_some old between new n c k step some is puts grants =
 pub same_front : (order rest others : List ℕ) (n m : ℕ) → order ≡ n ∷ rest → order ≡ m ∷ others → n ≡ m
 same_front order rest others n m one other = grind (arith, sym one ∙ other)
 
-of_service : (s : All) (p : Option ℕ) → p ≡ after (since_of s.places.service) s.wait → IfSome p (λ t. IsDeadline s t)
+of_service : (s : All) (p : Option ℕ) → p ≡ after (since_of s.places) s.wait → IfSome p (λ t. IsDeadline s t)
 of_service s None e = tt
 of_service s (Some t) e = inr (inr (sym e))
 
@@ -113,7 +113,7 @@ of_client s None h = tt
 of_client s (Some x) h = inl (x.1, h)
 
 -- the earliest of all times is one of them
-pub deadline : (s : All) (p : Option ℕ) (q f : Option (ℕ × ℕ)) → p ≡ after (since_of s.places.service) s.wait → IfSome q (λ x. is_asked (question_at s.questions.running x.1) x.0 ≡ true)
+pub deadline : (s : All) (p : Option ℕ) (q f : Option (ℕ × ℕ)) → p ≡ after (since_of s.places) s.wait → IfSome q (λ x. is_asked (question_at s.questions.running x.1) x.0 ≡ true)
     → IfSome f (λ x. is_due s.clients.wait (at s.clients.clients x.1) x.0 ≡ true) → IfSome (earlier p (earlier (option_map (λ x. x.0) q) (option_map (λ x. x.0) f))) (λ t. IsDeadline s t)
 deadline s p q f service question client =
     earlier_is (λ t. IsDeadline s t) p (earlier (option_map (λ x. x.0) q) (option_map (λ x. x.0) f)) (of_service s p service)

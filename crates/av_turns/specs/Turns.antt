@@ -6,7 +6,7 @@ use Rattle.av_turns.specs.Client.{asked, large_left, large_stood, reply_of, room
 use Rattle.av_turns.specs.Clients.{Admits, at, Goes, is_due, IsGone, LeavesRing, longest_idle, NobodyMayTurn, Puts, State, Steps, Looks}
 use Rattle.av_turns.specs.Line.{Asked, Forgets, IsFirst, IsInFront, IsNobodyInLine, Lined, Pulls, SameAsks, Skips, Stands, Takes}
 use Rattle.av_turns.specs.Questions.{Ends, is_asked, question_at, Running}
-use Rattle.av_turns.specs.Places.{is_late, is_over, since_of}
+use Rattle.av_turns.specs.Places.{is_over, since_of, stuck_of, unheard_of}
 use Rattle.av_turns.specs.Times.{after}
 use Rattle.av_turns.specs.Windows.{has_room}
 use Rattle.av_turns.specs.declared.budget.Budget.{Budget}
@@ -15,12 +15,12 @@ use Rattle.av_turns.specs.declared.client.Client.{Client}
 use Rattle.av_turns.specs.declared.clients.Look.TheVariants.{Turn as LookTurn}
 use Rattle.av_turns.specs.declared.line.Standing.{Standing}
 use Rattle.av_turns.specs.declared.places.Places.{Places}
-use Rattle.av_turns.specs.declared.places.Service.TheVariants.{Nobody as NoService}
+use Rattle.av_turns.specs.declared.places.Guest.TheVariants.{Nobody as NoGuest}
 use Rattle.std.specs.declared.alloc.AllocError.{AllocError}
 use Rattle.av_turns.specs.declared.turns.Admitted.{Admitted}
 use Rattle.av_turns.specs.declared.turns.Admitted.TheVariants.{Admit, Instead, Away}
 use Rattle.av_turns.specs.declared.turns.Late.{Late}
-use Rattle.av_turns.specs.declared.turns.Late.TheVariants.{Close, Deny, Nothing, Question, Service}
+use Rattle.av_turns.specs.declared.turns.Late.TheVariants.{Close, Deny, Guest, Nothing, Question, Service}
 use Rattle.av_turns.specs.declared.turns.Next.{Next}
 use Rattle.av_turns.specs.declared.turns.Next.TheVariants.{Turn, Later, Nobody}
 use Rattle.av_turns.specs.declared.turns.Parsed.{Parsed}
@@ -30,8 +30,8 @@ use Rattle.av_turns.specs.declared.turns.Thing.TheVariants.{Said, Known, New}
 use Rattle.av_turns.specs.declared.turns.Why.{Why}
 use Rattle.av_turns.specs.declared.turns.Why.TheVariants.{Idle, SaidNothing, TookNothing}
 
--- the clients, their small and their large asks in line, how many clients there may be, how long each thing may take, the places of the service and of its
--- successor, the questions that run, how many small asks left the line behind the last large one, whether one may go ahead, and what is left of the turn that
+-- the clients, their small and their large asks in line, how many clients there may be, how long each thing may take, the places of the services and of who
+-- waits for them, the questions that run, how many small asks left the line behind the last large one, whether one may go ahead, and what is left of the turn that
 -- is on
 pub record All : Type 0 where
   pub clients : State
@@ -64,7 +64,7 @@ nobody_yet most wait =
       may_jump = true;
       most = most;
       wait = wait;
-      places = record { service = NoService; successor = false; misses = 0 };
+      places = record { first = record { is_taken = false; misses = 0 }; second = record { is_taken = false; misses = 0 }; first_guest = NoGuest; second_guest = NoGuest };
       questions = record { running = []; windows = record { small = 0; large = 0 } };
       budget = record { asks = 0; said = 0 };
     }
@@ -301,19 +301,19 @@ IsNoneLate s now = (n t : ℕ) → is_due s.wait (at s.clients n) t ≡ true →
 abbrev pub IsNoQuestionLate : Running → ℕ → Type 0
 IsNoQuestionLate r now = (n t : ℕ) → is_asked (question_at r.running n) t ≡ true → now < t
 
--- the time of some client, of some question or of the service is up then
+-- the time of some client, of some question or of some guest is up then
 abbrev pub IsDeadline : All → ℕ → Type 0
 IsDeadline s t =
     ((n : ℕ) × (is_due s.clients.wait (at s.clients.clients n) t ≡ true)) ⊎ ((seq : ℕ) × (is_asked (question_at s.questions.running seq) t ≡ true))
-    ⊎ (after (since_of s.places.service) s.wait ≡ Some t)
+    ⊎ (after (since_of s.places) s.wait ≡ Some t)
 
--- a question whose time was up runs no more, and had no reply
+-- a question whose time was up runs no more
 pub record EndsLate (old new : All) (now seq : ℕ) : Type 0 where
   pub due : ℕ
   pub asked : is_asked (question_at old.questions.running seq) due ≡ true
   pub late : due ≤ now
   pub ends : Ends old.questions new.questions seq
-  pub rest : new ≡ record old { questions = new.questions; places = record old.places { misses = min (old.places.misses + 1) 18446744073709551615 } }
+  pub rest : new ≡ record old { questions = new.questions }
 
 -- the first small ask of a client left the line out of its turn
 pub record LosesSmall (old new : All) (n : ℕ) (a : Asked) : Type 0 where
@@ -366,7 +366,8 @@ pub record ClosesLate (old new : All) (now n : ℕ) (why : Why) : Type 0 where
 -- one thing whose time was up, or none was
 abbrev pub Lates : All → All → ℕ → Late → Type 0
 Lates old new now (Question seq) = EndsLate old new now seq
-Lates old new now Service = (new ≡ old) × (is_late old.wait now old.places ≡ true)
+Lates old new now (Service place) = (new ≡ old) × (stuck_of old.places ≡ Some place)
+Lates old new now (Guest guest) = (new ≡ old) × (unheard_of old.wait now old.places ≡ Some guest)
 Lates old new now (Deny n tag) = DeniesLate old new now n tag
 Lates old new now (Close n why) = ClosesLate old new now n why
 Lates old new now Nothing = (new ≡ old) × IsNoneLate old.clients now × IsNoQuestionLate old.questions now

@@ -19,6 +19,6 @@ pub mod windows;
 
 pub use client::{Client, Kind, Left};
 pub use line::Standing;
-pub use places::Arrived;
+pub use places::{Arrived, Nth};
 pub use turns::{Admitted, Late, Next, Parsed, Thing, Turns, Why};
 pub use waits::Waits;

@@ -1,147 +1,268 @@
 ghost use Rattle.std.specs.Prelude.{◌≡◌, ◌+◌, false, min};
-ghost use Rattle.av_turns.specs.Places.{came_of, greeted_of, is_late, is_taken, lost_of, since_of};
+ghost use Rattle.av_turns.specs.Places.{came_of, greeted_of, is_free, is_stuck, is_unheard, left_of, lost_of, place_at, since_of, since_of_guest, stands_by, stuck_of, unheard_of, with_guest, with_misses, with_place};
 ghost use Rattle.av_turns.specs.Times.{after};
 
-use crate::client::after;
+use crate::client::{after, earlier};
 use crate::limits::MISSES;
 
-/// The place of the service, and that of one successor.
+/// The first or the second of two: two places of services, one for each port of the filter, and two for those who wait at the
+/// services' door.
 #[derive(Clone, Copy, Debug, PartialEq, Eq)]
-pub struct Places {
-    /// The service.
-    pub service: Service,
-    /// A successor waits for the place.
-    pub successor: bool,
+pub enum Nth {
+    First,
+    Second,
+}
+
+/// The place of a service.
+#[derive(Clone, Copy, Debug, PartialEq, Eq)]
+pub struct Place {
+    /// A service has it.
+    pub is_taken: bool,
     /// Questions in a row whose time was up without any reply.
     pub misses: u64,
 }
 
-/// Who has the service's place.
+/// Who waits at the services' door.
 #[derive(Clone, Copy, Debug, PartialEq, Eq)]
-pub enum Service {
+pub enum Guest {
     /// Nobody.
     Nobody,
     /// One that has not greeted, since then.
     Came(u64),
-    /// One that greeted.
-    Up,
+    /// One that greeted, and has this place once its service is lost.
+    StandsBy(Nth),
 }
 
-/// Where a connection at the service's door went.
+/// The places of both services, and who waits for them.
+#[derive(Clone, Copy, Debug, PartialEq, Eq)]
+pub struct Places {
+    pub first: Place,
+    pub second: Place,
+    pub first_guest: Guest,
+    pub second_guest: Guest,
+}
+
+/// What becomes of one that greeted.
 #[derive(Clone, Copy, Debug, PartialEq, Eq)]
 pub enum Arrived {
-    /// It is the service.
+    /// It is the service, and no guest any more.
     Place,
     /// It waits until the service is lost.
     Successor,
-    /// Both places are taken.
+    /// The place is taken and another one waits for it: it is no guest any more.
     Away,
 }
 
 impl Places {
-    /// Both places are free.
+    /// All are free.
     pub fn new() -> Places
-        ensures { result ≡ record { service = Service.Nobody; successor = false; misses = 0 } }
+        ensures { result ≡ record { first = record { is_taken = false; misses = 0 }; second = record { is_taken = false; misses = 0 }; first_guest = Guest.Nobody; second_guest = Guest.Nobody } }
     {
-        Places {
-            service: Service::Nobody,
-            successor: false,
+        let free = Place {
+            is_taken: false,
             misses: 0,
+        };
+        Places {
+            first: free,
+            second: free,
+            first_guest: Guest::Nobody,
+            second_guest: Guest::Nobody,
         }
     }
 
-    /// One is at the service's door.
-    pub fn came(&mut self, now: u64) -> Arrived
+    fn place(&self, place: Nth) -> Place
+        ensures { result ≡ place_at place self.now }
+    {
+        match place {
+            Nth::First => self.first,
+            Nth::Second => self.second,
+        }
+    }
+
+    fn put_place(&mut self, place: Nth, now: Place)
+        ensures { self.new ≡ with_place place now self.old }
+    {
+        match place {
+            Nth::First => self.first = now,
+            Nth::Second => self.second = now,
+        }
+    }
+
+    fn put_guest(&mut self, guest: Nth, now: Guest)
+        ensures { self.new ≡ with_guest guest now self.old }
+    {
+        match guest {
+            Nth::First => self.first_guest = now,
+            Nth::Second => self.second_guest = now,
+        }
+    }
+
+    /// One is at the services' door: the guest that it is, where two are not there already.
+    pub fn came(&mut self, now: u64) -> Option<Nth>
         ensures { (result, self.new) ≡ came_of now self.old }
     {
-        if !self.is_taken() {
-            self.service = Service::Came(now);
+        if is_free(self.first_guest) {
+            self.first_guest = Guest::Came(now);
+            return Some(Nth::First);
+        }
+        if is_free(self.second_guest) {
+            self.second_guest = Guest::Came(now);
+            return Some(Nth::Second);
+        }
+        None
+    }
+
+    // The guest that stands by for a place.
+    fn successor(&self, place: Nth) -> Option<Nth>
+        ensures { result ≡ stands_by place self.now }
+    {
+        if self.first_guest == Guest::StandsBy(place) {
+            return Some(Nth::First);
+        }
+        if self.second_guest == Guest::StandsBy(place) {
+            return Some(Nth::Second);
+        }
+        None
+    }
+
+    /// A guest greets at a place.
+    pub fn greeted(&mut self, guest: Nth, place: Nth) -> Arrived
+        ensures { (result, self.new) ≡ greeted_of guest place self.old }
+    {
+        if !self.place(place).is_taken {
+            self.put_guest(guest, Guest::Nobody);
+            self.put_place(place, TAKEN);
             return Arrived::Place;
         }
-        if self.successor {
-            return Arrived::Away;
-        }
-        self.successor = true;
-        Arrived::Successor
-    }
-
-    // Whether somebody has the service's place.
-    fn is_taken(&self) -> bool
-        ensures { result ≡ is_taken self.now.service }
-    {
-        match self.service {
-            Service::Nobody => false,
-            Service::Came(_) => true,
-            Service::Up => true,
+        match self.successor(place) {
+            None => {
+                self.put_guest(guest, Guest::StandsBy(place));
+                Arrived::Successor
+            }
+            Some(_) => {
+                self.put_guest(guest, Guest::Nobody);
+                Arrived::Away
+            }
         }
     }
 
-    /// The service greeted.
-    pub fn greeted(&mut self)
-        ensures { self.new ≡ greeted_of self.old }
+    /// A guest is gone.
+    pub fn guest_lost(&mut self, guest: Nth)
+        ensures { self.new ≡ left_of guest self.old }
     {
-        if self.is_taken() {
-            self.service = Service::Up;
-        }
+        self.put_guest(guest, Guest::Nobody)
     }
 
-    /// The service is lost: whether a successor has its place.
-    pub fn lost(&mut self, now: u64) -> bool
-        ensures { (result, self.new) ≡ lost_of now self.old }
+    /// The service of a place is lost: the guest that has it from now on, where one stood by.
+    pub fn lost(&mut self, place: Nth) -> Option<Nth>
+        ensures { (result, self.new) ≡ lost_of place self.old }
     {
-        self.misses = 0;
-        if self.successor {
-            self.successor = false;
-            self.service = Service::Came(now);
-            return true;
+        match self.successor(place) {
+            None => {
+                self.put_place(place, FREE);
+                None
+            }
+            Some(guest) => {
+                self.put_guest(guest, Guest::Nobody);
+                self.put_place(place, TAKEN);
+                Some(guest)
+            }
         }
-        self.service = Service::Nobody;
-        false
-    }
-
-    /// The successor is gone.
-    pub fn successor_lost(&mut self)
-        ensures { self.new ≡ record self.old { successor = false } }
-    {
-        self.successor = false;
     }
 
     /// A reply came.
-    pub fn replied(&mut self)
-        ensures { self.new ≡ record self.old { misses = 0 } }
+    pub fn replied(&mut self, place: Nth)
+        ensures { self.new ≡ with_misses place 0 self.old }
     {
-        self.misses = 0;
+        let was = self.place(place);
+        self.put_place(place, Place { misses: 0, ..was });
     }
 
     /// The time of a question was up.
-    pub fn missed(&mut self)
-        ensures { self.new ≡ record self.old { misses = min (self.old.misses + 1) 18446744073709551615 } }
+    pub fn missed(&mut self, place: Nth)
+        ensures { self.new ≡ with_misses place (min ((place_at place self.old).misses + 1) 18446744073709551615) self.old }
     {
-        self.misses = self.misses.saturating_add(1);
+        let was = self.place(place);
+        let misses = was.misses.saturating_add(1);
+        self.put_place(place, Place { misses, ..was });
     }
 
-    /// When the service's time is up.
+    /// The place of a service that is to be lost, since too many questions in a row had no reply.
+    pub fn stuck(&self) -> Option<Nth>
+        ensures { result ≡ stuck_of self.now }
+    {
+        if is_stuck(self.first) {
+            return Some(Nth::First);
+        }
+        if is_stuck(self.second) {
+            return Some(Nth::Second);
+        }
+        None
+    }
+
+    /// When the time of a guest that has not greeted is up.
     pub fn due(&self, wait: u64) -> Option<u64>
-        ensures { result ≡ after (since_of self.now.service) wait }
+        ensures { result ≡ after (since_of self.now) wait }
     {
-        let since = match self.service {
-            Service::Came(since) => Some(since),
-            Service::Nobody => None,
-            Service::Up => None,
-        };
-        after(since, wait)
+        after(
+            earlier(came_at(self.first_guest), came_at(self.second_guest)),
+            wait,
+        )
     }
 
-    /// Whether the service is to be lost.
-    pub fn is_late(&self, wait: u64, now: u64) -> bool
-        ensures { result ≡ is_late wait now self.now }
+    /// A guest whose time to greet is up.
+    pub fn unheard(&self, wait: u64, now: u64) -> Option<Nth>
+        ensures { result ≡ unheard_of wait now self.now }
     {
-        if self.misses >= MISSES && self.is_taken() {
-            return true;
+        if is_unheard(self.first_guest, wait, now) {
+            return Some(Nth::First);
         }
-        match self.due(wait) {
-            Some(due) => due <= now,
-            None => false,
+        if is_unheard(self.second_guest, wait, now) {
+            return Some(Nth::Second);
         }
+        None
+    }
+}
+
+const FREE: Place = Place {
+    is_taken: false,
+    misses: 0,
+};
+
+const TAKEN: Place = Place {
+    is_taken: true,
+    misses: 0,
+};
+
+fn is_free(guest: Guest) -> bool
+    ensures { result ≡ is_free guest }
+{
+    match guest {
+        Guest::Nobody => true,
+        Guest::Came(_) | Guest::StandsBy(_) => false,
+    }
+}
+
+fn came_at(guest: Guest) -> Option<u64>
+    ensures { result ≡ since_of_guest guest }
+{
+    match guest {
+        Guest::Came(since) => Some(since),
+        Guest::Nobody | Guest::StandsBy(_) => None,
+    }
+}
+
+fn is_stuck(place: Place) -> bool
+    ensures { result ≡ is_stuck place }
+{
+    place.misses >= MISSES && place.is_taken
+}
+
+fn is_unheard(guest: Guest, wait: u64, now: u64) -> bool
+    ensures { result ≡ is_unheard wait now guest }
+{
+    match after(came_at(guest), wait) {
+        Some(due) => due <= now,
+        None => false,
     }
 }

@@ -1,6 +1,6 @@
 use crate::client::{Kind, Left};
 use crate::line::Standing;
-use crate::places::Arrived;
+use crate::places::{Arrived, Nth};
 use crate::turns::{Admitted, Late, Next, Parsed, Thing, Turns, Why};
 use std::alloc::{AllocError, Global};
 use std::test::Fail;
@@ -59,12 +59,9 @@ fn room(turns: &Turns) -> u64 {
     turns.room(1)
 }
 
-fn arrived(turns: &mut Turns) -> Arrived {
-    turns.service_came(0)
-}
-
-fn lost(turns: &mut Turns, now: u64) -> bool {
-    turns.service_lost(now)
+fn arrived(turns: &mut Turns, place: Nth) -> Option<Arrived> {
+    let guest = turns.service_came(0)?;
+    Some(turns.service_greeted(guest, place))
 }
 
 // Two clients may be there, and each has a second. Client 1 is.
@@ -139,7 +136,7 @@ fn small_questions_have_a_window_of_their_own(rt: HostRuntime) -> Result<(), Fai
     told(&mut turns)?;
     assert!(rt; asks(rt.alloc(), &mut turns, 4, 10)?);
     assert!(rt; given(&mut turns).is_none());
-    turns.replied(2);
+    turns.replied(Nth::First, 2);
     assert!(rt; given(&mut turns).is_some());
     Ok(())
 }
@@ -169,7 +166,7 @@ fn the_timer_is_that_of_the_question_and_then_of_the_output(rt: HostRuntime) -> 
     let _ = given(&mut turns);
     asked(&mut turns, 1, 10)?;
     assert!(rt; timer(&turns) == Some(1_010));
-    turns.replied(1);
+    turns.replied(Nth::First, 1);
     answered(&mut turns, 20)?;
     assert!(rt; timer(&turns) == Some(1_020));
     written(&mut turns, 30)?;
@@ -243,27 +240,59 @@ fn a_known_ask_goes_on_and_much_output_ends_the_turn(rt: HostRuntime) -> Result<
 #[test]
 fn a_service_that_never_replies_is_lost(rt: HostRuntime) -> Result<(), Fail> {
     let mut turns = with_client(rt.alloc())?;
-    assert!(rt; arrived(&mut turns) == Arrived::Place);
-    turns.service_greeted();
+    assert!(rt; arrived(&mut turns, Nth::Second) == Some(Arrived::Place));
     for seq in 0..8 {
         asked(&mut turns, seq, 0)?;
     }
     for seq in 0..8 {
         assert!(rt; late(&mut turns, 1_000) == Late::Question(seq));
+        turns.missed(Nth::Second);
     }
-    assert!(rt; late(&mut turns, 1_000) == Late::Service);
+    assert!(rt; late(&mut turns, 1_000) == Late::Service(Nth::Second));
     Ok(())
 }
 
 #[test]
-fn a_successor_has_the_place_of_the_service_at_once(rt: HostRuntime) -> Result<(), Fail> {
+fn a_reply_ends_the_misses_of_its_place_alone(rt: HostRuntime) -> Result<(), Fail> {
     let mut turns = with_client(rt.alloc())?;
-    let _ = arrived(&mut turns);
-    assert!(rt; arrived(&mut turns) == Arrived::Successor);
-    assert!(rt; arrived(&mut turns) == Arrived::Away);
-    assert!(rt; lost(&mut turns, 1_000));
-    assert!(rt; late(&mut turns, 1_999) == Late::Nothing);
-    assert!(rt; late(&mut turns, 2_000) == Late::Service);
-    assert!(rt; !lost(&mut turns, 2_000));
+    let _ = arrived(&mut turns, Nth::First);
+    let _ = arrived(&mut turns, Nth::Second);
+    for _ in 0..8 {
+        turns.missed(Nth::First);
+        turns.missed(Nth::Second);
+    }
+    turns.replied(Nth::First, 1);
+    assert!(rt; late(&mut turns, 0) == Late::Service(Nth::Second));
+    assert!(rt; turns.service_lost(Nth::Second) == None);
+    assert!(rt; late(&mut turns, 0) == Late::Nothing);
+    Ok(())
+}
+
+#[test]
+fn a_successor_has_the_place_of_its_service_at_once(rt: HostRuntime) -> Result<(), Fail> {
+    let mut turns = with_client(rt.alloc())?;
+    let _ = arrived(&mut turns, Nth::First);
+    assert!(rt; arrived(&mut turns, Nth::First) == Some(Arrived::Successor));
+    assert!(rt; arrived(&mut turns, Nth::First) == Some(Arrived::Away));
+    assert!(rt; arrived(&mut turns, Nth::Second) == Some(Arrived::Place));
+    assert!(rt; turns.service_lost(Nth::Second) == None);
+    assert!(rt; turns.service_lost(Nth::First) == Some(Nth::First));
+    assert!(rt; turns.service_lost(Nth::First) == None);
+    assert!(rt; arrived(&mut turns, Nth::First) == Some(Arrived::Place));
+    Ok(())
+}
+
+#[test]
+fn two_guests_wait_and_each_has_its_time_to_greet(rt: HostRuntime) -> Result<(), Fail> {
+    let mut turns = with_client(rt.alloc())?;
+    assert!(rt; turns.service_came(5) == Some(Nth::First));
+    assert!(rt; turns.service_came(3) == Some(Nth::Second));
+    assert!(rt; turns.service_came(9) == None);
+    assert!(rt; timer(&turns) == Some(1_003));
+    assert!(rt; late(&mut turns, 1_002) == Late::Nothing);
+    assert!(rt; late(&mut turns, 1_003) == Late::Guest(Nth::Second));
+    turns.guest_lost(Nth::Second);
+    assert!(rt; turns.service_greeted(Nth::First, Nth::First) == Arrived::Place);
+    assert!(rt; late(&mut turns, 9_000) == Late::Nothing);
     Ok(())
 }

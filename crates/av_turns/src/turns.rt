@@ -4,7 +4,7 @@ ghost use Rattle.av_turns.specs.Clients.{AreGranted, at, EachIsFit, NobodyIsForg
 ghost use Rattle.av_turns.specs.Counts.{AreCounted};
 ghost use Rattle.av_turns.specs.Line.{EachIsInLine};
 ghost use Rattle.av_turns.specs.Questions.{Asks, Ends, question_at};
-ghost use Rattle.av_turns.specs.Places.{came_of, greeted_of, lost_of};
+ghost use Rattle.av_turns.specs.Places.{came_of, greeted_of, left_of, lost_of, place_at, with_misses};
 ghost use Rattle.av_turns.specs.Turns.{Accepts, Closes, IsApart, Nexts, nobody_yet, Tells};
 
 mod asking;
@@ -16,7 +16,7 @@ use crate::client::{Client, Kind, Left};
 use crate::clients::{Clients, Granted, Look};
 use crate::limits::{KNOWNS, LEAST_TURN, PIECE, ROUND, ROUND_KNOWNS};
 use crate::line::Line;
-use crate::places::{Arrived, Places};
+use crate::places::{Arrived, Nth, Places};
 use crate::questions::Questions;
 use std::alloc::{AllocError, Global};
 use std::collections::VecDeque;
@@ -113,8 +113,10 @@ pub enum Why {
 pub enum Late {
     /// A question, which runs no more.
     Question(u64),
-    /// The service, which is to be lost.
-    Service,
+    /// The service of a place, which is to be lost.
+    Service(Nth),
+    /// One that waits at the services' door and did not greet, which is to be lost.
+    Guest(Nth),
     /// An ask in line, which is there no more.
     Deny {
         /// Whose it is.
@@ -266,13 +268,20 @@ impl Turns {
             .asked(seq, first.saturating_add(self.wait), bytes)
     }
 
-    /// The service replied to a question.
-    pub fn replied(&mut self, seq: u64)
+    /// The service of a place replied to a question.
+    pub fn replied(&mut self, place: Nth, seq: u64)
         ensures ends { Ends self.old.questions self.new.questions seq }
-        ensures rest { self.new ≡ record self.old { places = record self.old.places { misses = 0 }; questions = self.new.questions } }
+        ensures rest { self.new ≡ record self.old { places = with_misses place 0 self.old.places; questions = self.new.questions } }
     {
-        self.places.replied();
+        self.places.replied(place);
         self.questions.over(seq);
+    }
+
+    /// A question that the service of a place was asked had no reply in its time.
+    pub fn missed(&mut self, place: Nth)
+        ensures { self.new ≡ record self.old { places = with_misses place (min ((place_at place self.old.places).misses + 1) 18446744073709551615) self.old.places } }
+    {
+        self.places.missed(place)
     }
 
     /// A question runs no more.
@@ -367,34 +376,34 @@ impl Turns {
         self.clients.ready()
     }
 
-    /// One is at the service's door.
-    pub fn service_came(&mut self, now: u64) -> Arrived
-        ensures arrived { result ≡ (came_of now self.old.places).0 }
+    /// One is at the services' door: the guest that it is, unless two wait there already.
+    pub fn service_came(&mut self, now: u64) -> Option<Nth>
+        ensures guest { result ≡ (came_of now self.old.places).0 }
         ensures state { self.new ≡ record self.old { places = (came_of now self.old.places).1 } }
     {
         self.places.came(now)
     }
 
-    /// The service greeted.
-    pub fn service_greeted(&mut self)
-        ensures { self.new ≡ record self.old { places = greeted_of self.old.places } }
+    /// A guest greets at a place: what becomes of it.
+    pub fn service_greeted(&mut self, guest: Nth, place: Nth) -> Arrived
+        ensures arrived { result ≡ (greeted_of guest place self.old.places).0 }
+        ensures state { self.new ≡ record self.old { places = (greeted_of guest place self.old.places).1 } }
     {
-        self.places.greeted()
+        self.places.greeted(guest, place)
     }
 
-    /// The service is lost, and no question runs: whether a successor took its place.
-    pub fn service_lost(&mut self, now: u64) -> bool
-        ensures promoted { result ≡ self.old.places.successor }
-        ensures state { self.new ≡ record self.old { places = (lost_of now self.old.places).1; questions = record { running = []; windows = record { small = 0; large = 0 } } } }
+    /// The service of a place is lost: the guest that has the place from now on, where one stood by.
+    pub fn service_lost(&mut self, place: Nth) -> Option<Nth>
+        ensures promoted { result ≡ (lost_of place self.old.places).0 }
+        ensures state { self.new ≡ record self.old { places = (lost_of place self.old.places).1 } }
     {
-        self.questions = Questions::new(self.alloc);
-        self.places.lost(now)
+        self.places.lost(place)
     }
 
-    /// The successor is gone.
-    pub fn successor_lost(&mut self)
-        ensures { self.new ≡ record self.old { places = record self.old.places { successor = false } } }
+    /// A guest is gone.
+    pub fn guest_lost(&mut self, guest: Nth)
+        ensures { self.new ≡ record self.old { places = left_of guest self.old.places } }
     {
-        self.places.successor_lost()
+        self.places.guest_lost(guest)
     }
 }

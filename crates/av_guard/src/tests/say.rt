@@ -32,6 +32,17 @@ pub(crate) fn reply(seq: u64, version: u64, infected: bool) -> Message {
     reply_of(7, seq, version, infected)
 }
 
+/// The clean reply to a question of boot 7, at the second port.
+pub(crate) fn other_reply(seq: u64, version: u64) -> Message {
+    let version = version_of(version);
+    let verdict = Verdict::Clean;
+    let id = MessageId {
+        boot: 7,
+        seq: seq.max(1),
+    };
+    Message::reply(Port::Two, id, Outcome::Judged { version, verdict })
+}
+
 /// The reply to a question of this boot.
 pub(crate) fn reply_of(boot: u64, seq: u64, version: u64, infected: bool) -> Message {
     let verdict = if infected {
@@ -74,6 +85,9 @@ pub(crate) fn given_is(said: &mut String, given: &Given) -> Result<(), Fail> {
         }
     }
     for message in given.messages.as_slice() {
+        if message.port() == Port::Two {
+            write!(said, "second ")?;
+        }
         match message.body() {
             Body::Scan {
                 id,

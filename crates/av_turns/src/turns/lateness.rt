@@ -1,9 +1,10 @@
-ghost use Rattle.std.specs.Prelude.{◌≡◌, ◌≤◌, true, None, IfSome, IfNone};
+ghost use Rattle.std.specs.Prelude.{◌≡◌, ◌≤◌, true, IfSome, IfNone};
 ghost use Rattle.std.specs.Option.{option_map};
 ghost use Rattle.av_turns.specs.Clients.{at, is_due, IsNoneBefore, IsNoneDue};
 ghost use Rattle.av_turns.specs.Questions.{IsNoneAsked, IsNoneAskedBefore};
-ghost use Rattle.av_turns.specs.Places.{is_late, is_over, IsNotAfter, since_of};
+ghost use Rattle.av_turns.specs.Places.{is_over, IsNotAfter, since_of, stuck_of, unheard_of};
 ghost use Rattle.av_turns.specs.Times.{after};
+ghost use Rattle.av_turns.specs.declared.places.Nth.{Nth};
 ghost use Rattle.av_turns.specs.Turns.{IsDeadline, Lates, LosesLarge, LosesSmall, standing_of, why_of};
 
 use super::{Late, Turns, Why};
@@ -14,14 +15,17 @@ impl Turns {
     /// One thing whose time is up.
     pub fn late(&mut self, now: u64) -> Late
         ensures exact { Lates self.old self.new now result }
-        ensures kept { is_late self.old.wait now self.old.places ≡ true → result ≡ Late.Service }
+        ensures stuck { IfSome (stuck_of self.old.places) (λ place. result ≡ Late.Service place) }
+        ensures unheard { stuck_of self.old.places ≡ None → IfSome (unheard_of self.old.wait now self.old.places) (λ guest. result ≡ Late.Guest guest) }
     {
-        if self.places.is_late(self.wait, now) {
-            return Late::Service;
+        if let Some(place) = self.places.stuck() {
+            return Late::Service(place);
+        }
+        if let Some(guest) = self.places.unheard(self.wait, now) {
+            return Late::Guest(guest);
         }
         if let Some((due, seq)) = self.questions.first_due() {
             if due <= now {
-                self.places.missed();
                 self.questions.over(seq);
                 return Late::Question(seq);
             }
@@ -43,7 +47,8 @@ impl Turns {
         requires late { due ≤ now }
         ensures exact { Lates self.old self.new now result }
         ensures something { result ≡ Late.Nothing → ⊥ }
-        ensures client { result ≡ Late.Service → ⊥ }
+        ensures service { (place : Nth) → result ≡ Late.Service place → ⊥ }
+        ensures guest { (guest : Nth) → result ≡ Late.Guest guest → ⊥ }
     {
         let _due = due;
         let Some(counts) = self.clients.get(client) else {
@@ -107,7 +112,7 @@ impl Turns {
         ensures none { result ≡ None → IsNoneDue self.now.clients }
         ensures question { IfSome result (λ time. IsNoneAskedBefore self.now.questions time) }
         ensures unasked { result ≡ None → IsNoneAsked self.now.questions }
-        ensures service { IsNotAfter result (after (since_of self.now.places.service) self.now.wait) }
+        ensures service { IsNotAfter result (after (since_of self.now.places) self.now.wait) }
     {
         let clients = time_of(self.clients.first_due());
         let questions = time_of(self.questions.first_due());

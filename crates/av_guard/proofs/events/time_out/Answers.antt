@@ -1,10 +1,6 @@
 use Rattle.av_filter.specs.Conduct.{TimesOut}
-use Rattle.av_guard.proofs.OnePortLemmas.{alone_after}
 use Rattle.av_guard.proofs.RoomLemmas.{few_given}
 use Rattle.av_guard.proofs.events.time_out.Goals as goal
 
 pub returns-clause-few : goal.returns-clause-few
 returns-clause-few c = few_given c.timeout.result c.args.mounted.now.table c.timeout.new.self.table c.args.mounted.now.volume c.timeout.new.self.volume (TimesOut c.args.seq) c.timeout.ensures.event
-
-pub returns-clause-alone : goal.returns-clause-alone
-returns-clause-alone c = alone_after c.timeout.result c.args.mounted.now.table c.timeout.new.self.table c.args.mounted.now.volume c.timeout.new.self.volume (TimesOut c.args.seq) c.requires.alone tt c.timeout.ensures.event

@@ -3,7 +3,7 @@ use Rattle.av_guard.specs.Shelf.{Kept, waits_of}
 use Rattle.std.specs.Prelude.{is_some}
 use Rattle.std.specs.Result.{result_err}
 use Rattle.av_store.specs.Store.{Store, create_of}
-use Rattle.av_guard.proofs.KeepLemmas.{more_bytes, more_count, stored_alone}
+use Rattle.av_guard.proofs.KeepLemmas.{more_bytes, more_count}
 use Rattle.av_guard.proofs.SoundLemmas.{IsNameOf, free_name, written_more, written_same}
 use Rattle.av_guard.specs.State.{State}
 use Rattle.av_guard.specs.Waiting.{ArePaired}
@@ -17,7 +17,6 @@ invariant_of-self-in-Ok-store c =
     let stored = c.in-Ok-store.ensures.stored in
     let added = c.in-Ok.ensures.ok in
     record {
-      alone = stored_alone _ _ _ _ _ _ stored c.self.invariant.alone;
       written = written_same _ _ _ stored.streams (written_more _ _ _ _ _ c.self.invariant.written (subst (λ (g : State). IsNameOf g.key c.args.content.now c.args.name.now) (sym c.self.view_is) (free_name c.args.self.now.key c.args.self.now.volume c.args.content.now c.args.name.now c.requires.place)));
       paired = subst (λ ps. ArePaired ps c.self.inside.waiting.entries) (sym stored.pended) c.self.invariant.paired;
       counted = λ s. ap (λ (k : Kept). waits_of k.waits s) added ∙ c.self.invariant.counted s;

@@ -15,7 +15,6 @@ invariant_of-self c =
     let less = let_go_counts c.self.inside.mounted.table c.self.inside.mounted.volume c.remove.new.mounted.volume c.args.stream c.in-Some.bytes c.in-Ok-remove.ensures.event.volume (sym c.in-Some.is ∙ c.length.ensures ∙ ap (λ (v : Store). option_map (λ (x : Stream). length x.bytes) (stream_at c.args.stream v.streams)) c.volume.ensures) in
     let gone = c.remove-in-Ok-remove.ensures in
     record {
-      alone = c.remove.ensures.alone;
       written = written_removed _ _ _ _ c.args.stream c.in-Ok-remove.ensures.event.volume c.self.invariant.written;
       paired = paired_after _ _ _ _ _ _ _ (Changes (Remove c.args.stream)) _ c.filter.ensures.fits c.self.invariant.written c.self.invariant.paired refl tt c.in-Ok-remove.ensures.event c.settle.ensures.waiting;
       counted = c.settle.ensures.counted;

@@ -7,7 +7,6 @@ use Rattle.av_guard.proofs.guard.Guard.message.Goals as goal
 
 pub invariant_of-self-2 : goal.invariant_of-self-2
 invariant_of-self-2 c = record {
-  alone = c.receive.ensures.alone;
   written = written_same _ _ _ (ap (λ (v : Store). v.streams) c.receive.ensures.still) c.self.invariant.written;
   paired = paired_after _ _ _ _ _ _ _ (Receives c.args.message.now) _ c.filter.ensures.fits c.self.invariant.written c.self.invariant.paired refl tt c.in_ok-out.ensures.event c.settle.ensures.waiting;
   counted = c.settle.ensures.counted;

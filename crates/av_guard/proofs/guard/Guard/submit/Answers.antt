@@ -19,7 +19,6 @@ invariant_of-self-in-Ok-open c =
     let event = c.in-Ok-open.ensures.event in
     let streams = ap (λ (w : Store). w.streams) (event.volume ∙ leads_to c.self.inside.mounted.table c.self.inside.mounted.volume (Opens c.args.stream 0)) in
     record {
-      alone = c.open.ensures.alone;
       written = written_same _ _ _ streams c.self.invariant.written;
       paired = paired_opened _ c.self.inside.mounted.table _ c.self.inside.mounted.volume _ c.self.inside.waiting.entries _ (record { client = c.args.client; tag = c.args.tag; stream = c.args.stream }) _ 0 c.in-Ok-open.out (ap (λ n. n + 1) (c.opens-number.ensures ∙ ap (λ (v : Store). v.opens) c.volume.ensures)) c.filter.ensures.fits c.self.invariant.written c.self.invariant.paired event (c.settle.ensures.waiting ∙ ap (λ m. left_by m c.in-Ok-open.out.answers.items) c.in-Ok-enter.ensures.ok);
       counted = c.settle.ensures.counted;
@@ -34,7 +33,6 @@ invariant_of-self-in-Err-open c =
     let number = ap (λ n. n + 1) (c.opens-number.ensures ∙ ap (λ (v : Store). v.opens) c.volume.ensures) in
     let waiting = restored _ _ _ _ _ c.leave.ensures.waiting c.in-Ok-enter.ensures.ok (free_at _ c.self.inside.mounted.volume _ _ c.filter.ensures.fits c.self.invariant.paired number) in
     record {
-      alone = c.open.ensures.alone;
       written = written_same _ _ _ streams c.self.invariant.written;
       paired = paired_back _ _ _ _ err.0 waiting c.self.invariant.paired;
       counted = c.leave.ensures.counted;

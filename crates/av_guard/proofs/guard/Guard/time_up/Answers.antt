@@ -7,7 +7,6 @@ use Rattle.av_guard.proofs.guard.Guard.time_up.Goals as goal
 
 pub invariant_of-self-2 : goal.invariant_of-self-2
 invariant_of-self-2 c = record {
-  alone = c.time_out.ensures.alone;
   written = written_same _ _ _ (ap (λ (v : Store). v.streams) c.time_out.ensures.still) c.self.invariant.written;
   paired = paired_after _ _ _ _ _ _ _ (TimesOut c.args.seq) _ c.filter.ensures.fits c.self.invariant.written c.self.invariant.paired refl tt c.in_ok-out.ensures.event c.settle.ensures.waiting;
   counted = c.settle.ensures.counted;
