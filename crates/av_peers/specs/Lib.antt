@@ -1,0 +1,9 @@
+pub mod Adopted
+pub mod Asked
+pub mod Belief
+pub mod Client
+pub mod Line
+pub mod Parts
+pub mod Service
+pub mod Told
+pub mod Watches
