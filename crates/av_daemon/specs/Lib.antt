@@ -1,13 +1,6 @@
-pub mod Belief
-pub mod Client
 pub mod Descriptors
 pub mod Guarding
 pub mod Late
-pub mod Line
 pub mod Names
 pub mod Recorder
-pub mod Service
-pub mod Told
-pub mod Parts
 pub mod Relaying
-pub mod Watches

@@ -1,5 +1,5 @@
 -- The names of signatures that are told.
-use Rattle.std.specs.Prelude.{ℕ, ◌==◌, Bool, false, not, if◌then◌else◌, List, Option, None, Some, slice_get}
+use Rattle.std.specs.Prelude.{ℕ, ◌==◌, Bool, false, not, if◌then◌else◌, List, Option, None, Some, length, slice_get}
 use Rattle.std.specs.Option.{option_map}
 use Rattle.av_guard.specs.declared.answered.Answered.{Answered}
 use Rattle.av_guard.specs.declared.answered.Answered.TheVariants.{Granted, Infected, Denied, Unscanned}
@@ -9,6 +9,11 @@ use Rattle.av_sigset.specs.Set.{NumberedSet}
 abbrev pub has : ℕ → Option NumberedSet → Bool
 has version None = false
 has version (Some set) = set.version == version
+
+-- how many signatures the set of a version has, where it is there
+abbrev pub count_of : ℕ → Option NumberedSet → ℕ
+count_of version None = 0
+count_of version (Some set) = if set.version == version then length set.signatures else 0
 
 -- the name of the signature at a place of the set of a version, where that set is there
 abbrev pub name_at : ℕ → ℕ → Option NumberedSet → Option (List ℕ)

@@ -3,8 +3,8 @@ use Rattle.av_guard.specs.declared.answered.Answered.{Answered}
 use Rattle.av_guard.specs.declared.answered.Answered.TheVariants.{Granted, Infected, Denied, Unscanned}
 use Rattle.av_log.specs.declared.entry.Judged.{Judged}
 use Rattle.av_log.specs.declared.entry.Judged.TheVariants as judged
-use Rattle.av_daemon.specs.declared.told.LargeTold.{LargeTold}
-use Rattle.av_daemon.specs.declared.told.LargeTold.TheVariants as told
+use Rattle.av_peers.specs.declared.told.LargeTold.{LargeTold}
+use Rattle.av_peers.specs.declared.told.LargeTold.TheVariants as told
 
 abbrev pub judged_answer : Answered → Judged
 judged_answer (Granted generation version) = judged.Granted version

@@ -2,8 +2,8 @@
 use Rattle.std.specs.Prelude.{Bool, true, false}
 use Rattle.av_turns.specs.declared.client.Left.{Left}
 use Rattle.av_turns.specs.declared.client.Left.TheVariants.{Nothing, Whole, Part, Held}
-use Rattle.av_daemon.specs.declared.client.Place.{Place}
-use Rattle.av_daemon.specs.declared.client.Place.TheVariants.{Free, Parked, Called}
+use Rattle.av_peers.specs.declared.client.Place.{Place}
+use Rattle.av_peers.specs.declared.client.Place.TheVariants.{Free, Parked, Called}
 
 -- a client waits behind others, where some wait, until it is called
 abbrev pub waits_behind : Place → Bool → Bool

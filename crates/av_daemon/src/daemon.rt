@@ -1,5 +1,6 @@
 mod accepting;
 mod asking;
+mod greeting;
 mod reading;
 mod recording;
 mod relaying;
@@ -8,24 +9,25 @@ mod sending;
 mod telling;
 mod watching;
 
-use crate::belief::Belief;
-use crate::client::Client;
 use crate::door::Door;
 use crate::guarding::{Begun, Sizes};
 use crate::keeping::Keeping;
 use crate::log::Log;
 use crate::names::Names;
-use crate::parts::Parts;
 use crate::recorder::{MOST_WAITING, Recorder};
-use crate::service::Service;
-use crate::watches::Watches;
-use av_base::{Mode, Version};
+use av_base::{Mode, Port, Version};
 use av_guard::Guard;
 use av_health::Counts;
 use av_large::Large;
 use av_log::Entry;
+use av_peers::adopted::Adopted;
+use av_peers::belief::Belief;
+use av_peers::client::Client;
+use av_peers::parts::Parts;
+use av_peers::service::Service;
+use av_peers::watches::Watches;
 use av_status::Prefixed;
-use av_turns::{Turns, Waits};
+use av_turns::{Nth, Turns, Waits};
 use mio::event::Event;
 use mio::{Events, Poll};
 use std::alloc::{AllocError, AllocFailed, Global};
@@ -36,8 +38,8 @@ use std::mem;
 use std::net::Net;
 use std::time::{Clock, Duration};
 
-// The numbers of the doors, of the connections of the service and its successor, of the service's second one, and of standard error. A client's is that which the
-// guard gives it, and so many more.
+// The numbers of the doors, of the connections of the services at both ports and of those who wait at their door, of a service's second one, and of standard
+// error. A client's is that which the guard gives it, and so many more.
 pub const OPENS: u64 = 0;
 
 pub const SERVICE: u64 = 1;
@@ -46,7 +48,7 @@ pub const CLAMD: u64 = 2;
 
 const SERVING: u64 = 3;
 
-const SUCCEEDING: u64 = 4;
+const SPARE: u64 = 4;
 
 const LOG: u64 = 5;
 
@@ -56,7 +58,15 @@ pub const PARTS: u64 = 7;
 
 const RELAYING: u64 = 8;
 
-const FIRST: u64 = 9;
+const GUEST: u64 = 9;
+
+const OTHER_GUEST: u64 = 10;
+
+const FIRST: u64 = 11;
+
+const PORTS: [Port; 2] = [Port::One, Port::Two];
+
+const GUESTS: [Nth; 2] = [Nth::First, Nth::Second];
 
 // How many are let in at a door before what came is read. Each wants two turns, to be heard and to be seen leaving, and there are no
 // fewer of those: else those who come and go would take all places.
@@ -119,11 +129,12 @@ pub struct Daemon<'a, R: Files> {
     rt: &'a R,
     alloc: Global,
     wait: Duration,
+    // How long a service may answer none of its questions, where the other can be asked.
+    patience: Duration,
     mode: Mode,
     doors: Entrance,
-    service: Option<Service>,
-    // One that stands by: it takes the service's place once that is lost.
-    successor: Option<Service>,
+    // The services of both ports, and who waits at their door, by the numbers of their connections.
+    services: BTreeMap<u64, Service>,
     clients: BTreeMap<u64, Client>,
     turns: Turns,
     // The second connection of the service, and the contents that are relayed over it, of at most so many bytes by the socket at which
@@ -142,9 +153,11 @@ pub struct Daemon<'a, R: Files> {
     // More can be done at once.
     goes_on: bool,
     belief: Belief,
+    // The version that grants, and since when.
+    adopted: Adopted,
     keeping: Keeping<'a>,
     names: Names<'a>,
-    // Since when it runs, how often it answered, and since when the service has greeted.
+    // Since when it runs, how often it answered, and since when a service that has greeted is there.
     begun: Duration,
     counts: Counts,
     greeted: Option<Duration>,
@@ -180,10 +193,10 @@ impl<'a, R: Files + Net + Clock> Daemon<'a, R> {
             rt,
             alloc,
             wait: asked.wait,
+            patience: Duration::from_millis(millis(asked.wait) / 2),
             mode: asked.mode,
             doors,
-            service: None,
-            successor: None,
+            services: BTreeMap::new(alloc),
             clients: BTreeMap::new(alloc),
             turns: Turns::new(alloc, begun.most_clients, millis(asked.wait)),
             parts: None,
@@ -195,8 +208,9 @@ impl<'a, R: Files + Net + Clock> Daemon<'a, R> {
             sending: VecDeque::new(alloc),
             goes_on: false,
             belief,
+            adopted: Adopted::new(),
             keeping: Keeping::new(asked.state, kept),
-            names: Names::new(asked.doors.names),
+            names: Names::new(asked.doors.names, asked.trust),
             begun: now,
             counts: Counts::new(),
             greeted: None,
@@ -226,7 +240,7 @@ impl<'a, R: Files + Net + Clock> Daemon<'a, R> {
         events: &mut Events,
         err: &mut E,
     ) -> Result<(), Stop> {
-        let timeout = self.timeout(self.now()?);
+        let timeout = self.timeout(guard, self.now()?);
         if self.doors.poll.poll(events, timeout).is_err() {
             return Err(Stop::Device);
         }
@@ -237,8 +251,9 @@ impl<'a, R: Files + Net + Clock> Daemon<'a, R> {
         let now = self.now()?;
         self.end_late(guard, now)?;
         self.accept(guard, now)?;
-        self.read_service(guard, now)?;
+        self.read_services(guard, now)?;
         self.read_parts(guard, now)?;
+        self.adopt(guard.floor());
         self.serve(guard, now)?;
         self.ask_line(guard, now)?;
         self.make_room(guard, now)?;
@@ -261,13 +276,13 @@ impl<'a, R: Files + Net + Clock> Daemon<'a, R> {
     }
 
     // How long nothing may be done, unless the system tells of a change: not at all where more can be done.
-    fn timeout(&self, now: Duration) -> Option<Duration> {
+    fn timeout(&self, guard: &Guard, now: Duration) -> Option<Duration> {
         if self.goes_on || self.turns.ready() > 0 {
             return Some(Duration::ZERO);
         }
         let dues = [
             self.turns_due(),
-            self.service_due(),
+            self.services_due(guard),
             self.contents_due(),
             self.parts_due(),
             self.lines_due(),
@@ -293,10 +308,31 @@ impl<'a, R: Files + Net + Clock> Daemon<'a, R> {
         Some(Duration::from_millis(due.saturating_add(1)))
     }
 
-    // When the service was waited for too long.
-    fn service_due(&self) -> Option<Duration> {
-        let since = self.service.as_ref()?.since()?;
-        Some(since.saturating_add(self.wait))
+    // When a service was waited for too long.
+    fn services_due(&self, guard: &Guard) -> Option<Duration> {
+        let first = self.service_due(guard, Port::One);
+        match (first, self.service_due(guard, Port::Two)) {
+            (Some(first), Some(second)) => Some(first.min(second)),
+            (Some(first), None) => Some(first),
+            (None, second) => second,
+        }
+    }
+
+    // When the service of a port was: to take what it is sent or to end a frame, or to answer where the other can be asked.
+    fn service_due(&self, guard: &Guard, port: Port) -> Option<Duration> {
+        let service = self.services.get(&connection_of(port))?;
+        let since = match service.since() {
+            Some(since) => Some(since.saturating_add(self.wait)),
+            None => None,
+        };
+        if !guard.connected(port.other()) {
+            return since;
+        }
+        match (since, service.asked.since()) {
+            (Some(since), Some(asked)) => Some(since.min(asked.saturating_add(self.patience))),
+            (None, Some(asked)) => Some(asked.saturating_add(self.patience)),
+            (since, None) => since,
+        }
     }
 
     // A change was told of a door or a connection.
@@ -309,35 +345,38 @@ impl<'a, R: Files + Net + Clock> Daemon<'a, R> {
             STATUS => told(&mut self.doors.status),
             PARTS => told(&mut self.doors.parts),
             RELAYING => return self.note_parts(event),
-            SERVING => return self.note_service(event),
-            SUCCEEDING => self.note_successor(event),
+            SERVING | SPARE => return self.note_service(number, event),
+            GUEST => self.note_guest(Nth::First, event),
+            OTHER_GUEST => self.note_guest(Nth::Second, event),
             LOG => self.log.writer.told(),
             _ => return self.note_client(number, event),
         }
         Ok(())
     }
 
-    fn note_service(&mut self, event: &Event) -> Result<(), Stop> {
-        let waits = match &mut self.service {
+    fn note_service(&mut self, connection: u64, event: &Event) -> Result<(), Stop> {
+        let waits = match self.services.get_mut(&connection) {
             Some(service) => service.line.note(event),
             None => return Ok(()),
         };
         if waits {
-            self.wants_to_send(SERVING)
+            self.wants_to_send(connection)
         } else {
             Ok(())
         }
     }
 
-    // A successor that takes no more is gone: it is waited for no longer.
-    fn note_successor(&mut self, event: &Event) {
-        let Some(successor) = &mut self.successor else {
-            return;
+    // A guest that takes no more is gone: it is waited for no longer.
+    fn note_guest(&mut self, guest: Nth, event: &Event) {
+        let is_closed = match self.services.get_mut(&guest_connection(guest)) {
+            Some(service) => {
+                let _ = service.line.note(event);
+                service.line.is_closed()
+            }
+            None => false,
         };
-        let _ = successor.line.note(event);
-        if successor.line.is_closed() {
-            self.successor = None;
-            self.turns.successor_lost();
+        if is_closed {
+            self.lose_guest(guest);
         }
     }
 
@@ -357,7 +396,7 @@ impl<'a, R: Files + Net + Clock> Daemon<'a, R> {
     // A connection is among those to which something is sent next.
     fn wants_to_send(&mut self, number: u64) -> Result<(), Stop> {
         let was_sending = match number {
-            SERVING => match &mut self.service {
+            SERVING | SPARE => match self.services.get_mut(&number) {
                 Some(service) => mem::replace(&mut service.is_sending, true),
                 None => true,
             },
@@ -374,6 +413,38 @@ impl<'a, R: Files + Net + Clock> Daemon<'a, R> {
             self.sending.push_back(number)?;
         }
         Ok(())
+    }
+}
+
+// The number of the connection of the service at a port.
+fn connection_of(port: Port) -> u64 {
+    match port {
+        Port::One => SERVING,
+        Port::Two => SPARE,
+    }
+}
+
+// The number of the connection of one who waits at the services' door.
+fn guest_connection(guest: Nth) -> u64 {
+    match guest {
+        Nth::First => GUEST,
+        Nth::Second => OTHER_GUEST,
+    }
+}
+
+// The place of the service at a port.
+fn place_of(port: Port) -> Nth {
+    match port {
+        Port::One => Nth::First,
+        Port::Two => Nth::Second,
+    }
+}
+
+// The port of a place.
+fn port_of(place: Nth) -> Port {
+    match place {
+        Nth::First => Port::One,
+        Nth::Second => Port::Two,
     }
 }
 

@@ -4,9 +4,9 @@ ghost use Rattle.av_daemon.specs.Descriptors.{clients_of};
 use crate::process::number_of;
 use std::fs::Files;
 
-// Descriptors that no client gets: three standard ones, those held beside them, the wait for changes, four doors, the service, its
-// successor, one that is let in to be closed, a file that is read, and some to spare.
-const OTHERS: u64 = 16;
+// Descriptors that no client gets: three standard ones, those held beside them, the wait for changes, five doors, two services, two that
+// wait at their door, one that is let in to be closed, a file that is read, and some to spare.
+const OTHERS: u64 = 18;
 
 // The most clients, however many descriptors there are.
 const MOST: u64 = 4_096;

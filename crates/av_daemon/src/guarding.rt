@@ -2,7 +2,6 @@ ghost use Rattle.std.specs.Prelude.{◌≡◌, max, IfErr};
 ghost use Rattle.av_daemon.specs.Guarding.{IsFailed};
 ghost use Rattle.av_status.specs.declared.status.Status.TheVariants.{Device};
 
-use crate::belief::Belief;
 use crate::daemon::{CLAMD, Daemon, Entrance, OPENS, PARTS, SERVICE, STATUS, Stop};
 use crate::descriptors::{clients_of, descriptors};
 use crate::door::Door;
@@ -11,11 +10,13 @@ use crate::recorder::{BadLog, Logging, Recorder, open_log};
 use av_base::{Mode, Version};
 use av_client::{PARTS_BEHIND, STATUS_BEHIND, beside};
 use av_guard::{Guard, Settings};
+use av_peers::belief::Belief;
 use av_sockets::fault::socket_failed;
 use av_sockets::{Node, listen, remove_own};
 use av_status::Prefixed;
 use av_status::faults::{device_failed, out_of_memory, say, say_of, text};
 use av_status::status::Status;
+use av_trust::Trust;
 use mio::Poll;
 use mio::net::UnixListener;
 use std::alloc::Global;
@@ -35,7 +36,7 @@ const BOOTS: u64 = 16_777_216;
 pub struct Doors<'a> {
     /// To which clients come with opens.
     pub opens: &'a str,
-    /// To which the scanning service comes, one at a time.
+    /// To which scanning services come, one at each of two ports.
     pub service: &'a str,
     /// To which clients of clamd come.
     pub clamd: Option<&'a str>,
@@ -53,9 +54,11 @@ pub struct Sizes {
 }
 
 /// How a guard is run.
-#[derive(Clone, Copy, Debug)]
+#[derive(Clone, Copy)]
 pub struct Guarding<'a> {
     pub doors: Doors<'a>,
+    /// Which signature files are taken.
+    pub trust: Trust<'a>,
     /// What becomes of an open that can't be judged.
     pub mode: Mode,
     /// How many bytes of contents are kept for later asks.
@@ -134,7 +137,7 @@ pub struct Begun<'a> {
 fn few_descriptors<E: Write>(err: &mut E) -> Status
     ensures { result ≡ Device }
 {
-    say(err, &[text("a guard needs 17 descriptors (ulimit -n)")]);
+    say(err, &[text("a guard needs 19 descriptors (ulimit -n)")]);
     Status::Device
 }
 

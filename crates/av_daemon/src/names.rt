@@ -1,6 +1,6 @@
-ghost use Rattle.std.specs.Prelude.{◌≡◌, false, None};
+ghost use Rattle.std.specs.Prelude.{◌≡◌, false, true, None};
 ghost use Rattle.std.specs.Option.{option_copied};
-ghost use Rattle.av_daemon.specs.Names.{has, is_missing, name_at, name_of};
+ghost use Rattle.av_daemon.specs.Names.{count_of, has, is_missing, name_at, name_of};
 
 use av_base::Version;
 use av_base::device::read_whole;
@@ -8,6 +8,7 @@ use av_files::{MAX_FILE, TURNS};
 use av_guard::Answered;
 use av_sigset::SignatureSet;
 use av_sockets::{Look, looked_at};
+use av_trust::{Trust, text_of};
 use std::alloc::Global;
 use std::fs;
 use std::fs::Files;
@@ -17,17 +18,19 @@ use std::fs::Files;
 #[derive(Drop)]
 pub struct Names<'a> {
     path: Option<&'a str>,
+    trust: Trust<'a>,
     set: Option<SignatureSet>,
     looked: Option<Look>,
 }
 
 impl<'a> Names<'a> {
-    /// Those of the set in this file, where one was named.
-    pub fn new(path: Option<&'a str>) -> Names<'a>
-        ensures { result ≡ record { path = path.entry; set = None; looked = None } }
+    /// Those of the set in this file, where one was named, as far as it is trusted.
+    pub fn new(path: Option<&'a str>, trust: Trust<'a>) -> Names<'a>
+        ensures { result ≡ record { path = path.entry; trust = trust.entry; set = None; looked = None } }
     {
         Names {
             path,
+            trust,
             set: None,
             looked: None,
         }
@@ -40,6 +43,25 @@ impl<'a> Names<'a> {
         match answer {
             Answered::Infected { version, .. } if !self.has(version) => self.read(rt, alloc),
             _ => {}
+        }
+    }
+
+    /// Reads the file again, where the set of this version isn't there.
+    pub fn follow<R: Files>(&mut self, rt: &R, alloc: Global, version: Version)
+        ensures { has version self.old.set ≡ true → self.new ≡ self.old }
+    {
+        if !self.has(version) {
+            self.read(rt, alloc);
+        }
+    }
+
+    /// How many signatures the set of this version has, where it is there; else 0.
+    pub fn count_of(&self, version: Version) -> u64
+        ensures { result ≡ count_of version self.now.set }
+    {
+        match &self.set {
+            Some(set) if set.version() == version => set.len() as u64,
+            _ => 0,
         }
     }
 
@@ -86,14 +108,15 @@ impl<'a> Names<'a> {
             return;
         }
         self.looked = look;
-        if let Some(set) = set_in(rt, alloc, path) {
+        if let Some(set) = set_in(rt, alloc, path, self.trust) {
             self.set = Some(set);
         }
     }
 }
 
-fn set_in<R: Files>(rt: &R, alloc: Global, path: &str) -> Option<SignatureSet> {
+fn set_in<R: Files>(rt: &R, alloc: Global, path: &str, trust: Trust<'_>) -> Option<SignatureSet> {
     let mut file = fs::open(rt, path).ok()?;
     let bytes = read_whole(alloc, &mut file, MAX_FILE, TURNS).ok()?;
-    SignatureSet::read(alloc, bytes.as_slice()).ok()
+    let text = text_of(trust, bytes.as_slice()).ok()?;
+    SignatureSet::read(alloc, text).ok()
 }

@@ -3,9 +3,9 @@
 ghost use Rattle.std.specs.Prelude.{◌≡◌};
 ghost use Rattle.av_daemon.specs.Recorder.{judged_answer, judged_of};
 
-use crate::told::LargeTold;
 use av_guard::Answered;
 use av_log::{Entry, Form, Judged, Queue, fields_of, is_due, put_line, stamp_of};
+use av_peers::told::LargeTold;
 use std::alloc::{AllocError, Global};
 use std::fs;
 use std::fs::{Files, OpenFile, OpenOptions};

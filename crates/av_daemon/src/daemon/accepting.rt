@@ -1,14 +1,12 @@
 //! Who comes to a door.
 
-use super::{AT_ONCE, Daemon, FIRST, SERVING, SUCCEEDING, Stop, millis};
-use crate::client::{Client, Place};
+use super::{AT_ONCE, Daemon, FIRST, Stop, millis};
 use crate::door::Door;
-use crate::line::{LEAST, Line};
-use crate::service::Service;
 use av_guard::Guard;
 use av_log::Entry;
-use av_sockets::{TurnedAway, put_refusal};
-use av_turns::{Admitted, Arrived};
+use av_peers::client::{Client, Place};
+use av_peers::line::{LEAST, Line};
+use av_turns::Admitted;
 use mio::net::UnixStream;
 use std::fs::Files;
 use std::net::Net;
@@ -103,54 +101,6 @@ impl<'a, R: Files + Net + Clock> Daemon<'a, R> {
     pub(super) fn lose(&mut self, guard: &mut Guard, client: u64) -> Result<(), Stop> {
         self.turns.closed(client);
         self.remove(guard, client)
-    }
-
-    // One that may be a scanning service: it takes the service's place, or stands by, or is turned away.
-    fn accept_service(&mut self, stream: UnixStream, now: Duration) -> Result<(), Stop> {
-        let mut line = Line::new(self.alloc, stream, LEAST);
-        match self.turns.service_came(millis(now)) {
-            Arrived::Place => {
-                if line.register(self.doors.poll.registry(), SERVING).is_err() {
-                    let _ = self.turns.service_lost(millis(now));
-                    return Ok(());
-                }
-                self.service = Some(Service::new(self.alloc, line, now));
-                self.goes_on = true;
-            }
-            Arrived::Successor => {
-                if line
-                    .register(self.doors.poll.registry(), SUCCEEDING)
-                    .is_err()
-                {
-                    self.turns.successor_lost();
-                    return Ok(());
-                }
-                self.successor = Some(Service::new(self.alloc, line, now));
-            }
-            Arrived::Away => {
-                put_refusal(&mut line.waiting, TurnedAway::Full)?;
-                let _ = line.send(now);
-            }
-        }
-        Ok(())
-    }
-
-    // The successor has the place of the service from now on.
-    pub(super) fn promote(&mut self, now: Duration) {
-        let Some(mut service) = self.successor.take() else {
-            return;
-        };
-        if service
-            .line
-            .register_again(self.doors.poll.registry(), SERVING)
-            .is_err()
-        {
-            let _ = self.turns.service_lost(millis(now));
-            return;
-        }
-        service.begin(now);
-        self.service = Some(service);
-        self.goes_on = true;
     }
 }
 

@@ -4,12 +4,12 @@ use super::relaying::Beginning;
 use super::telling::Reply;
 use super::watching::Watch;
 use super::{ASKS, Daemon, FIRST, RELAYED, Stop, TURNS, millis};
-use crate::client::{Lost, Thing};
-use crate::told::{LargeTold, unjudged};
 use av_base::{ByteList, Cause, Refusal};
 use av_clamd::Sending;
 use av_guard::{AskFault, Class, Guard};
 use av_log::Note;
+use av_peers::client::{Lost, Thing};
+use av_peers::told::{LargeTold, unjudged};
 use av_turns as turns;
 use av_turns::{Next, Parsed, Standing};
 use std::alloc::AllocError;
@@ -136,6 +136,7 @@ impl<'a, R: Files + Net + Clock> Daemon<'a, R> {
         piece: &[u8],
         now: Duration,
     ) -> Result<(), Broken> {
+        self.tell_about(guard, client);
         let taken = self.hear(guard, client, piece, now)?;
         let rest = piece.get(taken..).unwrap_or(b"".as_slice());
         self.end_turn(client, rest, now)

@@ -5,9 +5,9 @@ use super::{Daemon, LOG, millis};
 use crate::log::send_lines;
 use crate::names::Names;
 use crate::recorder::judged_of;
-use crate::told::LargeTold;
-use av_base::{Part, Version};
+use av_base::{Part, Port, Version};
 use av_log::{Asked, Entry, Note, Told, Way, is_logged};
+use av_peers::told::LargeTold;
 use av_status::faults::{say, text};
 use std::alloc::Global;
 use std::fs::Files;
@@ -136,18 +136,22 @@ pub(super) fn name_in<'n>(names: &'n Names<'_>, told: LargeTold) -> Option<&'n [
 // Says in words what happened. An answer and a newer set are for the log alone.
 fn say_entry<E: Write>(err: &mut E, entry: &Entry<'_>) {
     match entry {
-        Entry::Told(_) | Entry::Newer(_) | Entry::Unkept(_) | Entry::Dropped(_) => {}
-        Entry::Connected(version) => say_connected(err, *version),
-        Entry::Lost => say(err, &[text("service lost")]),
+        Entry::Told(_) | Entry::Newer { .. } | Entry::Unkept(_) | Entry::Dropped(_) => {}
+        Entry::Connected { port, version } => say_connected(err, *port, *version),
+        Entry::Lost(port) => say(err, &[text(name_of(*port)), text(" lost")]),
         Entry::Older { version, least } => {
             say_refused(err, *version, " is older than ", *least);
         }
         Entry::Above { version, most } => say_refused(err, *version, " is above ", *most),
         Entry::Silent => say(err, &[text("the service did not greet")]),
-        Entry::Stuck => say(
-            err,
-            &[text("the service answered none of 8 questions in a row")],
-        ),
+        Entry::Stuck(port) => {
+            let why = text(" answered none of 8 questions in a row");
+            say(err, &[text("the "), text(name_of(*port)), why]);
+        }
+        Entry::Quiet(port) => {
+            let why = text(" answered no question for half of --wait");
+            say(err, &[text("the "), text(name_of(*port)), why]);
+        }
         Entry::PartsConnected(_) => say(err, &[text("parts connected")]),
         Entry::PartsLost => say(err, &[text("parts lost")]),
         Entry::PartsOlder { version, least } => say_parts_older(err, *version, *least),
@@ -158,12 +162,25 @@ fn say_entry<E: Write>(err: &mut E, entry: &Entry<'_>) {
     }
 }
 
+// What the service of a port is called.
+fn name_of(port: Port) -> &'static str {
+    match port {
+        Port::One => "service",
+        Port::Two => "spare",
+    }
+}
+
 // Says that a service of this version is there.
-fn say_connected<E: Write>(err: &mut E, version: Version) {
+fn say_connected<E: Write>(err: &mut E, port: Port, version: Version) {
     let number = Part::Number(version.get());
     say(
         err,
-        &[text("service of version "), number, text(" connected")],
+        &[
+            text(name_of(port)),
+            text(" of version "),
+            number,
+            text(" connected"),
+        ],
     );
     if version.get() == u64::MAX {
         say(

@@ -7,17 +7,17 @@ use super::asking::Broken;
 use super::sending::is_late;
 use super::telling::Reply;
 use super::{Daemon, FIRST, RELAYED, RELAYING, Stop, millis};
-use crate::client::{Open, Place};
-use crate::line::Line;
-use crate::parts::{self, Parts, word_number};
-use crate::service::Claim;
-use crate::told::large_told;
+use av_arrival::TurnedAway;
 use av_base::{ByteList, Refusal, Version};
 use av_guard::Guard;
 use av_large::{Begun, Ending, Given, Service, Told};
 use av_log::Entry;
 use av_parts::{Order, Said, Word, put_order};
-use av_sockets::TurnedAway;
+use av_peers::client::{Open, Place};
+use av_peers::line::Line;
+use av_peers::parts::{self, Parts, word_number};
+use av_peers::service::Claim;
+use av_peers::told::large_told;
 use av_turns as turns;
 use av_turns::{Left, Waits, Why};
 use mio::event;
@@ -91,7 +91,7 @@ impl<'a, R: Files + Net + Clock> Daemon<'a, R> {
         tag: u64,
         now: Duration,
     ) -> Result<(), Broken> {
-        let service = if guard.connected() {
+        let service = if self.has_service(guard) {
             Service::Connected
         } else {
             Service::Away

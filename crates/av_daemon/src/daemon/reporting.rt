@@ -1,10 +1,11 @@
 //! What the guard says of itself.
 
-use super::Daemon;
-use crate::line::{LEAST, Line};
+use super::{Daemon, FIRST};
 use crate::process::memory;
+use av_base::Version;
 use av_guard::Guard;
 use av_health::{Report, report_bytes};
+use av_peers::line::{LEAST, Line};
 use mio::net::UnixStream;
 use std::fs::Files;
 use std::net::Net;
@@ -23,12 +24,10 @@ impl<'a, R: Files + Net + Clock> Daemon<'a, R> {
     }
 
     fn report(&self, guard: &Guard, now: Duration) -> Report {
-        let stands_by = if self.successor.is_some() { 1 } else { 0 };
-        let is_there = if self.service.is_some() { 1 } else { 0 };
         Report {
-            ready: if guard.connected() { 1 } else { 0 },
+            ready: if self.has_service(guard) { 1 } else { 0 },
             version: guard.floor().get(),
-            services: is_there + stands_by,
+            services: self.services.len() as u64,
             clients: self.clients.len() as u64,
             unanswered: self.unanswered(),
             questions: guard.question_count() as u64,
@@ -43,6 +42,33 @@ impl<'a, R: Files + Net + Clock> Daemon<'a, R> {
             memory_bytes: memory(self.rt),
             parts: if self.large.takes_parts() { 1 } else { 0 },
             open_contents: self.large.len() as u64,
+            signatures: self.names.count_of(guard.floor()),
+            version_time: self.adopted.seconds(),
+        }
+    }
+
+    // Takes up the version that grants now, with the set that has its names.
+    pub(super) fn adopt(&mut self, version: Version) {
+        if self.adopted.is(version) {
+            return;
+        }
+        let seconds = match self.rt.since_1970() {
+            Ok(time) => time.as_secs(),
+            Err(_) => 0,
+        };
+        self.adopted.take_up(version, seconds);
+        self.names.follow(self.rt, self.alloc, version);
+    }
+
+    // Tells a client of clamd how the guard is now.
+    pub(super) fn tell_about(&mut self, guard: &Guard, client: u64) {
+        let is_ready = self.has_service(guard);
+        let Some(who) = self.clients.get_mut(&client.saturating_add(FIRST)) else {
+            return;
+        };
+        if who.is_of_clamd() {
+            let waiting = guard.question_count() as u64;
+            who.learn(self.adopted.about(is_ready, waiting));
         }
     }
 

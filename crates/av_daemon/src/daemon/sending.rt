@@ -4,11 +4,13 @@ ghost use Rattle.std.specs.Prelude.{◌≡◌};
 ghost use Rattle.av_daemon.specs.Late.{is_late};
 
 use super::telling::Reply;
-use super::{Daemon, FIRST, RELAYING, SERVING, Stop, millis};
-use crate::told::{LargeTold, unjudged};
-use av_base::Cause;
+use super::{
+    Daemon, FIRST, PORTS, RELAYING, SERVING, SPARE, Stop, connection_of, millis, place_of, port_of,
+};
+use av_base::{Cause, Port};
 use av_guard::Guard;
 use av_log::Entry;
+use av_peers::told::{LargeTold, unjudged};
 use av_turns::{Late, Why};
 use std::fs::Files;
 use std::net::Net;
@@ -22,7 +24,8 @@ impl<'a, R: Files + Net + Clock> Daemon<'a, R> {
                 break;
             };
             match number {
-                SERVING => self.send_to_service(guard, now)?,
+                SERVING => self.send_to_service(guard, Port::One, now)?,
+                SPARE => self.send_to_service(guard, Port::Two, now)?,
                 RELAYING => self.send_to_parts(guard, now)?,
                 _ => self.send_to(guard, number, now)?,
             }
@@ -49,30 +52,36 @@ impl<'a, R: Files + Net + Clock> Daemon<'a, R> {
         Ok(())
     }
 
-    fn send_to_service(&mut self, guard: &mut Guard, now: Duration) -> Result<(), Stop> {
-        let Some(service) = &mut self.service else {
+    fn send_to_service(
+        &mut self,
+        guard: &mut Guard,
+        port: Port,
+        now: Duration,
+    ) -> Result<(), Stop> {
+        let Some(service) = self.services.get_mut(&connection_of(port)) else {
             return Ok(());
         };
         service.is_sending = false;
         let stands = service.line.send(now);
         let goes_on = service.goes_on();
         if !stands {
-            return self.lose_service(guard, now);
+            return self.lose_service(guard, port, now);
         }
         self.goes_on = self.goes_on || goes_on;
         Ok(())
     }
 
-    // Ends what the turns say is late, and a service that is waited for too long.
+    // Ends what the turns say is late, and services that are waited for too long.
     pub(super) fn end_late(&mut self, guard: &mut Guard, now: Duration) -> Result<(), Stop> {
         'late: for _ in 0..u64::MAX {
             match self.turns.late(millis(now)) {
                 Late::Nothing => break,
-                Late::Question(seq) => {
-                    let given = guard.time_up(self.alloc, seq)?;
-                    self.settle(guard, given, millis(now))?;
+                Late::Question(seq) => self.end_question(guard, seq, now)?,
+                Late::Service(place) => self.end_service(guard, port_of(place), now)?,
+                Late::Guest(guest) => {
+                    self.happened(&Entry::Silent);
+                    self.lose_guest(guest);
                 }
-                Late::Service => self.end_service(guard, now)?,
                 Late::Deny { client, tag } => {
                     let answer = unjudged(self.mode, Cause::TimedOut);
                     let told = LargeTold::Answered(answer);
@@ -82,26 +91,49 @@ impl<'a, R: Files + Net + Clock> Daemon<'a, R> {
             }
         }
         self.end_late_contents(guard, now)?;
-        let since = match &self.service {
-            Some(service) => service.since(),
-            None => None,
-        };
-        if is_late(since, now, self.wait) {
-            self.lose_service(guard, now)
-        } else {
-            Ok(())
+        'ports: for port in PORTS {
+            self.end_late_service(guard, port, now)?;
         }
+        Ok(())
     }
 
-    // The service did not greet, or answered none of many questions in a row.
-    fn end_service(&mut self, guard: &mut Guard, now: Duration) -> Result<(), Stop> {
-        let why = if guard.connected() {
-            Entry::Stuck
-        } else {
-            Entry::Silent
+    // The time of a question is up, which counts as a miss of the service that was asked.
+    fn end_question(&mut self, guard: &mut Guard, seq: u64, now: Duration) -> Result<(), Stop> {
+        'ports: for port in PORTS {
+            if self.was_asked(port, seq) {
+                self.turns.missed(place_of(port));
+            }
+        }
+        let given = guard.time_up(self.alloc, seq)?;
+        self.settle(guard, given, millis(now))
+    }
+
+    // A service that takes nothing, or ends no frame, is lost; and so is one that answers none of its questions for half of the wait,
+    // where the other can be asked: so they have time left there.
+    fn end_late_service(
+        &mut self,
+        guard: &mut Guard,
+        port: Port,
+        now: Duration,
+    ) -> Result<(), Stop> {
+        let (since, quiet) = match self.services.get(&connection_of(port)) {
+            Some(service) => (service.since(), service.asked.since()),
+            None => (None, None),
         };
-        self.happened(&why);
-        self.lose_service(guard, now)
+        if is_late(since, now, self.wait) {
+            return self.lose_service(guard, port, now);
+        }
+        if guard.connected(port.other()) && is_late(quiet, now, self.patience) {
+            self.happened(&Entry::Quiet(port));
+            return self.lose_service(guard, port, now);
+        }
+        Ok(())
+    }
+
+    // A service answered none of many questions in a row.
+    fn end_service(&mut self, guard: &mut Guard, port: Port, now: Duration) -> Result<(), Stop> {
+        self.happened(&Entry::Stuck(port));
+        self.lose_service(guard, port, now)
     }
 
     // A client is closed, of which the turns know already. A client of clamd that said nothing is told so.

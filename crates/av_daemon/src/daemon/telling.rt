@@ -1,14 +1,16 @@
 //! What the guard gives out: messages for the service, and answers for clients.
 
 use super::recording::{look, name_in};
-use super::{Daemon, FIRST, SERVING, Stop, millis};
-use crate::client::Lost;
+use super::{Daemon, FIRST, Stop, connection_of, millis};
 use crate::recorder::judged_of;
-use crate::told::LargeTold;
 use av_frame::encode::encode_into;
 use av_frame::{Body, Message};
 use av_guard::{Given, Guard, Told};
 use av_log::{Note, Way};
+use av_peers::asked::Question;
+use av_peers::client::Lost;
+use av_peers::told::LargeTold;
+use std::collections::BTreeMap;
 use std::fs::Files;
 use std::net::Net;
 use std::time::{Clock, Duration};
@@ -32,18 +34,60 @@ impl<'a, R: Files + Net + Clock> Daemon<'a, R> {
         Ok(())
     }
 
-    // A message for the service, where it is still there.
+    // The same of what was given when a service was lost. A question that is asked again has no more time than before: when the first
+    // byte of its ask came is told by its stream.
+    pub(super) fn settle_moved(
+        &mut self,
+        guard: &mut Guard,
+        given: Given,
+        firsts: &BTreeMap<u64, u64>,
+        now: Duration,
+    ) -> Result<(), Stop> {
+        let Given { told, messages } = given;
+        'messages: for message in messages.iter() {
+            let first = match message.body() {
+                Body::Scan { stream, .. } => firsts.get(&stream.get()).copied(),
+                _ => None,
+            };
+            self.put_message(message, first.unwrap_or(millis(now)))?;
+        }
+        'told: for told in told {
+            self.tell(guard, Reply::from(told), now)?;
+        }
+        Ok(())
+    }
+
+    // A message for the service of a port, where it is still there.
     fn put_message(&mut self, message: &Message, first: u64) -> Result<(), Stop> {
+        let connection = connection_of(message.port());
         match message.body() {
-            Body::Scan { id, length, .. } => self.turns.asked(id.seq, first, *length)?,
-            Body::Abort { id } => self.turns.question_over(id.seq),
+            Body::Scan {
+                id,
+                stream,
+                length,
+                ..
+            } => {
+                self.turns.asked(id.seq, first, *length)?;
+                let stream = stream.get();
+                let now = self.now()?;
+                if let Some(service) = self.services.get_mut(&connection) {
+                    let question = Question { stream, first };
+                    service.asked.asked(id.seq, question, now)?;
+                }
+            }
+            Body::Abort { id } => {
+                self.turns.question_over(id.seq);
+                if let Some(service) = self.services.get_mut(&connection) {
+                    service.asked.over(id.seq);
+                }
+            }
             _ => {}
         }
-        let Some(service) = &mut self.service else {
+        let Some(service) = self.services.get_mut(&connection) else {
             return Ok(());
         };
         encode_into(message, &mut service.line.waiting)?;
-        self.wants_to_send(SERVING)
+        self.wants_to_send(connection)
     }
 
     // An answer for a client, where it is still there.

@@ -1,6 +1,0 @@
-use Rattle.std.proofs.Common.{◌≡◌}
-use Rattle.av_daemon.proofs.line.Line.read.Given as goal
-
--- a read that was interrupted changes nothing
-abbrev pub invariant-reads : goal.invariant-reads
-invariant-reads l = l.self ≡ l.initial.self

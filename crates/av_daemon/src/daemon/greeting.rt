@@ -1,0 +1,118 @@
+//! Who comes as a scanning service: it greets at a port, and is the service there, or stands by, or is turned away.
+
+use super::{Daemon, GUESTS, Stop, connection_of, guest_connection, millis, place_of};
+use av_arrival::{TurnedAway, put_refusal};
+use av_base::Port;
+use av_frame::Message;
+use av_peers::line::{LEAST, Line};
+use av_peers::service::{Gone, Service};
+use av_turns::{Arrived, Nth};
+use mio::net::UnixStream;
+use std::fs::Files;
+use std::net::Net;
+use std::time::{Clock, Duration};
+
+impl<'a, R: Files + Net + Clock> Daemon<'a, R> {
+    // One that may be a scanning service: it is waited for to greet, or turned away where two wait already.
+    pub(super) fn accept_service(&mut self, stream: UnixStream, now: Duration) -> Result<(), Stop> {
+        let mut line = Line::new(self.alloc, stream, LEAST);
+        let Some(guest) = self.turns.service_came(millis(now)) else {
+            put_refusal(&mut line.waiting, TurnedAway::Full)?;
+            let _ = line.send(now);
+            return Ok(());
+        };
+        let connection = guest_connection(guest);
+        let is_told = line
+            .register(self.doors.poll.registry(), connection)
+            .is_ok();
+        let service = Service::new(self.alloc, line, now);
+        if !is_told || self.services.insert(connection, service).is_err() {
+            self.turns.guest_lost(guest);
+            return Ok(());
+        }
+        self.goes_on = true;
+        Ok(())
+    }
+
+    // Reads a piece of what each guest has, up to its greeting. What follows that is read once it is a service.
+    pub(super) fn read_guests(&mut self, now: Duration) -> Result<(), Stop> {
+        'guests: for guest in GUESTS {
+            match self.hear_guest(guest, now) {
+                Ok(Some(greeting)) => self.greet(guest, greeting, now)?,
+                Ok(None) => {}
+                Err(Gone) => self.lose_guest(guest),
+            }
+        }
+        Ok(())
+    }
+
+    fn hear_guest(&mut self, guest: Nth, now: Duration) -> Result<Option<Message>, Gone> {
+        let Some(service) = self.services.get_mut(&guest_connection(guest)) else {
+            return Ok(None);
+        };
+        if service.greeting.is_some() || !service.line.may_read() {
+            return Ok(None);
+        }
+        let heard = service.hear(&mut self.buffer, now);
+        match service.next() {
+            Ok(Some(greeting)) => Ok(Some(greeting)),
+            Ok(None) => {
+                self.goes_on = self.goes_on || service.line.may_read();
+                match heard {
+                    Ok(()) => Ok(None),
+                    Err(gone) => Err(gone),
+                }
+            }
+            Err(gone) => Err(gone),
+        }
+    }
+
+    // A guest's first message came, which says at which port it is.
+    fn greet(&mut self, guest: Nth, greeting: Message, now: Duration) -> Result<(), Stop> {
+        let port = greeting.port();
+        let arrived = self.turns.service_greeted(guest, place_of(port));
+        if let Some(service) = self.services.get_mut(&guest_connection(guest)) {
+            service.greeting = Some(greeting);
+        }
+        match arrived {
+            Arrived::Place => {
+                self.take_place(guest, port);
+                Ok(())
+            }
+            Arrived::Successor => Ok(()),
+            Arrived::Away => self.send_away(guest, now),
+        }
+    }
+
+    // A guest that greeted is the service of a port from now on. Its greeting is passed on when it is read next.
+    pub(super) fn take_place(&mut self, guest: Nth, port: Port) {
+        let Some(mut service) = self.services.remove(&guest_connection(guest)) else {
+            return;
+        };
+        let connection = connection_of(port);
+        let is_told = service
+            .line
+            .register_again(self.doors.poll.registry(), connection)
+            .is_ok();
+        if !is_told || self.services.insert(connection, service).is_err() {
+            let _ = self.turns.service_lost(place_of(port));
+            return;
+        }
+        self.goes_on = true;
+    }
+
+    // A guest is told that the place is taken and another one stands by.
+    fn send_away(&mut self, guest: Nth, now: Duration) -> Result<(), Stop> {
+        if let Some(mut service) = self.services.remove(&guest_connection(guest)) {
+            put_refusal(&mut service.line.waiting, TurnedAway::Full)?;
+            let _ = service.line.send(now);
+        }
+        Ok(())
+    }
+
+    // A guest is gone.
+    pub(super) fn lose_guest(&mut self, guest: Nth) {
+        let _ = self.services.remove(&guest_connection(guest));
+        self.turns.guest_lost(guest);
+    }
+}
