@@ -1,6 +1,4 @@
 pub mod RunLemmas
 pub mod GroupLemmas
-pub mod PlaceLemmas
 pub mod ServiceLemmas
-pub mod RefusalLemmas
 pub mod ContentLemmas

@@ -5,8 +5,7 @@
 
 ghost use Rattle.std.specs.Prelude.{◌≤◌, length, IfOk, IfSome};
 
-use crate::place::Arriving;
-use crate::refusal::{Front, TurnedAway, refusal_in};
+use av_arrival::{Arriving, Front, TurnedAway, refusal_in};
 use std::alloc::Global;
 use std::cell::RefCell;
 use std::io::{ErrorKind, Read, Write};

@@ -29,29 +29,51 @@ use std::io::Write;
 use std::net::Net;
 use std::time::Clock;
 
-/// Opens files by their names, through a filter that one service may join at a socket with these rights, and writes a line for
+/// A filter that opens files: the system and its memory, the socket at which a service may join it, the rights of that socket, and where
+/// contents come from.
+#[derive(Drop)]
+pub struct Filtering<'a, R, F> {
+    pub rt: &'a R,
+    pub alloc: Global,
+    pub meeting: Meeting<'a>,
+    pub mode: u32,
+    pub files: &'a F,
+}
+
+// Files by their names, and where their contents come from.
+#[derive(Drop)]
+struct Listed<'a, 'b, F> {
+    files: &'b F,
+    names: &'b [&'a str],
+}
+
+/// Opens files by their names, through a filter that one service may join at a socket, and writes a line for
 /// each, in the order given, as far as it is to be shown. An open that no service has answered is denied. The files are read and
 /// held a group at a time, the first one before the socket is made; one that can't be read ends it behind the lines of the groups
 /// before. Each line that was written is an answer of the filter, also in a run that ends with a fault, and each grant is of the content
 /// that was read for the file's name.
 pub fn filter_files<R: Files + Net + Clock, F: Contents, C: Clock, W: Write, E: Write>(
-    rt: &R,
-    alloc: Global,
-    meeting: Meeting<'_>,
-    mode: u32,
-    files: &F,
+    filtering: Filtering<'_, R, F>,
     names: &[&str],
     wishes: Wishes,
     out: &mut W,
     err: &mut Progress<'_, C, E>,
 ) -> Status
-    ensures so_far { AreToldSoFar (F.has_content files.now) wishes no_files (W.contents out.old) first names.now (W.contents out.new) }
-    ensures filtered { EndsWell result → AreFiltered (F.has_content files.now) names.now wishes (W.contents out.old) (W.contents out.new) result }
+    ensures so_far { AreToldSoFar (F.has_content filtering.entry.files.now) wishes no_files (W.contents out.old) first names.now (W.contents out.new) }
+    ensures filtered { EndsWell result → AreFiltered (F.has_content filtering.entry.files.now) names.now wishes (W.contents out.old) (W.contents out.new) result }
 {
+    let Filtering {
+        rt,
+        alloc,
+        meeting,
+        mode,
+        files,
+    } = filtering;
     let Ok(mut opener) = Opener::new(rt, alloc, meeting, mode) else {
         return out_of_memory(err);
     };
-    let status = filter_over(&mut opener, files, names, wishes, out, err);
+    let named = Listed { files, names };
+    let status = filter_over(&mut opener, &named, wishes, out, err);
     opener.end();
     status
 }
@@ -59,22 +81,21 @@ pub fn filter_files<R: Files + Net + Clock, F: Contents, C: Clock, W: Write, E: 
 // The same, by this opener.
 fn filter_over<'a, R: Files + Net + Clock, F: Contents, C: Clock, W: Write, E: Write>(
     opener: &mut Opener<'a, R>,
-    files: &F,
-    names: &[&'a str],
+    named: &Listed<'a, '_, F>,
     wishes: Wishes,
     out: &mut W,
     err: &mut Progress<'_, C, E>,
 ) -> Status
     requires first { opener.old.mount ≡ first }
     requires empty { opener.old.group.names.items ≡ [] }
-    ensures so_far { AreToldSoFar (F.has_content files.now) wishes no_files (W.contents out.old) first names.now (W.contents out.new) }
-    ensures filtered { EndsWell result → AreFiltered (F.has_content files.now) names.now wishes (W.contents out.old) (W.contents out.new) result }
+    ensures so_far { AreToldSoFar (F.has_content named.now.files.now) wishes no_files (W.contents out.old) first named.now.names.now (W.contents out.new) }
+    ensures filtered { EndsWell result → AreFiltered (F.has_content named.now.files.now) named.now.names.now wishes (W.contents out.old) (W.contents out.new) result }
 {
     let mut tally = Tally::new();
-    match open_all(opener, files, names, wishes, &mut tally, out, err) {
+    match open_all(opener, named, wishes, &mut tally, out, err) {
         Ok(()) => {
             let ended = opener.told(err);
-            conclude_opened(tally, names.len(), ended, wishes, err)
+            conclude_opened(tally, named.names.len(), ended, wishes, err)
         }
         Err(failed) => failed,
     }
@@ -83,8 +104,7 @@ fn filter_over<'a, R: Files + Net + Clock, F: Contents, C: Clock, W: Write, E: W
 // Reads and opens the files, a group after the other.
 fn open_all<'a, R: Files + Net + Clock, F: Contents, C: Clock, W: Write, E: Write>(
     opener: &mut Opener<'a, R>,
-    files: &F,
-    names: &[&'a str],
+    named: &Listed<'a, '_, F>,
     wishes: Wishes,
     tally: &mut Tally,
     out: &mut W,
@@ -93,44 +113,55 @@ fn open_all<'a, R: Files + Net + Clock, F: Contents, C: Clock, W: Write, E: Writ
     requires empty { opener.old.group.names.items ≡ [] }
     requires none { opener.old.mount.volume.streams ≡ [] }
     ensures told { OnOk result
-        (AreTold (F.has_content files.now) wishes tally.old (W.contents out.old) opener.old.mount names.now tally.new
+        (AreTold (F.has_content named.now.files.now) wishes tally.old (W.contents out.old) opener.old.mount named.now.names.now tally.new
         (W.contents out.new) opener.new.mount) }
     ensures so_far { OnErr result
-        (AreToldSoFar (F.has_content files.now) wishes tally.old (W.contents out.old) opener.old.mount names.now (W.contents out.new)) }
+        (AreToldSoFar (F.has_content named.now.files.now) wishes tally.old (W.contents out.old) opener.old.mount named.now.names.now (W.contents out.new)) }
     ensures failed { IfErr result (λ status. IsFault status) }
 {
     let Ok(mut buffer) = vec![in opener.alloc; 0u8; MAX_FILE + 2] else {
         return Err(out_of_memory(err));
     };
+    let Listed { files, names } = *named;
     let mut count = 0usize;
     'files: for name in names {
         err.step("read", count, names.len());
         count = count.saturating_add(1);
         let content = content_of(files, name, &mut buffer);
-        go_on(opener, *name, content, wishes, tally, out, err)?;
+        let file = Read {
+            name: *name,
+            content,
+        };
+        go_on(opener, file, wishes, tally, out, err)?;
     }
     open_group(opener, wishes, tally, out, err)
+}
+
+// A file that was read: its name, and its content, where it could be read.
+#[derive(Clone, Copy)]
+struct Read<'a, 'b> {
+    name: &'a str,
+    content: Option<&'b [u8]>,
 }
 
 // Takes a file that was read into its group, and opens the group where it is full.
 fn go_on<'a, R: Files + Net + Clock, C: Clock, W: Write, E: Write>(
     opener: &mut Opener<'a, R>,
-    name: &'a str,
-    content: Option<&[u8]>,
+    file: Read<'a, '_>,
     wishes: Wishes,
     tally: &mut Tally,
     out: &mut W,
     err: &mut Progress<'_, C, E>,
 ) -> Result<(), Status>
     ensures goes_on { OnOk result
-        (GoesOn wishes name.entry (option_copied content.entry) opener.old.group.names.items opener.new.group.names.items tally.old
+        (GoesOn wishes file.entry.name (option_copied file.entry.content) opener.old.group.names.items opener.new.group.names.items tally.old
         tally.new (W.contents out.old) (W.contents out.new) opener.old.mount opener.new.mount) }
     ensures part { OnErr result
-        (GoesOnInPart wishes name.entry (option_copied content.entry) opener.old.group.names.items (W.contents out.old)
+        (GoesOnInPart wishes file.entry.name (option_copied file.entry.content) opener.old.group.names.items (W.contents out.old)
         (W.contents out.new) opener.old.mount) }
     ensures failed { IfErr result (λ status. IsFault status) }
 {
-    opener.add(name, content, err)?;
+    opener.add(file.name, file.content, err)?;
     if !opener.group.is_full() {
         return Ok(());
     }

@@ -2,8 +2,10 @@
 //!
 //! ```text
 //! let meeting = Meeting { path: "avscan.socket", wait: Duration::from_secs(30) };
-//! filter_files(&rt, alloc, meeting, 0o600, &files, &names, wishes, &mut out, &mut err);    // in the one
-//! serve_at(&rt, alloc, meeting, set, None, &mut out, &mut err);                          // in the other
+//! let filtering = Filtering { rt: &rt, alloc, meeting, mode: 0o600, files: &files };
+//! filter_files(filtering, &names, wishes, &mut out, &mut err);                           // in the one
+//! let beginning = Beginning { port: Port::One, set, watched: None };
+//! serve_at(&rt, alloc, meeting, beginning, &mut out, &mut err);                          // in the other
 //! ```
 #![tactic(auto)]
 
@@ -15,8 +17,6 @@ mod line;
 pub mod looks;
 mod mount;
 mod opener;
-mod place;
-pub mod refusal;
 mod second;
 pub mod service;
 mod sharing;
@@ -28,10 +28,8 @@ pub mod watch;
 
 pub use duplex::{Duplex, Hearing, Saying};
 pub use fault::SocketFault;
-pub use filter::filter_files;
+pub use filter::{Filtering, filter_files};
 pub use looks::{Look, looked_at};
-pub use place::Arriving;
-pub use refusal::{TurnedAway, put_refusal};
-pub use service::serve_at;
+pub use service::{Beginning, serve_at};
 pub use sockets::{Meeting, Node, connect, listen, remove_own};
 pub use watch::Watched;

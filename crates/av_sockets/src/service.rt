@@ -6,11 +6,11 @@ ghost use Rattle.av_status.specs.declared.status.Status.TheVariants.{Done};
 
 use crate::duplex::{Duplex, Saying};
 use crate::fault::{SocketFault, socket_failed};
-use crate::refusal::turned_away;
 use crate::second::Second;
 use crate::sharing::{Greeting, Sharing};
 use crate::sockets::{Meeting, connect};
 use crate::watch::{Watch, Watched};
+use av_arrival::turned_away;
 use av_base::device::write_text;
 use av_base::{Limits, Port, Version};
 use av_engines::{End, serve_fresh, serve_service};
@@ -30,6 +30,17 @@ use std::time::Clock;
 // How many reads a service makes of its connection at most: it may run for as long as it likes.
 const READS: u64 = u64::MAX;
 
+/// What a service begins with.
+#[derive(Drop)]
+pub struct Beginning<'a> {
+    /// The port at which it greets: the first, or the second as a spare.
+    pub port: Port,
+    /// The set under which it judges.
+    pub set: SignatureSet,
+    /// The signature file that is watched for newer sets, where one is.
+    pub watched: Option<Watched<'a>>,
+}
+
 /// Scans under a set for the filter that listens at a socket, or will within the wait, until the filter closes the
 /// connection: then `closed` is written. Else one line to `err` says why, also where a guard turns the service away. Where a signature file is watched, its newer sets are
 /// published meanwhile, and an idle filter is waited for without an end.
@@ -41,8 +52,7 @@ pub fn serve_at<
     rt: &R,
     alloc: Global,
     meeting: Meeting<'_>,
-    set: SignatureSet,
-    watched: Option<Watched<'_>>,
+    beginning: Beginning<'_>,
     out: &mut W,
     err: &mut E,
 ) -> Status
@@ -52,7 +62,8 @@ where
     ensures closed { result ≡ Done → Appends (W.contents out.old) (W.contents out.new) (codes "closed\n") }
     ensures ended { IsDoneOrFault result }
 {
-    let Ok((mut service, mut catalogue)) = service_of(alloc, set) else {
+    let Beginning { port, set, watched } = beginning;
+    let Ok((mut service, mut catalogue)) = service_of(alloc, port, set) else {
         return out_of_memory(err);
     };
     match connect(rt, alloc, meeting) {
@@ -64,10 +75,12 @@ where
                 newest(alloc, &service, &catalogue),
             );
             let lines = Lines {
+                rt,
+                alloc,
                 first: &duplex,
                 second: second.as_ref(),
             };
-            let end = serve_over(rt, alloc, &mut service, &mut catalogue, lines, watched, err);
+            let end = serve_over(lines, &mut service, &mut catalogue, watched, err);
             if let Some(second) = second {
                 end_second(rt, second, err);
             }
@@ -80,20 +93,20 @@ where
     }
 }
 
-// Both connections of a service.
+// Where a service runs, and both of its connections.
 #[derive(Clone, Copy)]
 struct Lines<'a, 'b, R> {
+    rt: &'a R,
+    alloc: Global,
     first: &'b Duplex<'a, R>,
     second: Option<&'b Second>,
 }
 
 // Scans until the connection ends.
 fn serve_over<'a, R: Files + Clock + Wait, E: Write>(
-    rt: &'a R,
-    alloc: Global,
+    lines: Lines<'a, '_, R>,
     service: &mut Service,
     catalogue: &mut Catalogue,
-    lines: Lines<'a, '_, R>,
     watched: Option<Watched<'_>>,
     err: &mut E,
 ) -> End
@@ -101,12 +114,13 @@ fn serve_over<'a, R: Files + Clock + Wait, E: Write>(
     requires version { 1 ≤ service.old.desk.version }
     requires set { IsSome (set_at catalogue.old.sets service.old.desk.version) }
 {
-    let duplex = lines.first;
-    let mut reader = Greeting {
+    let Lines {
         rt,
-        duplex,
-        second: lines.second,
-    };
+        alloc,
+        first: duplex,
+        second,
+    } = lines;
+    let mut reader = Greeting { rt, duplex, second };
     let mut writer = Saying { duplex };
     let Some(watched) = watched else {
         return serve_service(alloc, service, catalogue, &mut reader, &mut writer, READS);
@@ -117,7 +131,7 @@ fn serve_over<'a, R: Files + Clock + Wait, E: Write>(
         rt,
         alloc,
         watch,
-        second: lines.second,
+        second,
         kept: None,
     };
     serve_fresh(
@@ -161,9 +175,14 @@ fn told<W: Write, E: Write>(socket: &str, end: End, out: &mut W, err: &mut E) ->
     }
 }
 
-// A service just started over this one set.
+// A service of this port, just started over this one set.
 #[tactic(auto, using(crate::proofs::ServiceLemmas::newest_found))]
-fn service_of(alloc: Global, set: SignatureSet) -> Result<(Service, Catalogue), AllocError>
+fn service_of(
+    alloc: Global,
+    port: Port,
+    set: SignatureSet,
+) -> Result<(Service, Catalogue), AllocError>
+    ensures port { IfOk result (λ r. r.0.desk.port ≡ port) }
     ensures idle { IfOk result (λ r. r.0.desk.connected ≡ false) }
     ensures version { IfOk result (λ r. 1 ≤ r.0.desk.version) }
     ensures set { IfOk result (λ r. IsSome (set_at r.1.sets r.0.desk.version)) }
@@ -172,7 +191,7 @@ fn service_of(alloc: Global, set: SignatureSet) -> Result<(Service, Catalogue), 
     if catalogue.publish(set).is_err() {
         return Err(AllocError);
     }
-    let service = Service::start(alloc, VOLUME, Port::One, &catalogue, Limits::greatest())?;
+    let service = Service::start(alloc, VOLUME, port, &catalogue, Limits::greatest())?;
     Ok((service, catalogue))
 }
 

@@ -1,4 +1,6 @@
-ghost use Rattle.std.specs.Prelude.{◌≡◌, None};
+ghost use Rattle.std.specs.Prelude.{◌≡◌, IfSome, None};
+ghost use Rattle.std.specs.Option.{option_copied};
+ghost use Rattle.av_sets.specs.Sets.{IsTrusted, SpellsBy};
 ghost use Rattle.av_sockets.specs.Looks.{first};
 
 use crate::duplex::Duplex;
@@ -6,9 +8,11 @@ use crate::looks::{Look, Looks, looked_at};
 use av_base::device::read_into;
 use av_base::{Part, Refusal, Version};
 use av_engines::Fresh;
-use av_files::{Input, MAX_FILE, TURNS, admit_set, read_set};
+use av_files::{Input, MAX_FILE, TURNS, admit_set};
+use av_sets::read_trusted;
 use av_sigset::{CatalogueFault, SignatureSet};
 use av_status::faults::{EmptySets, bad_frame, out_of_memory, say, say_of, text};
+use av_trust::Trust;
 use std::alloc::Global;
 use std::fs;
 use std::fs::Files;
@@ -23,6 +27,8 @@ pub struct Watched<'a> {
     pub every: Duration,
     /// What a look saw where the set that is published first was read.
     pub seen: Option<Look>,
+    /// Which files are taken.
+    pub trust: Trust<'a>,
     /// What becomes of a set without a signature, by which nothing is found.
     pub empty: EmptySets,
 }
@@ -39,6 +45,7 @@ pub struct Watch<'a, 'b, R, E> {
     due: Duration,
     looks: Looks,
     version: Version,
+    trust: Trust<'b>,
     empty: EmptySets,
     // How many signatures the set has that was read last.
     count: usize,
@@ -56,6 +63,7 @@ impl<'a, 'b, R: Files + Clock, E: Write> Watch<'a, 'b, R, E> {
     ) -> Watch<'a, 'b, R, E>
         ensures looks { result.looks ≡ first watched.entry.seen }
         ensures version { result.version ≡ version }
+        ensures trust { result.trust ≡ watched.entry.trust }
     {
         let now = rt.monotonic().unwrap_or(Duration::ZERO);
         let due = now.saturating_add(watched.every);
@@ -70,6 +78,7 @@ impl<'a, 'b, R: Files + Clock, E: Write> Watch<'a, 'b, R, E> {
             due,
             looks: Looks::new(watched.seen),
             version,
+            trust: watched.trust,
             empty: watched.empty,
             count: 0,
         }
@@ -81,7 +90,9 @@ impl<'a, 'b, R: Files + Clock, E: Write> Watch<'a, 'b, R, E> {
     }
 
     // Whether a look is due. The next one is due so long from now.
-    fn is_due(&mut self) -> bool {
+    fn is_due(&mut self) -> bool
+        ensures { self.new.trust ≡ self.old.trust }
+    {
         let Ok(now) = self.rt.monotonic() else {
             return false;
         };
@@ -94,7 +105,10 @@ impl<'a, 'b, R: Files + Clock, E: Write> Watch<'a, 'b, R, E> {
     }
 
     // The set of the file as it is now, where it stays as it is meanwhile.
-    fn read(&mut self) -> Option<SignatureSet> {
+    fn read(&mut self) -> Option<SignatureSet>
+        ensures set { IfSome result (IsTrusted self.old.trust) }
+        ensures trust { self.new.trust ≡ self.old.trust }
+    {
         let Ok(mut buffer) = vec![in self.alloc; 0u8; MAX_FILE + 2] else {
             out_of_memory(self.err);
             return None;
@@ -107,7 +121,7 @@ impl<'a, 'b, R: Files + Clock, E: Write> Watch<'a, 'b, R, E> {
             Some(count) => buffer.get(..count),
             None => None,
         };
-        let set = spelled(self.alloc, self.path, content, self.err)?;
+        let set = spelled(self.alloc, self.trust, self.path, content, self.err)?;
         self.count = set.len();
         match admit_set(&set, self.path, self.empty, self.err) {
             Ok(()) => Some(set),
@@ -122,27 +136,35 @@ impl<'a, 'b, R: Files + Clock, E: Write> Watch<'a, 'b, R, E> {
     }
 }
 
-// The set that a file of this content spells. Where it spells none, or was not read, a line to `err` says why.
+// The set that a file of this content spells. Where it spells none, is not trusted, or was not read, a line to `err` says why.
 fn spelled<'a, E: Write>(
     alloc: Global,
+    trust: Trust<'_>,
     name: &'a str,
     content: Option<&'a [u8]>,
     err: &mut E,
-) -> Option<SignatureSet> {
-    read_set(alloc, Input { name, content }, err).ok()
+) -> Option<SignatureSet>
+    ensures { IfSome result (SpellsBy trust.entry (option_copied content.entry)) }
+{
+    read_trusted(alloc, trust, Input { name, content }, err).ok()
 }
 
 impl<'a, 'b, R: Files + Clock, E: Write> Fresh for Watch<'a, 'b, R, E> {
     ghost coming = { λ _. None };
 
-    fn next(&mut self) -> Option<SignatureSet> {
+    fn next(&mut self) -> Option<SignatureSet>
+        ensures set { IfSome result (IsTrusted self.old.trust) }
+        ensures trust { self.new.trust ≡ self.old.trust }
+    {
         if !self.is_due() || !self.looks.settles(looked_at(self.rt, self.path)) {
             return None;
         }
         self.read()
     }
 
-    fn published(&mut self, version: Version) {
+    fn published(&mut self, version: Version)
+        ensures trust { self.new.trust ≡ self.old.trust }
+    {
         self.version = version;
         let number = Part::Number(version.get());
         let count = Part::Number(self.count as u64);
@@ -158,7 +180,9 @@ impl<'a, 'b, R: Files + Clock, E: Write> Fresh for Watch<'a, 'b, R, E> {
         );
     }
 
-    fn refused(&mut self, version: Version, why: Refusal<CatalogueFault>) {
+    fn refused(&mut self, version: Version, why: Refusal<CatalogueFault>)
+        ensures trust { self.new.trust ≡ self.old.trust }
+    {
         match why {
             Refusal::Fault(CatalogueFault::OldVersion) => say_of(
                 self.err,

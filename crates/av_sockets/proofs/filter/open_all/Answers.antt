@@ -9,7 +9,7 @@ pub files-init : goal.files-init
 files-init g c = at_start _ _ _ _ _ _ c.requires.empty c.requires.none
 
 pub files-preserved : goal.files-preserved
-files-preserved g c = one_more _ _ _ _ _ _ _ _ _ _ _ _ _ _ _ _ _ (copied_read (g.F.Contents.has_content c.args.files.now) _ c.content_of-content.result c.content_of-content.ensures) c.files.invariant c.in_ok-go_on.ensures.goes_on (rw add-one (take-suc _ _ _ c.files-test.true))
+files-preserved g c = one_more _ _ _ _ _ _ _ _ _ _ _ _ _ _ _ _ _ (copied_read (g.F.Contents.has_content c.args.named.now.files.now) _ c.content_of-content.result c.content_of-content.ensures) c.files.invariant c.in_ok-go_on.ensures.goes_on (rw add-one (take-suc _ _ _ c.files-test.true))
 
 pub returns-clause-told : goal.returns-clause-told
 returns-clause-told g c = at_end _ _ _ _ _ _ _ _ _ _ _ _ _ _ _ c.files.invariant c.open_group.ensures.opened (take_all _ _ c.files-test.false)
@@ -22,4 +22,4 @@ returns-in_default-clause-so_far g c = none_told _ _ _ _ _ _
 
 pub returns-in_err-go_on-clause-so_far : goal.returns-in_err-go_on-clause-so_far
 returns-in_err-go_on-clause-so_far g c = on_err c.from_residual.result
-    (fault_at _ _ _ _ _ _ _ _ _ _ _ _ _ _ (rw add-one (take-suc _ _ _ c.files-test.true)) (copied_read (g.F.Contents.has_content c.args.files.now) _ c.content_of-content.result c.content_of-content.ensures) c.files.invariant c.in_err-go_on.ensures.part)
+    (fault_at _ _ _ _ _ _ _ _ _ _ _ _ _ _ (rw add-one (take-suc _ _ _ c.files-test.true)) (copied_read (g.F.Contents.has_content c.args.named.now.files.now) _ c.content_of-content.result c.content_of-content.ensures) c.files.invariant c.in_err-go_on.ensures.part)
