@@ -296,7 +296,7 @@ impl Large {
         }
     }
 
-    /// A connection of the service is lost. With the first connection the caller closes the second, since one service makes both.
+    /// The second connection of a service is lost, or no service is there any more, with which the caller closes it.
     /// Each content without an answer is told, by rising number. If memory is refused nothing has changed.
     pub fn lose(&mut self, told: &mut Vec<Told>) -> Result<(), AllocError>
         ensures ok { OnOk result (self.new ≡ (lost self.old).state) }

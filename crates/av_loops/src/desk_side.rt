@@ -11,6 +11,15 @@ use std::alloc::Global;
 use std::io::{Read, Write};
 use std::sync::Wait;
 
+/// A desk with the writing end of its stream, as the loops round it share them.
+#[derive(Drop)]
+pub struct DeskSide<'a, R, W> {
+    pub rt: &'a R,
+    pub alloc: Global,
+    pub desk: &'a Desk,
+    pub sender: &'a Sender<W>,
+}
+
 // Who runs a work after which no further message has come whole.
 #[derive(Clone, Copy)]
 enum Runner {
@@ -23,78 +32,57 @@ enum Runner {
 /// none. Each work that a message gives out goes to the pool. What the desk sends meanwhile is written before the stream is read
 /// again. At its end it wakes who takes from the pool.
 pub fn desk_in<R: Wait, S: Read, W: Write>(
-    rt: &R,
-    alloc: Global,
-    desk: &Desk,
+    side: &DeskSide<'_, R, W>,
     giver: &mut Giver,
     reader: &mut S,
-    sender: &Sender<W>,
     turns: u64,
 ) -> End
     ensures same { giver.new.channel ≡ giver.old.channel }
     ensures end { result ≢ Done }
 {
     let runner = Runner::Pool;
-    read_to_end(rt, alloc, desk, giver, reader, sender, turns, runner)
+    read_to_end(side, giver, reader, turns, runner)
 }
 
 /// Does what [`desk_in`] does, but runs a work itself if no further message has come whole. For such a work no other thread has
 /// to be woken.
 pub fn desk_in_running_works<R: Wait, S: Read, W: Write>(
-    rt: &R,
-    alloc: Global,
-    desk: &Desk,
+    side: &DeskSide<'_, R, W>,
     giver: &mut Giver,
     reader: &mut S,
-    sender: &Sender<W>,
     turns: u64,
 ) -> End
     ensures same { giver.new.channel ≡ giver.old.channel }
     ensures end { result ≢ Done }
 {
     let runner = Runner::Reader;
-    read_to_end(rt, alloc, desk, giver, reader, sender, turns, runner)
+    read_to_end(side, giver, reader, turns, runner)
 }
 
 // Both loops into a desk.
 fn read_to_end<R: Wait, S: Read, W: Write>(
-    rt: &R,
-    alloc: Global,
-    desk: &Desk,
+    side: &DeskSide<'_, R, W>,
     giver: &mut Giver,
     reader: &mut S,
-    sender: &Sender<W>,
     turns: u64,
     runner: Runner,
 ) -> End
     ensures same { giver.new.channel ≡ giver.old.channel }
     ensures end { result ≢ Done }
 {
-    let end = match Incoming::new(alloc, turns) {
-        Ok(mut incoming) => take_messages(
-            rt,
-            alloc,
-            desk,
-            giver,
-            reader,
-            sender,
-            &mut incoming,
-            runner,
-        ),
+    let end = match Incoming::new(side.alloc, turns) {
+        Ok(mut incoming) => take_messages(side, giver, reader, &mut incoming, runner),
         Err(_) => End::Memory,
     };
-    giver.wake(rt);
+    giver.wake(side.rt);
     end
 }
 
 // Each message as an event.
 fn take_messages<R: Wait, S: Read, W: Write>(
-    rt: &R,
-    alloc: Global,
-    desk: &Desk,
+    side: &DeskSide<'_, R, W>,
     giver: &mut Giver,
     reader: &mut S,
-    sender: &Sender<W>,
     incoming: &mut Incoming,
     runner: Runner,
 ) -> End
@@ -102,33 +90,25 @@ fn take_messages<R: Wait, S: Read, W: Write>(
     ensures end { result ≢ Done }
 {
     let mut lent = None;
-    'messages: for _ in rt.forever() {
-        let message = match next_message(
-            rt, alloc, desk, giver, reader, sender, incoming, runner, lent,
-        ) {
+    'messages: for _ in side.rt.forever() {
+        let message = match next_message(side, giver, reader, incoming, runner, lent) {
             Ok(message) => message,
             Err(end) => return end,
         };
-        lent = match desk.message_quietly(rt, alloc, message) {
+        lent = match side.desk.message_quietly(side.rt, side.alloc, message) {
             Ok(Taken { lent, note: _ }) => lent,
-            Err(refused) => return after_sending(rt, alloc, desk, sender, end_of(refused.why)),
+            Err(refused) => return after_sending(side, end_of(refused.why)),
         };
     }
     unreachable!()
 }
 
 // The end at a refusal. What the desk sent before still goes out.
-fn after_sending<R: Wait, W: Write>(
-    rt: &R,
-    alloc: Global,
-    desk: &Desk,
-    sender: &Sender<W>,
-    end: End,
-) -> End
+fn after_sending<R: Wait, W: Write>(side: &DeskSide<'_, R, W>, end: End) -> End
     requires { end ≢ Done }
     ensures { result ≢ Done }
 {
-    match send(rt, alloc, desk, sender) {
+    match send(side) {
         Ok(()) => end,
         Err(end) => end,
     }
@@ -136,12 +116,9 @@ fn after_sending<R: Wait, W: Write>(
 
 // The next message. Before it is waited for, the work that the last one gave out is run or given, and what waits is sent.
 fn next_message<R: Wait, S: Read, W: Write>(
-    rt: &R,
-    alloc: Global,
-    desk: &Desk,
+    side: &DeskSide<'_, R, W>,
     giver: &mut Giver,
     reader: &mut S,
-    sender: &Sender<W>,
     incoming: &mut Incoming,
     runner: Runner,
     lent: Option<Lent>,
@@ -151,42 +128,36 @@ fn next_message<R: Wait, S: Read, W: Write>(
 {
     if let Ok(Some(message)) = incoming.arrived() {
         if let Some(lent) = lent {
-            giver.give(rt, lent);
+            giver.give(side.rt, lent);
         }
         return Ok(message);
     }
     if let Some(lent) = lent {
         match runner {
-            Runner::Pool => giver.give(rt, lent),
-            Runner::Reader => finish(rt, alloc, desk, sender, lent.run())?,
+            Runner::Pool => giver.give(side.rt, lent),
+            Runner::Reader => finish(side, lent.run())?,
         }
     }
-    send(rt, alloc, desk, sender)?;
+    send(side)?;
     match incoming.next(reader) {
         Ok(message) => Ok(message),
-        Err(end) => Err(with_disconnection(rt, alloc, desk, end)),
+        Err(end) => Err(with_disconnection(side, end)),
     }
 }
 
 /// Finishes each work that comes out of the pool and sends what that gives, until a mark comes: Done. Else WriteFault, which is a
 /// disconnection of the desk; Memory and AuditFull, which are none.
-pub fn desk_done<R: Wait, W: Write>(
-    rt: &R,
-    alloc: Global,
-    desk: &Desk,
-    taker: &mut Taker,
-    sender: &Sender<W>,
-) -> End
+pub fn desk_done<R: Wait, W: Write>(side: &DeskSide<'_, R, W>, taker: &mut Taker) -> End
     ensures same { taker.new.channel ≡ taker.old.channel }
 {
-    'works: for _ in rt.forever() {
-        let Some(done) = taker.take(rt) else {
+    'works: for _ in side.rt.forever() {
+        let Some(done) = taker.take(side.rt) else {
             return End::Done;
         };
-        if let Err(end) = finish(rt, alloc, desk, sender, done) {
+        if let Err(end) = finish(side, done) {
             return end;
         }
-        if let Err(end) = send(rt, alloc, desk, sender) {
+        if let Err(end) = send(side) {
             return end;
         }
     }
@@ -194,20 +165,14 @@ pub fn desk_done<R: Wait, W: Write>(
 }
 
 // Takes a work back that was run.
-fn finish<R: Wait, W: Write>(
-    rt: &R,
-    alloc: Global,
-    desk: &Desk,
-    sender: &Sender<W>,
-    done: av_service::Done,
-) -> Result<(), End>
+fn finish<R: Wait, W: Write>(side: &DeskSide<'_, R, W>, done: av_service::Done) -> Result<(), End>
     ensures { IfErr result (λ end. end ≢ Done) }
 {
-    match desk.finish_quietly(rt, alloc, done) {
+    match side.desk.finish_quietly(side.rt, side.alloc, done) {
         Ok(_) => Ok(()),
         Err(refused) => {
             refused.value.discard();
-            Err(after_sending(rt, alloc, desk, sender, end_of(refused.why)))
+            Err(after_sending(side, end_of(refused.why)))
         }
     }
 }
@@ -215,12 +180,12 @@ fn finish<R: Wait, W: Write>(
 /// Writes each message of the desk to a stream as a frame, until the desk is stopped and none is left: Done. Else WriteFault,
 /// which is a disconnection of the desk; Memory and AuditFull, which are none. It is woken for what calls of others send, and
 /// writes what another loop of the sender has not written.
-pub fn desk_out<R: Wait, W: Write>(rt: &R, alloc: Global, desk: &Desk, sender: &Sender<W>) -> End {
-    'batches: for _ in rt.forever() {
-        if !desk.await_outgoing(rt) {
+pub fn desk_out<R: Wait, W: Write>(side: &DeskSide<'_, R, W>) -> End {
+    'batches: for _ in side.rt.forever() {
+        if !side.desk.await_outgoing(side.rt) {
             return End::Done;
         }
-        if let Err(end) = send(rt, alloc, desk, sender) {
+        if let Err(end) = send(side) {
             return end;
         }
     }
@@ -228,30 +193,25 @@ pub fn desk_out<R: Wait, W: Write>(rt: &R, alloc: Global, desk: &Desk, sender: &
 }
 
 // Sends what waits. A write that fails is told to the desk by who meets it.
-fn send<R: Wait, W: Write>(
-    rt: &R,
-    alloc: Global,
-    desk: &Desk,
-    sender: &Sender<W>,
-) -> Result<(), End>
+fn send<R: Wait, W: Write>(side: &DeskSide<'_, R, W>) -> Result<(), End>
     ensures { IfErr result (λ end. end ≢ Done) }
 {
-    match sender.send(rt, alloc, desk) {
+    match side.sender.send(side.rt, side.alloc, side.desk) {
         Ok(()) => Ok(()),
-        Err(Unsent::WriteFault) => Err(with_disconnection(rt, alloc, desk, End::WriteFault)),
+        Err(Unsent::WriteFault) => Err(with_disconnection(side, End::WriteFault)),
         Err(Unsent::Lost) => Err(End::WriteFault),
         Err(Unsent::Memory) => Err(End::Memory),
     }
 }
 
 // Tells the desk that the filter is lost, where this end says so.
-fn with_disconnection<R: Wait>(rt: &R, alloc: Global, desk: &Desk, end: End) -> End
+fn with_disconnection<R: Wait, W: Write>(side: &DeskSide<'_, R, W>, end: End) -> End
     ensures end { end ≢ Done → result ≢ Done }
 {
     match end {
         End::Done | End::Memory | End::AuditFull => end,
         End::ReadFault | End::WriteFault | End::Frame | End::Closed => {
-            match desk.disconnect(rt, alloc) {
+            match side.desk.disconnect(side.rt, side.alloc) {
                 Ok(_) => end,
                 Err(refusal) => end_of(refusal),
             }

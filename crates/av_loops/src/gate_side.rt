@@ -12,79 +12,76 @@ use std::alloc::Global;
 use std::io::{Read, Write};
 use std::sync::Wait;
 
+/// A port of a gate with the writing end of its stream, as the loops round it share them.
+#[derive(Drop)]
+pub struct GateSide<'a, R, W> {
+    pub rt: &'a R,
+    pub alloc: Global,
+    pub gate: &'a Gate,
+    pub port: Port,
+    pub sender: &'a Sender<W>,
+}
+
 /// Hands each message of a port that a stream of frames spells to the gate, and passes over those of the other, until the stream
 /// ends, fails, or was read `turns` times: Closed, ReadFault, Frame, each of which is a disconnection of the port, and so is
 /// WriteFault; Memory and AuditFull, which are none, so that opens may stay without an answer. What the gate gives out at the port
 /// meanwhile is sent before the stream is read again: a message that has come whole is handled first.
 pub fn gate_in<R: Wait, S: Read, W: Write>(
-    rt: &R,
-    alloc: Global,
-    gate: &Gate,
+    side: &GateSide<'_, R, W>,
     seat: &mut Seat,
-    port: Port,
     reader: &mut S,
-    sender: &Sender<W>,
     turns: u64,
 ) -> End
-    requires { IsSeatOf gate.now seat.old }
-    ensures same { IsSeatOf gate.now seat.new }
+    requires { IsSeatOf side.now.gate.now seat.old }
+    ensures same { IsSeatOf side.now.gate.now seat.new }
     ensures later { floor_seen seat.old ≤ floor_seen seat.new }
     ensures end { result ≢ Done }
 {
-    let Ok(mut incoming) = Incoming::new(alloc, turns) else {
+    let Ok(mut incoming) = Incoming::new(side.alloc, turns) else {
         return End::Memory;
     };
-    take_messages(rt, alloc, gate, seat, port, reader, sender, &mut incoming)
+    take_messages(side, seat, reader, &mut incoming)
 }
 
 // Each message of the port as an event.
 fn take_messages<R: Wait, S: Read, W: Write>(
-    rt: &R,
-    alloc: Global,
-    gate: &Gate,
+    side: &GateSide<'_, R, W>,
     seat: &mut Seat,
-    port: Port,
     reader: &mut S,
-    sender: &Sender<W>,
     incoming: &mut Incoming,
 ) -> End
-    requires { IsSeatOf gate.now seat.old }
-    ensures same { IsSeatOf gate.now seat.new }
+    requires { IsSeatOf side.now.gate.now seat.old }
+    ensures same { IsSeatOf side.now.gate.now seat.new }
     ensures later { floor_seen seat.old ≤ floor_seen seat.new }
     ensures end { result ≢ Done }
 {
-    'messages: for _ in rt.forever() {
-        let message = match next_message(rt, alloc, gate, seat, port, reader, sender, incoming) {
+    'messages: for _ in side.rt.forever() {
+        let message = match next_message(side, seat, reader, incoming) {
             Ok(message) => message,
             Err(end) => return end,
         };
-        if message.port() != port {
+        if message.port() != side.port {
             continue;
         }
-        if let Err(refusal) = gate.message_quietly(rt, alloc, seat, &message) {
-            return after_sending(rt, alloc, gate, seat, port, sender, end_of(refusal));
+        if let Err(refusal) = side
+            .gate
+            .message_quietly(side.rt, side.alloc, seat, &message)
+        {
+            return after_sending(side, seat, end_of(refusal));
         }
     }
     unreachable!()
 }
 
 // The end at a refusal. What the gate gave out before still goes out.
-fn after_sending<R: Wait, W: Write>(
-    rt: &R,
-    alloc: Global,
-    gate: &Gate,
-    seat: &mut Seat,
-    port: Port,
-    sender: &Sender<W>,
-    end: End,
-) -> End
-    requires seat { IsSeatOf gate.now seat.old }
+fn after_sending<R: Wait, W: Write>(side: &GateSide<'_, R, W>, seat: &mut Seat, end: End) -> End
+    requires seat { IsSeatOf side.now.gate.now seat.old }
     requires end { end ≢ Done }
-    ensures same { IsSeatOf gate.now seat.new }
+    ensures same { IsSeatOf side.now.gate.now seat.new }
     ensures later { floor_seen seat.old ≤ floor_seen seat.new }
     ensures end { result ≢ Done }
 {
-    match send(rt, alloc, gate, seat, port, sender) {
+    match send(side, seat) {
         Ok(()) => end,
         Err(end) => end,
     }
@@ -92,50 +89,39 @@ fn after_sending<R: Wait, W: Write>(
 
 // The next message. What waits is sent before it is waited for.
 fn next_message<R: Wait, S: Read, W: Write>(
-    rt: &R,
-    alloc: Global,
-    gate: &Gate,
+    side: &GateSide<'_, R, W>,
     seat: &mut Seat,
-    port: Port,
     reader: &mut S,
-    sender: &Sender<W>,
     incoming: &mut Incoming,
 ) -> Result<Message, End>
-    requires { IsSeatOf gate.now seat.old }
-    ensures same { IsSeatOf gate.now seat.new }
+    requires { IsSeatOf side.now.gate.now seat.old }
+    ensures same { IsSeatOf side.now.gate.now seat.new }
     ensures later { floor_seen seat.old ≤ floor_seen seat.new }
     ensures end { IfErr result (λ end. end ≢ Done) }
 {
     if let Ok(Some(message)) = incoming.arrived() {
         return Ok(message);
     }
-    send(rt, alloc, gate, seat, port, sender)?;
+    send(side, seat)?;
     match incoming.next(reader) {
         Ok(message) => Ok(message),
-        Err(end) => Err(with_disconnection(rt, alloc, gate, seat, port, end)),
+        Err(end) => Err(with_disconnection(side, seat, end)),
     }
 }
 
 /// Writes each message of a port of the gate to a stream as a frame, until the gate is stopped and none is left: Done. Else
 /// WriteFault, which is a disconnection of the port; Memory and AuditFull, which are none. It is woken for what calls of others
 /// give out, and sends what another loop of the sender has not sent.
-pub fn gate_out<R: Wait, W: Write>(
-    rt: &R,
-    alloc: Global,
-    gate: &Gate,
-    seat: &mut Seat,
-    port: Port,
-    sender: &Sender<W>,
-) -> End
-    requires { IsSeatOf gate.now seat.old }
-    ensures same { IsSeatOf gate.now seat.new }
+pub fn gate_out<R: Wait, W: Write>(side: &GateSide<'_, R, W>, seat: &mut Seat) -> End
+    requires { IsSeatOf side.now.gate.now seat.old }
+    ensures same { IsSeatOf side.now.gate.now seat.new }
     ensures later { floor_seen seat.old ≤ floor_seen seat.new }
 {
-    'batches: for _ in rt.forever() {
-        if !gate.await_outgoing(rt, port) {
+    'batches: for _ in side.rt.forever() {
+        if !side.gate.await_outgoing(side.rt, side.port) {
             return End::Done;
         }
-        if let Err(end) = send(rt, alloc, gate, seat, port, sender) {
+        if let Err(end) = send(side, seat) {
             return end;
         }
     }
@@ -143,47 +129,39 @@ pub fn gate_out<R: Wait, W: Write>(
 }
 
 // Sends what waits. A write that fails is told to the gate by who meets it.
-fn send<R: Wait, W: Write>(
-    rt: &R,
-    alloc: Global,
-    gate: &Gate,
-    seat: &mut Seat,
-    port: Port,
-    sender: &Sender<W>,
-) -> Result<(), End>
-    requires { IsSeatOf gate.now seat.old }
-    ensures same { IsSeatOf gate.now seat.new }
+fn send<R: Wait, W: Write>(side: &GateSide<'_, R, W>, seat: &mut Seat) -> Result<(), End>
+    requires { IsSeatOf side.now.gate.now seat.old }
+    ensures same { IsSeatOf side.now.gate.now seat.new }
     ensures later { floor_seen seat.old ≤ floor_seen seat.new }
     ensures end { IfErr result (λ end. end ≢ Done) }
 {
-    match sender.send(rt, alloc, &PortOutbox { gate, port }) {
+    let (gate, port) = (side.gate, side.port);
+    match side
+        .sender
+        .send(side.rt, side.alloc, &PortOutbox { gate, port })
+    {
         Ok(()) => Ok(()),
-        Err(Unsent::WriteFault) => {
-            Err(with_disconnection(rt, alloc, gate, seat, port, End::WriteFault))
-        }
+        Err(Unsent::WriteFault) => Err(with_disconnection(side, seat, End::WriteFault)),
         Err(Unsent::Lost) => Err(End::WriteFault),
         Err(Unsent::Memory) => Err(End::Memory),
     }
 }
 
 // Tells the gate that the port's service is lost, where this end says so.
-fn with_disconnection<R: Wait>(
-    rt: &R,
-    alloc: Global,
-    gate: &Gate,
+fn with_disconnection<R: Wait, W: Write>(
+    side: &GateSide<'_, R, W>,
     seat: &mut Seat,
-    port: Port,
     end: End,
 ) -> End
-    requires { IsSeatOf gate.now seat.old }
-    ensures same { IsSeatOf gate.now seat.new }
+    requires { IsSeatOf side.now.gate.now seat.old }
+    ensures same { IsSeatOf side.now.gate.now seat.new }
     ensures later { floor_seen seat.old ≤ floor_seen seat.new }
     ensures end { end ≢ Done → result ≢ Done }
 {
     match end {
         End::Done | End::Memory | End::AuditFull => end,
         End::ReadFault | End::WriteFault | End::Frame | End::Closed => {
-            match gate.disconnect(rt, alloc, seat, port) {
+            match side.gate.disconnect(side.rt, side.alloc, seat, side.port) {
                 Ok(_) => end,
                 Err(refusal) => end_of(refusal),
             }

@@ -29,7 +29,7 @@ pub use av_engines::{End, Exchange, Watched, serve_filter, serve_further, serve_
 pub use av_filter::{Filter, Mounted};
 pub use av_frame::Message;
 pub use av_gate::{Gate, Seat, Unclosed};
-pub use av_loops::{desk_done, desk_in, desk_out, gate_in, gate_out};
+pub use av_loops::{DeskSide, GateSide, desk_done, desk_in, desk_out, gate_in, gate_out};
 pub use av_pend::Answer;
 pub use av_pool::{Giver, Pace, Pool, Stopped, Taker};
 pub use av_service::Done;

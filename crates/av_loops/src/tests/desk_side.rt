@@ -2,7 +2,7 @@
 ghost use Rattle.std.specs.Prelude.{◌≡◌};
 
 use crate::tests::meeting::{Begun, Meeting};
-use crate::{Sender, desk_done, desk_in, desk_in_running_works, desk_out};
+use crate::{DeskSide, Sender, desk_done, desk_in, desk_in_running_works, desk_out};
 use av_base::{Limits, Port, Version};
 use av_desk::{Audit, Desk, Event, Taken};
 use av_engines::{End, Incoming};
@@ -50,6 +50,20 @@ fn connected<R: Wait>(rt: &R, alloc: Global) -> Result<Desk, Fail> {
     Ok(desk)
 }
 
+fn side_of<'a, R, W>(
+    rt: &'a R,
+    alloc: Global,
+    desk: &'a Desk,
+    sender: &'a Sender<W>,
+) -> DeskSide<'a, R, W> {
+    DeskSide {
+        rt,
+        alloc,
+        desk,
+        sender,
+    }
+}
+
 // The kinds of an audit's events, a letter each.
 fn kinds(alloc: Global, audit: &Audit) -> Result<Vec<u8>, Fail> {
     let mut kinds = Vec::new(alloc);
@@ -78,8 +92,9 @@ fn in_and_done<R: Wait>(
     ensures giver { giver.new.channel ≡ giver.old.channel }
     ensures taker { taker.new.channel ≡ taker.old.channel }
 {
-    let into = desk_in(rt, alloc, desk, giver, reader, sender, 1_000);
-    (into, desk_done(rt, alloc, desk, taker, sender))
+    let side = side_of(rt, alloc, desk, sender);
+    let into = desk_in(&side, giver, reader, 1_000);
+    (into, desk_done(&side, taker))
 }
 
 #[test]
@@ -128,7 +143,8 @@ fn talk_in<R: Wait>(
     let desk = connected(rt, alloc)?;
     let sender = Sender::new(alloc, FakeWriter::new(alloc));
     let mut reader = FakeReader::new(TWO_CONTENTS).in_pieces_of(piece);
-    desk_in_running_works(rt, alloc, &desk, giver, &mut reader, &sender, 1_000);
+    let side = side_of(rt, alloc, &desk, &sender);
+    desk_in_running_works(&side, giver, &mut reader, 1_000);
     Ok((sender.into_writer(), kinds(alloc, &desk.close())?))
 }
 
@@ -192,7 +208,7 @@ fn give_and_take<R: Wait>(
     ensures taker { taker.new.channel ≡ taker.old.channel }
 {
     give_both(rt, alloc, desk, giver)?;
-    Ok(desk_done(rt, alloc, desk, taker, sender))
+    Ok(desk_done(&side_of(rt, alloc, desk, sender), taker))
 }
 
 // How the loop behind a pool ends over this writer, what went out, and the kinds of the events.
@@ -241,7 +257,7 @@ fn ends_in<R: Wait>(
 {
     let desk = connected(rt, alloc)?;
     let sender = Sender::new(alloc, FakeWriter::new(alloc));
-    let end = desk_in(rt, alloc, &desk, giver, reader, &sender, 10);
+    let end = desk_in(&side_of(rt, alloc, &desk, &sender), giver, reader, 10);
     Ok((end, kinds(alloc, &desk.close())?))
 }
 
@@ -279,7 +295,7 @@ fn what_a_desk_sends_goes_out_as_frames(rt: HostRuntime) -> Result<(), Fail> {
     let desk = connected(&rt, alloc)?;
     desk.stop(&rt);
     let sender = Sender::new(alloc, FakeWriter::new(alloc).in_pieces_of(1));
-    let end = desk_out(&rt, alloc, &desk, &sender);
+    let end = desk_out(&side_of(&rt, alloc, &desk, &sender));
     assert!(&rt; end == End::Done && sender.into_writer().taken() == HELLO);
     let kinds = kinds(alloc, &desk.close())?;
     assert!(&rt; kinds.as_slice() == b"c".as_slice());
@@ -304,12 +320,12 @@ fn greets_in_vain<R: Wait>(
     let sender = Sender::new(alloc, writer);
     let mut reader = FakeReader::new(TWO_CONTENTS);
     let first = if is_into {
-        desk_in(rt, alloc, &desk, giver, &mut reader, &sender, 10)
+        desk_in(&side_of(rt, alloc, &desk, &sender), giver, &mut reader, 10)
     } else {
-        desk_out(rt, alloc, &desk, &sender)
+        desk_out(&side_of(rt, alloc, &desk, &sender))
     };
     desk.connect(rt, alloc)?;
-    let second = desk_out(rt, alloc, &desk, &sender);
+    let second = desk_out(&side_of(rt, alloc, &desk, &sender));
     let kinds = kinds(alloc, &desk.close())?;
     Ok((sender.into_writer(), first, second, kinds))
 }
@@ -348,7 +364,7 @@ fn refused_or_not_a_loop_out_of_a_desk_comes_to_an_end(rt: HostRuntime) -> Resul
     desk.stop(&rt);
     let sender = Sender::new(alloc, FakeWriter::new(alloc));
     may_refuse(alloc);
-    let end = desk_out(&rt, alloc, &desk, &sender);
+    let end = desk_out(&side_of(&rt, alloc, &desk, &sender));
     refuse_no_more(alloc);
     assert!(&rt; end == End::Done || end == End::Memory || end == End::WriteFault);
     Ok(())

@@ -2,7 +2,7 @@
 ghost use Rattle.std.specs.Prelude.{IfOk};
 ghost use Rattle.av_gate.specs.Seats.{IsSeatOf};
 
-use crate::{Sender, gate_in, gate_out};
+use crate::{GateSide, Sender, gate_in, gate_out};
 use av_base::{Cause, LimitValues, Limits, Mode, OpenId, Port};
 use av_engines::End;
 use av_fakes::{FakeReader, FakeWriter, Fault, may_refuse, refuse_no_more};
@@ -64,16 +64,14 @@ fn ends_in<R: Wait>(
 ) -> Result<(End, usize, bool), Fail> {
     let (gate, mut seat) = gate_of_one(alloc, limits)?;
     let sender = Sender::new(alloc, FakeWriter::new(alloc));
-    let end = gate_in(
+    let side = GateSide {
         rt,
         alloc,
-        &gate,
-        &mut seat,
-        Port::One,
-        reader,
-        &sender,
-        turns,
-    );
+        gate: &gate,
+        port: Port::One,
+        sender: &sender,
+    };
+    let end = gate_in(&side, &mut seat, reader, turns);
     let (events, disconnects) = ended(alloc, gate, seat)?;
     Ok((end, events, disconnects))
 }
@@ -194,9 +192,16 @@ fn out_of<R: Wait>(
     let _ = welcome(rt, alloc, gate, seat, &mut hello)?;
     let ticket = gate.open(rt, alloc, seat, b"a")?;
     gate.stop(rt);
+    let side = GateSide {
+        rt,
+        alloc,
+        gate,
+        port: Port::One,
+        sender,
+    };
     let end = match reader {
-        Some(mut reader) => gate_in(rt, alloc, gate, seat, Port::One, &mut reader, sender, 10),
-        None => gate_out(rt, alloc, gate, seat, Port::One, sender),
+        Some(mut reader) => gate_in(&side, seat, &mut reader, 10),
+        None => gate_out(&side, seat),
     };
     let answer = ticket.poll(&mut ticket.note()).copied();
     gate.disconnect(rt, alloc, seat, Port::One)?;
@@ -276,16 +281,14 @@ fn refused_or_not_a_loop_into_a_gate_comes_to_an_end(rt: HostRuntime) -> Result<
     let mut reader = FakeReader::new(HELLO);
     let sender = Sender::new(alloc, FakeWriter::new(alloc));
     may_refuse(alloc);
-    let end = gate_in(
-        &rt,
+    let side = GateSide {
+        rt: &rt,
         alloc,
-        &gate,
-        &mut seat,
-        Port::One,
-        &mut reader,
-        &sender,
-        10,
-    );
+        gate: &gate,
+        port: Port::One,
+        sender: &sender,
+    };
+    let end = gate_in(&side, &mut seat, &mut reader, 10);
     refuse_no_more(alloc);
     let (events, disconnects) = ended(alloc, gate, seat)?;
     assert!(&rt;

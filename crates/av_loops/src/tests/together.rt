@@ -2,7 +2,7 @@
 ghost use Rattle.std.specs.Prelude.{IfOk};
 ghost use Rattle.av_gate.specs.Seats.{IsSeatOf};
 
-use crate::{Sender, gate_in, gate_out};
+use crate::{GateSide, Sender, gate_in, gate_out};
 use av_base::{Limits, Mode, Port};
 use av_engines::{End, Incoming, Outgoing};
 use av_fakes::{FakeReader, FakeWriter};
@@ -49,16 +49,14 @@ fn reads<R: Wait>(
     requires { IsSeatOf gate.now seat }
 {
     let mut reader = FakeReader::new(text).in_pieces_of(READ.len());
-    let end = gate_in(
+    let side = GateSide {
         rt,
         alloc,
         gate,
-        &mut seat,
-        Port::One,
-        &mut reader,
+        port: Port::One,
         sender,
-        10_000,
-    );
+    };
+    let end = gate_in(&side, &mut seat, &mut reader, 10_000);
     (seat, end)
 }
 
@@ -72,7 +70,14 @@ fn writes<R: Wait>(
 ) -> (Seat, End)
     requires { IsSeatOf gate.now seat }
 {
-    let end = gate_out(rt, alloc, gate, &mut seat, Port::One, sender);
+    let side = GateSide {
+        rt,
+        alloc,
+        gate,
+        port: Port::One,
+        sender,
+    };
+    let end = gate_out(&side, &mut seat);
     (seat, end)
 }
 

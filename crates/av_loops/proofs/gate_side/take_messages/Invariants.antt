@@ -4,4 +4,4 @@ use Rattle.av_loops.proofs.gate_side.take_messages.Given as goal
 
 -- the seat is the gate's, and has seen no less of the floor
 abbrev pub invariant-messages : goal.invariant-messages
-invariant-messages g l = IsSeatOf l.gate l.seat × (floor_seen l.fn.seat ≤ floor_seen l.seat)
+invariant-messages g l = IsSeatOf l.side.gate.now l.seat × (floor_seen l.fn.seat ≤ floor_seen l.seat)
