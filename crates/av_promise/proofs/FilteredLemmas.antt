@@ -9,7 +9,7 @@ use Rattle.std.proofs.lemmas.List.Sorted.{All-permutation}
 use Rattle.av_base.proofs.AmongLemmas.{among_left, among_right}
 use Rattle.av_base.specs.Among.{Among}
 use Rattle.av_base.specs.Limits.{greatest_values}
-use Rattle.av_base.specs.declared.limits.LimitValues.{LimitValues}
+use Rattle.av_base.specs.declared.port.Port.{Port}
 use Rattle.av_base.specs.declared.mode.Mode.TheVariants.{FailClosed}
 use Rattle.av_base.specs.declared.verdict.Verdict.TheVariants.{Clean}
 use Rattle.av_engines.specs.Watching.{Led, all_happened, happened, unled}
@@ -25,9 +25,9 @@ use Rattle.av_guard.specs.Run.{all_held, held_after}
 use Rattle.av_match.specs.Match.{verdict}
 use Rattle.av_pend.specs.declared.answer.Answer.{Answer}
 use Rattle.av_pend.specs.declared.answer.Answer.TheVariants.{Denied, Granted, Unscanned}
-use Rattle.av_promise.proofs.ServedLemmas.{answer_just, held_by_end, legal, told_so}
+use Rattle.av_promise.proofs.ServedLemmas.{answer_just, held_by_end, legal}
 use Rattle.av_promise.specs.Filtered.{AreRight, AreRightInPart, IsRightOf, entries_of, entry_of, history_of, history_of_group, history_of_part, history_so_far}
-use Rattle.av_promise.specs.Promise.{IsServed, at_first, published_by}
+use Rattle.av_promise.specs.Promise.{IsServed, published_by}
 use Rattle.av_sigset.specs.Publication.{Publication}
 use Rattle.av_sockets.specs.Filter.{AreFiltered, AreInOrder, AreOpened, AreTold, AreToldSoFar, IsToldInPart, begun, more, nothing, opened_as, unwritten}
 use Rattle.av_sockets.specs.Run.{AreAccepted, AreOfTheirStreams, IsOfItsStream, Leads, first}
@@ -41,7 +41,7 @@ use Rattle.av_store.specs.Seen.{Keeps}
 use Rattle.av_history.proofs.FitLemmas.{right_grows}
 use Rattle.av_history.specs.Audits.{AreLegal, AuditsGrantOnlyClean, SideEntry, past_end}
 use Rattle.av_history.specs.Past.{IsVerdictOf}
-use Rattle.av_history.specs.Scene.{opening_past}
+use Rattle.av_history.specs.Scene.{Started, opening_past}
 
 -- ---- what happened, from the mount on
 
@@ -134,19 +134,19 @@ files_among names answers opened p =
 
 -- ---- a run that was served
 
-module _ (has : List ℕ → List ℕ → Type 0) (history : List FilterEntry) (audit : IsFilterAudit first.table first.volume history) (number : ℕ) (limits : LimitValues) (sets : List Publication) (es : List SideEntry) (served : IsServed history number limits sets es) (clean : AuditsGrantOnlyClean FailClosed [] (at_first sets) es) where
+module _ (has : List ℕ → List ℕ → Type 0) (history : List FilterEntry) (audit : IsFilterAudit first.table first.volume history) (starts : Port → Started) (sets : Port → List Publication) (es : List SideEntry) (served : IsServed history starts sets es) (clean : AuditsGrantOnlyClean FailClosed [] sets es) where
   -- an answer of the history, told of a stream in the volume that a front of the history led to
   answer_right : (amid : Mount) (front back : List FilterEntry) → history ≡ front ++ back → Reaches amid front → (name : List ℕ) (a : Answer) → Among a (answers_given history)
       → IsOfItsStream has amid.volume name a → IsRightOf has (published_by sets es) amid.volume name a
   answer_right amid front back is led name (Granted n least s g version) there own =
-      let then = answer_just FailClosed greatest_values first.volume history starts_empty audit number limits sets es served clean (Granted n least s g version) there in
-      let right : IsVerdictOf (past_end (opening_past [] (at_first sets)) es) s g version Clean = right_grows then.past _ s g version Clean then.grown then.just.1 in
+      let then = answer_just FailClosed greatest_values first.volume history starts_empty audit starts sets es served clean (Granted n least s g version) there in
+      let right : IsVerdictOf (past_end (opening_past [] sets) es) s g version Clean = right_grows then.past _ s g version Clean then.grown then.just.1 in
       let keeps : Keeps amid.volume (map now (all_held [] front)) = led.past.keeps in
       let held : content (all_held [] front) s own.content.generation ≡ Some own.content.bytes = present amid.volume (all_held [] front) s own.content keeps own.there in
       let still : content (all_held [] history) s own.content.generation ≡ Some own.content.bytes =
       subst (λ xs. content xs s own.content.generation ≡ Some own.content.bytes) (sym (ap (all_held []) is ∙ held_then [] front back)) (held_on (all_held [] front) back s own.content.generation own.content.bytes held) in
-      let end : content (past_end (opening_past [] (at_first sets)) es).streams s g ≡ Some own.content.bytes =
-      ap (λ hs. content hs s g) (held_by_end FailClosed greatest_values first.volume history starts_empty audit number limits sets es served) ∙ ap (content (all_held [] history) s) own.generation_is ∙ still in
+      let end : content (past_end (opening_past [] sets) es).streams s g ≡ Some own.content.bytes =
+      ap (λ hs. content hs s g) (held_by_end FailClosed greatest_values first.volume history starts_empty audit starts sets es served) ∙ ap (content (all_held [] history) s) own.generation_is ∙ still in
       let same : right.bytes ≡ own.content.bytes = cc (end, right.held) in
       record {
         named = own.named;
@@ -159,7 +159,7 @@ module _ (has : List ℕ → List ℕ → Type 0) (history : List FilterEntry) (
         clean = ap (λ b. verdict right.patterns b) (sym same) ∙ sym right.right;
       }
   answer_right amid front back is led name (Unscanned n s g cause) there own =
-      absurd ((answer_just FailClosed greatest_values first.volume history starts_empty audit number limits sets es served clean (Unscanned n s g cause) there).just refl)
+      absurd ((answer_just FailClosed greatest_values first.volume history starts_empty audit starts sets es served clean (Unscanned n s g cause) there).just refl)
   answer_right amid front back is led name (Denied n cause) there own = tt
 
   -- lines of answers of the history, under their names
@@ -199,27 +199,27 @@ module _ (has : List ℕ → List ℕ → Type 0) (history : List FilterEntry) (
       lines_right m amid answers l front [] (is ∙ sym (append-nil (front ++ entries_of m.table m.volume l.events))) reached names opened files named
 
 -- a run that was served is legal
-module _ (has : List ℕ → List ℕ → Type 0) (names : List (Bor (List ℕ))) (wishes : Wishes) (old new : Option (List ℕ)) (status : Status) (run : AreFiltered has names wishes old new status) (number : ℕ) (limits : LimitValues) (sets : List Publication) (es : List SideEntry) (served : IsServed (history_of run.told) number limits sets es) where
+module _ (has : List ℕ → List ℕ → Type 0) (names : List (Bor (List ℕ))) (wishes : Wishes) (old new : Option (List ℕ)) (status : Status) (run : AreFiltered has names wishes old new status) (starts : Port → Started) (sets : Port → List Publication) (es : List SideEntry) (served : IsServed (history_of run.told) starts sets es) where
   whole_audited : IsFilterAudit first.table first.volume (history_of run.told)
   whole_audited = (told_reaches has wishes _ _ names _ _ run.end run.told).past.legal
 
-  pub run_legal : AreLegal FailClosed greatest_values (told_so number limits) [] first.volume (at_first sets) es
-  run_legal = legal FailClosed greatest_values first.volume (history_of run.told) starts_empty whole_audited number limits sets es served
+  pub run_legal : AreLegal FailClosed greatest_values starts [] first.volume sets es
+  run_legal = legal FailClosed greatest_values first.volume (history_of run.told) starts_empty whole_audited starts sets es served
 
-  pub run_right : AuditsGrantOnlyClean FailClosed [] (at_first sets) es → AreRight (published_by sets es) run.told
-  run_right clean = told_right has (history_of run.told) whole_audited number limits sets es served clean wishes _ _ names _ _ run.end run.told [] (sym (append-nil (history_of run.told)))
+  pub run_right : AuditsGrantOnlyClean FailClosed [] sets es → AreRight (published_by sets es) run.told
+  run_right clean = told_right has (history_of run.told) whole_audited starts sets es served clean wishes _ _ names _ _ run.end run.told [] (sym (append-nil (history_of run.told)))
 
 -- so is one that ended with a fault, as far as its lines go
-module _ (has : List ℕ → List ℕ → Type 0) (names : List (Bor (List ℕ))) (wishes : Wishes) (old new : Option (List ℕ)) (run : AreToldSoFar has wishes no_files old first names new) (number : ℕ) (limits : LimitValues) (sets : List Publication) (es : List SideEntry) (served : IsServed (history_so_far run) number limits sets es) where
+module _ (has : List ℕ → List ℕ → Type 0) (names : List (Bor (List ℕ))) (wishes : Wishes) (old new : Option (List ℕ)) (run : AreToldSoFar has wishes no_files old first names new) (starts : Port → Started) (sets : Port → List Publication) (es : List SideEntry) (served : IsServed (history_so_far run) starts sets es) where
   front_audited : IsFilterAudit first.table first.volume (history_so_far run)
   front_audited = (so_far_reaches has wishes no_files old names new run).past.legal
 
-  pub front_legal : AreLegal FailClosed greatest_values (told_so number limits) [] first.volume (at_first sets) es
-  front_legal = legal FailClosed greatest_values first.volume (history_so_far run) starts_empty front_audited number limits sets es served
+  pub front_legal : AreLegal FailClosed greatest_values starts [] first.volume sets es
+  front_legal = legal FailClosed greatest_values first.volume (history_so_far run) starts_empty front_audited starts sets es served
 
-  pub front_right : AuditsGrantOnlyClean FailClosed [] (at_first sets) es → AreRight (published_by sets es) run.told × AreRightInPart (published_by sets es) run.last.told
+  pub front_right : AuditsGrantOnlyClean FailClosed [] sets es → AreRight (published_by sets es) run.told × AreRightInPart (published_by sets es) run.last.told
   front_right clean = (
-    told_right has (history_so_far run) front_audited number limits sets es served clean wishes no_files old run.opened run.tally run.held run.end run.told (history_of_part run.last) refl,
-    part_right has (history_so_far run) front_audited number limits sets es served clean wishes run.group run.held new run.end run.last.amid run.last.answers run.last.led (history_of run.told) refl
+    told_right has (history_so_far run) front_audited starts sets es served clean wishes no_files old run.opened run.tally run.held run.end run.told (history_of_part run.last) refl,
+    part_right has (history_so_far run) front_audited starts sets es served clean wishes run.group run.held new run.end run.last.amid run.last.answers run.last.led (history_of run.told) refl
         (told_reaches has wishes no_files old run.opened run.tally run.held run.end run.told) run.last.told,
   )

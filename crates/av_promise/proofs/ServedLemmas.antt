@@ -6,24 +6,23 @@ use Rattle.av_base.specs.Among.{Among}
 use Rattle.av_base.specs.declared.limits.LimitValues.{LimitValues}
 use Rattle.av_base.specs.declared.mode.Mode.{Mode}
 use Rattle.av_base.specs.declared.port.Port.{Port}
-use Rattle.av_base.specs.declared.port.Port.TheVariants.{One, Two}
 use Rattle.av_filter.specs.Audit.{FilterEntry, IsFilterAudit, answers_given}
 use Rattle.av_filter.specs.Conduct.{FilterEvent, Changes}
 use Rattle.av_filter_table.specs.Table.{mounted}
 use Rattle.av_guard.specs.Run.{all_held, held_after}
 use Rattle.av_pend.specs.declared.answer.Answer.{Answer}
-use Rattle.av_promise.specs.Promise.{IsServed, at_first}
-use Rattle.av_service.specs.Audit.{By, Call as ServiceCall, IsCatalogue, IsServiceAudit, Publishes}
-use Rattle.av_sigset.specs.Publication.{Publication, published_as}
+use Rattle.av_promise.specs.Promise.{IsServed}
+use Rattle.av_service.specs.Audit.{By, Call as ServiceCall, Publishes}
+use Rattle.av_sigset.specs.Publication.{Publication}
 use Rattle.av_store.specs.Seen.{Keeps}
 use Rattle.av_store.specs.Store.{Store}
 use Rattle.av_history.proofs.FitLemmas.{Grown, same_past}
 use Rattle.av_history.proofs.SceneLemmas.{filter_grows}
 use Rattle.av_history.proofs.UnionLemmas.{joined_keeps}
-use Rattle.av_history.specs.Audits.{AreLegal, AreOneSets, AuditsGrantOnlyClean, FinishesItsWorks, OfFilter, OfService, SideEntry, answers_in, filter_side, past_end, service_side, sets_end}
+use Rattle.av_history.specs.Audits.{AreLegal, AuditsGrantOnlyClean, OfFilter, OfService, SideEntry, answers_in, filter_side, past_end}
 use Rattle.av_history.specs.Headline.{IsJustified}
 use Rattle.av_history.specs.Past.{Past}
-use Rattle.av_history.specs.Scene.{Answered as AnsweredThen, Started, desk_at_first, opening_past, past_call, past_filter, told_at}
+use Rattle.av_history.specs.Scene.{Answered as AnsweredThen, Started, opening_past, past_call, past_filter, told_at}
 
 -- a past that grew twice
 grown_on : (p q r : Past) → Grown p q → Grown q r → Grown p r
@@ -84,46 +83,24 @@ held_end [] p = refl
 held_end (OfFilter x ∷ es) p = held_end es (past_filter p x.event) ∙ ap (λ hs. all_held hs (filter_side es)) (held_filter p x.event)
 held_end (OfService port x ∷ es) p = held_end es (past_call p x.call) ∙ ap (λ hs. all_held hs (filter_side es)) (held_call p x.call)
 
--- what a service is told at its start
-abbrev pub told_so : ℕ → LimitValues → Port → Started
-told_so number limits port = record { number = number; limits = limits }
-
-catalogues : (sets : List Publication) → IsCatalogue sets → (port : Port) → IsCatalogue (at_first sets port)
-catalogues sets cat One = cat
-catalogues sets cat Two = tt
-
 -- a filter that was mounted on a volume of no stream, and its history, which was served
-module _ (mode : Mode) (bounds : LimitValues) (v : Store) (history : List FilterEntry) (kept : Keeps v []) (audit : IsFilterAudit (mounted mode bounds v.boot) v history) (number : ℕ) (limits : LimitValues) (sets : List Publication) (es : List SideEntry) (served : IsServed history number limits sets es) where
-  services : (port : Port) → IsServiceAudit (at_first sets port) (desk_at_first port (told_so number limits port) (at_first sets port)) (service_side port es)
-  services One = served.service
-  services Two = subst (IsServiceAudit [] (desk_at_first Two (told_so number limits Two) [])) (sym served.alone) tt
-
-  works : (port : Port) → FinishesItsWorks (at_first sets port) [] (service_side port es)
-  works One = served.works
-  works Two = subst (FinishesItsWorks [] []) (sym served.alone) tt
-
-  one_sets : AreOneSets (sets_end sets (service_side One es)) (sets_end [] (service_side Two es))
-  unfolding published_as
-  one_sets version p q is other =
-      let nothing : published_as [] version ≡ Some q = ap (λ xs. published_as (sets_end [] xs) version) (sym served.alone) ∙ other in
-      absurd (cc (nothing))
-
-  pub legal : AreLegal mode bounds (told_so number limits) [] v (at_first sets) es
+module _ (mode : Mode) (bounds : LimitValues) (v : Store) (history : List FilterEntry) (kept : Keeps v []) (audit : IsFilterAudit (mounted mode bounds v.boot) v history) (starts : Port → Started) (sets : Port → List Publication) (es : List SideEntry) (served : IsServed history starts sets es) where
+  pub legal : AreLegal mode bounds starts [] v sets es
   legal = record {
     volume = kept;
-    catalogues = catalogues sets served.catalogue;
+    catalogues = served.catalogues;
     filter = subst (IsFilterAudit _ v) (sym served.filter) audit;
-    services = services;
-    works = works;
-    one_sets = one_sets;
+    services = served.services;
+    works = served.works;
+    one_sets = served.one_sets;
     delivered = served.delivered;
   }
 
-  pub answer_just : AuditsGrantOnlyClean mode [] (at_first sets) es → (a : Answer) → Among a (answers_given history) → IsJustThen mode a (past_end (opening_past [] (at_first sets)) es)
+  pub answer_just : AuditsGrantOnlyClean mode [] sets es → (a : Answer) → Among a (answers_given history) → IsJustThen mode a (past_end (opening_past [] sets) es)
   answer_just clean a among =
-      just_answer mode a es (opening_past [] (at_first sets)) (subst (λ h. Among a (answers_given h)) (sym served.filter) among)
-      (recursion_from_All (λ (b : AnsweredThen). IsJustified mode b.past b.answer) (answers_in (opening_past [] (at_first sets)) es) clean)
+      just_answer mode a es (opening_past [] sets) (subst (λ h. Among a (answers_given h)) (sym served.filter) among)
+      (recursion_from_All (λ (b : AnsweredThen). IsJustified mode b.past b.answer) (answers_in (opening_past [] sets) es) clean)
 
   -- what streams have held by the end is what the filter's events tell
-  pub held_by_end : (past_end (opening_past [] (at_first sets)) es).streams ≡ all_held [] history
-  held_by_end = held_end es (opening_past [] (at_first sets)) ∙ ap (λ h. all_held [] h) served.filter
+  pub held_by_end : (past_end (opening_past [] sets) es).streams ≡ all_held [] history
+  held_by_end = held_end es (opening_past [] sets) ∙ ap (λ h. all_held [] h) served.filter

@@ -1,8 +1,8 @@
--- The lines of a filter that a service joined over a socket, and the audit of that service, put together.
+-- The lines of a filter that a service joined over a socket, and the audits of the services at its ports, put together.
 use Rattle.std.specs.Prelude.{◌≡◌, ℕ, List, [], ◌∷◌, ◌++◌, Option, Some}
 use Rattle.std.specs.Borrow.{Bor}
 use Rattle.std.specs.List.{AllByRecursion as Each}
-use Rattle.av_base.specs.declared.limits.LimitValues.{LimitValues}
+use Rattle.av_base.specs.declared.port.Port.{Port}
 use Rattle.av_base.specs.declared.verdict.Verdict.TheVariants.{Clean}
 use Rattle.av_files.specs.declared.opened.Opened.{Opened}
 use Rattle.av_filter.specs.Audit.{FilterEntry}
@@ -25,6 +25,7 @@ use Rattle.av_store.specs.Rows.{number_named, stream_at}
 use Rattle.av_store.specs.Store.{Store}
 use Rattle.av_store.specs.declared.stream.Stream.{Stream}
 use Rattle.av_history.specs.Audits.{SideEntry}
+use Rattle.av_history.specs.Scene.{Started}
 
 -- an event of a filter, with what its conduct gives out at that place
 abbrev pub entry_of : Table → Store → FilterEvent → FilterEntry
@@ -89,12 +90,12 @@ abbrev pub AreRightInPart : {has_content : List ℕ → List ℕ → Type 0} {wi
 AreRightInPart sets (unwritten same) = Unit {0}
 AreRightInPart {has_content = has_content} {v = v} sets (begun opened files named lines) = Each (λ (o : Opened). IsRightOf has_content sets v o.name.now o.answer) opened
 
--- Of every run of a filter over files that ended well, by what its function ensures, and every service that keeps the conduct: each line
+-- Of every run of a filter over files that ended well, by what its function ensures, and services that keep the conduct: each line
 -- is right.
 abbrev pub FilteredGrantsAreClean : (List ℕ → List ℕ → Type 0) → Type 0
 FilteredGrantsAreClean has_content =
     (names : List (Bor (List ℕ))) (wishes : Wishes) (old new : Option (List ℕ)) (status : Status) (run : AreFiltered has_content names wishes old new status)
-    (number : ℕ) (limits : LimitValues) (sets : List Publication) (es : List SideEntry) → IsServed (history_of run.told) number limits sets es
+    (starts : Port → Started) (sets : Port → List Publication) (es : List SideEntry) → IsServed (history_of run.told) starts sets es
     → AreRight (published_by sets es) run.told
 
 -- Of every run, however it ended: each line that was written is right, those of the groups that were opened, and those of which a front was
@@ -102,5 +103,5 @@ FilteredGrantsAreClean has_content =
 abbrev pub WrittenGrantsAreClean : (List ℕ → List ℕ → Type 0) → Type 0
 WrittenGrantsAreClean has_content =
     (names : List (Bor (List ℕ))) (wishes : Wishes) (old new : Option (List ℕ)) (run : AreToldSoFar has_content wishes no_files old first names new)
-    (number : ℕ) (limits : LimitValues) (sets : List Publication) (es : List SideEntry) → IsServed (history_so_far run) number limits sets es
+    (starts : Port → Started) (sets : Port → List Publication) (es : List SideEntry) → IsServed (history_so_far run) starts sets es
     → AreRight (published_by sets es) run.told × AreRightInPart (published_by sets es) run.last.told

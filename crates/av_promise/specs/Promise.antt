@@ -1,7 +1,6 @@
--- The calls of a guard, and the audit of the one service that it has, at the first port, put together.
+-- The calls of a guard, and the audits of the services at its two ports, put together.
 use Rattle.std.specs.Prelude.{◌≡◌, ◌≢◌, ℕ, List, [], All, Some}
 use Rattle.av_base.specs.Among.{Among}
-use Rattle.av_base.specs.declared.limits.LimitValues.{LimitValues}
 use Rattle.av_base.specs.declared.mode.Mode.{Mode}
 use Rattle.av_base.specs.declared.mode.Mode.TheVariants.{FailClosed}
 use Rattle.av_base.specs.declared.port.Port.{Port}
@@ -18,32 +17,26 @@ use Rattle.av_guard.specs.declared.given.Told.{Told}
 use Rattle.av_guard.specs.declared.settings.Settings.{Settings}
 use Rattle.av_match.specs.Match.{verdict}
 use Rattle.av_service.specs.Audit.{IsCatalogue, IsServiceAudit}
-use Rattle.av_service.specs.Desk.{just_started}
-use Rattle.av_sigset.specs.Publication.{Publication, latest_as, published_as}
+use Rattle.av_sigset.specs.Publication.{Publication, published_as}
 use Rattle.av_sigset.specs.declared.signature.Pattern.{Pattern}
-use Rattle.av_history.specs.Audits.{FinishesItsWorks, IsDelivered, SideEntry, filter_side, past_end, service_side}
-use Rattle.av_history.specs.Scene.{opening_past}
-use Rattle.av_history.specs.World.{at_port}
+use Rattle.av_history.specs.Audits.{AreOneSets, FinishesItsWorks, IsDelivered, SideEntry, filter_side, past_end, service_side, sets_end}
+use Rattle.av_history.specs.Scene.{Started, desk_at_first, opening_past}
 
--- The list has the events of a filter, of this history, and those of a service at the first port, each side's in its order; at the
--- second port there is none. The service began with a catalogue, and its audit is legal; each work that came back is one that it
--- lent; and each message that came to one side had been sent by the other before.
-pub record IsServed (history : List FilterEntry) (number : ℕ) (limits : LimitValues) (sets : List Publication)
+-- The list has the events of a filter, of this history, and those of a service at each port, each side's in its order. Each service keeps the
+-- conduct, from a catalogue in which a version names one set, and it is the same set in both. Each work that came back is one that
+-- its service lent; and each message that came to one side had been sent by the other before. At a port without a service there is no event.
+pub record IsServed (history : List FilterEntry) (starts : Port → Started) (sets : Port → List Publication)
     (es : List SideEntry) : Type 0 where
   pub filter : filter_side es ≡ history
-  pub alone : service_side Two es ≡ []
-  pub catalogue : IsCatalogue sets
-  pub service : IsServiceAudit sets (just_started number One limits (latest_as sets)) (service_side One es)
-  pub works : FinishesItsWorks sets [] (service_side One es)
+  pub catalogues : (port : Port) → IsCatalogue (sets port)
+  pub services : (port : Port) → IsServiceAudit (sets port) (desk_at_first port (starts port) (sets port)) (service_side port es)
+  pub works : (port : Port) → FinishesItsWorks (sets port) [] (service_side port es)
+  pub one_sets : AreOneSets (sets_end (sets One) (service_side One es)) (sets_end (sets Two) (service_side Two es))
   pub delivered : IsDelivered [] [] es
 
--- the publications of this catalogue, and none at the second port
-abbrev pub at_first : List Publication → Port → List Publication
-at_first sets port = at_port port sets []
-
--- what was published by the end
-abbrev pub published_by : List Publication → List SideEntry → List Publication
-published_by sets es = (past_end (opening_past [] (at_first sets)) es).sets
+-- what was published by the end, by either
+abbrev pub published_by : (Port → List Publication) → List SideEntry → List Publication
+published_by sets es = (past_end (opening_past [] sets) es).sets
 
 -- Where a content was granted, it is clean under the patterns that were published as the version that is named. Nothing else
 -- lets it through in fail-closed mode.
@@ -67,5 +60,5 @@ GrantsAreClean =
     (settings : Settings) (calls : List Call) (g : State) → Lead calls (begun settings) g
     → (history : List FilterEntry)
     × IsHistoryOf settings calls g history
-    × ((number : ℕ) (limits : LimitValues) (sets : List Publication) (es : List SideEntry) → IsServed history number limits sets es
+    × ((starts : Port → Started) (sets : Port → List Publication) (es : List SideEntry) → IsServed history starts sets es
     → All (IsRightlyTold settings.mode (published_by sets es) (asks_in calls)) (told_in calls))
