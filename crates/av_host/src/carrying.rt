@@ -10,7 +10,7 @@ use av_desk::Desk;
 use av_engines::End;
 use av_files::streams::TURNS;
 use av_gate::{Gate, Seat};
-use av_loops::{desk_done, desk_in_running_works, gate_in, gate_out};
+use av_loops::{DeskSide, GateSide, desk_done, desk_in_running_works, gate_in, gate_out};
 use av_pool::{Giver, Taker};
 use std::alloc::{AllocError, Global};
 use std::sync::Wait;
@@ -67,16 +67,14 @@ fn into_gate<R: Wait>(
     make_room(alloc);
     let wire = line.wire;
     let mut reader = wire.reader();
-    let end = gate_in(
+    let side = GateSide {
         rt,
         alloc,
         gate,
-        &mut seat,
-        line.port,
-        &mut reader,
-        &wire.sender,
-        TURNS,
-    );
+        port: line.port,
+        sender: &wire.sender,
+    };
+    let end = gate_in(&side, &mut seat, &mut reader, TURNS);
     wire.is_over.store(true, SeqCst);
     wire.cut();
     if matches!(end, End::Memory | End::AuditFull) {
@@ -100,7 +98,14 @@ fn out_of_gate<R: Wait>(
     requires { IsSeatOf gate.now seat }
 {
     let wire = line.wire;
-    let end = gate_out(rt, alloc, gate, &mut seat, line.port, &wire.sender);
+    let side = GateSide {
+        rt,
+        alloc,
+        gate,
+        port: line.port,
+        sender: &wire.sender,
+    };
+    let end = gate_out(&side, &mut seat);
     if end == End::Done {
         wire.hang_up();
     } else {
@@ -122,15 +127,13 @@ pub fn into_desk<R: Wait>(
 {
     make_room(alloc);
     let mut reader = wire.reader();
-    let end = desk_in_running_works(
+    let side = DeskSide {
         rt,
         alloc,
         desk,
-        &mut giver,
-        &mut reader,
-        &wire.sender,
-        TURNS,
-    );
+        sender: &wire.sender,
+    };
+    let end = desk_in_running_works(&side, &mut giver, &mut reader, TURNS);
     if end != End::Closed {
         wire.cut();
     }
@@ -147,7 +150,13 @@ pub fn back_to_desk<R: Wait>(
 ) -> (Taker, End)
     ensures { result.0.channel ≡ taker.channel }
 {
-    let end = desk_done(rt, alloc, desk, &mut taker, &wire.sender);
+    let side = DeskSide {
+        rt,
+        alloc,
+        desk,
+        sender: &wire.sender,
+    };
+    let end = desk_done(&side, &mut taker);
     if end != End::Done {
         wire.cut();
     }
