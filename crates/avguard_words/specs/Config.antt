@@ -12,12 +12,27 @@ use Rattle.avguard_words.specs.declared.misfit.Wanted.TheVariants.{NoKey, Socket
 use Rattle.avguard_words.specs.declared.request.Guard.{Guard}
 use Rattle.avguard_words.specs.declared.settings.Settings.{Settings}
 
+-- the keys of sockets, and of their rights
+abbrev pub is_socket_key : List ℕ → Bool
+is_socket_key k = bytes_eq k (codes "opens") || (bytes_eq k (codes "service") || (bytes_eq k (codes "clamd") || (bytes_eq k (codes "mode") || bytes_eq k (codes "service-mode"))))
+
+-- the keys of files
+abbrev pub is_file_key : List ℕ → Bool
+is_file_key k = bytes_eq k (codes "names") || (bytes_eq k (codes "trust") || (bytes_eq k (codes "state") || bytes_eq k (codes "log")))
+
+-- the keys of numbers
+abbrev pub is_number_key : List ℕ → Bool
+is_number_key k =
+    bytes_eq k (codes "wait") || (bytes_eq k (codes "keep") || (bytes_eq k (codes "questions") || (bytes_eq k (codes "max-size")
+    || (bytes_eq k (codes "stream-max-size") || (bytes_eq k (codes "least") || bytes_eq k (codes "most-version"))))))
+
+-- the keys of what is on or off
+abbrev pub is_flag_key : List ℕ → Bool
+is_flag_key k = bytes_eq k (codes "open") || (bytes_eq k (codes "log-grants") || bytes_eq k (codes "log-json"))
+
 -- the keys that a file may have
 abbrev pub is_key : List ℕ → Bool
-is_key k = bytes_eq k (codes "opens") || (bytes_eq k (codes "service") || (bytes_eq k (codes "clamd") || (bytes_eq k (codes "names")
-    || (bytes_eq k (codes "open") || (bytes_eq k (codes "wait") || (bytes_eq k (codes "keep") || (bytes_eq k (codes "questions")
-    || (bytes_eq k (codes "max-size") || (bytes_eq k (codes "stream-max-size") || (bytes_eq k (codes "mode") || (bytes_eq k (codes "service-mode") || (bytes_eq k (codes "least") || (bytes_eq k (codes "most-version")
-    || (bytes_eq k (codes "state") || (bytes_eq k (codes "log") || (bytes_eq k (codes "log-grants") || bytes_eq k (codes "log-json")))))))))))))))))
+is_key k = is_socket_key k || (is_file_key k || (is_number_key k || is_flag_key k))
 
 -- a number within bounds
 abbrev pub number_in : Bounds → Data → Option ℕ
@@ -54,6 +69,7 @@ pub record IsSaid (ms : Members) (s : Settings) : Type 0 where
   pub service : IsRead socket_in (get_member (codes "service") ms) (option_copied s.service)
   pub clamd : IsRead socket_in (get_member (codes "clamd") ms) (option_copied s.clamd)
   pub names : IsRead file_in (get_member (codes "names") ms) (option_copied s.names)
+  pub trust : IsRead file_in (get_member (codes "trust") ms) (option_copied s.trust)
   pub is_open : IsRead as_bool (get_member (codes "open") ms) s.is_open
   pub wait : IsRead (number_in (record { least = 1; greatest = 86_400 })) (get_member (codes "wait") ms) s.wait
   pub keep : IsRead (number_in (record { least = 0; greatest = 1_099_511_627_776 })) (get_member (codes "keep") ms) s.keep

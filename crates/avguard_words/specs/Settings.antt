@@ -12,6 +12,7 @@ settings_over s other = record {
   service = option_or s.service other.service;
   clamd = option_or s.clamd other.clamd;
   names = option_or s.names other.names;
+  trust = option_or s.trust other.trust;
   is_open = option_or s.is_open other.is_open;
   wait = option_or s.wait other.wait;
   keep = option_or s.keep other.keep;
@@ -36,6 +37,7 @@ guard_at s opens service = record {
   service = service;
   clamd = s.clamd;
   names = s.names;
+  trust = s.trust;
   is_open = unwrap_or s.is_open false;
   wait = unwrap_or s.wait 30;
   keep = unwrap_or s.keep 67_108_864;
@@ -58,6 +60,6 @@ pub record IsConfigured (words file : Settings) (guard : Guard) : Type 0 where
   pub service : (settings_over words file).service ≡ Some guard.service
   pub settled : guard ≡ guard_at (settings_over words file) guard.opens guard.service
 
--- names are of use to clients of clamd alone
+-- names are of use to clients of clamd alone, and a key to names alone
 abbrev pub HasUseOfNames : Guard → Type 0
-HasUseOfNames g = IsSome g.names → IsSome g.clamd
+HasUseOfNames g = (IsSome g.names → IsSome g.clamd) × (IsSome g.trust → IsSome g.names)

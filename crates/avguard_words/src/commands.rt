@@ -77,7 +77,7 @@ const RUN_HELP: &str =
          \n  avscan service service.socket examples/test.avsig\
          \n  avguard ask opens.socket examples/letter.txt examples/eicar.com.txt";
 
-const OPTIONS: [Word; 18] = [
+const OPTIONS: [Word; 19] = [
     CONFIG,
     OPEN,
     CLOSED,
@@ -88,6 +88,7 @@ const OPTIONS: [Word; 18] = [
     STREAM_MAX_SIZE,
     CLAMD,
     NAMES,
+    TRUST_OF_NAMES,
     MODE_OF_OPENS,
     MODE_OF_SERVICE,
     LEAST,
@@ -421,6 +422,12 @@ const CLAMD: Word = Word {
     name: "clamd",
     kind: Kind::Value { shown: "CLAMD" },
     help: "Where to make a socket for clients of clamd",
+};
+
+const TRUST_OF_NAMES: Word = Word {
+    name: "trust",
+    kind: Kind::Value { shown: "KEY" },
+    help: "Takes the SET of --names only if `avtool sign` signed it with the key of this file",
 };
 
 const NAMES: Word = Word {

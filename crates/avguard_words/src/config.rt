@@ -8,7 +8,7 @@ ghost use Rattle.toml.specs.Parse.{parse_document};
 ghost use Rattle.toml.specs.View.{table_view, view};
 ghost use Rattle.av_status.specs.Status.{IsFault};
 ghost use Rattle.av_status.specs.declared.status.Status.TheVariants.{Memory, Usage};
-ghost use Rattle.avguard_words.specs.Config.{IsOfConfig, IsRead, IsSaid, IsWrong, file_in, is_key, number_in, rights_in, rights_named, socket_in};
+ghost use Rattle.avguard_words.specs.Config.{IsOfConfig, IsRead, IsSaid, IsWrong, file_in, is_file_key, is_flag_key, is_key, is_number_key, is_socket_key, number_in, rights_in, rights_named, socket_in};
 
 use crate::bounds::{Bounds, KEEP, MAX_SOCKET, QUESTIONS, SIZES, VERSIONS, WAIT};
 use crate::misfit::{Misfit, Wanted, bad_document, bad_setting, config_too_long};
@@ -99,6 +99,7 @@ fn settings_in<'a>(table: &'a Table) -> Result<Settings<'a>, Misfit<'a>>
         service: socket_at(table, "service")?,
         clamd: socket_at(table, "clamd")?,
         names: file_at(table, "names")?,
+        trust: file_at(table, "trust")?,
         is_open: flag_at(table, "open")?,
         wait: number_at(table, "wait", WAIT)?,
         keep: number_at(table, "keep", KEEP)?,
@@ -132,24 +133,41 @@ fn unknown_in<'a>(table: &'a Table) -> Option<&'a str>
 fn is_known(name: &str) -> bool
     ensures { result ≡ is_key name.now }
 {
+    is_socket_key(name) || is_file_key(name) || is_number_key(name) || is_flag_key(name)
+}
+
+fn is_socket_key(name: &str) -> bool
+    ensures { result ≡ is_socket_key name.now }
+{
     name == "opens"
         || name == "service"
         || name == "clamd"
-        || name == "names"
-        || name == "open"
-        || name == "wait"
+        || name == "mode"
+        || name == "service-mode"
+}
+
+fn is_file_key(name: &str) -> bool
+    ensures { result ≡ is_file_key name.now }
+{
+    name == "names" || name == "trust" || name == "state" || name == "log"
+}
+
+fn is_number_key(name: &str) -> bool
+    ensures { result ≡ is_number_key name.now }
+{
+    name == "wait"
         || name == "keep"
         || name == "questions"
         || name == "max-size"
         || name == "stream-max-size"
-        || name == "mode"
-        || name == "service-mode"
         || name == "least"
         || name == "most-version"
-        || name == "state"
-        || name == "log"
-        || name == "log-grants"
-        || name == "log-json"
+}
+
+fn is_flag_key(name: &str) -> bool
+    ensures { result ≡ is_flag_key name.now }
+{
+    name == "open" || name == "log-grants" || name == "log-json"
 }
 
 // The value at a key.

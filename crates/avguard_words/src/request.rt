@@ -31,6 +31,8 @@ pub struct Guard<'a> {
     pub clamd: Option<&'a str>,
     /// The signature file whose names these are told.
     pub names: Option<&'a str>,
+    /// The file of the key that the signature file has to be signed with.
+    pub trust: Option<&'a str>,
     /// What can't be judged is let through.
     pub is_open: bool,
     /// The most seconds of a question.

@@ -14,6 +14,7 @@ pub fn config_lines(alloc: Global, guard: Guard<'_>) -> Result<String, AllocErro
     add_text(alloc, "service", Some(guard.service), &mut lines)?;
     add_text(alloc, "clamd", guard.clamd, &mut lines)?;
     add_text(alloc, "names", guard.names, &mut lines)?;
+    add_text(alloc, "trust", guard.trust, &mut lines)?;
     add_flag(alloc, "open", guard.is_open, &mut lines)?;
     add_number(alloc, "wait", guard.wait, &mut lines)?;
     add_number(alloc, "keep", guard.keep, &mut lines)?;

@@ -63,6 +63,9 @@ fn guard_by<'a, E: Write>(
     if both.names.is_some() && both.clamd.is_none() {
         return Err(setting_missing(err, asked.config, "clamd"));
     }
+    if both.trust.is_some() && both.names.is_none() {
+        return Err(setting_missing(err, asked.config, "names"));
+    }
     with_sockets(both.guard_at(opens, service), err)
 }
 

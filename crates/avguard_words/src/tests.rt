@@ -350,6 +350,12 @@ fn names_of_signatures_are_for_clients_of_clamd(rt: HostRuntime) -> Result<(), F
     );
     let with_clamd = "run o s --clamd c --names n";
     assert_eq!(rt; refusal_of(alloc, with_clamd, &mut err), None);
+    assert_eq!(rt;
+        refusal_of(alloc, "run o s --clamd c --trust k", &mut err),
+        Some(Status::Usage)
+    );
+    let with_names = "run o s --clamd c --names n --trust k";
+    assert_eq!(rt; refusal_of(alloc, with_names, &mut err), None);
     Ok(())
 }
 
@@ -375,7 +381,7 @@ const ABSENT: &str =
     "opens = \"o\"\nservice = \"s\"\nopen = false\nwait = 30\nkeep = 67108864\nquestions = 256\nmax-size = 9223372036854775807\nstream-max-size = 26214399\nmode = \"600\"\nservice-mode = \"600\"\nleast = 0\nlog-grants = false\nlog-json = false\n";
 
 const ALL: &str =
-    "opens = \"a/o\"\nservice = \"s\"\nclamd = \"c \\u0009\"\nnames = \"n\"\nopen = true\nwait = 86400\nkeep = 1099511627776\nquestions = 1\nmax-size = 1\nstream-max-size = 9223372036854775807\nmode = \"660\"\nservice-mode = \"666\"\nleast = 7\nmost-version = 9223372036854775807\nstate = \"v\"\nlog = \"-\"\nlog-grants = true\nlog-json = true\n";
+    "opens = \"a/o\"\nservice = \"s\"\nclamd = \"c \\u0009\"\nnames = \"n\"\ntrust = \"t\"\nopen = true\nwait = 86400\nkeep = 1099511627776\nquestions = 1\nmax-size = 1\nstream-max-size = 9223372036854775807\nmode = \"660\"\nservice-mode = \"666\"\nleast = 7\nmost-version = 9223372036854775807\nstate = \"v\"\nlog = \"-\"\nlog-grants = true\nlog-json = true\n";
 
 #[test]
 fn a_configuration_file_says_what_words_say(rt: HostRuntime) -> Result<(), Fail> {
@@ -408,6 +414,7 @@ fn the_words_win_over_the_file(rt: HostRuntime) -> Result<(), Fail> {
         service: Some("s"),
         clamd: Some("c"),
         names: Some("n"),
+        trust: Some("k"),
         is_open: Some(false),
         wait: Some(1),
         keep: Some(2),
@@ -424,7 +431,7 @@ fn the_words_win_over_the_file(rt: HostRuntime) -> Result<(), Fail> {
         log_json: Some(true),
     };
     let lines =
-        "opens = \"o\"\nservice = \"s\"\nclamd = \"c\"\nnames = \"n\"\nopen = false\nwait = 1\nkeep = 2\nquestions = 3\nmax-size = 6\nstream-max-size = 7\nmode = \"600\"\nservice-mode = \"660\"\nleast = 4\nmost-version = 5\nstate = \"v\"\nlog = \"l\"\nlog-grants = true\nlog-json = true\n";
+        "opens = \"o\"\nservice = \"s\"\nclamd = \"c\"\nnames = \"n\"\ntrust = \"k\"\nopen = false\nwait = 1\nkeep = 2\nquestions = 3\nmax-size = 6\nstream-max-size = 7\nmode = \"600\"\nservice-mode = \"660\"\nleast = 4\nmost-version = 5\nstate = \"v\"\nlog = \"l\"\nlog-grants = true\nlog-json = true\n";
     for (words, text, wanted) in [
         (said, ALL, lines),
         (said, "", lines),
@@ -568,6 +575,14 @@ fn a_bad_key_is_told_with_its_place(rt: HostRuntime) -> Result<(), Fail> {
         (
             "opens = 'o'\nservice = 's'\nnames = 'n'",
             "f: clamd is missing\n",
+        ),
+        (
+            "opens = 'o'\nservice = 's'\ntrust = 'k'",
+            "f: names is missing\n",
+        ),
+        (
+            "trust = ''",
+            "f:1:9: trust: expected the path of a file in quotes\n",
         ),
         (
             "opens = 'o'\nservice = 'o'",

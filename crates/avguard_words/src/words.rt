@@ -23,6 +23,12 @@ pub const PROGRAM: &str = "avguard";
 // The most bytes of a content that can be asked about.
 const MAX_ASKED: u64 = 1_048_576;
 
+const CLAMD_MISSING: &str =
+    "error: the following required arguments were not provided:\n  --clamd <CLAMD>\n";
+
+const NAMES_MISSING: &str =
+    "error: the following required arguments were not provided:\n  --names <SET>\n";
+
 /// Reads the words of the command line, the program's name first. A help text goes to `out` and a usage fault to `err`; the status
 /// is then that of the program.
 pub fn read_words<'a, S: AsStr, W: Write, E: Write>(
@@ -74,6 +80,7 @@ fn settings_of<'a>(matches: &ArgMatches<'a>) -> Settings<'a> {
         service: matches.get_str("service"),
         clamd: matches.get_str("clamd"),
         names: matches.get_str("names"),
+        trust: matches.get_str("trust"),
         is_open: openness_of(matches),
         wait: number_said(matches, "wait"),
         keep: number_said(matches, "keep"),
@@ -182,7 +189,10 @@ fn in_order<'a, E: Write>(request: Request<'a>, err: &mut E) -> Result<Request<'
 {
     match request {
         Request::Guard(guard) if guard.names.is_some() && guard.clamd.is_none() => {
-            Err(clamd_missing(err))
+            Err(word_missing(err, CLAMD_MISSING))
+        }
+        Request::Guard(guard) if guard.trust.is_some() && guard.names.is_none() => {
+            Err(word_missing(err, NAMES_MISSING))
         }
         Request::Guard(guard) => match with_sockets(guard, err) {
             Ok(guard) => Ok(Request::Guard(guard)),
@@ -224,10 +234,9 @@ fn paths_in_order<'a, E: Write>(paths: Paths<'a>, err: &mut E) -> Result<Paths<'
 }
 
 // Names are for clients of clamd: clap's own words for an option that another one requires.
-fn clamd_missing<E: Write>(err: &mut E) -> Status
+fn word_missing<E: Write>(err: &mut E, fault: &str) -> Status
     ensures { result ≡ Usage }
 {
-    let fault = "error: the following required arguments were not provided:\n  --clamd <CLAMD>\n";
     say_usage(err, PROGRAM, fault);
     Status::Usage
 }

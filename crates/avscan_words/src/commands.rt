@@ -3,11 +3,11 @@
 use crate::words::PROGRAM;
 use av_words::rows::{
     DENIED, FILES_FROM, JSON, KEEP_GOING, NOT_GRANTED, NULL, PRINT0, QUIET, RECURSIVE, SCRIPT,
-    SUMMARY,
+    SUMMARY, TRUST,
 };
 use av_words::{Absent, Kind, Word, command_of, with};
 use clap::builder::ValueParser;
-use clap::{Arg, Command};
+use clap::{Arg, ArgAction, Command};
 use std::alloc::{AllocError, Global};
 
 /// The command line: one command each for a script, for files that are scanned or opened, for the two programs that hold opens
@@ -88,21 +88,30 @@ fn scan_command<'a>(alloc: Global) -> Result<Command<'a>, AllocError> {
          \n\nA line of the output is `FILE clean` or `FILE infected INDEX NAME end PLACE`: which \
          signature ends first, and at which byte.\
          \n`man avsig` has the whole format. A name with a control character stands in double quotes, with escapes as in C.\
+         \n\nWith --set a file has a line for each set, which ends with ` set SET`.\
+         \nWith --all-matches it has a line for each signature that occurs in it, in the order of SET.\
          \n\nWithout -k one file that can't be read, or is too large, ends the run with no line for any file: -k passes it over.\
          \n\nExamples:\
          \n  avscan scan examples/test.avsig examples/letter.txt examples/eicar.com.txt\
          \n  avscan scan -r -i --summary --max-size 100000000 examples/test.avsig FOLDER\
-         \n  avscan scan -k --files-from LIST examples/test.avsig",
+         \n  avscan scan -r --one-file-system --exclude '*.iso' examples/test.avsig /home\
+         \n  avscan scan -r -i --move /var/quarantine examples/test.avsig /home\
+         \n  avscan scan -k --files-from LIST examples/test.avsig\
+         \n  avscan scan examples/test.avsig --set OTHER.avsig examples/letter.txt",
         &[
             SET,
             SCANNED_FILES,
             RECURSIVE,
+            ONE_FILE_SYSTEM,
             KEEP_GOING,
             MAX_SIZE,
+            ALL_MATCHES,
+            MOVE,
             ALLOW_EMPTY,
+            TRUST,
             INFECTED,
             JSON,
-            PRINT0,
+            PRINT0_OF_SCANS,
             FILES_FROM,
             NULL,
             FOUND,
@@ -110,7 +119,30 @@ fn scan_command<'a>(alloc: Global) -> Result<Command<'a>, AllocError> {
             QUIET,
         ],
     )?;
-    command.arg(jobs(alloc))
+    command
+        .arg(more_sets(alloc))?
+        .arg(exclude(alloc))?
+        .arg(jobs(alloc))
+}
+
+// Further signature files. It may be given again and again.
+fn more_sets<'a>(alloc: Global) -> Arg<'a> {
+    Arg::new(alloc, "more-sets")
+        .long("set")
+        .value_name("SET")
+        .action(ArgAction::Append)
+        .help("Scans under this signature file too, in the same pass; may be given up to 15 times")
+}
+
+// What is left out below folders. It may be given again and again.
+fn exclude<'a>(alloc: Global) -> Arg<'a> {
+    Arg::new(alloc, "exclude")
+        .long("exclude")
+        .value_name("GLOB")
+        .action(ArgAction::Append)
+        .help(
+            "Leaves out what is below a folder and matches GLOB (* ? ** [..]); may be given again and again",
+        )
 }
 
 // How many threads scan. It has a letter too, and a value.
@@ -144,6 +176,7 @@ fn host_command<'a>(alloc: Global) -> Result<Command<'a>, AllocError> {
             SET,
             OPENED_FILES,
             ALLOW_EMPTY,
+            TRUST,
             NOT_GRANTED,
             JSON,
             PRINT0,
@@ -205,8 +238,18 @@ fn service_command<'a>(alloc: Global) -> Result<Command<'a>, AllocError> {
          \n  avscan filter avscan.socket examples/letter.txt examples/eicar.com.txt\
          \n  avscan service avscan.socket examples/test.avsig\
          \nFor a guard, as long as that runs:\
-         \n  avscan service service.socket examples/test.avsig --watch 10",
-        &[SOCKET_OF_FILTER, SET, WAIT_FOR_FILTER, WATCH, ALLOW_EMPTY],
+         \n  avscan service service.socket examples/test.avsig --watch 10\
+         \nBeside it, so that either may be restarted without a denial:\
+         \n  avscan service service.socket examples/test.avsig --watch 10 --spare",
+        &[
+            SOCKET_OF_FILTER,
+            SET,
+            WAIT_FOR_FILTER,
+            WATCH,
+            BESIDE,
+            ALLOW_EMPTY,
+            TRUST,
+        ],
     )
 }
 
@@ -220,7 +263,7 @@ fn check_command<'a>(alloc: Global) -> Result<Command<'a>, AllocError> {
          \nand the status is 1 where a file is bad, 4 where one can't be read.\
          \n\nExample:\
          \n  avscan check examples/test.avsig",
-        &[CHECKED_SETS],
+        &[CHECKED_SETS, TRUST],
     )
 }
 
@@ -272,6 +315,30 @@ const MAX_SIZE: Word = Word {
     help: "The most bytes of a file, up to 2^63 - 1, with K, M or G for 1024 bytes, 1024 K, 1024 M; by default 1M",
 };
 
+const ALL_MATCHES: Word = Word {
+    name: "all-matches",
+    kind: Kind::Flag,
+    help: "Prints a line for each signature that occurs in a file; its bytes are held in memory, at most 64M of them",
+};
+
+const MOVE: Word = Word {
+    name: "move",
+    kind: Kind::Value { shown: "FOLDER" },
+    help: "Moves each infected file into FOLDER, which has to be on its file system, and says so on standard error",
+};
+
+const ONE_FILE_SYSTEM: Word = Word {
+    name: "one-file-system",
+    kind: Kind::Flag,
+    help: "Below a folder leaves out folders on other file systems",
+};
+
+const PRINT0_OF_SCANS: Word = Word {
+    name: "print0",
+    kind: Kind::FlagWithout { other: "json" },
+    help: "Ends each line with a zero byte in place of a line feed; with -i prints the names of infected files alone",
+};
+
 const INFECTED: Word = Word {
     name: "infected",
     kind: Kind::Letter('i'),
@@ -316,6 +383,12 @@ const SPARE: Word = Word {
     name: "spare",
     kind: Kind::Flag,
     help: "A second service stands by: what the first one leaves undone when it is lost is asked there",
+};
+
+const BESIDE: Word = Word {
+    name: "spare",
+    kind: Kind::Flag,
+    help: "Comes as the second service of a guard, beside one without --spare: each takes over what the other leaves",
 };
 
 const WAIT_FOR_SERVICE: Word = Word {

@@ -4,6 +4,9 @@ ghost use Rattle.std.specs.Prelude.{◌≤◌, IfSome};
 /// The most bytes of a file where nothing is said of it.
 pub(crate) const MAX_SIZE: u64 = 1_048_576;
 
+/// The most bytes of a file that is held in memory.
+pub(crate) const MAX_HELD: u64 = 67_108_864;
+
 const MOST: u64 = 9_223_372_036_854_775_807;
 
 /// The bytes of a size: a number, with K, M or G for 1024 bytes, 1024 K or 1024 M.

@@ -48,15 +48,27 @@ fn words_ask_for_a_request_or_end_with_a_status(rt: HostRuntime) -> Result<(), F
             Request::Scan(
                 Scan {
                     set,
+                    more_sets,
+                    trust,
                     empty_sets,
                     named,
                     finding,
                     jobs,
+                    globs,
+                    is_one_device,
+                    has_all_matches,
+                    folder,
                 },
             ),
         ) => {
+            assert!(rt; more_sets.is_empty());
             assert!(rt; jobs.is_none());
+            assert!(rt; globs.is_empty());
+            assert!(rt; !is_one_device);
+            assert!(rt; !has_all_matches);
+            assert!(rt; folder.is_none());
             assert_eq!(rt; set, "s");
+            assert!(rt; trust.is_none());
             assert_eq!(rt; empty_sets, EmptySets::Refused);
             assert_eq!(rt; finding, FILES_ALONE);
             assert_eq!(rt; named.files.as_slice(), ["f", "g"].as_slice());
@@ -161,6 +173,28 @@ fn a_socket_has_a_path_and_a_time_to_wait(rt: HostRuntime) -> Result<(), Fail> {
         ("service  s", "", None),
     ] {
         assert!(&rt; wait_of(alloc, line, path) == wait, "{line}");
+    }
+    Ok(())
+}
+
+// Whether a line asks for a service that comes beside another one.
+fn spare_of(alloc: Global, line: &str) -> Option<bool> {
+    match request_of(alloc, words_of(alloc, line)?.as_slice()) {
+        Some(Request::Service(service)) => Some(service.is_spare),
+        _ => None,
+    }
+}
+
+#[test]
+fn a_service_is_a_spare_where_a_line_says_so(rt: HostRuntime) -> Result<(), Fail> {
+    for (line, is_spare) in [
+        ("service t s", Some(false)),
+        ("service t s --spare", Some(true)),
+        ("service --spare t s --watch 10", Some(true)),
+        ("service t s --spare --spare", None),
+        ("service t s --spare 2", None),
+    ] {
+        assert!(&rt; spare_of(rt.alloc(), line) == is_spare, "{line}");
     }
     Ok(())
 }
@@ -368,6 +402,66 @@ fn what_is_told_of_files_is_what_is_asked_for(rt: HostRuntime) -> Result<(), Fai
     Ok(())
 }
 
+// Whether a line asks for each signature that occurs in a file, and how many bytes a file may have.
+fn matches_of(alloc: Global, line: &str) -> Option<(bool, u64)> {
+    match request_of(alloc, words_of(alloc, line)?.as_slice()) {
+        Some(Request::Scan(scan)) => Some((scan.has_all_matches, scan.finding.max_size)),
+        _ => None,
+    }
+}
+
+#[test]
+fn each_match_is_told_of_files_of_up_to_64_mib(rt: HostRuntime) -> Result<(), Fail> {
+    for (line, matches) in [
+        ("scan s f", Some((false, 1_048_576))),
+        ("scan --all-matches s f", Some((true, 1_048_576))),
+        (
+            "scan s f --all-matches --max-size 64M",
+            Some((true, 67_108_864)),
+        ),
+        (
+            "scan s f --all-matches --max-size 67108864",
+            Some((true, 67_108_864)),
+        ),
+        ("scan s f --all-matches --max-size 67108865", None),
+        ("scan s f --all-matches --max-size 1G", None),
+        ("scan s f --max-size 1G", Some((false, 1_073_741_824))),
+        ("scan s f --all-matches --all-matches", None),
+        ("scan s f --all-matches=1", None),
+        ("host s f --all-matches", None),
+    ] {
+        assert!(&rt; matches_of(rt.alloc(), line) == matches, "{line}");
+    }
+    Ok(())
+}
+
+// The folder that a line has infected files moved into.
+fn folder_of(alloc: Global, line: &str) -> Option<String> {
+    match request_of(alloc, words_of(alloc, line)?.as_slice()) {
+        Some(Request::Scan(scan)) => String::from_str(alloc, scan.folder?).ok(),
+        _ => None,
+    }
+}
+
+#[test]
+fn infected_files_are_moved_where_that_is_asked_for(rt: HostRuntime) -> Result<(), Fail> {
+    for (line, folder) in [
+        ("scan s f", None),
+        ("scan --move q s f", Some("q")),
+        ("scan s f --move=q/r -r", Some("q/r")),
+        ("scan s f --move", None),
+        ("scan s f --move q --move r", None),
+        ("host --move q s f", None),
+    ] {
+        let got = folder_of(rt.alloc(), line);
+        assert!(&rt;
+            got.as_ref().map(|folder| folder.as_str()) == folder,
+            "{line}"
+        );
+    }
+    Ok(())
+}
+
 // Whether a line allows a set without signatures.
 fn allowance_of(alloc: Global, line: &str) -> Option<EmptySets> {
     match request_of(alloc, words_of(alloc, line)?.as_slice()) {
@@ -390,6 +484,37 @@ fn a_set_without_signatures_is_allowed_where_a_line_says_so(rt: HostRuntime) -> 
         ("filter t f --allow-empty", None),
     ] {
         assert!(&rt; allowance_of(rt.alloc(), line) == allows, "{line}");
+    }
+    Ok(())
+}
+
+// The key that a line trusts.
+fn trust_of<'a>(alloc: Global, words: &'a [&'a str]) -> Option<Option<&'a str>> {
+    match request_of(alloc, words) {
+        Some(Request::Scan(scan)) => Some(scan.trust),
+        Some(Request::Host(host)) => Some(host.trust),
+        Some(Request::Service(service)) => Some(service.trust),
+        Some(Request::Check(check)) => Some(check.trust),
+        _ => None,
+    }
+}
+
+#[test]
+fn a_key_is_trusted_where_a_line_says_so(rt: HostRuntime) -> Result<(), Fail> {
+    let alloc = rt.alloc();
+    for (line, trust) in [
+        ("scan s f", Some(None)),
+        ("scan --trust k s f", Some(Some("k"))),
+        ("host s f --trust k", Some(Some("k"))),
+        ("service t s --trust k", Some(Some("k"))),
+        ("check s --trust k", Some(Some("k"))),
+        ("check s", Some(None)),
+        ("check s --trust", None),
+        ("scan s f --trust k --trust k", None),
+        ("filter t f --trust k", None),
+    ] {
+        let words = words_of(alloc, line).unwrap_or(Vec::new(alloc));
+        assert!(&rt; trust_of(alloc, words.as_slice()) == trust, "{line}");
     }
     Ok(())
 }

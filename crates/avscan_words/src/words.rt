@@ -1,12 +1,14 @@
-ghost use Rattle.std.specs.Prelude.{◌≡◌, ◌≤◌, ◌↔◌, length, slice_get, IfErr, IfNone, IfOk, IfSome, IsErrOf, IsSome, MatchResult};
+ghost use Rattle.std.specs.Prelude.{◌≡◌, ◌≤◌, ◌↔◌, ℕ, List, Option, length, slice_get, IfErr, IfNone, IfOk, IfSome, IsErrOf, IsSome, MatchResult};
 ghost use Rattle.av_status.specs.declared.status.Status.TheVariants.{Usage};
 ghost use Rattle.av_words.specs.Words.{IsOfWords};
 ghost use Rattle.avscan_words.specs.Words.{AsksForSockets, IsMoved, IsStandardInput};
 
 use crate::commands::avscan_command;
 use crate::request::{Check, Filter, Host, Request, Scan, Script, Service};
-use crate::size::{MAX_SIZE, size_of};
-use av_status::faults::{bad_socket, out_of_memory};
+use crate::size::{MAX_HELD, MAX_SIZE, size_of};
+use av_base::{Part, Refusal};
+use av_glob::{Glob, GlobFault};
+use av_status::faults::{bad_socket, out_of_memory, say_of, text};
 use av_status::status::Status;
 use av_status::tally::Form;
 use av_words::matched::{
@@ -20,6 +22,9 @@ use std::io::Write;
 
 /// The program's name.
 pub const PROGRAM: &str = "avscan";
+
+// As many signature files may be given besides the first one.
+const MORE_SETS: usize = 15;
 
 /// Reads the words of the command line, the program's name first. No other word asks for a script on standard input. A
 /// help text goes to `out` and a usage fault to `err`; the status is then that of the program.
@@ -50,7 +55,28 @@ pub fn read_words<'a, S: AsStr, W: Write, E: Write>(
         );
         return Err(Status::Usage);
     }
-    match request_of(alloc, &matches) {
+    if has_too_large_matches(&matches) {
+        say_usage(
+            err,
+            PROGRAM,
+            "--all-matches takes files of at most 64M (67108864 bytes): give it a smaller --max-size",
+        );
+        return Err(Status::Usage);
+    }
+    if has_too_many_sets(&matches) {
+        say_usage(
+            err,
+            PROGRAM,
+            "--set may be given 15 times at most: files are scanned under 16 sets",
+        );
+        return Err(Status::Usage);
+    }
+    let globs = match globs_of(alloc, &matches, err) {
+        Ok(globs) => globs,
+        Err(Refusal::Fault(_)) => return Err(Status::Usage),
+        Err(Refusal::NoMemory) => return Err(out_of_memory(err)),
+    };
+    match request_of(alloc, &matches, globs) {
         Ok(request) => with_sockets(request, err),
         Err(_) => Err(out_of_memory(err)),
     }
@@ -78,9 +104,13 @@ fn moved(command: &str) -> Option<&'static str>
 }
 
 // What is asked for by words that were understood.
-fn request_of<'a>(alloc: Global, matches: &ArgMatches<'a>) -> Result<Request<'a>, AllocError> {
+fn request_of<'a>(
+    alloc: Global,
+    matches: &ArgMatches<'a>,
+    globs: Vec<Glob>,
+) -> Result<Request<'a>, AllocError> {
     match matches.subcommand() {
-        Some(("scan", scan)) => scan_of(alloc, scan),
+        Some(("scan", scan)) => scan_of(alloc, scan, globs),
         Some(("host", host)) => host_of(alloc, host),
         Some(("filter", filter)) => filter_of(alloc, filter),
         Some(("service", service)) => Ok(service_of(service)),
@@ -103,20 +133,105 @@ fn from_standard_input<'a>() -> Request<'a>
     })
 }
 
-fn scan_of<'a>(alloc: Global, matches: &ArgMatches<'a>) -> Result<Request<'a>, AllocError> {
+fn scan_of<'a>(
+    alloc: Global,
+    matches: &ArgMatches<'a>,
+    globs: Vec<Glob>,
+) -> Result<Request<'a>, AllocError> {
     Ok(Request::Scan(Scan {
         set: text_of(matches, "set"),
+        more_sets: more_sets_of(alloc, matches)?,
+        trust: matches.get_str("trust"),
         empty_sets: empty_sets_of(matches),
         named: named_of(alloc, matches)?,
         finding: finding_of(matches, max_size_of(matches).unwrap_or(MAX_SIZE)),
         jobs: matches.get_one::<usize>("jobs"),
+        globs,
+        is_one_device: matches.get_flag("one-file-system"),
+        has_all_matches: matches.get_flag("all-matches"),
+        folder: matches.get_str("move"),
     }))
+}
+
+// The further signature files of a scan, in the order given.
+fn more_sets_of<'a>(alloc: Global, matches: &ArgMatches<'a>) -> Result<Vec<&'a str>, AllocError> {
+    let mut sets = Vec::new(alloc);
+    if let Some(names) = matches.get_strs("more-sets") {
+        for name in names {
+            sets.push(*name)?;
+        }
+    }
+    Ok(sets)
+}
+
+// The globs of what is left out. Where a word is none, one line to `err` names it.
+fn globs_of<E: Write>(
+    alloc: Global,
+    matches: &ArgMatches<'_>,
+    err: &mut E,
+) -> Result<Vec<Glob>, Refusal<GlobFault>> {
+    let mut globs = Vec::new(alloc);
+    let Some(("scan", scan)) = matches.subcommand() else {
+        return Ok(globs);
+    };
+    let Some(words) = scan.get_strs("exclude") else {
+        return Ok(globs);
+    };
+    for word in words {
+        match Glob::read(alloc, word.as_bytes()) {
+            Ok(glob) => globs.push(glob)?,
+            Err(refusal) => return Err(no_glob(alloc, word, refusal, err)),
+        }
+    }
+    Ok(globs)
+}
+
+// Says why a word is no glob. Where memory is refused, nothing is said yet.
+fn no_glob<E: Write>(
+    alloc: Global,
+    word: &str,
+    refusal: Refusal<GlobFault>,
+    err: &mut E,
+) -> Refusal<GlobFault> {
+    let Refusal::Fault(fault) = refusal else {
+        return Refusal::NoMemory;
+    };
+    let Ok(why) = format!(in alloc; "{fault}") else {
+        return Refusal::NoMemory;
+    };
+    say_of(
+        err,
+        word,
+        &[text(": no glob: it "), Part::Text(why.as_bytes())],
+    );
+    Refusal::Fault(fault)
 }
 
 // Whether the size that is asked for is none.
 fn has_bad_size(matches: &ArgMatches<'_>) -> bool {
     match matches.subcommand() {
         Some(("scan", scan)) => max_size_of(scan).is_none(),
+        _ => false,
+    }
+}
+
+// Whether each match is asked for in files that are too large to be held in memory.
+fn has_too_large_matches(matches: &ArgMatches<'_>) -> bool {
+    match matches.subcommand() {
+        Some(("scan", scan)) => {
+            scan.get_flag("all-matches") && max_size_of(scan).unwrap_or(MAX_SIZE) > MAX_HELD
+        }
+        _ => false,
+    }
+}
+
+// Whether more sets are asked for than files are scanned under.
+fn has_too_many_sets(matches: &ArgMatches<'_>) -> bool {
+    match matches.subcommand() {
+        Some(("scan", scan)) => match scan.get_strs("more-sets") {
+            Some(names) => names.len() > MORE_SETS,
+            None => false,
+        },
         _ => false,
     }
 }
@@ -132,6 +247,7 @@ fn max_size_of(matches: &ArgMatches<'_>) -> Option<u64> {
 fn host_of<'a>(alloc: Global, matches: &ArgMatches<'a>) -> Result<Request<'a>, AllocError> {
     Ok(Request::Host(Host {
         set: text_of(matches, "set"),
+        trust: matches.get_str("trust"),
         empty_sets: empty_sets_of(matches),
         named: named_of(alloc, matches)?,
         openers: count_of(matches, "openers"),
@@ -153,15 +269,18 @@ fn service_of<'a>(matches: &ArgMatches<'a>) -> Request<'a> {
     Request::Service(Service {
         socket: text_of(matches, "socket"),
         set: text_of(matches, "set"),
+        trust: matches.get_str("trust"),
         empty_sets: empty_sets_of(matches),
         wait: number_of(matches, "wait"),
         watch: matches.get_one::<u64>("watch"),
+        is_spare: matches.get_flag("spare"),
     })
 }
 
 fn check_of<'a>(alloc: Global, matches: &ArgMatches<'a>) -> Result<Request<'a>, AllocError> {
     Ok(Request::Check(Check {
         sets: files_of(alloc, matches)?,
+        trust: matches.get_str("trust"),
     }))
 }
 

@@ -1,17 +1,19 @@
 //! The commands of avtool, their words and their help.
 
 use crate::words::PROGRAM;
-use av_words::rows::SCRIPT;
+use av_words::rows::{SCRIPT, TRUST};
 use av_words::{Absent, Kind, Word, command_of, with};
 use clap::Command;
 use std::alloc::{AllocError, Global};
 
-/// The command line: a command each that draws a script, makes one, takes signatures of other products, and merges signature sets.
+/// The command line: a command each that draws a script, makes one, takes signatures of other products, merges signature sets, and signs
+/// one.
 pub fn avtool_command<'a>(alloc: Global) -> Result<Command<'a>, AllocError> {
     let command = with(program(alloc), chart_command(alloc))?;
     let command = with(command, generate_command(alloc))?;
     let command = with(command, import_command(alloc))?;
-    with(command, merge_command(alloc))
+    let command = with(command, merge_command(alloc))?;
+    with(command, sign_command(alloc))
 }
 
 // The program without its commands.
@@ -19,7 +21,8 @@ fn program<'a>(alloc: Global) -> Command<'a> {
     Command::new(alloc, PROGRAM)
         .version("0.1.0")
         .about(
-            "Draws scripts of avscan, makes random ones, takes signatures of other products, and merges signature files.",
+            "Draws scripts of avscan, makes random ones, takes signatures of other products, merges signature files, and signs \
+             them.",
         )
         .after_help(
             "Examples:\
@@ -27,6 +30,7 @@ fn program<'a>(alloc: Global) -> Command<'a> {
              \n  avtool generate --seed 1 --commands 100 | avscan run -            run a random one\
              \n  avtool import --set-version 7 examples/other.ndb > set.avsig      take signatures of ClamAV or YARA\
              \n  avtool merge first.avsig second.avsig > set.avsig                 make one signature file of several\
+             \n  avtool sign --key avsig.key set.avsig --output signed.avsig       sign a signature file\
              \n\nExit status: 0 all done, 1 input refused, 2 usage, 3 memory, 4 device.",
         )
         .subcommand_required(true)
@@ -70,8 +74,15 @@ fn import_command<'a>(alloc: Global) -> Result<Command<'a>, AllocError> {
          What can't be said exactly\
          \nis left out, and a line on standard error says why.\
          \n\nExample:\
-         \n  avtool import --set-version 7 examples/other.ndb > set.avsig",
-        &[IMPORTED_FILES, SET_VERSION, ANY_TARGET, FORMAT_1, ALL],
+         \n  avtool import --set-version 7 --output set.avsig examples/other.ndb",
+        &[
+            IMPORTED_FILES,
+            SET_VERSION,
+            ANY_TARGET,
+            FORMAT_1,
+            ALL,
+            OUTPUT,
+        ],
     )
 }
 
@@ -84,9 +95,38 @@ fn merge_command<'a>(alloc: Global) -> Result<Command<'a>, AllocError> {
          \nA name that an earlier file has with another pattern is a fault, and nothing is written.\
          \n\nExample:\
          \n  avtool merge --output set.avsig examples/test.avsig examples/ranges.avsig",
-        &[MERGED_FILES, MERGED_VERSION, OUTPUT],
+        &[MERGED_FILES, MERGED_VERSION, OUTPUT, TRUST],
     )
 }
+
+fn sign_command<'a>(alloc: Global) -> Result<Command<'a>, AllocError> {
+    command_of(
+        alloc,
+        "sign",
+        "Signs a signature file",
+        "A program that is run with `--trust KEY` takes signature files alone that were signed with the key in the file KEY. Whoever can \
+         read\
+         \nKEY can sign: give it to nobody else.\
+         \nA key has 32 to 64 bytes, which should be random, and others may neither read nor change its file.\
+         \n\nExample:\
+         \n  umask 077; dd if=/dev/urandom of=avsig.key bs=32 count=1\
+         \n  avtool sign --key avsig.key examples/test.avsig --output signed.avsig\
+         \n  avscan scan --trust avsig.key signed.avsig examples/letter.txt",
+        &[SIGNED_SET, SIGNING_KEY, OUTPUT, TRUST],
+    )
+}
+
+const SIGNED_SET: Word = Word {
+    name: "set",
+    kind: Kind::Required { shown: "SET" },
+    help: "The signature file to sign. With --trust one that is signed already, with that key",
+};
+
+const SIGNING_KEY: Word = Word {
+    name: "key",
+    kind: Kind::RequiredValue { shown: "KEY" },
+    help: "The file with the key to sign with",
+};
 
 const MERGED_FILES: Word = Word {
     name: "file",

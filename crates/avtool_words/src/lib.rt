@@ -14,5 +14,5 @@ pub mod request;
 mod tests;
 pub mod words;
 
-pub use request::{Chart, Generate, Import, Merge, Request, Taking};
+pub use request::{Chart, Generate, Import, Merge, Request, Sign, Taking};
 pub use words::{PROGRAM, read_words};

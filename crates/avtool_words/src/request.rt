@@ -11,6 +11,8 @@ pub enum Request<'a> {
     Import(Import<'a>),
     /// Write a signature file of several.
     Merge(Merge<'a>),
+    /// Sign a signature file.
+    Sign(Sign<'a>),
 }
 
 /// The script in this file, or on standard input for `-`, of which the lines `from` to `to` are drawn, counted from 1.
@@ -30,12 +32,14 @@ pub struct Generate {
     pub is_uniform: bool,
 }
 
-/// Which files signatures are taken from, and the version of the signature file that is written.
+/// Which files signatures are taken from, the version of the signature file that is written, and the file that is written instead of
+/// standard output.
 #[derive(Drop)]
 pub struct Import<'a> {
     pub files: Vec<&'a str>,
     pub version: u64,
     pub taking: Taking,
+    pub output: Option<&'a str>,
 }
 
 /// Which signatures of other products are taken.
@@ -54,6 +58,18 @@ pub struct Taking {
 #[derive(Drop)]
 pub struct Merge<'a> {
     pub files: Vec<&'a str>,
+    /// The file of the key that they have to be signed with.
+    pub trust: Option<&'a str>,
     pub version: Option<u64>,
+    pub output: Option<&'a str>,
+}
+
+/// Which signature file is signed with the key in which file, and the file that is written instead of standard output.
+#[derive(Clone, Copy)]
+pub struct Sign<'a> {
+    pub set: &'a str,
+    pub key: &'a str,
+    /// The file of the key that the set has to be signed with already.
+    pub trust: Option<&'a str>,
     pub output: Option<&'a str>,
 }

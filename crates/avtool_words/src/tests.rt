@@ -109,16 +109,21 @@ fn a_random_script_has_a_seed_and_a_length(rt: HostRuntime) -> Result<(), Fail> 
     Ok(())
 }
 
-// The version of what is written, how many files are read and which signatures are taken, as a line asks for.
-fn taking_of(alloc: Global, line: &str) -> Option<(u64, usize, Taking)> {
-    match request_of(alloc, words_of(alloc, line)?.as_slice()) {
-        Some(Request::Import(it)) => Some((it.version, it.files.len(), it.taking)),
+// The version of what is written, how many files are read, which signatures are taken and which file is written, as a line asks
+// for.
+fn taking_of<'a>(
+    alloc: Global,
+    words: &'a [&'a str],
+) -> Option<(u64, usize, Taking, Option<&'a str>)> {
+    match request_of(alloc, words) {
+        Some(Request::Import(it)) => Some((it.version, it.files.len(), it.taking, it.output)),
         _ => None,
     }
 }
 
 #[test]
 fn signatures_are_taken_as_is_asked_for(rt: HostRuntime) -> Result<(), Fail> {
+    let alloc = rt.alloc();
     let plain = Taking {
         takes_any_target: false,
         has_format_1: false,
@@ -137,18 +142,23 @@ fn signatures_are_taken_as_is_asked_for(rt: HostRuntime) -> Result<(), Fail> {
         ..plain
     };
     for (line, taking) in [
-        ("import a", Some((1, 1, plain))),
-        ("import --any-target a b", Some((1, 2, any_target))),
-        ("import --format-1 a b", Some((1, 2, format_1))),
-        ("import --all a b", Some((1, 2, all))),
+        ("import a", Some((1, 1, plain, None))),
+        ("import --any-target a b", Some((1, 2, any_target, None))),
+        ("import --format-1 a b", Some((1, 2, format_1, None))),
+        ("import --all a b", Some((1, 2, all, None))),
         (
             "import --set-version 18446744073709551615 a",
-            Some((18_446_744_073_709_551_615, 1, plain)),
+            Some((18_446_744_073_709_551_615, 1, plain, None)),
         ),
+        ("import a --output c", Some((1, 1, plain, Some("c")))),
+        ("import --output c --all a b", Some((1, 2, all, Some("c")))),
         ("import --set-version 0 a", None),
+        ("import --output c", None),
+        ("import a --output", None),
         ("import", None),
     ] {
-        assert!(&rt; taking_of(rt.alloc(), line) == taking, "{line}");
+        let words = words_of(alloc, line).unwrap_or(Vec::new(alloc));
+        assert!(&rt; taking_of(alloc, words.as_slice()) == taking, "{line}");
     }
     Ok(())
 }
@@ -182,6 +192,54 @@ fn sets_are_merged_as_is_asked_for(rt: HostRuntime) -> Result<(), Fail> {
     ] {
         let words = words_of(alloc, line).unwrap_or(Vec::new(alloc));
         assert!(&rt; merge_of(alloc, words.as_slice()) == merge, "{line}");
+    }
+    Ok(())
+}
+
+// Which file is signed, with which key, which one it has to be signed with already, and what is written, as a line asks for.
+fn sign_of<'a>(
+    alloc: Global,
+    words: &'a [&'a str],
+) -> Option<(&'a str, &'a str, Option<&'a str>, Option<&'a str>)> {
+    match request_of(alloc, words) {
+        Some(Request::Sign(it)) => Some((it.set, it.key, it.trust, it.output)),
+        _ => None,
+    }
+}
+
+#[test]
+fn a_set_is_signed_as_is_asked_for(rt: HostRuntime) -> Result<(), Fail> {
+    let alloc = rt.alloc();
+    for (line, sign) in [
+        ("sign --key k s", Some(("s", "k", None, None))),
+        (
+            "sign s --output o --key k --trust t",
+            Some(("s", "k", Some("t"), Some("o"))),
+        ),
+        ("sign s", None),
+        ("sign --key k", None),
+        ("sign --key k s t", None),
+    ] {
+        let words = words_of(alloc, line).unwrap_or(Vec::new(alloc));
+        assert!(&rt; sign_of(alloc, words.as_slice()) == sign, "{line}");
+    }
+    Ok(())
+}
+
+#[test]
+fn a_merge_trusts_a_key_where_a_line_says_so(rt: HostRuntime) -> Result<(), Fail> {
+    let alloc = rt.alloc();
+    for (line, trust) in [
+        ("merge a", Some(None)),
+        ("merge a b --trust k", Some(Some("k"))),
+        ("merge a --trust", None),
+    ] {
+        let words = words_of(alloc, line).unwrap_or(Vec::new(alloc));
+        let found = match request_of(alloc, words.as_slice()) {
+            Some(Request::Merge(it)) => Some(it.trust),
+            _ => None,
+        };
+        assert!(&rt; found == trust, "{line}");
     }
     Ok(())
 }

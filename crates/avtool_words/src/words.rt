@@ -2,7 +2,7 @@ ghost use Rattle.std.specs.Prelude.{IfErr};
 ghost use Rattle.av_words.specs.Words.{IsOfWords};
 
 use crate::commands::avtool_command;
-use crate::request::{Chart, Generate, Import, Merge, Request, Taking};
+use crate::request::{Chart, Generate, Import, Merge, Request, Sign, Taking};
 use av_status::faults::out_of_memory;
 use av_status::status::Status;
 use av_words::matched::{files_of, number_of, text_of};
@@ -38,6 +38,7 @@ fn request_of<'a>(alloc: Global, matches: &ArgMatches<'a>) -> Result<Request<'a>
         Some(("generate", generate)) => Ok(generate_of(generate)),
         Some(("import", import)) => import_of(alloc, import),
         Some(("merge", merge)) => merge_of(alloc, merge),
+        Some(("sign", sign)) => Ok(sign_of(sign)),
         Some((_, chart)) => Ok(chart_of(chart)),
         None => Ok(chart_of(matches)),
     }
@@ -64,15 +65,26 @@ fn import_of<'a>(alloc: Global, matches: &ArgMatches<'a>) -> Result<Request<'a>,
         files: files_of(alloc, matches)?,
         version: number_of(matches, "set-version"),
         taking: taking_of(matches),
+        output: matches.get_str("output"),
     }))
 }
 
 fn merge_of<'a>(alloc: Global, matches: &ArgMatches<'a>) -> Result<Request<'a>, AllocError> {
     Ok(Request::Merge(Merge {
         files: files_of(alloc, matches)?,
+        trust: matches.get_str("trust"),
         version: matches.get_one::<u64>("set-version"),
         output: matches.get_str("output"),
     }))
+}
+
+fn sign_of<'a>(matches: &ArgMatches<'a>) -> Request<'a> {
+    Request::Sign(Sign {
+        set: text_of(matches, "set"),
+        key: text_of(matches, "key"),
+        trust: matches.get_str("trust"),
+        output: matches.get_str("output"),
+    })
 }
 
 fn taking_of(matches: &ArgMatches<'_>) -> Taking {
