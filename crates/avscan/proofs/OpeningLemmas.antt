@@ -3,6 +3,7 @@ use Rattle.std.proofs.Common.{ℕ, ◌≡◌, List, [], Option, subst}
 use Rattle.std.specs.Borrow.{Bor}
 use Rattle.av_host.proofs.PartLemmas.{none_more}
 use Rattle.av_host.specs.Groups.{AreHostedInGroups, AreTrueSoFar, nothing}
+use Rattle.av_program.specs.Sets.{IsTrustedFor}
 use Rattle.av_sigset.specs.Set.{NumberedSet}
 use Rattle.av_sockets.proofs.GroupLemmas.{none_told}
 use Rattle.av_sockets.specs.Filter.{AreFiltered, AreToldSoFar}
@@ -39,8 +40,8 @@ hosts_all named set openers wishes old new status names lent all is hosted =
 pub of_set : (asked : Host) (set : NumberedSet) (old new : Option (List ℕ)) → HostsSoFar set asked.openers asked.named.wishes old new → AreHostedSoFar asked old new
 of_set asked set old new told = record { set = set; so_far = told }
 
-pub all_of_set : (asked : Host) (set : NumberedSet) (old new : Option (List ℕ)) (status : Status) → HostsAll asked.named set asked.openers asked.named.wishes old new status → AreHostedAsNamed asked old new status
-all_of_set asked set old new status hosted = record { set = set; hosted = hosted }
+pub all_of_set : (asked : Host) (set : NumberedSet) (old new : Option (List ℕ)) (status : Status) → IsTrustedFor asked.trust set → HostsAll asked.named set asked.openers asked.named.wishes old new status → AreHostedAsNamed asked old new status
+all_of_set asked set old new status trusted hosted = record { set = set; trusted = trusted; hosted = hosted }
 
 pub filters_so_far : (asked : Filter) (old new : Option (List ℕ)) (names : List (Bor (List ℕ))) → AreToldSoFar Read asked.named.wishes no_files old first names new → AreFilteredSoFar asked old new
 filters_so_far asked old new names told = record { names = names; so_far = told }

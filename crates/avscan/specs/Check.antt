@@ -3,8 +3,9 @@ use Rattle.std.specs.Prelude.{ℕ, ◌≡◌, ◌<◌, List, [], ◌∷◌, Opti
 use Rattle.std.specs.Io.KnownBytes.{Appends}
 use Rattle.av_base.specs.Part.{spelt}
 use Rattle.av_files.specs.Quoted.{quoted}
-use Rattle.av_sigset.specs.Judge.{set_of}
+use Rattle.av_sets.specs.Sets.{SpellsBy}
 use Rattle.av_sigset.specs.Set.{NumberedSet}
+use Rattle.av_trust.specs.declared.trust.Trust.{Trust}
 
 -- the version of a set and how many signatures it has, behind a name as a line has it
 abbrev pub line_of : List ℕ → NumberedSet → List ℕ
@@ -15,9 +16,9 @@ line_of name set =
 abbrev pub checked_line : List ℕ → NumberedSet → List ℕ
 checked_line name set = line_of (quoted name) set
 
--- a file spells a set, which has signatures, and its line was written
-pub record IsChecked (name content : List ℕ) (old new : Option (List ℕ)) : Type 0 where
+-- a file is taken and spells a set, which has signatures, and its line was written
+pub record IsChecked (trust : Trust) (name : List ℕ) (content old new : Option (List ℕ)) : Type 0 where
   pub set : NumberedSet
-  pub spelt_by : set_of content ≡ Ok set
+  pub spelt_by : SpellsBy trust content set
   pub some : 0 < length set.signatures
   pub line : Appends old new (checked_line name set)

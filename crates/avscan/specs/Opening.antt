@@ -1,8 +1,9 @@
 -- What is written of files that the words name, and that are opened here or for a service at a socket. No clause ties a content to the disk.
-use Rattle.std.specs.Prelude.{ℕ, List, Option, map}
+use Rattle.std.specs.Prelude.{ℕ, ◌<◌, List, Option, length, map}
 use Rattle.std.specs.Borrow.{Bor}
 use Rattle.av_host.specs.Groups.{AreHostedInGroups, AreTrueSoFar}
 use Rattle.av_program.specs.List.{AreNamed}
+use Rattle.av_program.specs.Sets.{IsTrustedFor}
 use Rattle.av_sigset.specs.Set.{NumberedSet}
 use Rattle.av_sockets.specs.Filter.{AreFiltered, AreToldSoFar}
 use Rattle.av_sockets.specs.Run.{first}
@@ -17,9 +18,9 @@ use Rattle.avscan_words.specs.declared.request.Host.{Host}
 abbrev pub Read : List ℕ → List ℕ → Type 0
 Read name content = Unit {0}
 
--- the names of the words, and of their list, each of which is text
+-- the names of the words, and of their list, each of which is text: one at least
 abbrev pub AreAllNames : Named → List (Bor (List ℕ)) → Type 0
-AreAllNames named names = AreNamed named (map (λ n. n.now) names) no_files no_files
+AreAllNames named names = AreNamed named (map (λ n. n.now) names) no_files no_files × (0 < length names)
 
 -- All files that the words name were opened in groups by so many openers, under a set. Their lines were written, each true of a content
 -- that was read for its name, and the status is that of all these files.
@@ -33,9 +34,10 @@ pub record HostsSoFar (set : NumberedSet) (openers : ℕ) (wishes : Wishes) (old
   pub names : List (Bor (List ℕ))
   pub so_far : AreTrueSoFar Read set openers names wishes no_files old new
 
--- the same as the words ask for it, under the set of their signature file
+-- the same as the words ask for it, under the set of a file that is signed with a key where they name one
 pub record AreHostedAsNamed (asked : Host) (old new : Option (List ℕ)) (status : Status) : Type 0 where
   pub set : NumberedSet
+  pub trusted : IsTrustedFor asked.trust set
   pub hosted : HostsAll asked.named set asked.openers asked.named.wishes old new status
 
 pub record AreHostedSoFar (asked : Host) (old new : Option (List ℕ)) : Type 0 where

@@ -1,4 +1,5 @@
 ghost use Rattle.std.specs.Prelude.{IfErr, OnOk};
+ghost use Rattle.std.specs.Option.{option_copied};
 ghost use Rattle.std.specs.Io.KnownBytes.{Appends};
 ghost use Rattle.av_status.specs.Status.{IsFault};
 ghost use Rattle.avscan.specs.Check.{IsChecked, checked_line, line_of};
@@ -6,12 +7,12 @@ ghost use Rattle.avscan.specs.Check.{IsChecked, checked_line, line_of};
 use av_base::parts::write_parts;
 use av_base::{Part, Refusal, WriteFault};
 use av_files::{Input, MAX_FILE, admit_set, quoted_name};
-use av_program::{Source, Why, read_file, say_given, why_unread};
+use av_program::{Source, Why, key_asked, read_file, say_given, why_unread};
+use av_sets::trusted_text;
 use av_sigset::SignatureSet;
 use av_status::Status;
-use av_status::faults::{
-    EmptySets, bad_set_line, device_failed, out_of_memory, too_large, unreadable,
-};
+use av_status::faults::{EmptySets, bad_set_line, device_failed, out_of_memory, unreadable};
+use av_trust::Trust;
 use avscan_words::Check;
 use std::alloc::Global;
 use std::io::Write;
@@ -24,6 +25,11 @@ pub fn check_named<W: Write, E: Write>(
     out: &mut W,
     err: &mut E,
 ) -> Status {
+    let key = match key_asked(rt, alloc, asked.trust, err) {
+        Ok(key) => key,
+        Err(status) => return status,
+    };
+    let trust = Trust::by(key.as_ref());
     let Ok(mut buffer) = vec![in alloc; 0u8; MAX_FILE + 2] else {
         return out_of_memory(err);
     };
@@ -31,7 +37,7 @@ pub fn check_named<W: Write, E: Write>(
     'sets: for name in asked.sets.as_slice() {
         let file = read_file(rt, name, &mut buffer);
         let checked = match file.content {
-            Some(content) => check_set(alloc, name, content, out, err),
+            Some(_) => check_set(alloc, trust, file, out, err),
             None => Err(unread(rt, alloc, name, err)),
         };
         if let Err(status) = checked {
@@ -47,18 +53,17 @@ pub fn check_named<W: Write, E: Write>(
 /// Checks what was read of a signature file.
 pub fn check_set<W: Write, E: Write>(
     alloc: Global,
-    name: &str,
-    content: &[u8],
+    trust: Trust<'_>,
+    file: Input<'_>,
     out: &mut W,
     err: &mut E,
 ) -> Result<(), Status>
-    ensures checked { OnOk result (IsChecked name.now content.now (W.contents out.old) (W.contents out.new)) }
+    ensures checked { OnOk result (IsChecked trust.entry file.entry.name.now (option_copied file.entry.content) (W.contents out.old) (W.contents out.new)) }
     ensures status { IfErr result (λ status. IsFault status) }
 {
-    if content.len() > MAX_FILE {
-        return Err(too_large(err, name));
-    }
-    let set = match SignatureSet::read(alloc, content) {
+    let name = file.name;
+    let text = trusted_text(trust, file, err)?;
+    let set = match SignatureSet::read(alloc, text) {
         Ok(set) => set,
         Err(Refusal::Fault(fault)) => return Err(bad_set_line(err, name, fault)),
         Err(Refusal::NoMemory) => return Err(out_of_memory(err)),

@@ -1,8 +1,8 @@
 //! The files of the system, as a scan opens them.
 
 use av_program::{Source, open_file, open_met, say_why};
-use av_scan::{Opening, Origin};
-use std::fs::File;
+use av_scan::{Opening, Origin, Seen};
+use std::fs::{File, OpenFile};
 use std::io::Write;
 
 /// Files by their names. Of those that were named, `-` is standard input.
@@ -21,6 +21,13 @@ impl Opening<File> for Disk {
             Origin::Met => open_met(&self.rt, name),
             Origin::Named if name == "-" => open_file(&self.rt, "/dev/stdin"),
             Origin::Named => open_file(&self.rt, name),
+        }
+    }
+
+    fn seen(&self, file: &File) -> Option<Seen> {
+        match file.metadata() {
+            Ok(metadata) => Some(Seen::of(&metadata)),
+            Err(_) => None,
         }
     }
 

@@ -1,15 +1,18 @@
 ghost use Rattle.std.specs.Prelude.{IfErr, IfOk};
+ghost use Rattle.av_files.specs.Scan.{IsAdmitted};
 ghost use Rattle.av_host.specs.Groups.{AreHostedInGroups};
+ghost use Rattle.av_program.specs.Sets.{IsTrustedFor};
 ghost use Rattle.av_sockets.specs.Filter.{AreFiltered};
 ghost use Rattle.av_status.specs.Status.{EndsWell, IsFault};
 ghost use Rattle.avscan.specs.Opening.{AreAllNames, AreFilteredAsNamed, AreFilteredSoFar, AreHostedAsNamed, AreHostedSoFar, HostsAll, HostsSoFar, Read};
 
 use av_files::{Contents, Failing, look_at};
 use av_host::{Crew, Hosting, Signatures, host, host_groups};
-use av_program::{Source, names_of, read_file, say_why, set_named, size_of};
-use av_sockets::{Meeting, filter_files};
-use av_status::faults::out_of_memory;
+use av_program::{Source, key_asked, names_of, read_file, say_why, set_named, size_of};
+use av_sockets::{Filtering, Meeting, filter_files};
+use av_status::faults::{out_of_memory, say, text};
 use av_status::{Progress, Status, Tally};
+use av_trust::Trust;
 use av_words::Named;
 use avscan_words::{Filter, Host};
 use std::alloc::Global;
@@ -31,12 +34,9 @@ pub fn host_named<R: Hosting, W: Write, E: Write>(
     ensures so_far { AreHostedSoFar asked.now (W.contents out.old) (W.contents out.new) }
     ensures hosted { EndsWell result → AreHostedAsNamed asked.now (W.contents out.old) (W.contents out.new) result }
 {
-    let set = match set_named(rt, alloc, asked.set, asked.empty_sets, err) {
-        Ok(set) => set,
+    let signatures = match signatures_of(rt, alloc, asked, err) {
+        Ok(signatures) => signatures,
         Err(status) => return status,
-    };
-    let Ok(signatures) = Signatures::build(alloc, set) else {
-        return out_of_memory(err);
     };
     let crew = Crew {
         openers: asked.openers,
@@ -51,6 +51,27 @@ pub fn host_named<R: Hosting, W: Write, E: Write>(
         wishes: asked.named.wishes,
     };
     host_over(rt, &host, &asked.named, out, err)
+}
+
+// The signatures that files are judged by.
+#[tactic(auto, using(av_program::proofs::SetLemmas::trust_for))]
+fn signatures_of<E: Write>(
+    rt: &HostRuntime,
+    alloc: Global,
+    asked: &Host<'_>,
+    err: &mut E,
+) -> Result<Signatures, Status>
+    ensures trusted { IfOk result (IsTrustedFor asked.now.trust) }
+    ensures admitted { IfOk result (IsAdmitted asked.now.empty_sets) }
+    ensures fault { IfErr result (λ status. IsFault status) }
+{
+    let key = key_asked(rt, alloc, asked.trust, err)?;
+    let trust = Trust::by(key.as_ref());
+    let set = set_named(rt, alloc, asked.set, trust, asked.empty_sets, err)?;
+    match Signatures::build(alloc, set) {
+        Ok(signatures) => Ok(signatures),
+        Err(_) => Err(out_of_memory(err)),
+    }
 }
 
 // The same, by this host.
@@ -127,9 +148,17 @@ pub fn filter_named<R: Hosting, W: Write, E: Write>(
     ensures so_far { AreFilteredSoFar asked.now (W.contents out.old) (W.contents out.new) }
     ensures filtered { EndsWell result → AreFilteredAsNamed asked.now (W.contents out.old) (W.contents out.new) result }
 {
+    let disk = Disk { rt };
+    let filtering = Filtering {
+        rt: system,
+        alloc,
+        meeting: Meeting::within(asked.socket, asked.wait),
+        mode: asked.mode,
+        files: &disk,
+    };
     let mut text = Vec::new(alloc);
     match all_names(rt, alloc, &asked.named, &mut text, err) {
-        Ok(names) => filter_all(rt, system, alloc, asked, names.as_slice(), out, err),
+        Ok(names) => filter_all(rt, filtering, asked, names.as_slice(), out, err),
         Err(status) => status,
     }
 }
@@ -138,8 +167,7 @@ pub fn filter_named<R: Hosting, W: Write, E: Write>(
 #[tactic(auto, using(crate::proofs::OpeningLemmas::none_filtered, crate::proofs::OpeningLemmas::filters_so_far))]
 fn filter_all<R: Hosting, W: Write, E: Write>(
     rt: &HostRuntime,
-    system: &R,
-    alloc: Global,
+    filtering: Filtering<'_, R, Disk<'_>>,
     asked: &Filter<'_>,
     names: &[&str],
     out: &mut W,
@@ -148,18 +176,8 @@ fn filter_all<R: Hosting, W: Write, E: Write>(
     ensures so_far { AreFilteredSoFar asked.now (W.contents out.old) (W.contents out.new) }
     ensures filtered { EndsWell result → AreFiltered Read names.now asked.now.named.wishes (W.contents out.old) (W.contents out.new) result }
 {
-    match look_over(rt, alloc, names, err) {
-        Ok(()) => filter_files(
-            system,
-            alloc,
-            Meeting::within(asked.socket, asked.wait),
-            asked.mode,
-            &Disk { rt },
-            names,
-            asked.named.wishes,
-            out,
-            err,
-        ),
+    match look_over(rt, filtering.alloc, names, err) {
+        Ok(()) => filter_files(filtering, names, asked.named.wishes, out, err),
         Err(status) => status,
     }
 }
@@ -182,7 +200,7 @@ impl<'a> Contents for Disk<'a> {
     }
 }
 
-// The names of all files: a name of a list that is no text ends it.
+// The names of all files, of which there is one at least: who opened none has judged none. A name of a list that is no text ends it.
 fn all_names<'a, 'b: 'a, E: Write>(
     rt: &HostRuntime,
     alloc: Global,
@@ -193,13 +211,17 @@ fn all_names<'a, 'b: 'a, E: Write>(
     ensures all { IfOk result (λ names. AreAllNames named.now names.items) }
     ensures fault { IfErr result (λ status. IsFault status) }
 {
-    names_of(
-        rt,
-        alloc,
-        named,
-        text,
-        Failing::Ends,
-        &mut Tally::new(),
-        err,
-    )
+    let tally = &mut Tally::new();
+    let names = names_of(rt, alloc, named, text, Failing::Ends, tally, err)?;
+    if names.is_empty() {
+        return Err(no_file(err));
+    }
+    Ok(names)
+}
+
+fn no_file<E: Write>(err: &mut E) -> Status
+    ensures { IsFault result }
+{
+    say(err, &[text("no file was opened")]);
+    Status::Refused
 }

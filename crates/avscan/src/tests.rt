@@ -4,6 +4,7 @@ use av_fakes::{FakeReader, FakeWriter, Fault};
 use av_files::Input;
 use av_host::{Crew, host_files};
 use av_status::{Form, Shown, Status, Wishes};
+use av_trust::Trust;
 use std::test::Fail;
 
 const SCRIPT: &[u8] = b"volume 1 closed\ncreate a\n";
@@ -174,9 +175,13 @@ fn a_signature_file_is_checked(rt: HostRuntime) -> Result<(), Fail> {
         ),
     ];
     for (name, content, checked, line, fault) in rows {
+        let file = Input {
+            name,
+            content: Some(content),
+        };
         let mut out = FakeWriter::new(rt.alloc()).in_pieces_of(1);
         let mut err = FakeWriter::new(rt.alloc());
-        assert!(&rt; check_set(rt.alloc(), name, content, &mut out, &mut err) == checked);
+        assert!(&rt; check_set(rt.alloc(), Trust::Unsigned, file, &mut out, &mut err) == checked);
         assert!(&rt; out.taken() == line && err.taken() == fault);
         let mut full = FakeWriter::new(rt.alloc()).with(Fault::Fails { write: 1 });
         let mut err = FakeWriter::new(rt.alloc());
@@ -185,7 +190,7 @@ fn a_signature_file_is_checked(rt: HostRuntime) -> Result<(), Fail> {
         } else {
             checked
         };
-        assert!(&rt; check_set(rt.alloc(), name, content, &mut full, &mut err) == told);
+        assert!(&rt; check_set(rt.alloc(), Trust::Unsigned, file, &mut full, &mut err) == told);
     }
     Ok(())
 }
