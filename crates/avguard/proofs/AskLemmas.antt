@@ -1,5 +1,5 @@
 -- A status that tells of no fault is of files that were all judged; and what was written by then.
-use Rattle.std.proofs.Common.{add-one, arith, ℕ, zero, suc, ◌≡◌, ◌<◌, ◌+◌, ◌++◌, ◌||◌, Bool, false, true, if◌then◌else◌, List, [], ◌∷◌, Option, None, Some, length, map, take, refl, rules, ap, sym, subst, ◌∙◌, inl, inr}
+use Rattle.std.proofs.Common.{add-one, arith, ℕ, zero, suc, ◌≡◌, ◌<◌, ◌+◌, ◌++◌, ◌||◌, ◌==◌, true≢false, Bool, false, true, if◌then◌else◌, List, [], ◌∷◌, Option, None, Some, length, map, take, refl, rules, ap, sym, subst, ◌∙◌, inl, inr}
 use Rattle.std.proofs.KnownBytes.{Appends-nil}
 use Rattle.std.specs.Io.KnownBytes.{Appends}
 use Rattle.std.proofs.lemmas.Bool.{cases_Bool, ltb-false, ltb-true}
@@ -11,7 +11,7 @@ use Rattle.std.specs.Prelude.{IsSome, nat_lt, slice_get, slice_index_or}
 use Rattle.std.specs.String.{string_bytes}
 use Rattle.av_base.specs.Device.{AppendsPrefix}
 use Rattle.av_files.specs.Opened.{is_granted, is_infected_answer, with_opened, worst_of}
-use Rattle.av_status.specs.Status.{graver_status, number_of, IsFault}
+use Rattle.av_status.specs.Status.{EndsWell, graver_status, number_of, IsFault}
 use Rattle.av_status.specs.Tally.{concluded, ending_of, has_found, no_files, with_missed, with_scanned}
 use Rattle.av_status.specs.declared.status.Status.{Status}
 use Rattle.av_status.specs.declared.status.Status.TheVariants.{Done, Refused, Usage, Memory, Device, Found, FoundInPart}
@@ -24,6 +24,21 @@ use Rattle.avguard.specs.Ask.{AreAsked, AreJudged, AreJudgedIfDone, AreToldSoFar
 use Rattle.avguard.specs.Told.{is_judged, tally_told, told_lines, with_reply}
 use Rattle.avguard.specs.declared.inquiry.Found.{Found as FoundFile}
 use Rattle.avguard.specs.declared.told.Told.{Told}
+
+-- a fault is no good end
+pub no_good_end : {A : Type 0} (s : Status) → IsFault s → EndsWell s → A
+no_good_end Done fault well = absurd fault
+no_good_end Refused fault well = absurd well
+no_good_end Usage fault well = absurd well
+no_good_end Memory fault well = absurd well
+no_good_end Device fault well = absurd well
+no_good_end Found fault well = absurd fault
+no_good_end FoundInPart fault well = absurd fault
+
+-- of files that are there, one at least has a name
+pub some_found : (fs : List FoundFile) → (length fs == 0) ≡ false → 0 < length (names_found fs)
+some_found [] is = absurd (true≢false is)
+some_found (f ∷ fs) is = omega (arith)
 
 -- a device fault is never none
 device_stays : (s : Status) → graver_status s Device ≡ Done → ⊥

@@ -1,5 +1,5 @@
 -- What is told of files that a guard was asked about.
-use Rattle.std.specs.Prelude.{ℕ, ⊤, ◌≡◌, ◌≤◌, Bool, false, true, List, Option, length, map}
+use Rattle.std.specs.Prelude.{ℕ, ⊤, ◌≡◌, ◌<◌, ◌≤◌, Bool, false, true, List, Option, length, map}
 use Rattle.std.specs.Borrow.{Bor}
 use Rattle.std.specs.Io.KnownBytes.{Appends}
 use Rattle.std.specs.List.{AllByRecursion, filter_map, zip}
@@ -79,9 +79,10 @@ pub record AreAsked (names : List (List ℕ)) (before : Status) (wishes : Wishes
   pub concluded : status ≡ concluded wishes (asked_tally told (length names) ended)
   pub judged : AreJudgedIfDone status names told
 
--- It was asked about the files that these names stand for: those files themselves, where no folder stands for those below it.
+-- It was asked about the files that these names stand for, one at least: those files themselves, where no folder stands for those below it.
 pub record AreFoundAndAsked (is_recursive : Bool) (given : List (List ℕ)) (before : Status) (wishes : Wishes) (old new : Option (List ℕ)) (status : Status) : Type 0 where
   pub names : List (List ℕ)
+  pub some : 0 < length names
   pub missed : Status
   pub since : IsAsGrave before missed
   pub themselves : is_recursive ≡ false → (names ≡ given) × (missed ≡ before)

@@ -1,6 +1,6 @@
 //! Asks a guard about files of names, lists and folders.
 
-ghost use Rattle.std.specs.Prelude.{◌≡◌, ◌++◌, [], ◌∷◌, false, length, map, IfErr, IfOk, IsSome, OnOk};
+ghost use Rattle.std.specs.Prelude.{◌≡◌, ◌<◌, ◌++◌, [], ◌∷◌, false, length, map, IfErr, IfOk, IsSome, OnOk};
 ghost use Rattle.std.specs.Io.KnownBytes.{Appends};
 ghost use Rattle.std.specs.List.{All};
 ghost use Rattle.av_base.specs.Device.{AppendsPrefix};
@@ -20,7 +20,7 @@ use av_files::{MAX_FILE, Met, Walk, conclude_opened};
 use av_program::{Source, failing, is_folder, names_of, say_why};
 use av_sockets::Meeting;
 use av_sockets::fault::socket_failed;
-use av_status::faults::{bad_entry, out_of_memory, unreadable};
+use av_status::faults::{bad_entry, out_of_memory, say, text, unreadable};
 use av_status::{Progress, Status, Tally, Wishes};
 use avguard_words::Ask;
 use std::alloc::{AllocError, Global};
@@ -162,9 +162,14 @@ fn ask_found<R: Guards, W: Write, E: Write>(
     err: &mut Progress<'_, HostRuntime, E>,
 ) -> Status
     ensures so_far { IsToldSoFar asking.now.asked.now.named.wishes (W.contents out.old) (W.contents out.new) }
+    ensures some { EndsWell result → 0 < length (names_found finds.now.files.items) }
     ensures asked { EndsWell result → AreAsked (names_found finds.now.files.items) finds.now.missed asking.now.asked.now.named.wishes (W.contents out.old) (W.contents out.new) result }
 {
     let asked = asking.asked;
+    let files = finds.files.as_slice();
+    if files.is_empty() {
+        return no_file(finds.missed, err);
+    }
     let Ok(mut buffer) = vec![in asking.alloc; 0u8; MAX_FILE + 2] else {
         return out_of_memory(err);
     };
@@ -172,6 +177,17 @@ fn ask_found<R: Guards, W: Write, E: Write>(
     match Asker::connect(asking.system, asking.alloc, meeting) {
         Ok(mut asker) => ask_all(asking, &mut asker, finds, &mut buffer, out, err),
         Err(fault) => socket_failed(err, asked.opens, fault),
+    }
+}
+
+// No file was found: nothing is judged, which is no good end.
+fn no_file<E: Write>(missed: Status, err: &mut E) -> Status
+    ensures { IsFault result }
+{
+    say(err, &[text("no file was asked about")]);
+    match missed {
+        Status::Done | Status::Found | Status::FoundInPart => Status::Refused,
+        fault => fault,
     }
 }
 

@@ -1,15 +1,17 @@
 ghost use Rattle.std.specs.Prelude.{◌≡◌, ◌*◌, IfErr, if◌then◌else◌};
 ghost use Rattle.std.specs.Duration.{as_nanos};
 ghost use Rattle.av_base.specs.declared.mode.Mode.TheVariants.{FailClosed, FailOpen};
+ghost use Rattle.av_program.specs.Sets.{IsTrustFor};
 ghost use Rattle.av_status.specs.Status.{IsFault};
 ghost use Rattle.avguard.specs.Logging.{IsLogged, IsLogging, form_of, is_dash};
 
 use av_base::Mode;
 use av_daemon::{Doors, Guarding, Logging, Sizes, guard_at};
 use av_log::Form;
-use av_program::set_named;
+use av_program::{key_asked, set_named};
 use av_status::faults::EmptySets;
 use av_status::{Prefixed, Status};
+use av_trust::Trust;
 use avguard_words::Guard;
 use std::alloc::Global;
 use std::fs::Files;
@@ -24,7 +26,8 @@ pub trait Guards: Files + Net + Clock + RandomSource {}
 impl<R: Files + Net + Clock + RandomSource> Guards for R {}
 
 /// Answers opens that other programs ask about, until the process is ended. Where it has the names of signatures from a file, that
-/// has to be a signature set when it begins.
+/// has to be a signature set, signed where a key is trusted, when it begins.
+#[tactic(auto, using(av_program::proofs::SetLemmas::trust_for))]
 pub fn guard_named<R: Guards, E: Write>(
     rt: &HostRuntime,
     system: &R,
@@ -34,8 +37,13 @@ pub fn guard_named<R: Guards, E: Write>(
 ) -> Status
     ensures { IsFault result }
 {
-    match check_names(rt, alloc, asked.names, err) {
-        Ok(()) => guard_at(system, alloc, guarding(asked), err),
+    let key = match key_asked(rt, alloc, asked.trust, err) {
+        Ok(key) => key,
+        Err(status) => return status,
+    };
+    let trust = Trust::by(key.as_ref());
+    match check_names(rt, alloc, asked, trust, err) {
+        Ok(()) => guard_at(system, alloc, guarding(asked, trust), err),
         Err(status) => status,
     }
 }
@@ -44,21 +52,25 @@ pub fn guard_named<R: Guards, E: Write>(
 fn check_names<E: Write>(
     rt: &HostRuntime,
     alloc: Global,
-    names: Option<&str>,
+    asked: Guard<'_>,
+    trust: Trust<'_>,
     err: &mut E,
 ) -> Result<(), Status>
+    requires { IsTrustFor asked.trust trust }
     ensures { IfErr result (λ status. IsFault status) }
 {
-    let Some(name) = names else {
+    let Some(name) = asked.names else {
         return Ok(());
     };
-    let _set = set_named(rt, alloc, name, EmptySets::Allowed, err)?;
+    let _set = set_named(rt, alloc, name, trust, EmptySets::Allowed, err)?;
     Ok(())
 }
 
 // How is guarded.
-fn guarding(asked: Guard<'_>) -> Guarding<'_>
+fn guarding<'a>(asked: Guard<'a>, trust: Trust<'a>) -> Guarding<'a>
+    requires { IsTrustFor asked.trust trust }
     ensures doors { result.doors ≡ record { opens = asked.entry.opens; service = asked.entry.service; clamd = asked.entry.clamd; names = asked.entry.names } }
+    ensures trust { result.trust ≡ trust.entry }
     ensures mode { result.mode ≡ (if asked.entry.is_open then FailOpen else FailClosed) }
     ensures keep { result.keep ≡ asked.entry.keep }
     ensures questions { result.questions ≡ asked.entry.questions }
@@ -77,6 +89,7 @@ fn guarding(asked: Guard<'_>) -> Guarding<'_>
     };
     Guarding {
         doors,
+        trust,
         mode: if asked.is_open {
             Mode::FailOpen
         } else {
