@@ -12,7 +12,8 @@ use Rattle.av_sigset.specs.Spelling.{ReadsBack, spelling}
 use Rattle.av_status.specs.declared.status.Status.{Status}
 use Rattle.av_status.specs.declared.status.Status.TheVariants.{Device}
 use Rattle.avtool_words.specs.declared.request.Merge.{Merge}
-use Rattle.avtool.specs.Merge.{AreOfFiles, GoesOut, IsMergeFile, IsMergeFor, IsMergeOfFiles, Leaves, set_for}
+use Rattle.avtool.specs.Merge.{AreOfFiles, IsMergeFile, IsMergeFor, IsMergeOfFiles, Leaves, set_for}
+use Rattle.avtool.specs.Placing.{GoesOut}
 
 pub none_yet : IsMergeOfFiles 0 no_sets
 unfolding merged_from

@@ -1,6 +1,5 @@
 -- What a merge of signature files writes.
-use Rattle.std.specs.Prelude.{ℕ, ◌≡◌, ◌≤◌, ◌<◌, ◌⊎◌, List, length, Option, None, Some, Ok, unwrap_or}
-use Rattle.std.specs.Io.KnownBytes.{Appends}
+use Rattle.std.specs.Prelude.{ℕ, ◌≡◌, ◌≤◌, ◌<◌, ◌⊎◌, List, length, Option, Ok, unwrap_or}
 use Rattle.std.specs.List.{AllByRecursion}
 use Rattle.av_base.specs.Device.{AppendsPrefix}
 use Rattle.av_merge.specs.Merge.{IsMergeOf, Merged}
@@ -34,11 +33,6 @@ pub record IsMergeFor (asked : Merge) (text : List ℕ) : Type 0 where
 pub record IsMergeFile (asked : Merge) (text : List ℕ) : Type 0 where
   pub merge : IsMergeFor asked text
   pub reads_back : 1 ≤ unwrap_or asked.version merge.merged.version → set_of text ≡ Ok (set_for asked merge.merged)
-
--- the text goes to standard output, unless a file was named
-abbrev pub GoesOut : {A : Type 0} → Option A → Option (List ℕ) → Option (List ℕ) → List ℕ → Type 0
-GoesOut None old new text = Appends old new text
-GoesOut (Some path) old new text = new ≡ old
 
 -- a fault leaves standard output as it was, or with a front of the text if a write failed
 abbrev pub Leaves : Merge → Status → Option (List ℕ) → Option (List ℕ) → Type 0

@@ -1,10 +1,13 @@
-ghost use Rattle.std.specs.Prelude.{◌≡◌, IfErr};
+ghost use Rattle.std.specs.Prelude.{◌≡◌, IfErr, IsSome};
+ghost use Rattle.std.specs.Io.KnownBytes.{Appends};
 ghost use Rattle.av_files.specs.Opened.{IsDoneOrFault};
 ghost use Rattle.av_import.specs.Import.{Taken};
+ghost use Rattle.av_sigset.specs.Spelling.{spelling};
 ghost use Rattle.av_status.specs.Status.{IsFault};
 ghost use Rattle.av_status.specs.declared.status.Status.TheVariants.{Done};
 ghost use Rattle.avtool.specs.Import.{Writes, status_of};
 
+use crate::placing::put_content;
 use av_base::Part;
 use av_import::{Import, ImportFault, Rules};
 use av_program::whole_text;
@@ -13,8 +16,8 @@ use av_status::status::Status;
 use std::alloc::Global;
 use std::io::Write;
 
-/// Writes a signature file of this version, with what can be taken of files of other products. Where nothing can be taken, nothing is
-/// written: a file without a signature would find nothing.
+/// Writes a signature file of this version, with what can be taken of files of other products, to standard output or into a file. If
+/// nothing can be taken, nothing is written: a file without a signature would find nothing.
 pub fn import_named<W: Write, E: Write>(
     rt: &HostRuntime,
     alloc: Global,
@@ -23,6 +26,7 @@ pub fn import_named<W: Write, E: Write>(
     err: &mut E,
 ) -> Status
     ensures done { result ≡ Done → (import : Taken) × Writes asked.now import (W.contents out.old) (W.contents out.new) }
+    ensures kept { IsSome asked.now.output → W.contents out.new ≡ W.contents out.old }
     ensures ended { IsDoneOrFault result }
 {
     let mut import = Import::new(
@@ -33,7 +37,7 @@ pub fn import_named<W: Write, E: Write>(
         },
     );
     match take_all(rt, alloc, asked.files.as_slice(), &mut import, err) {
-        Ok(()) => conclude(&import, asked, out, err),
+        Ok(()) => conclude(rt, alloc, &import, asked, out, err),
         Err(status) => status,
     }
 }
@@ -59,12 +63,15 @@ fn take_all<E: Write>(
 
 // Says how much was taken, and writes it.
 fn conclude<W: Write, E: Write>(
+    rt: &HostRuntime,
+    alloc: Global,
     import: &Import,
     asked: &avtool_words::Import<'_>,
     out: &mut W,
     err: &mut E,
 ) -> Status
     ensures done { result ≡ Done → Writes asked.now import.now (W.contents out.old) (W.contents out.new) }
+    ensures kept { IsSome asked.now.output → W.contents out.new ≡ W.contents out.old }
     ensures ended { IsDoneOrFault result }
 {
     say(
@@ -79,13 +86,42 @@ fn conclude<W: Write, E: Write>(
     if import.taken() == 0 || asked.taking.wants_all && import.left() > 0 {
         return Status::Refused;
     }
-    if let Err(fault) = import.write(asked.version, out) {
+    match asked.output {
+        Some(path) => write_file(rt, alloc, path, import, asked.version, err),
+        None => print(import, asked.version, out, err),
+    }
+}
+
+// Writes the signature file to standard output.
+fn print<W: Write, E: Write>(import: &Import, version: u64, out: &mut W, err: &mut E) -> Status
+    ensures done { result ≡ Done → Appends (W.contents out.old) (W.contents out.new) (spelling (record { version = version; signatures = import.now.signatures })) }
+    ensures ended { IsDoneOrFault result }
+{
+    if let Err(fault) = import.write(version, out) {
         return failed(err, fault);
     }
     if out.flush().is_err() {
         return device_failed(err);
     }
     Status::Done
+}
+
+// Writes the signature file beside its place, and puts it there once it is whole.
+fn write_file<E: Write>(
+    rt: &HostRuntime,
+    alloc: Global,
+    path: &str,
+    import: &Import,
+    version: u64,
+    err: &mut E,
+) -> Status
+    ensures { IsDoneOrFault result }
+{
+    let mut content = Vec::new(alloc);
+    if import.write(version, &mut content).is_err() {
+        return out_of_memory(err);
+    }
+    put_content(rt, alloc, path, content.as_slice(), err)
 }
 
 // Says why signatures were not taken, or not written.

@@ -1,10 +1,14 @@
-//! The program that draws scripts, makes random ones, takes signatures of other products, and merges signature files.
+//! The program that draws scripts, makes random ones, takes signatures of other products, merges signature files, and
+//! signs them.
 #![tactic(auto)]
 
 mod chart;
 mod generate;
 mod import;
 mod merge;
+mod placing;
+mod set;
+mod sign;
 
 use av_program::{Errors, Output, command_line, held, say_output_fault};
 use av_status::faults::out_of_memory;
@@ -14,6 +18,7 @@ use chart::chart_named;
 use generate::generate;
 use import::import_named;
 use merge::merge_named;
+use sign::sign_named;
 use std::alloc::Global;
 use std::cell::Cell;
 use std::io::{BufWriter, Error, Write};
@@ -71,6 +76,7 @@ fn done<W: Write>(
         Request::Generate(script) => generate(alloc, *script, out, &mut err),
         Request::Import(import) => import_named(rt, alloc, import, out, &mut err),
         Request::Merge(merge) => merge_named(rt, alloc, merge, out, &mut err),
+        Request::Sign(sign) => sign_named(rt, alloc, *sign, out, &mut err),
     };
     say_output_fault(rt, alloc, fault, &mut err);
     status
