@@ -443,6 +443,11 @@ def library():
     return None
 
 
+def content_of(path):
+    with open(path, "rb") as file:
+        return file.read()
+
+
 class Holder:
     """The helper for fanotify, over one folder, with what it writes about denials."""
 
@@ -454,14 +459,36 @@ class Holder:
             time.sleep(0.01)
 
     def lines(self):
-        with open(self.log.name, "rb") as log:
-            return log.read()
+        return content_of(self.log.name)
 
     def end(self):
         self.process.kill()
         self.process.wait()
         self.room.begun.remove(self.process)
         self.log.close()
+
+
+def reports_ready(cases, room, watched):
+    """A unit of Type=notify gets one datagram once the folder is held, at a path or at an abstract name. Nobody need listen there."""
+    path = os.path.join(room.folder, "notify")
+    for name, address in ((path, path), (f"@vizdroun-{os.getpid()}", f"\0vizdroun-{os.getpid()}")):
+        with socket.socket(socket.AF_UNIX, socket.SOCK_DGRAM) as notify:
+            notify.bind(address)
+            notify.settimeout(SECONDS)
+            process = room.start("env", f"NOTIFY_SOCKET={name}", room.holder, room.opens, watched)
+            cases.same("systemd hears that the folder is held", (notify.recv(100), is_marked(process.pid)), (b"READY=1", True))
+            room.begun.remove(process)
+            process.kill()
+            process.wait()
+    with open(os.path.join(room.folder, "unheard"), "w+b") as said:
+        process = room.start("env", f"NOTIFY_SOCKET={path}.none", room.holder, room.opens, watched, stderr=said)
+        limit = time.time() + SECONDS
+        while time.time() < limit and not content_of(said.name).endswith(b"\n"):
+            time.sleep(0.01)
+        cases.same("nobody listens", (content_of(said.name), process.poll()), (b"avguard-onaccess: NOTIFY_SOCKET: No such file or directory\n", None))
+        room.begun.remove(process)
+        process.kill()
+        process.wait()
 
 
 def held(cases, room):
@@ -501,6 +528,7 @@ def held(cases, room):
     files_that_grow(cases, room, watched)
     holder.end()
     cases.check("from its end on all may be opened", can_open(paths["infected"]))
+    reports_ready(cases, room, watched)
     holder = Holder(room, watched, "-j", "1", "-p", str(os.getpid()))
     cases.same("a process that passes", (can_open(paths["infected"]), cat(room, paths["infected"])), (True, b""))
     cases.same("one thread judges too", opened(), wanted)

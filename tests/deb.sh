@@ -35,7 +35,7 @@ dpkg-deb -x "$package" "$room/files"
 for script in postinst prerm postrm; do
     check "$script is a script" sh -n "$room/control/$script"
 done
-for file in avguard.conf signatures.avsig; do
+for file in avguard.conf onaccess.env signatures.avsig; do
     check "$file is kept as the user has it" grep -qx "/etc/avscan/$file" "$room/control/conffiles"
 done
 check "each file has a checksum" sh -c "cd '$room/files' && md5sum --quiet -c '$room/control/md5sums'"
@@ -46,7 +46,10 @@ for name in avscan avguard avtool; do
 done
 if printf '#include <sys/fanotify.h>\n' | cc -fsyntax-only -xc - 2> /dev/null; then
     check "the helper for fanotify runs" "$room/files/usr/bin/avguard-onaccess" -h
+    check "its unit starts it" grep -q "^ExecStart=/usr/bin/avguard-onaccess " "$room/files/usr/lib/systemd/system/avscan-onaccess.service"
+    check "its unit gives it no mounts of its own" not grep -qE "^(Protect(System|Home|Proc|Kernel[A-Za-z]*|ControlGroups)|Private(Tmp|Devices|Mounts)|ProcSubset|(ReadWrite|ReadOnly|Inaccessible)Paths)=" "$room/files/usr/lib/systemd/system/avscan-onaccess.service"
 fi
+check "the header for programs is there" test -s "$room/files/usr/include/avask.h"
 check "the guard's settings are good" "$room/files/usr/bin/avguard" check-config "$room/files/etc/avscan/avguard.conf"
 check "the guard's unit names them" grep -q "^ExecStart=/usr/bin/avguard run --config /etc/avscan/avguard.conf$" "$room/files/usr/lib/systemd/system/avscan-guard.service"
 check "the guard denies what can't be judged" grep -qx "open = false" "$room/files/etc/avscan/avguard.conf"
@@ -55,11 +58,17 @@ check "the license is there" grep -q "Apache-2.0 or MIT" "$room/files/usr/share/
 check "the changes are there" gzip -t "$room/files/usr/share/doc/vizdroun/changelog.gz"
 check "nothing is of the user who built it" sh -c "! dpkg-deb -c '$package' | grep -v ' root/root '"
 check "no file can be written by others" sh -c "! dpkg-deb -c '$package' | grep -E '^-.{7}w'"
-for unit in avscan-guard avscan-service; do
+for unit in avscan-guard avscan-service avscan-spare; do
     check "the unit $unit starts the installed program" grep -q "^ExecStart=/usr/bin/av" "$room/files/usr/lib/systemd/system/$unit.service"
 done
 if command -v systemd-analyze > /dev/null; then
-    for unit in avscan-guard avscan-service; do
+    # (the programs and a shell are not where these units look for them)
+    mkdir "$room/units"
+    for unit in "$room"/files/usr/lib/systemd/system/*.service; do
+        sed -E 's,=-?(/usr/bin/av[a-z-]*|/bin/[a-z]+) ,=/bin/true ,' "$unit" > "$room/units/$(basename "$unit")"
+    done
+    check "systemd reads the units" systemd-analyze verify --man=no "$room"/units/*.service
+    for unit in avscan-guard avscan-service avscan-spare; do
         check "the exposure of $unit is at most 1.0" systemd-analyze security --offline=true --threshold=10 --no-pager "$room/files/usr/lib/systemd/system/$unit.service"
     done
 fi

@@ -8,10 +8,10 @@ import glob, os, re, shutil, subprocess, sys, tempfile
 from programs import program_beside
 
 ROOT = os.path.dirname(os.path.dirname(os.path.abspath(__file__)))
-PAGES = ["README.md", "CHANGELOG.md", "bench/README.md", "gate/README.md", "tests/README.md"] + [f"docs/{name}.md" for name in ("ARCHITECTURE", "CHECK", "CONDUCT", "DECISIONS", "EDITS", "FORMATS", "GATE", "MUTANTS", "READING", "OPERATING", "PROMISES", "SCANNER", "THREADS")]
+PAGES = ["README.md", "CHANGELOG.md", "bench/README.md", "gate/README.md", "tests/README.md"] + [f"docs/{name}.md" for name in ("ARCHITECTURE", "CHECK", "COMPUTED", "CONDUCT", "DECISIONS", "EDITS", "FORMATS", "GATE", "GUARDED-FOLDER", "MUTANTS", "READING", "OPERATING", "PROMISES", "SCANNER", "THREADS")]
 # words of the language, of std and of formats that stand in backticks too
 OUTSIDE = set("make test run install scan rt clang slab lru bytes hex clap thiserror itoa std memchr Drop Display Error From Ok Err Some None "
-              "true false requires ensures main malloc grep nice yara clamscan clamonacc clamd cargo valgrind".split())
+              "true false requires ensures main malloc grep nice yara clamscan clamonacc clamd cargo valgrind CLAM_VIRUS_FAIL".split())
 
 
 def text_of(path):
@@ -20,8 +20,9 @@ def text_of(path):
 
 
 def sources():
-    """All words of code and definitions, and the names of edits."""
-    words = {os.path.basename(path)[: -len(".edit")] for path in glob.glob(os.path.join(ROOT, "crates/*/must-fail/*.edit"))}
+    """All words of code and definitions, and the names of edits and mutants."""
+    kept = ("crates/*/must-fail/*.edit", "gate/mutants/*.mutant")
+    words = {os.path.splitext(os.path.basename(path))[0] for pattern in kept for path in glob.glob(os.path.join(ROOT, pattern))}
     for pattern in ("crates/*/src/**/*.rt", "crates/*/specs/**/*.antt", "crates/*/proofs/*.antt", "crates/*/proofs/**/*.antt", "gate/*.py", "gate/*.sh", "package/*", "tests/*.py", "tests/*.sh", "tests/*.c", "bench/*/*", "examples/*/*", "Makefile", "crates.txt"):
         for path in glob.glob(os.path.join(ROOT, pattern), recursive=True):
             if os.path.isfile(path) and "/out/" not in path:
@@ -144,11 +145,11 @@ def lemmas(checks):
 
 def fault_lines(checks):
     # (a test of a library has its lines without the program's name, which its standard error puts in front)
-    tested = "".join(text_of(path) for path in ("crates/av_status/src/tests.rt", "crates/av_words/src/tests.rt", "crates/avscan_words/src/tests.rt", "crates/avguard_words/src/tests.rt", "crates/avscan/src/tests.rt"))
-    given = "".join(text_of(path) for path in glob.glob(os.path.join(ROOT, "tests", "*", "*.case")) + glob.glob(os.path.join(ROOT, "tests", "import", "*.err"))) + "".join(text_of(path) for path in ("tests/program.py", "tests/files.py", "tests/tables.py", "tests/sockets.py", "tests/watch.py", "tests/chart.py", "tests/guard.py", "tests/large.py", "tests/paths.py", "tests/clients.py", "tests/attacks.py", "tests/waits.py", "tests/config.py", "tests/status.py", "tests/import.py", "tests/merge.py", "tests/generate.py"))
+    tested = "".join(text_of(path) for path in ("crates/av_status/src/tests.rt", "crates/av_words/src/tests.rt", "crates/avscan_words/src/tests.rt", "crates/avguard_words/src/tests.rt", "crates/avscan/src/tests.rt", "crates/av_sets/src/tests.rt"))
+    given = "".join(text_of(path) for path in glob.glob(os.path.join(ROOT, "tests", "*", "*.case")) + glob.glob(os.path.join(ROOT, "tests", "import", "*.err"))) + "".join(text_of(path) for path in ("tests/program.py", "tests/files.py", "tests/sets.py", "tests/tables.py", "tests/sockets.py", "tests/watch.py", "tests/chart.py", "tests/guard.py", "tests/large.py", "tests/paths.py", "tests/clients.py", "tests/attacks.py", "tests/waits.py", "tests/config.py", "tests/status.py", "tests/import.py", "tests/merge.py", "tests/trust.py", "tests/generate.py"))
     for line in re.findall(r"\| `(av(?:scan|guard|tool): [^`]*)` \|", text_of("docs/FORMATS.md")):
         pattern = re.escape(line).replace(r"\.\.", ".*")
-        for word, form in (("N", r"(\d+|%d)"), ("K", r"(\d+|%d)"), ("FILE", r".*"), ("FOLDER", r".*"), ("NAME", r".*"), ("SOCKET", r".*"), ("LIST", r".*"), ("SET", r".*"), ("OPENS", r".*"), ("SERVICE", r".*"), ("WORDS", r".*"), ("V", r"(\d+|%d)"), ("W", r"(\d+|%d)")):
+        for word, form in (("N", r"(\d+|%d)"), ("K", r"(\d+|%d)"), ("FILE", r".*"), ("FOLDER", r".*"), ("GLOB", r".*"), ("NAME", r".*"), ("SOCKET", r".*"), ("LIST", r".*"), ("SET", r".*"), ("KEY", r".*"), ("OPENS", r".*"), ("SERVICE", r".*"), ("WORDS", r".*"), ("V", r"(\d+|%d)"), ("W", r"(\d+|%d)")):
             pattern = re.sub(rf"\b{word}\b", lambda _: form, pattern)
         in_tests = re.search(pattern.partition(r":\ ")[2], tested)
         checks.check(in_tests or re.search(pattern, given), f"docs/FORMATS.md: no case has the line {line}")
@@ -193,7 +194,7 @@ def help_of(program, *words):
     return subprocess.run([program, *words, "--help"], stdout=subprocess.PIPE, text=True, timeout=60).stdout
 
 
-COMMANDS = {"avscan": ["run", "scan", "host", "filter", "service", "check"], "avguard": ["run", "ask", "status", "metrics", "paths", "check-config"], "avtool": ["chart", "generate", "import", "merge"]}
+COMMANDS = {"avscan": ["run", "scan", "host", "filter", "service", "check"], "avguard": ["run", "ask", "status", "metrics", "paths", "check-config"], "avtool": ["chart", "generate", "import", "merge", "sign"]}
 
 
 def manual(checks, program):

@@ -50,6 +50,12 @@ def some_of(out, whole):
     return all(any(line == other if line.endswith(b"\n") else other.startswith(line) for other in left) for line in out.splitlines(keepends=True))
 
 
+def objects_of(out, whole):
+    """The same of objects: a file that could not be read has one at its place, with its fault."""
+    faults = [b'{"file":"%s","fault":"cannot read"}\n' % os.fsencode(name) for name in (LETTER, EICAR)]
+    return some_of(b"".join(line for line in out.splitlines(keepends=True) if not any(fault.startswith(line) for fault in faults)), whole)
+
+
 def fault_in(got, whole, may_say, is_silent):
     """What is wrong with a run of which a call failed: its status, output and lines, beside those of a whole run."""
     status, out, err = got
@@ -195,9 +201,13 @@ def main():
     tool = program_beside(program, "avtool")
     with tempfile.TemporaryDirectory() as work:
         library = built(work)
-        for words in ([program, "run", SCRIPT], [program, "run", "--json", SCRIPT], [program, "scan", SET, LETTER, EICAR], [program, "check", SET], [tool, "chart", SCRIPT], [tool, "generate", "--seed", "2", "--commands", "60"], [tool, "merge", SET, SET]):
+        key = os.path.join(work, "key")
+        with open(os.open(key, os.O_WRONLY | os.O_CREAT, 0o600), "wb") as file:
+            file.write(bytes(range(32)))
+        for words in ([program, "run", SCRIPT], [program, "run", "--json", SCRIPT], [program, "scan", SET, LETTER, EICAR], [program, "check", SET], [tool, "chart", SCRIPT], [tool, "generate", "--seed", "2", "--commands", "60"], [tool, "merge", SET, SET], [tool, "sign", "--key", key, SET]):
             each_call(cases, library, words)
-        for words in ([program, "scan", "--json", "-k", SET, LETTER, EICAR], [program, "scan", "-r", SET, EXAMPLES], [program, "scan", "-j", "4", "-r", SET, EXAMPLES]):
+        each_call(cases, library, [program, "scan", "--json", "-k", SET, LETTER, EICAR], objects_of)
+        for words in ([program, "scan", "-r", SET, EXAMPLES], [program, "scan", "-j", "4", "-r", SET, EXAMPLES]):
             each_call(cases, library, words, some_of)
         for words in ([program, "host", SET, LETTER, EICAR], [program, "host", "--spare", SET, LETTER, EICAR]):
             each_call(cases, library, words, answers)

@@ -5,9 +5,10 @@ tests/files/expected.txt has commands over a tree that is made here, with what e
 bytes, what is passed over and what is told, lists with either end, a content that comes in pieces with a signature over each cut,
 trees that change while they are walked, many files in little memory, and the statuses. The last line says how many passed and
 how many failed."""
-import contextlib, os, random, select, shutil, socket, subprocess, sys, tempfile, threading, time
+import contextlib, os, random, re, select, shutil, socket, subprocess, sys, tempfile, threading, time
 
 from cases import Cases
+from names import quoted
 from programs import program_beside
 
 SECONDS = 60
@@ -15,6 +16,7 @@ HERE = os.path.dirname(os.path.abspath(__file__))
 DATA = os.path.join(HERE, "files")
 EICAR = rb"X5O!P%@AP[4\PZX54(P^)7CC)7}$EICAR-STANDARD-ANTIVIRUS-TEST-FILE!$"
 PIECE = 1048576 + 2
+NOTHING = b"avscan: no file was scanned\n"
 
 
 def run(words, given=b"", **options):
@@ -32,24 +34,6 @@ def built(work, name):
     library = os.path.join(work, f"{name}.so")
     subprocess.run(["cc", "-shared", "-fPIC", "-O1", "-o", library, os.path.join(HERE, f"{name}.c"), "-ldl"], check=True)
     return library
-
-
-LETTERS = {7: "a", 8: "b", 9: "t", 10: "n", 11: "v", 12: "f", 13: "r"}
-
-
-def quoted(name):
-    """A name as a line has it: between quotes, as C writes it, where it has a control character or a quote in front."""
-    text = name.decode()
-    controls = {at for at, one in enumerate(text) if ord(one) < 32 or 127 <= ord(one) < 160}
-    if not controls and not text.startswith('"'):
-        return name
-    shown = ""
-    for at, one in enumerate(text):
-        if at in controls:
-            shown += "\\" + LETTERS[ord(one)] if ord(one) in LETTERS else "".join("\\%03o" % byte for byte in one.encode())
-        else:
-            shown += "\\" + one if one in '"\\' else one
-    return f'"{shown}"'.encode()
 
 
 def grow(work):
@@ -299,14 +283,18 @@ def lists(cases, program):
         path = os.path.join(work, "list")
         clean = lambda *names: b"".join(quoted(os.fsencode(name)) + b" clean\n" for name in names)
         lines, zeros = ["--files-from", path], ["-0", "--files-from", path]
-        rows = [("lines", lines, f"{a}\n{b}\n", clean(a, b)), ("the last lacks its end", lines, f"{a}\n{b}", clean(a, b)), ("empty ones are none", lines, f"\n\n{a}\n\n{b}\n\n", clean(a, b)),
-                ("an empty list", lines, "", b""), ("a list of ends", lines, "\n\n", b""), ("zeros", zeros, f"{a}\0{n}\0\0{b}", clean(a, n, b)), ("zeros and their end", zeros, f"{n}\0", clean(n)), ("the same twice", lines, f"{a}\n{a}\n", clean(a, a))]
+        rows = [("lines", lines, f"{a}\n{b}\n", clean(a, b)), ("the last lacks its end", lines, f"{a}\n{b}", clean(a, b)), ("empty ones are none", lines, f"\n\n{a}\n\n{b}\n\n", clean(a, b)), ("zeros", zeros, f"{a}\0{n}\0\0{b}", clean(a, n, b)), ("zeros and their end", zeros, f"{n}\0", clean(n)), ("the same twice", lines, f"{a}\n{a}\n", clean(a, a))]
         for name, words, text, out in rows:
             write(path, text.encode())
             got = run([program, "scan", signatures, *words])
             cases.check(f"a list: {name}", got == (0, out, b""), f"{got}")
             got = run([program, "scan", signatures, *words[:-1], "-"], text.encode())
             cases.check(f"a list on standard input: {name}", got == (0, out, b""), f"{got}")
+        for text in ("", "\n\n"):
+            write(path, text.encode())
+            for words in (lines, ["-k", *lines], ["-r", *lines], [*lines[:-1], "-"]):
+                got = run([program, "scan", signatures, *words], text.encode())
+                cases.check(f"scan {words[:-1]} of a list without a name", got == (1, b"", NOTHING), f"{got}")
         write(path, f"{b}\n".encode())
         got = run([program, "scan", *lines, signatures, n, a])
         cases.check("a list stands behind the names that were given", got == (0, clean(n, a, b), b""), f"{got}")
@@ -421,6 +409,15 @@ def closed(cases, program):
         cases.check("what a user may not read", got == (4, f"{tree}/z/f clean\n".encode(), told), f"{got}")
 
 
+def is_without_memory(done, whole):
+    """Memory was refused: the run ended with what was told by then, or one file has no verdict and everything else is as it was."""
+    status, out, err = done
+    if err == b"avscan: no memory\n":
+        return status == 3 and whole[1].startswith(out)
+    missed = re.fullmatch(rb"avscan: (.*): no memory\n", err)
+    return status == 3 and missed is not None and out == b"".join(line for line in whole[1].splitlines(True) if not line.startswith(missed[1] + b" "))
+
+
 def many(cases, program):
     """100,000 files in 1,001 folders, and folders 400 deep: in order, in 32 MiB of memory."""
     with tempfile.TemporaryDirectory() as work:
@@ -480,7 +477,10 @@ def statuses(cases, program):
         got = run([program, "host", "--files-from", listed, signatures, clean])
         cases.check("host with a list", got == (0, granted + denied, b""), f"{got}")
         got = run([program, "host", "--files-from", "/dev/null", "--summary", signatures])
-        cases.check("host of no file", got == (0, b"", summary(0, 0, 0)), f"{got}")
+        no_name = b"avscan: no file was opened\n"
+        cases.check("host of no file", got == (1, b"", no_name), f"{got}")
+        got = run([program, "filter", "--files-from", "/dev/null", "--summary", os.path.join(work, "none")])
+        cases.check("filter of no file", got == (1, b"", no_name), f"{got}")
 
 
 def devices(cases, program):
@@ -506,7 +506,7 @@ def devices(cases, program):
         while in_a_row < 20:
             number += 1
             done = run(words, env=dict(os.environ, LD_PRELOAD=library, FAIL_NTH=str(number)))
-            told = done[0] == 3 and done[2] == b"avscan: no memory\n" and whole[1].startswith(done[1])
+            told = is_without_memory(done, whole)
             in_a_row = in_a_row + 1 if done == whole else 0
             refused += told
             if not told and done != whole:
@@ -538,7 +538,7 @@ def jobs(cases, program):
         fine = write(os.path.join(work, "fine"), b"".join(os.fsencode(name) + b"\0" for number, name in enumerate(names) if number % 411 and number not in (5, 1500, 3999)))
         own = shutil.copy(program, work)
         nobody = ["setpriv", "--reuid=65534", "--regid=65534", "--clear-groups"] if os.geteuid() == 0 else []
-        commands = [["-r", tree], ["-r", "-i", "--summary", "--found-status", tree], ["-r", "--json", "--max-size", "2000000", tree], ["-r", "--print0", tree, tree],
+        commands = [["-r", tree], ["-r", "-i", "--summary", "--found-status", tree], ["-r", "--json", "--max-size", "2000000", tree], ["-r", "--print0", tree, tree], ["-r", "-i", "--print0", tree], ["-r", "--json", "--summary", tree], ["-r", "--summary", "--one-file-system", "--exclude", "*7", "--exclude", "**/0[1-5]/**", tree],
                     ["-k", "--summary", "--files-from", some], ["--files-from", some], ["--summary", "--found-status", "-0", "--files-from", fine], [names[1], gone, names[2]], [names[1]]]
         for words in commands:
             wanted = run([*nobody, own, "scan", "-j", "1", signatures, *words])
@@ -561,7 +561,7 @@ def jobs(cases, program):
         while in_a_row < 20 and number < 400:
             number += 1
             done = run([own, "scan", "-j", "3", "-r", signatures, os.path.join(tree, "36")], env=dict(os.environ, LD_PRELOAD=library, FAIL_NTH=str(number)))
-            told = done[0] == 3 and done[2] == b"avscan: no memory\n" and whole[1].startswith(done[1])
+            told = is_without_memory(done, whole)
             in_a_row = in_a_row + 1 if done == whole else 0
             if not told and done != whole:
                 cases.check("scan -j 3 without memory", False, f"request {number} refused: {done[0]} {len(done[1])} {done[2]}")
@@ -613,11 +613,213 @@ def standard_input(cases, program):
         cases.check("a file of that name", got == (0, b"./- clean\n- infected 0 eicar.test end 64\n", b""), f"{got}")
 
 
+def taken_by(glob):
+    """A glob as a regular expression over bytes, by the rules of docs/FORMATS.md."""
+    spelt, at = b"", 0
+    while at < len(glob):
+        one = glob[at : at + 1]
+        at += 1
+        if one == b"*" and glob[at : at + 1] == b"*":
+            spelt, at = spelt + b"[\\x00-\\xff]*", at + 1
+        elif one in (b"*", b"?"):
+            spelt += b"[^/]*" if one == b"*" else b"[^/]"
+        elif one == b"[":
+            negated = glob[at : at + 1] == b"!"
+            at += negated
+            end = glob.index(b"]", at + 1)
+            text, members, place = glob[at:end], set(), 0
+            while place < len(text):
+                if text[place + 1 : place + 2] == b"-" and place + 2 < len(text):
+                    members |= set(range(text[place], text[place + 2] + 1))
+                    place += 3
+                else:
+                    members.add(text[place])
+                    place += 1
+            taken = (set(range(256)) - members if negated else members) - {47}
+            spelt += b"[" + b"".join(b"\\x%02x" % byte for byte in sorted(taken)) + b"]" if taken else b"(?!)"
+            at = end + 1
+        else:
+            at += one == b"\\"
+            spelt += re.escape(glob[at - 1 : at])
+    return re.compile(spelt)
+
+
+def is_out(globs, path):
+    return any(taken_by(glob).fullmatch(path if b"/" in glob else path.rsplit(b"/", 1)[-1]) for glob in globs)
+
+
+# What a glob matches of these paths below `t`, by hand.
+PATHS = [b"t/a", b"t/a.o", b"t/ab", b"t/b-", b"t/b/a", b"t/b/c/a.o", b"t/b/c/d", b"t/star*", b"t/[x]", b"t/x]", b"t/\xc3\xa9", b"t/back\\slash", b"t/.hidden"]
+GLOBS = [(b"a", [b"t/a", b"t/b/a"]), (b"*.o", [b"t/a.o", b"t/b/c/a.o"]), (b"a?", [b"t/ab"]), (b"??", [b"t/ab", b"t/b-", b"t/x]", b"t/\xc3\xa9"]), (b"t/a", [b"t/a"]), (b"t/*", PATHS), (b"t/?", [b"t/a", b"t/b/a", b"t/b/c/a.o", b"t/b/c/d"]),
+         (b"t/**/a", [b"t/b/a"]), (b"**/a", [b"t/a", b"t/b/a"]), (b"t/**.o", [b"t/a.o", b"t/b/c/a.o"]), (b"b", [b"t/b/a", b"t/b/c/a.o", b"t/b/c/d"]), (b"t/b/*", [b"t/b/a", b"t/b/c/a.o", b"t/b/c/d"]), (b"t/b/c/*", [b"t/b/c/a.o", b"t/b/c/d"]),
+         (b"star\\*", [b"t/star*"]), (b"[[]x]", [b"t/[x]"]), (b"\\[x]", [b"t/[x]"]), (b"x[]]", [b"t/x]"]), (b"[]x]?", [b"t/x]"]), (b"b[-]", [b"t/b-"]), (b"[!a-z]*", [b"t/[x]", b"t/\xc3\xa9", b"t/.hidden"]), (b"[a-a]", [b"t/a", b"t/b/a"]),
+         (b"[z-a]", []), (b"[!/]", []), (b"t/[!/]", [b"t/a", b"t/b/a", b"t/b/c/a.o", b"t/b/c/d"]), (b"*\\\\*", [b"t/back\\slash"]), (b"\xc3\xa9", [b"t/\xc3\xa9"]), (b".*", [b"t/.hidden"]), (b"t", []), (b"T/a", []), (b"*", PATHS), (b"**", PATHS), (b"***", PATHS),
+         (b"a*b*", [b"t/ab"]), (b"*a*.*o", [b"t/a.o", b"t/b/c/a.o"]), (b"[a-c-]*", [b"t/a", b"t/a.o", b"t/ab", b"t/b-", b"t/b/a", b"t/b/c/a.o", b"t/b/c/d", b"t/back\\slash"]), (b"[!!]x]", [b"t/[x]"])]
+
+
+def excluded(cases, program):
+    """What globs leave out below a folder: by a table, by regular expressions over random names, and in no long time."""
+    with tempfile.TemporaryDirectory() as work:
+        signatures = shutil.copy(os.path.join(DATA, "set.avsig"), work)
+        for path in PATHS:
+            os.makedirs(os.path.join(os.fsencode(work), os.path.dirname(path)), exist_ok=True)
+            write(os.path.join(os.fsencode(work), path), b"abc")
+        clean = lambda paths: b"".join(quoted(path) + b" clean\n" for path in paths)
+        order = [b"t/.hidden", b"t/[x]", b"t/a", b"t/a.o", b"t/ab", b"t/b/a", b"t/b/c/a.o", b"t/b/c/d", b"t/b-", b"t/back\\slash", b"t/star*", b"t/x]", b"t/\xc3\xa9"]
+        cases.check("the rows have all paths", sorted(order) == sorted(PATHS))
+        for glob, out in GLOBS:
+            wanted = clean(path for path in order if path not in out)
+            got = run([program, "scan", "-r", "--exclude", glob, signatures, "t"], cwd=work)
+            cases.check(f"--exclude {glob}", got == ((0, wanted, b"") if wanted else (1, b"", NOTHING)), f"{got}")
+            parents = lambda path: [b"/".join(path.split(b"/")[:count]) for count in range(2, path.count(b"/") + 2)]
+            cases.check(f"--exclude {glob} as a regular expression", out == [path for path in PATHS if any(is_out([glob], part) for part in parents(path))], glob)
+        left = lambda *counts: b"avscan: %d files scanned, %d infected, %d not scanned, %d left out\n" % counts
+        rows = [(["--exclude", "b", "--exclude", "*.o"], (0, clean(path for path in order if path[:4] != b"t/b/" and path != b"t/a.o"), left(9, 0, 0, 2))), (["--exclude", "t/b/c"], (0, clean(path for path in order if path[:6] != b"t/b/c/"), left(11, 0, 0, 1))),
+                (["--exclude", "nothing"], (0, clean(order), left(13, 0, 0, 0))), (["--exclude", "*"], (1, b"", left(0, 0, 0, 11) + NOTHING)), (["--exclude", "**", "--found-status"], (1, b"", left(0, 0, 0, 11) + NOTHING))]
+        for words, wanted in rows:
+            for threads in ("1", "4"):
+                got = run([program, "scan", "-r", "-j", threads, "--summary", *words, signatures, "t"], cwd=work)
+                cases.check(f"{words} -j {threads}", got == wanted, f"{got}")
+        listed = write(os.path.join(work, "list"), b"t/a\nt/b/c\n")
+        got = run([program, "scan", "-r", "--summary", "--exclude", "**", "--files-from", listed, signatures, "t/ab", "t/b"], cwd=work)
+        cases.check("what is named is scanned", got == (0, clean([b"t/ab", b"t/a"]), left(2, 0, 0, 4)), f"{got}")
+        got = run([program, "scan", "-r", "--exclude", "a", signatures, "t/a", "t/b/"], cwd=work)
+        cases.check("what is named is scanned, and a folder under its name", got == (0, clean([b"t/a", b"t/b/c/a.o", b"t/b/c/d"]), b""), f"{got}")
+        got = run([program, "scan", "-k", "--summary", "--exclude", "*", signatures, "t/a", "t/b"], cwd=work)
+        cases.check("--exclude without -r", got == (4, clean([b"t/a"]), b"avscan: t/b: cannot read\navscan: 1 files scanned, 0 infected, 1 not scanned\n"), f"{got}")
+        for glob, why in (("", "is empty"), ("a/", "ends with a slash, which no path does"), ("/", "ends with a slash, which no path does"), ("a\\", "ends with a backslash"), ("[", "has a [ without its ]"), ("[]", "has a [ without its ]"), ("[!]", "has a [ without its ]"), ("a[b/c", "has a [ without its ]"), ("\x1b[", "has a [ without its ]")):
+            shown = glob.replace("\x1b", "\\x1b").encode()
+            for words in (["-r", "--exclude", glob, signatures, "t"], ["--exclude", "a", "--exclude", glob, os.path.join(work, "no set"), "t"]):
+                got = run([program, "scan", *words], cwd=work)
+                cases.check(f"--exclude {glob!r}", got == (2, b"", b"avscan: " + shown + b": no glob: it " + why.encode() + b"\n"), f"{got}")
+        got = run([program, "scan", "--exclude=", "-r", signatures, "t"], cwd=work)
+        cases.check("--exclude of nothing", got == (2, b"", b"avscan: : no glob: it is empty\n"), f"{got}")
+        os.mkdir(os.path.join(work, "empty"))
+        for words in (["-r"], ["-r", "-i", "--found-status"], ["-r", "--exclude", "x"]):
+            got = run([program, "scan", *words, signatures, "empty"], cwd=work)
+            cases.check(f"{words} of an empty folder", got == (1, b"", NOTHING), f"{got}")
+    chance = random.Random(5)
+    with tempfile.TemporaryDirectory() as work:
+        signatures, tree = shutil.copy(os.path.join(DATA, "set.avsig"), work), os.path.join(os.fsencode(work), b"tree")
+        word = lambda letters, most: bytes(chance.choice(letters) for _ in range(chance.randrange(1, most)))
+        for _ in range(300):
+            folder = os.path.join(tree, *[word(b"ab", 3) + b"_" for _ in range(chance.randrange(3))])
+            os.makedirs(folder, exist_ok=True)
+            write(os.path.join(folder, word(b"aab[]*!-\n\x1b\xff", 7)), b"abc")
+        pool = [b"a", b"b", b"*", b"**", b"?", b"[ab]", b"[!a]", b"[a-b]", b"[]*]", b"\\*", b"\\[", b"/", b"_", b"\xff", b"\n", b"-"]
+        for _ in range(60):
+            globs = [glob for glob in (b"".join(chance.choice(pool) for _ in range(chance.randrange(1, 7))) for _ in range(chance.randrange(1, 4))) if not glob.endswith(b"/") and is_text(glob)] or [b"a*"]
+            wanted, told = [], []
+            for folder, folders, files in os.walk(tree):
+                inside = os.path.relpath(folder, os.fsencode(work))
+                folders[:] = [name for name in folders if not is_out(globs, inside + b"/" + name)]
+                wanted += [inside + b"/" + name for name in files if is_text(name) and not is_out(globs, inside + b"/" + name)]
+                told += [inside + b"/" + name for name in files if not is_text(name) and not is_out(globs, inside + b"/" + name)]
+            words = [b"--exclude=" + glob for glob in globs]
+            status, out, err = run([program, "scan", "-r", *words, signatures, "tree"], cwd=work)
+            fine = sorted(out.split(b" clean\n")[:-1]) == sorted(quoted(path) for path in wanted) and err.count(b": the name is not UTF-8\n") == len(told) and status == (1 if told or not wanted else 0)
+            cases.check(f"random globs {globs}", fine, f"{status} {err[-200:]}")
+        name = b"a" * 255
+        deep = os.path.join(os.fsencode(work), b"deep", name, name)
+        os.makedirs(os.path.dirname(deep))
+        write(deep, b"abc")
+        begun = time.time()
+        for glob in (b"*a" * 120 + b"b", b"**a" * 120 + b"**b", b"**[ab]*" * 100 + b"c", b"*?" * 2000, b"[a-z]*" * 2000 + b"b"):
+            got = run([program, "scan", "-r", "--exclude", glob, "--exclude", b"/" + glob, signatures, "deep"], cwd=work)
+            cases.check(f"a hostile glob of {len(glob)} bytes", got == (0, deep[len(work) + 1 :] + b" clean\n", b""), f"{got[0]} {got[2]}")
+        cases.check("hostile globs take no long time", time.time() - begun < SECONDS / 2, f"{time.time() - begun}")
+
+
+def file_systems(cases, program):
+    """A folder of another file system is left out below a FOLDER, and walked where it is named."""
+    with tempfile.TemporaryDirectory() as work:
+        signatures = shutil.copy(os.path.join(DATA, "set.avsig"), work)
+        for folder in ("t/mount", "t/z"):
+            os.makedirs(os.path.join(work, folder))
+        for name in ("t/a", "t/z/b"):
+            write(os.path.join(work, name), b"abc")
+        mounted = subprocess.run(["mount", "-t", "tmpfs", "none", os.path.join(work, "t/mount")], stderr=subprocess.PIPE)
+        if mounted.returncode:
+            print(f"skipped: --one-file-system over a mount, since {mounted.stderr.decode().strip()}")
+            rows = [(["t"], (0, b"t/a clean\nt/z/b clean\n", b"avscan: 2 files scanned, 0 infected, 0 not scanned, 0 left out\n"))]
+        else:
+            write(os.path.join(work, "t/mount/c"), EICAR)
+            os.mkdir(os.path.join(work, "t/mount/d"))
+            write(os.path.join(work, "t/mount/d/e"), b"abc")
+            found = b"t/mount/c infected 0 eicar.test end 64\nt/mount/d/e clean\n"
+            rows = [(["t"], (0, b"t/a clean\nt/z/b clean\n", b"avscan: 2 files scanned, 0 infected, 0 not scanned, 1 left out\n")), (["t/mount"], (0, found, b"avscan: 2 files scanned, 1 infected, 0 not scanned, 0 left out\n")),
+                    (["t", "t/mount"], (0, b"t/a clean\nt/z/b clean\n" + found, b"avscan: 4 files scanned, 1 infected, 0 not scanned, 1 left out\n")), (["t/mount/c", "--exclude", "z", "t"], (0, b"t/mount/c infected 0 eicar.test end 64\nt/a clean\n", b"avscan: 2 files scanned, 1 infected, 0 not scanned, 2 left out\n"))]
+        try:
+            for words, wanted in rows:
+                for threads in ("1", "4"):
+                    got = run([program, "scan", "-r", "-j", threads, "--one-file-system", "--summary", signatures, *words], cwd=work)
+                    cases.check(f"--one-file-system -j {threads} {words}", got == wanted, f"{got}")
+            if not mounted.returncode:
+                got = run([program, "scan", "-r", signatures, "t"], cwd=work)
+                cases.check("without --one-file-system", got == (0, b"t/a clean\n" + found + b"t/z/b clean\n", b""), f"{got}")
+            got = run([program, "scan", "-r", "--one-file-system", signatures, "gone", "t/a"], cwd=work)
+            cases.check("--one-file-system of what is not there", got == (4, b"t/a clean\n", b"avscan: gone: cannot read\n"), f"{got}")
+        finally:
+            if not mounted.returncode:
+                subprocess.run(["umount", os.path.join(work, "t/mount")], check=True)
+
+
+def named_links(cases, program):
+    """A link that is named is followed, on the command line and in a list, to a file and to a folder; one that leads nowhere is told."""
+    with tempfile.TemporaryDirectory() as work:
+        signatures = shutil.copy(os.path.join(DATA, "set.avsig"), work)
+        os.makedirs(os.path.join(work, "far/in"))
+        write(os.path.join(work, "far/in/file"), EICAR)
+        for target, name in (("far/in/file", "file"), ("file", "file2"), ("far", "folder"), ("folder", "folder2"), ("nowhere", "gone"), ("loop", "loop"), ("b", "a"), ("a", "b"), ("..", "far/in/up")):
+            os.symlink(target, os.path.join(work, name))
+        found = lambda *names: b"".join(name.encode() + b" infected 0 eicar.test end 64\n" for name in names)
+        unread = lambda *names: b"".join(b"avscan: " + name.encode() + b": cannot read\n" for name in names)
+        rows = [(["file", "file2"], (0, found("file", "file2"), b"")), (["-r", "file2", "folder", "folder2", "folder/"], (0, found("file2", "folder/in/file", "folder2/in/file", "folder/in/file"), b"")), (["-k", "folder", "file"], (4, found("file"), unread("folder"))),
+                (["-r", "gone", "loop", "a", "file"], (4, found("file"), unread("gone", "loop", "a"))), (["-r", "far/in/up"], (0, found("far/in/up/in/file"), b""))]
+        for words, wanted in rows:
+            got = run([program, "scan", signatures, *words], cwd=work)
+            cases.check(f"links {words}", got == wanted, f"{got}")
+            flags, names = [word for word in words if word[0] == "-"], [word for word in words if word[0] != "-"]
+            got = run([program, "scan", *flags, "--files-from", "-", signatures], "".join(name + "\n" for name in names).encode(), cwd=work)
+            cases.check(f"links of a list {words}", got == wanted, f"{got}")
+
+
+def names_alone(cases, program):
+    """With -i and --print0 the names of infected files are on standard output alone, each ended by a zero byte, for xargs."""
+    with tempfile.TemporaryDirectory() as work:
+        signatures, tree = os.path.join(DATA, "set.avsig"), os.path.join(os.fsencode(work), b"tree")
+        os.mkdir(tree)
+        odd = [b"a b", b"line\nfeed", b"\x1b[2K", b'"quoted"', b"'", "\u00e9".encode(), b"-n"]
+        for name in odd:
+            write(os.path.join(tree, name), EICAR)
+            write(os.path.join(tree, name + b".clean"), b"abc")
+        wanted = b"".join(tree + b"/" + name + b"\0" for name in sorted(odd))
+        for threads in ("1", "4"):
+            got = run([program, "scan", "-r", "-i", "--print0", "-j", threads, signatures, tree])
+            cases.check(f"-i --print0 -j {threads}", got == (0, wanted, b""), f"{got}")
+        got = run([program, "scan", "-k", "-i", "--print0", "--found-status", "--summary", signatures, tree + b"/a b", tree + b"/gone", tree + b"/a b.clean"])
+        cases.check("-i --print0 and faults", got == (6, tree + b"/a b\0", b"avscan: " + tree + b"/gone: cannot read\navscan: 2 files scanned, 1 infected, 1 not scanned\n"), f"{got}")
+        got = run([program, "scan", "-i", "--print0", signatures, tree + b"/a b.clean"])
+        cases.check("-i --print0 of a clean file", got == (0, b"", b""), f"{got}")
+        got = run([program, "scan", "--print0", signatures, tree + b"/a b", tree + b"/a b.clean"])
+        cases.check("--print0 without -i", got == (0, tree + b"/a b infected 0 eicar.test end 64\0" + tree + b"/a b.clean clean\0", b""), f"{got}")
+        for words in (["--print0", "--json"], ["-i", "--print0", "--json"]):
+            got = run([program, "scan", *words, signatures, tree + b"/a b"])
+            cases.check(f"{words}", got[:2] == (2, b"") and b"--json" in got[2], f"{got}")
+        kept = os.path.join(work, "kept")
+        os.mkdir(kept)
+        got = run(["sh", "-c", '"$1" scan -r -i --print0 "$2" "$3" | xargs -0 -r mv -t "$4" --', "sh", program, signatures, tree, kept])
+        cases.check("quarantine by xargs", got == (0, b"", b"") and sorted(os.listdir(os.fsencode(kept))) == sorted(odd) and sorted(os.listdir(tree)) == sorted(name + b".clean" for name in odd), f"{got}")
+        with open("/dev/full", "wb") as full:
+            done = subprocess.run([program, "scan", "-i", "--print0", signatures, os.path.join(os.fsencode(kept), b"a b")], stdout=full, stderr=subprocess.PIPE, timeout=SECONDS)
+        cases.check("-i --print0 on a full device", (done.returncode, done.stderr) == (4, b"avscan: device\n"), f"{done}")
+
+
 def main():
     if len(sys.argv) != 2:
         sys.exit("usage: tests/files.py PROGRAM")
     cases = Cases()
-    for part in (tables, links, names, forged, at_once, swapped, sets, lists, pieces, changes, closed, many, statuses, devices, jobs, taken, standard_input):
+    for part in (tables, links, named_links, excluded, file_systems, names_alone, names, forged, at_once, swapped, sets, lists, pieces, changes, closed, many, statuses, devices, jobs, taken, standard_input):
         try:
             part(cases, os.path.abspath(sys.argv[1]))
         except Exception as fault:

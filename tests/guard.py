@@ -3,7 +3,7 @@
 asks cut anywhere, `avguard ask`, random schedules beside a service that dies and learns, clients and services that say anything, nothing,
 too much or a byte at a time, sockets that are left over or in use. No descriptor and no memory is lost.
 The last line says how many passed and how many failed."""
-import glob, os, random, re, select, signal, socket, struct, subprocess, sys, tempfile, time
+import calendar, glob, os, random, re, select, signal, socket, struct, subprocess, sys, tempfile, time
 
 from cases import Cases
 from programs import program_beside
@@ -22,17 +22,17 @@ def frame(kind, *fields):
     return struct.pack(">I", len(body)) + body
 
 
-def message(kind, *fields):
-    """A frame between filter and service, at port 1."""
-    return frame(kind, b"\1", *fields)
+def message(kind, *fields, port=1):
+    """A frame between filter and service, at port 1 or at that of a spare, 2."""
+    return frame(kind, bytes([port]), *fields)
 
 
 def number(n):
     return struct.pack(">Q", n)
 
 
-def hello(version):
-    return message(5, number(1), number(version))
+def hello(version, port=1):
+    return message(5, number(1), number(version), port=port)
 
 
 def ask(tag, content, label=b"f"):
@@ -147,6 +147,8 @@ class Guard:
         return done.returncode, done.stdout, done.stderr
 
 
+# The services of both ports, as the cases call them.
+SERVICES = ("service", "spare")
 NAMES = b"avsig 1\nversion 7\nTest.X 5858\n"
 
 
@@ -181,37 +183,38 @@ def replay(cases, program, path):
 
             def end_of(who):
                 if who not in ends:
-                    at = guard.service if who == "service" else guard.clamd if who.startswith("door") else guard.opens
+                    at = guard.service if who in SERVICES else guard.clamd if who.startswith("door") else guard.opens
                     ends[who] = connected(at)
                 return ends[who]
 
             greeted = 0
             for place, line in enumerate(lines[1:], 2):
                 what = f"{name}:{place}"
-                said = re.fullmatch(r"(?:from )?(service|client \d+|door \d+): ([0-9a-f x]*)", line)
-                told = re.fullmatch(r"to (service|client \d+|door \d+): ([0-9a-f]*)", line)
+                said = re.fullmatch(r"(?:from )?(service|spare|client \d+|door \d+): ([0-9a-f x]*)", line)
+                told = re.fullmatch(r"to (service|spare|client \d+|door \d+): ([0-9a-f]*)", line)
                 if told:
                     wanted = bytes.fromhex(told[2])
                     got = heard(end_of(told[1]), len(wanted))
-                    if told[1] == "service":
+                    if told[1] in SERVICES:
                         boot = boot_in(got)
                         got = with_boot(got, number(1))
                     cases.same(what, got, wanted)
                 elif said:
                     own = bytes_of(said[2])
                     try:
-                        end_of(said[1]).sendall(with_boot(own, boot) if said[1] == "service" else own)
+                        end_of(said[1]).sendall(with_boot(own, boot) if said[1] in SERVICES else own)
                     except BrokenPipeError:
                         cases.check(what, False, "closed")
-                    if said[1] == "service" and bytes_of(said[2])[4:5] == b"\5":
+                    if said[1] in SERVICES and bytes_of(said[2])[4:5] == b"\5":
                         greeted += 1
                         guard.await_line(b" connected\n", greeted)
-                    elif said[1] == "service" and bytes_of(said[2])[4:5] == b"\x08":
+                    elif said[1] in SERVICES and bytes_of(said[2])[4:5] == b"\x08":
                         time.sleep(SETTLED)
-                elif line == "service lost":
-                    end_of("service").close()
-                    ends.pop("service")
-                    guard.await_line(b"service lost\n")
+                elif line in ("service lost", "spare lost"):
+                    who = line.split()[0]
+                    end_of(who).close()
+                    ends.pop(who)
+                    guard.await_line(b"avguard: %s lost\n" % who.encode())
                 elif re.fullmatch(r"(client|door) \d+ (lost|gone)", line):
                     end_of(line.rsplit(" ", 1)[0]).close()
                     ends.pop(line.rsplit(" ", 1)[0])
@@ -244,12 +247,12 @@ def rows(cases, program):
 
 
 class Service:
-    """A service that judges by one pattern a version, and reads what it judges."""
+    """A service that judges by one pattern a version, and reads what it judges. It is at port 1, or the spare at port 2."""
 
-    def __init__(self, guard, version, pattern):
-        self.version, self.pattern = version, pattern
+    def __init__(self, guard, version, pattern, port=1):
+        self.version, self.pattern, self.port = version, pattern, port
         self.end = connected(guard.service)
-        self.end.sendall(hello(version))
+        self.end.sendall(hello(version, port))
         self.data, self.asked, self.contents = b"", {}, {}
 
     def fileno(self):
@@ -290,20 +293,23 @@ class Service:
             self.asked.pop(ident, None)
         return b""
 
+    def message(self, kind, *fields):
+        return message(kind, *fields, port=self.port)
+
     def next(self, ident):
         done = len(self.contents[ident])
         if done < self.asked[ident]:
-            return message(6, ident, number(done), struct.pack(">I", min(4096, self.asked[ident] - done)))
+            return self.message(6, ident, number(done), struct.pack(">I", min(4096, self.asked[ident] - done)))
         self.asked.pop(ident)
         place = self.contents[ident].find(self.pattern)
         if place < 0:
-            return message(7, ident, b"\0", number(self.version))
-        return message(7, ident, b"\1", number(self.version), struct.pack(">I", 0), number(place + len(self.pattern)))
+            return self.message(7, ident, b"\0", number(self.version))
+        return self.message(7, ident, b"\1", number(self.version), struct.pack(">I", 0), number(place + len(self.pattern)))
 
     def learn(self, version, pattern):
         """A newer set: what is being judged is judged anew."""
         self.version, self.pattern = version, pattern
-        self.end.sendall(message(8, number(version)))
+        self.end.sendall(self.message(8, number(version)))
         for ident in self.asked:
             self.contents[ident] = b""
         self.end.sendall(b"".join(self.next(ident) for ident in list(self.asked)))
@@ -446,6 +452,7 @@ def asks(cases, program):
         cases.same("-r", guard.ask("-r", guard.opens, "d"), (0, b"d/e/one granted generation 2 version 4\nd/two denied cause 2\n", b""))
         guard.write("list", b"a.bin\nb.bin\n")
         cases.same("--files-from", guard.ask("--files-from", "list", guard.opens)[1].count(b"\n"), 2)
+        cases.same("a list without a name", guard.ask("--files-from", "/dev/null", "--summary", guard.opens), (1, b"", b"avguard: no file was asked about\n"))
         many = [guard.write(f"m{i}", b"%d" % (i % 700) * (i % 9) + (b"XX" if i % 10 == 0 else b"")) for i in range(3000)]
         status, out, err = guard.ask(guard.opens, *(os.path.basename(name) for name in many))
         wanted = b"".join(b"m%d %s\n" % (i, b"denied cause 2" if i % 10 == 0 else b"granted generation 2 version 4") for i in range(3000))
@@ -727,8 +734,70 @@ def watches(cases, program):
         service.end.close()
         guard.await_line(b"service lost\n")
         one.sendall(watch(1, 9))
-        Service(guard, 9, b"ZZ")
-        cases.check("the same version of another service is not newer", guard.await_line(b"connected\n", 2) and is_silent(one))
+        again = Service(guard, 9, b"ZZ")
+        cases.check("the same version of another service is not newer", guard.await_line(b"connected\n", 2) and is_silent(one) and again.end.fileno() >= 0)
+
+
+STATS = b"""POOLS: 1
+
+STATE: %s PRIMARY
+THREADS: live 1  idle 0 max 1 idle-timeout 0
+QUEUE: %d items
+
+MEMSTATS: heap N/A mmap N/A used N/A free N/A releasable N/A pools 1 pools_used N/A pools_total N/A
+END"""
+COMMANDS = b"| COMMANDS: PING VERSION VERSIONCOMMANDS STATS INSTREAM IDSESSION END"
+
+
+def states(cases, program):
+    """What a client of clamd gets for VERSION, VERSIONCOMMANDS and STATS as services come, learn and go."""
+    with Guard(program) as guard:
+        said = lambda word: said_to(guard.clamd, word)
+
+        def version(name, number, since):
+            got = said(b"zVERSION\0")
+            start, _, date = got.partition(b"/%d/" % number)
+            told = calendar.timegm(time.strptime(date.rstrip(b"\0").decode(), "%a %b %d %H:%M:%S %Y")) if date else 0
+            cases.check(name, start == b"Vizdroun 1" and len(date) == 25 and int(since) <= told <= time.time(), got)
+            cases.same(f"{name}: the commands", said(b"nVERSIONCOMMANDS\n"), got.rstrip(b"\0") + COMMANDS + b"\n")
+
+        cases.same("no version", said(b"VERSION\n"), b"Vizdroun 1\n")
+        cases.same("no version: the commands", said(b"zVERSIONCOMMANDS\0"), b"Vizdroun 1" + COMMANDS + b"\0")
+        cases.same("no service", said(b"zSTATS\0"), STATS % (b"INVALID", 0) + b"\0")
+        begun = time.time()
+        service = Service(guard, 7, b"XX")
+        guard.await_line(b"connected\n")
+        version("a service is there", 7, begun)
+        cases.same("a service is there: STATS", said(b"nSTATS\n"), STATS % (b"VALID", 0) + b"\n")
+        with connected(guard.clamd) as client:
+            client.sendall(b"zINSTREAM\0" + struct.pack(">I", 3) + b"abc" + bytes(4))
+            select.select([service.end], [], [], SECONDS)
+            cases.same("a content waits", said(b"STATS\n"), STATS % (b"VALID", 1) + b"\n")
+            served(service, client)
+            cases.same("and is answered", rest(client), b"stream: OK\0")
+        cases.same("nothing waits", said(b"zSTATS\0"), STATS % (b"VALID", 0) + b"\0")
+        time.sleep(1.1)
+        begun = time.time()
+        service.learn((1 << 64) - 2, b"YY")
+        with connected(guard.opens) as client:
+            client.sendall(ask(1, b"a"))
+            served(service, client)
+        version("a newer set", (1 << 64) - 2, begun)
+        with connected(guard.clamd) as session:
+            session.sendall(b"zIDSESSION\0zVERSION\0nSTATS\nzEND\0")
+            got = rest(session)
+            cases.check("in a session", got.startswith(b"1: Vizdroun 1/") and got.endswith(b"2: " + STATS % (b"VALID", 0) + b"\n"), got)
+        service.close()
+        guard.await_line(b"service lost\n")
+        version("a lost service leaves its version", (1 << 64) - 2, begun)
+        cases.same("a lost service: STATS", said(b"zSTATS\0"), STATS % (b"INVALID", 0) + b"\0")
+
+
+def said_to(path, word):
+    """What is said to one command of a client of clamd."""
+    with connected(path) as end:
+        end.sendall(word)
+        return rest(end)
 
 
 def served(service, client):
@@ -756,7 +825,7 @@ def main():
         sys.exit("usage: tests/guard.py PROGRAM [SCHEDULES]")
     cases, program = Cases(), os.path.abspath(sys.argv[1])
     count = int(sys.argv[2]) if len(sys.argv) == 3 else 2000
-    for part in (rows, cut, asks, watches, places, idle, memory, hostile_services, hostile_clients, lambda *words: schedules(*words, count)):
+    for part in (rows, cut, asks, watches, states, places, idle, memory, hostile_services, hostile_clients, lambda *words: schedules(*words, count)):
         begun, name = time.time(), part.__name__.replace("<lambda>", "schedules")
         try:
             part(cases, program)

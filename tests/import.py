@@ -1,8 +1,8 @@
 #!/usr/bin/env python3
 """Files of other products, taken by the built program.
 
-tests/import has files with what they give and what is told of them. The rest are rules: each reason, the limits, the statuses, inputs that
-were mutated, and that what is written is read. Where `yara` and `clamscan` are installed, random files near the patterns and the edges of
+tests/import has files with what they give and what is told of them. The rest are rules: each reason, the limits, the statuses, the file of
+--output while calls fail, inputs that were mutated, and that what is written is read. Where `yara` and `clamscan` are installed, random files near the patterns and the edges of
 their places must be found by both alike. The last line says how many passed and how many failed."""
 import os, random, re, shutil, subprocess, sys, tempfile
 
@@ -13,6 +13,8 @@ SECONDS = 60
 MUTATED = 2000
 RANDOM = 1000
 LAST = 1048575
+# More calls that open, read or write, and more requests for memory, than an import of a short file makes.
+CALLS, REQUESTS = range(1, 30), range(1, 200)
 FAR = "a place past 1,048,574 has no bound in a signature file"
 HERE = os.path.dirname(os.path.abspath(__file__))
 DATA = os.path.join(HERE, "import")
@@ -52,6 +54,15 @@ def write(folder, name, content):
     return name
 
 
+def there(folder, name):
+    """The content of a file, if it is there."""
+    path = os.path.join(folder, name)
+    if not os.path.exists(path):
+        return None
+    with open(path, "rb") as file:
+        return file.read()
+
+
 def read(name):
     with open(os.path.join(DATA, name), "rb") as file:
         return file.read()
@@ -81,6 +92,49 @@ def reasons(cases, program, folder):
         cases.same(rule[:60], (status, out, err.decode().splitlines()[0]), (1, b"", f"avtool: r.yar: line 1: n: {why}"))
     status, out, err = run([program_beside(program, "avtool"), "import", "missing.ndb"], folder)
     cases.same("a file that is missing", (status, out), (4, b""))
+
+
+def files(cases, program, folder):
+    """The file of --output is the old one, or whole, also while each call fails."""
+    tool = program_beside(program, "avtool")
+    names = [write(folder, name, read(name)) for name in ("a.ndb", "b.yar", "c.hdb", "d.db")]
+    told, wanted = read("all.format2.err"), read("all.format2.avsig")
+    words = [tool, "import", "--set-version", "7", "--output", "out", *names]
+    cases.same("into a file", (run(words, folder), there(folder, "out"), there(folder, "out.new")), ((0, b"", told), wanted, None))
+    write(folder, "out", b"old")
+    cases.same("a file that is there is replaced", (run(words, folder), there(folder, "out")), ((0, b"", told), wanted))
+    write(folder, "nothing.ndb", b"n:0:*:4?\n")
+    for name, refused in (("nothing taken", ["nothing.ndb"]), ("--all", ["--all", *names]), ("a file that is missing", [*names, "missing.ndb"])):
+        write(folder, "out", b"old")
+        status, out, err = run([tool, "import", "--output", "out", *refused], folder)
+        cases.check(f"{name}, into a file", (status in (1, 4), out, there(folder, "out"), there(folder, "out.new")) == (True, b"", b"old", None), (status, out, err))
+    os.mkdir(os.path.join(folder, "folder"))
+    for path in ("folder", "missing/out"):
+        status, out, err = run([tool, "import", "--output", path, "d.db"], folder)
+        cases.same(f"no file can be at {path}", (status, out, err.splitlines()[-1], there(folder, path + ".new")), (4, b"", f"avtool: {path}: cannot write".encode(), None))
+    short = [tool, "import", "--output", "out", "d.db"]
+    os.remove(os.path.join(folder, "out"))
+    lines = run(short, folder)[2].count(b"\n")
+    for is_forever in ("0", "1"):
+        failing(cases, folder, "fail_io", short, (there(folder, "out"), lines), FAIL_IO=CALLS, FAIL_FOREVER=is_forever)
+    failing(cases, folder, "fail_nth", short, (there(folder, "out"), lines), FAIL_NTH=REQUESTS)
+
+
+def failing(cases, folder, name, words, wanted, **how):
+    """A run of which each call fails in turn, or each request for memory: the file is the old one, or whole."""
+    library = os.path.join(folder, name + ".so")
+    subprocess.run(["cc", "-shared", "-fPIC", "-O1", "-o", library, os.path.join(HERE, name + ".c"), "-ldl"], check=True)
+    numbers, well = next(value for value in how.values() if isinstance(value, range)), 0
+    for number in numbers:
+        write(folder, "out", b"old")
+        environment = {key: str(number) if value is numbers else value for key, value in how.items()}
+        done = subprocess.run(words, stdout=subprocess.PIPE, stderr=subprocess.PIPE, timeout=SECONDS, cwd=folder, env=dict(os.environ, LD_PRELOAD=library, **environment))
+        got = there(folder, "out")
+        well += done.returncode == 0
+        holds = done.stdout == b"" and (got == wanted[0] if done.returncode == 0 else done.returncode in (3, 4) and got == b"old" and done.stderr.count(b"\n") <= wanted[1] + 1)
+        cases.check(f"{name} {environment}", holds, (done, got))
+        os.path.exists(os.path.join(folder, "out.new")) and os.remove(os.path.join(folder, "out.new"))
+    cases.check(f"{name} {how}: some runs fail, and some don't", 0 < well < len(numbers), well)
 
 
 def limits(cases, program, folder):
@@ -204,6 +258,8 @@ def main():
     with tempfile.TemporaryDirectory() as folder:
         for part in (stored, reasons, limits, mutated, beside_yara, beside_clamscan):
             part(cases, program, folder)
+    with tempfile.TemporaryDirectory() as folder:
+        files(cases, program, folder)
     print(f"{cases.passed} passed, {cases.failed} failed")
     return 1 if cases.failed else 0
 

@@ -30,6 +30,15 @@ says_version() {
     *) "$1" run --help > /dev/null ;;
     esac
 }
+# where the compilers are there
+compiles() {
+    for compiler in "cc -std=c11 -xc" "c++ -std=c++11 -xc++"; do
+        command -v ${compiler%% *} > /dev/null || continue
+        printf '#include <avask.h>\nint main(void) { return av_connect("/none") < 0 ? 0 : 1; }\n' |
+            $compiler -Wall -Wextra -Werror -Wno-unused-function -I"$(dirname "$1")" -o "$room/client" - || return 1
+        "$room/client" || return 1
+    done
+}
 says_usage() {
     "$1" -h | grep -q '^usage: '
 }
@@ -37,7 +46,7 @@ says_usage() {
 renders() {
     command -v man > /dev/null || return 0
     MANWIDTH=80 man --warnings -E UTF-8 -Tutf8 -l "$1" > "$room/page"
-    col -bx < "$room/page" | grep -nE '.{81}|`|\*\*|\]\(|\.md\b|docs/|examples/' >&2 || true
+    col -bx < "$room/page" | grep -nE '.{81}|`|\*\*[A-Za-z]|\]\(|\.md\b|docs/|examples/' >&2 || true
 }
 
 make -s install-built BUILT="$built" DESTDIR="$room" PREFIX=/usr > "$room/log"
@@ -50,11 +59,12 @@ for name in avscan avguard avtool; do
 done
 check share/man/man5/avsig.5 644 renders
 check share/man/man5/avscript.5 644 renders
-wanted=17
+check include/avask.h 644 compiles
+wanted=18
 # the helper for fanotify is not left out where it can be built
 if printf '#include <sys/fanotify.h>\n' | cc -fsyntax-only -xc - 2> /dev/null; then
     check bin/avguard-onaccess 755 says_usage
-    wanted=18
+    wanted=19
 fi
 found=$(find "$room/usr" -type f | wc -l)
 if [ "$found" != "$wanted" ]; then

@@ -85,11 +85,11 @@ def plain(cases, program):
                 text = (lambda name: name) if form == "json" else (lambda name: name.encode())
                 asker = lambda tag, bytes, label: {"socket": "opens", "client": read[0]["client"] if read[0] else None, "tag": tag, "bytes": bytes, "label": text(label)}
                 wanted = [{"event": "answer", "answer": "denied", "cause": 3, "why": text("not connected"), **asker(3, 1, "first")},
-                          {"event": "service", "state": "connected", "version": 7}]
+                          {"event": "service", "state": "connected", "version": 7, "port": 1}]
                 if grants:
                     wanted.append({"event": "answer", "answer": "granted", "version": 7, **asker(4, 5, "second")})
                 wanted += [{"event": "answer", "answer": "denied", "cause": 2, "why": text("infected"), "signature": 0, "end": 3, "version": 7, **asker(5, 4, "third")},
-                           {"event": "service", "state": "newer", "version": 8}, {"event": "service", "state": "lost"}, {"event": "service", "state": "silent"}]
+                           {"event": "service", "state": "newer", "version": 8, "port": 1}, {"event": "service", "state": "lost", "port": 1}, {"event": "service", "state": "silent"}]
                 cases.same(f"lines in {form}, grants {grants}", [line and without_time(line) for line in read], wanted)
                 for line in read:
                     when = line and line["time"]
@@ -102,7 +102,7 @@ def events(cases, program):
     """Services that are turned away, a version that can't be kept, and a client that has to give its place."""
     with tempfile.TemporaryDirectory() as folder:
         path = os.path.join(folder, "log")
-        with Guard(program, "--log", path, "--least", "5", "--most-version", "8", "--state", os.path.join(folder, "none", "state"), descriptors=20) as guard:
+        with Guard(program, "--log", path, "--least", "5", "--most-version", "8", "--state", os.path.join(folder, "none", "state"), descriptors=22) as guard:
             for place, version in enumerate((3, 9, 6)):
                 service = connected(guard.service)
                 service.sendall(hello(version))
@@ -112,7 +112,7 @@ def events(cases, program):
             found = [words_of(line) for line in lines_of(path, 5)]
             cases.same("events", [line and without_time(line) for line in found],
                        [{"event": "service", "state": "refused", "version": 3, "least": 5}, {"event": "service", "state": "refused", "version": 9, "most": 8},
-                        {"event": "service", "state": "connected", "version": 6}, {"event": "state", "state": "unwritten", "version": 6}, {"event": "client", "state": "closed"}])
+                        {"event": "service", "state": "connected", "version": 6, "port": 1}, {"event": "state", "state": "unwritten", "version": 6}, {"event": "client", "state": "closed"}])
             for end in [service, *clients]:
                 end.close()
 

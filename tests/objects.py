@@ -118,15 +118,19 @@ def file_line(line):
 
 def check_files(cases, program, work, command, *words):
     """What a command writes as JSON goes back to what it writes in words under the names as they are, and its faults and status are the same."""
-    def run(*form):
-        done = subprocess.run([program, command, *form, *words], cwd=work, stdout=subprocess.PIPE, stderr=subprocess.PIPE, timeout=SECONDS)
+    def run(*form, without=()):
+        done = subprocess.run([program, command, *form, *[word for word in words if word not in without]], cwd=work, stdout=subprocess.PIPE, stderr=subprocess.PIPE, timeout=SECONDS)
         return done.returncode, done.stderr, done.stdout.decode()
 
-    status, faults, lines = run("--print0")
+    # (with -i and --print0 a scan writes names alone: its lines are those of the infected files of a run without -i)
+    names_alone = command == "scan" and "-i" in words
+    status, faults, lines = run("--print0", without=["-i"] if names_alone else [])
+    if names_alone:
+        lines = "".join(line + "\0" for line in lines.split("\0") if re.search(" infected [0-9]+ [^ ]+ end [0-9]+$", line))
     got_status, got_faults, objects = run("--json")
     name = f"{command} --json {' '.join(words)}"
     try:
-        back = [file_line(line) for line in objects.split("\n")[:-1]]
+        back = [file_line(line) for line in objects.split("\n")[:-1] if not re.match(r'\{"file":("[^"]*"|"(\\.|[^"\\])*"),"fault":|\{"scanned":', line)]
     except (ValueError, LookupError) as wrong:
         cases.check(name, False, repr(wrong))
         return
@@ -151,6 +155,47 @@ def files(cases, program):
             check_files(cases, program, work, "filter", *words, "--wait", "1", "s", *streams)
 
 
+def told(cases, program):
+    """What standard output alone tells of files that were not scanned, each at its place, and of the counts at the end."""
+    with tempfile.TemporaryDirectory() as work:
+        at = os.fsencode(work)
+        os.makedirs(os.path.join(work, "tree/b"))
+        for name, content in ((b"set.avsig", SET), (b"clean", b"ABC"), (b"two", b"AXX"), (b"large", b"A" * 11), (b"tree/a", b"YY"), (b"tree/b/c", b""), (b"tree/b/large", b"A" * 11), (b"tree/n\xff", b"YY"), (b'tree/q"\x1b', b"XX"), (b"tree/z", b"A"), (b"tree/skip", b"XX")):
+            with open(os.path.join(at, name), "wb") as file:
+                file.write(content)
+        clean = lambda name: '{"file":"%s","verdict":"clean","version":7}' % name
+        found = lambda name, index, signature, end: '{"file":"%s","verdict":"infected","version":7,"index":%d,"name":"%s","end":%d}' % (name, index, signature, end)
+        missed = lambda name, why, key="file": '{"%s":"%s","fault":"%s"}' % (key, name, why)
+        counts = lambda scanned, infected, not_scanned, *left: '{"scanned":%d,"infected":%d,"not_scanned":%d%s}' % (scanned, infected, not_scanned, "".join(',"left_out":%d' % n for n in left))
+        line = lambda scanned, infected, not_scanned, *left: "avscan: %d files scanned, %d infected, %d not scanned%s\n" % (scanned, infected, not_scanned, "".join(", %d left out" % n for n in left))
+        say = lambda name, why: f"avscan: {name}: {why}\n"
+        named = [missed("gone", "cannot read"), clean("clean"), missed("large", "TooLarge"), missed("tree", "cannot read"), found("two", 1, "two.x", 3)]
+        named_faults = say("gone", "cannot read") + say("large", "TooLarge") + say("tree", "cannot read")
+        below = [found("tree/a", 0, "first", 2), clean("tree/b/c"), missed("tree/b/large", "TooLarge"), missed("747265652f6eff", "the name is not UTF-8", "file_hex"), found('tree/q\\"\\u001b', 1, "two.x", 2), found("tree/skip", 1, "two.x", 2), clean("tree/z")]
+        below_faults = say("tree/b/large", "TooLarge") + say("tree/n\\xff", "the name is not UTF-8")
+        infected = lambda lines: [one for one in lines if '"clean"' not in one]
+        listed = [clean("clean"), missed("6eff", "the name is not UTF-8", "file_hex"), missed("gone", "cannot read"), missed("ff", "the name is not UTF-8", "file_hex"), found("two", 1, "two.x", 3)]
+        listed_faults = say("-", "name 1 is not UTF-8") + say("-", "name 3 is not UTF-8") + say("gone", "cannot read")
+        size = ["--max-size", "10"]
+        rows = [(["-k", *size, "gone", "clean", "large", "tree", "two"], b"", 4, named, named_faults), (["-k", "-i", *size, "gone", "clean", "large", "tree", "two"], b"", 4, infected(named), named_faults),
+                (["-k", "--summary", "--found-status", *size, "gone", "clean", "large", "tree", "two"], b"", 6, named + [counts(2, 1, 3)], named_faults + line(2, 1, 3)),
+                (["-r", *size, "tree"], b"", 1, below, below_faults), (["-r", "-i", "--summary", *size, "tree"], b"", 1, infected(below) + [counts(5, 3, 2)], below_faults + line(5, 3, 2)),
+                (["-r", "--summary", *size, "--exclude", "skip", "--exclude", "tree/b", "tree"], b"", 1, [one for one in below if "tree/b" not in one and "skip" not in one] + [counts(3, 2, 1, 2)], say("tree/n\\xff", "the name is not UTF-8") + line(3, 2, 1, 2)),
+                (["-k", "-0", "--summary", "--files-from", "-", "clean"], b"n\xff\0gone\0\xff\0two", 4, listed + [counts(2, 1, 3)], listed_faults + line(2, 1, 3)),
+                (["clean", "gone"], b"", 4, [], say("gone", "cannot read")), (["--summary", "clean"], b"", 0, [clean("clean"), counts(1, 0, 0)], line(1, 0, 0)), (["-r", "--summary", "--exclude", "*", "tree"], b"", 1, [counts(0, 0, 0, 6)], line(0, 0, 0, 6) + "avscan: no file was scanned\n")]
+        for words, given, status, lines, faults in rows:
+            for threads in ("1", "4"):
+                done = subprocess.run([program, "scan", "--json", "-j", threads, "set.avsig", *words], input=given, cwd=work, stdout=subprocess.PIPE, stderr=subprocess.PIPE, timeout=SECONDS)
+                got = (done.returncode, done.stdout.decode().split("\n")[:-1], done.stderr.decode())
+                cases.same(f"scan --json -j {threads} {words}", got, (status, lines, faults))
+                for one in got[1]:
+                    read_back(one)
+        with open("/dev/full", "wb") as full:
+            for words in (["-k", "gone"], ["--summary", "clean"]):
+                done = subprocess.run([program, "scan", "--json", "set.avsig", *words], cwd=work, stdout=full, stderr=subprocess.PIPE, timeout=SECONDS)
+                cases.check(f"scan --json {words} on a full device", done.returncode == 4 and done.stderr.endswith(b"avscan: device\n"), f"{done}")
+
+
 def main():
     if len(sys.argv) != 2:
         sys.exit("usage: tests/objects.py PROGRAM")
@@ -164,6 +209,7 @@ def main():
             script, _, out = text.read().partition("--- out\n")
         check(cases, program, file, script, out.splitlines())
     files(cases, program)
+    told(cases, program)
     print(f"{cases.passed} passed, {cases.failed} failed")
     sys.exit(1 if cases.failed else 0)
 

@@ -56,7 +56,7 @@ def memory(cases, program):
     with tempfile.TemporaryDirectory() as work:
         library = built(work, "fail_nth")
         tool = program_beside(program, "avtool")
-        for words in ([program, "run", SCRIPT], [program, "run", "--json", SCRIPT], [program, "scan", SET, LETTER], [program, "scan", "--json", "-k", SET, LETTER], [program, "--help"],
+        for words in ([program, "run", SCRIPT], [program, "run", "--json", SCRIPT], [program, "scan", SET, LETTER], [program, "scan", "--json", "-k", SET, LETTER], [program, "scan", SET, "--set", SET, LETTER], [program, "--help"],
                       [program_beside(program, "avguard"), "--help"], [tool, "chart", SCRIPT], [tool, "generate", "--seed", "2", "--commands", "60"], [tool, "import", *IMPORTED], [tool, "merge", SET, SET]):
             name = " ".join([os.path.basename(words[0]), *words[1:]])
             whole = run(words, stdout=subprocess.PIPE)
@@ -65,8 +65,12 @@ def memory(cases, program):
                 number += 1
                 environment = dict(os.environ, LD_PRELOAD=library, FAIL_NTH=str(number))
                 done = run(words, stdout=subprocess.PIPE, env=environment)
-                before, line, _ = done.stderr.partition(b"%s: no memory\n" % named(words[0]))
-                told = done.returncode == 3 and line and whole.stderr.startswith(before) and whole.stdout.startswith(done.stdout)
+                # (a file is told as avscan: FILE: no memory)
+                of_file = b"%s: %s: no memory\n" % (named(words[0]), LETTER.encode())
+                line = of_file if of_file in done.stderr else b"%s: no memory\n" % named(words[0])
+                before, line, _ = done.stderr.partition(line)
+                is_front = whole.stdout.startswith(done.stdout) or (line == of_file and done.stdout == b'{"file":"%s","fault":"no memory"}\n' % LETTER.encode())
+                told = done.returncode == 3 and line and whole.stderr.startswith(before) and is_front
                 spared = (done.returncode, done.stdout, done.stderr) == (0, whole.stdout, whole.stderr)
                 in_a_row = in_a_row + 1 if spared else 0
                 refused += told
@@ -270,15 +274,15 @@ def order(cases, program):
 def helps(cases, program):
     texts = [(["--help"], [b"avscan run examples/late_reply.avs", b"avscan scan examples/test.avsig", b"Exit status: 0 all done, 1 input refused, 2 usage, 3 memory, 4 device; with --found-status 5 something is infected,", b"6 something is infected and some files were not scanned."]),
              (["run", "--help"], [b"SCRIPT", b"volume 1 closed", b"open NAME [LEAST]", b"restart filter|service", b"man avscript"]),
-             (["scan", "--help"], [b"SET", b"FILE", b"avsig 1", b"1,048,576 bytes", b"man avsig", b"--recursive", b"--files-from <LIST>", b"--max-size <BYTES>", b"--jobs <N>", b"--allow-empty", b"--print0", b"Without -k one file that can't be read"]),
+             (["scan", "--help"], [b"SET", b"FILE", b"avsig 1", b"1,048,576 bytes", b"man avsig", b"--recursive", b"--files-from <LIST>", b"--max-size <BYTES>", b"--set <SET>", b"--all-matches", b"--move <FOLDER>", b"--jobs <N>", b"--allow-empty", b"--print0", b"Without -k one file that can't be read"]),
              (["host", "--help"], [b"There is no -k here", b"`avscan scan -k`"]), (["filter", "--help"], [b"There is no -k here", b"`avscan scan -k`"]),
              (["check", "--help"], [b"<SET>...", b"SET: version V, N signatures"])]
     of_guard = [(["--help"], [b"avguard run opens.socket service.socket", b"avscan service service.socket", b"avguard ask opens.socket", b"Exit status: 0 all done, 1 input refused, 2 usage, 3 memory, 4 device"]),
                 (["run", "--help"], [b"--service-mode <MODE>", b"--least <V>", b"--most-version <V>", b"--state <FILE>", b"--log <FILE>", b"--log-grants", b"--log-json", b"--clamd <CLAMD>"]), (["ask", "--help"], [b"OPENS", b"--keep-going", b"--wait <SECONDS>"])]
     of_tool = [(["--help"], [b"avtool chart examples/late_reply.avs", b"avtool generate --seed 1", b"avtool import --set-version 7", b"Exit status: 0 all done, 1 input refused, 2 usage, 3 memory, 4 device."]),
-               (["chart", "--help"], [b"--from <LINE>", b"--to <LINE>"]), (["generate", "--help"], [b"--seed <N>", b"--commands <M>"]), (["import", "--help"], [b"--set-version <N>", b"--any-target"]), (["merge", "--help"], [b"<SET>...", b"--set-version <N>", b"--output <FILE>"])]
+               (["chart", "--help"], [b"--from <LINE>", b"--to <LINE>"]), (["generate", "--help"], [b"--seed <N>", b"--commands <M>"]), (["import", "--help"], [b"--set-version <N>", b"--any-target"]), (["merge", "--help"], [b"<SET>...", b"--set-version <N>", b"--output <FILE>"]), (["sign", "--help"], [b"--key <KEY>", b"--output <FILE>", b"--trust <KEY>"])]
     bad = [["scan"], ["scan", SET], ["run"], ["run", "a", "b"], ["judge"], ["--nothing"]]
-    bad_for_guard, bad_for_tool = [[], ["run"], ["run", "o"], ["ask"], ["ask", "o"], ["guard", "o", "s"], ["--nothing"]], [[], ["chart"], ["generate"], ["import"], ["merge"], ["run", SCRIPT], ["--nothing"]]
+    bad_for_guard, bad_for_tool = [[], ["run"], ["run", "o"], ["ask"], ["ask", "o"], ["guard", "o", "s"], ["--nothing"]], [[], ["chart"], ["generate"], ["import"], ["merge"], ["sign"], ["sign", SET], ["run", SCRIPT], ["--nothing"]]
     for name, texts, bad in (("avscan", texts, bad), ("avguard", of_guard, bad_for_guard), ("avtool", of_tool, bad_for_tool)):
         at = program if name == "avscan" else program_beside(program, name)
         for words, wanted in texts:

@@ -7,8 +7,11 @@ hostile clients and services say broken frames, half of an ask, or nothing at al
 Each answer is looked at: a grant names a version, and no signature of that version stands in the content; it never names an older version than
 the client's grant before; a content with a signature of every set is never granted; each ask has one answer. Memory and descriptors are read each second: in
 the last third of the time neither the guard nor the service holds more than in the third before it, but for what a moment needs.
+
+Then the same for half as long with two services, the second with `--spare`. One of them at a time is killed, ended or stopped, and begun again
+once that was seen; newer sets are put in place for one after the other. Not one honest ask is denied but for what a set finds.
 The last line says how many passed and how many failed."""
-import os, random, signal, subprocess, sys, threading, time
+import itertools, os, random, signal, subprocess, sys, threading, time
 
 from cases import Cases
 from guard import SETTLED, Guard, ask, connected, heard, message
@@ -33,7 +36,7 @@ class Soak:
     def __init__(self, program, guard, until):
         self.program, self.guard, self.until, self.ended = program, guard, until, threading.Event()
         self.version, self.scanner, self.wrong, self.counts, self.lock = 0, None, [], {}, threading.Lock()
-        self.set = os.path.join(guard.folder, "set")
+        self.set, self.words = os.path.join(guard.folder, "set"), []
 
     def goes_on(self):
         return time.time() < self.until and not self.ended.is_set()
@@ -54,8 +57,14 @@ class Soak:
         self.count("sets")
 
     def start(self):
-        words = [self.program, "service", "--watch", "1", self.guard.service, self.set]
-        self.scanner = subprocess.Popen(words, stdin=subprocess.DEVNULL, stdout=subprocess.DEVNULL, stderr=subprocess.DEVNULL)
+        words = [self.program, "service", "--watch", "1", *self.words, self.guard.service, self.set]
+        with open(self.set + ".lines", "ab") as lines:
+            self.scanner = subprocess.Popen(words, stdin=subprocess.DEVNULL, stdout=subprocess.DEVNULL, stderr=lines)
+
+    def lines(self):
+        """What the services of this set have said."""
+        with open(self.set + ".lines", "rb") as lines:
+            return lines.read()
 
     def end_service(self):
         self.scanner.kill()
@@ -155,6 +164,94 @@ class Soak:
         return found
 
 
+# What befalls one of two services, in turn. Each comes once at least, however slow the machine is.
+KINDS = ("kill", "stop", "end", "publish")
+
+
+class Pair(Soak):
+    """Two services, of which one at a time is killed, ended, stopped or told of a newer set."""
+
+    def __init__(self, program, guard, until):
+        super().__init__(program, guard, until)
+        self.halves = [Soak(program, guard, until), Soak(program, guard, until)]
+        self.halves[1].words, self.halves[1].set = ["--spare"], self.set + ".spare"
+
+    def publish(self):
+        """A newer set for the first service and then for the spare, each by a rename."""
+        self.version += 1
+        for half in self.halves:
+            path = self.guard.write("new", signatures(self.version, ALWAYS, pattern_of(self.version)))
+            os.rename(path, half.set)
+            if half.scanner:
+                self.await_version(half)
+        self.count("sets")
+
+    def await_version(self, half):
+        """Until a service has taken the newest set: the guard says so of its version, and the service of its own."""
+        limit = time.time() + 20
+        while time.time() < limit and half.scanner.poll() is None and b"version %d\n" % self.version not in half.lines():
+            time.sleep(0.05)
+
+    def start(self):
+        for half in self.halves:
+            half.start()
+        self.guard.await_line(b" connected\n", 2)
+
+    def end_service(self):
+        for half in self.halves:
+            half.end_service()
+
+    def disturb(self):
+        noise = random.Random(3)
+        for turn, what in enumerate(itertools.cycle(KINDS)):
+            if self.ended.is_set() or turn >= len(KINDS) and not self.goes_on():
+                return
+            self.ended.wait(noise.uniform(0.2, 1))
+            half = noise.choice(self.halves)
+            name = b"spare" if half.words else b"service"
+            came, left = b"avguard: %s of version " % name, b"avguard: %s lost\n" % name
+            before, gone = self.guard.lines().count(came), self.guard.lines().count(left)
+            if what == "publish":
+                self.publish()
+                continue
+            if what == "stop":
+                half.scanner.send_signal(signal.SIGSTOP)
+                self.ended.wait(noise.uniform(0.1, 7))
+                half.scanner.send_signal(signal.SIGCONT)
+                self.count("services stopped for a while")
+                self.ended.wait(0.5)
+                if half.scanner.poll() is None:
+                    continue
+            else:
+                half.scanner.send_signal(signal.SIGKILL if what == "kill" else signal.SIGTERM)
+                self.count("services killed" if what == "kill" else "services ended")
+            half.scanner.wait()
+            self.guard.await_line(left, gone + 1)
+            half.start()
+            self.guard.await_line(came, before + 1)
+
+
+def pair(cases, program, seconds):
+    """Two services, one of which may go at any time."""
+    with Guard(program, "--wait", "10", "--keep", "2000000") as guard:
+        soak = Pair(program, guard, time.time() + seconds)
+        soak.publish()
+        soak.start()
+        threads = [threading.Thread(target=work) for work in (soak.disturb, *(lambda place=place: soak.be_honest(place) for place in range(HONEST)))]
+        for thread in threads:
+            thread.start()
+        for thread in threads:
+            thread.join(seconds + 2 * PATIENCE)
+        soak.end_service()
+        cases.check("two services: all clients came to their end", not any(thread.is_alive() for thread in threads))
+        cases.check("two services: each answer is right", not soak.wrong, f"{len(soak.wrong)}: {soak.wrong[:3]}")
+        denied = {what: count for what, count in soak.counts.items() if what.startswith("denied") and what != "denied 2"}
+        cases.same("two services: nothing is denied that no set finds", denied, {})
+        for what in ("granted", "denied 2", "sets", "services killed", "services ended", "services stopped for a while"):
+            cases.check(f"two services: there were some: {what}", soak.counts.get(what, 0) > 0, f"{soak.counts}")
+        print(f"soak of two services: {seconds:.0f} s; " + ", ".join(f"{what} {count}" for what, count in sorted(soak.counts.items())), file=sys.stderr)
+
+
 def main():
     if len(sys.argv) not in (2, 3):
         sys.exit("usage: tests/soak.py PROGRAM [SECONDS]")
@@ -188,6 +285,7 @@ def main():
             time.sleep(0.1)
         cases.check("no descriptor is lost", guard.descriptors() <= before, f"{before} to {guard.descriptors()}")
         print(f"soak: {seconds:.0f} s; " + ", ".join(f"{what} {count}" for what, count in sorted(soak.counts.items())) + f"; {held[1]} KiB", file=sys.stderr)
+    pair(cases, program, seconds / 2)
     print(f"{cases.passed} passed, {cases.failed} failed")
     sys.exit(1 if cases.failed else 0)
 

@@ -10,9 +10,10 @@ from parts import greeting
 from programs import program_beside
 
 NAMES = ["ready", "version", "services", "clients", "unanswered", "questions", "contents", "content_bytes", "asks_total", "grants_total", "denials_total",
-         "unscanned_total", "timeouts_total", "dropped_lines_total", "uptime_seconds", "service_seconds", "memory_bytes", "parts", "open_contents"]
+         "unscanned_total", "timeouts_total", "dropped_lines_total", "uptime_seconds", "service_seconds", "memory_bytes", "parts", "open_contents",
+         "signatures", "version_time_seconds"]
 # Figures that time or the system decides.
-LOOSE = {"uptime_seconds", "service_seconds", "memory_bytes"}
+LOOSE = {"uptime_seconds", "service_seconds", "memory_bytes", "version_time_seconds"}
 
 
 def run(program, *words, **more):
@@ -36,7 +37,7 @@ def bytes_at(path):
 
 def figures_at(path):
     got = bytes_at(path)
-    return dict(zip(NAMES, struct.unpack(">19Q", got[1:]))) if len(got) == 153 and got[0] == 2 else got
+    return dict(zip(NAMES, struct.unpack(">21Q", got[1:]))) if len(got) == 169 and got[0] == 3 else got
 
 
 def exact(figures):
@@ -131,6 +132,41 @@ def parts(cases, program):
         del base["parts"]
         said(cases, "the connection is gone", base, awaited(path, base))
         service.end.close()
+
+
+def sets(cases, program):
+    """Since when a version grants, and how many signatures it has, as far as the file of --names has its set."""
+    with tempfile.TemporaryDirectory() as folder:
+        names = os.path.join(folder, "names.avsig")
+
+        def put(version, count):
+            with open(names + ".new", "wb") as file:
+                file.write(b"avsig 1\nversion %d\n" % version + b"".join(b"Name.%d %04x\n" % (place, 0x5858 + place) for place in range(count)))
+            os.rename(names + ".new", names)
+
+        put(7, 3)
+        with Guard(program, "--names", names) as guard:
+            path, begun = guard.opens + ".status", int(time.time())
+            two = lambda: [figures_at(path)[name] for name in ("signatures", "version_time_seconds")]
+            cases.same("before the first version", two(), [0, 0])
+            service = Service(guard, 7, b"XX")
+            guard.await_line(b"connected\n")
+            count, first = two()
+            cases.check("the first version", (count, begun <= first <= time.time()) == (3, True), (count, first))
+            time.sleep(1.1)
+            cases.same("it stays", two(), [3, first])
+            put(9, 5)
+            service.learn(8, b"YY")
+            client = connected(guard.opens)
+            client.sendall(ask(1, b"A", b"a"))
+            served(service, client, 29)
+            count, second = two()
+            cases.check("a version of another set", count == 0 and first < second <= time.time(), (count, first, second))
+            service.learn(9, b"YY")
+            client.sendall(ask(2, b"B", b"b"))
+            served(service, client, 29)
+            cases.same("the set of this version", two()[0], 5)
+            service.end.close()
 
 
 def served(service, client, count):
@@ -252,10 +288,10 @@ def no_guard(cases, program):
             got = run(program, command, "--wait", "1", opens)
             cases.same(f"{command} without a guard", got, (4, b"", b"avguard: %s: no guard listens\n" % os.fsencode(path)))
             cases.check(f"{command} waits", 0.9 < time.time() - begun < 4, time.time() - begun)
-        report = b"\2" + bytes(152)
-        for name, text, fine in (("nothing", b"", False), ("a byte less", report[:-1], False), ("a byte more", report + b"\0", False), ("another format", b"\1" + report[1:], False),
+        report = b"\3" + bytes(168)
+        for name, text, fine in (("nothing", b"", False), ("a byte less", report[:-1], False), ("a byte more", report + b"\0", False), ("another format", b"\2" + report[1:], False),
                                  ("text", b"ready 1\n", False), ("a report", report, True)):
-            for size in (1, 153, 4096):
+            for size in (1, 169, 4096):
                 with socket.socket(socket.AF_UNIX) as door:
                     door.bind(path)
                     door.listen(4)
@@ -320,7 +356,7 @@ def main():
     if len(sys.argv) != 2:
         sys.exit("usage: tests/status.py PROGRAM")
     cases = Cases()
-    for part in (figures, late, let_through, parts, forms, crowds, no_guard, paths):
+    for part in (figures, late, let_through, parts, sets, forms, crowds, no_guard, paths):
         try:
             part(cases, os.path.abspath(sys.argv[1]))
         except Exception as fault:

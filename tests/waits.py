@@ -11,11 +11,11 @@ from programs import program_beside
 F_SETPIPE_SZ = 1031
 
 
-def greeted(guard, version=1):
-    """A service that greets, and then says nothing."""
+def greeted(guard, version=1, port=1):
+    """A service that greets at a port, and then says nothing."""
     end = connected(guard.service)
-    end.sendall(hello(version))
-    guard.await_line(b"version %d connected\n" % version)
+    end.sendall(hello(version, port))
+    guard.await_line(b"%s of version %d connected\n" % (b"service" if port == 1 else b"spare", version))
     return end
 
 
@@ -127,6 +127,93 @@ def a_hung_service_gives_way(cases, program):
         second.close()
 
 
+def a_quiet_service_leaves_its_questions(cases, program):
+    """Of two services one that answers nothing is lost after half of the wait, and nothing is denied."""
+    for port, name, other in ((1, b"service", 2), (2, b"spare", 1)):
+        with Guard(program, "--wait", "4", clamd=False) as guard:
+            hung = greeted(guard, port=port)
+            client = connected(guard.opens)
+            if port == 1:
+                judge = Service(guard, 1, b"XX", port=other)
+                guard.await_line(b"avguard: spare of version 1 connected\n")
+                client.sendall(ask(1, b"first") + ask(2, b"second"))
+            else:
+                client.sendall(ask(1, b"first") + ask(2, b"second"))
+                select.select([hung], [], [], SECONDS)
+                judge = Service(guard, 1, b"XX", port=other)
+            begun, got = time.time(), []
+            while len(got) < 2 and time.time() - begun < SECONDS:
+                for ready in select.select([judge, client], [], [], 0.05)[0]:
+                    if ready is judge:
+                        judge.turn()
+                    else:
+                        got.append(told(client))
+            took = time.time() - begun
+            cases.same(f"port {port}: both asks", sorted(got), [(1, "granted", (2, 1)), (2, "granted", (2, 1))])
+            cases.check(f"port {port}: after half of the wait", 1 < took < 3.9, f"{took:.1f} s")
+            cases.check(f"port {port}: it is reported", guard.await_line(b"avguard: the %s answered no question for half of --wait\navguard: %s lost\n" % (name, name)), guard.lines())
+            rest(hung)
+            client.sendall(ask(3, b"third"))
+            serves(judge, client)
+            cases.same(f"port {port}: the other serves", told(client), (3, "granted", (2, 1)))
+
+
+def two_services_are_updated(cases, program):
+    """One after the other, with a client that asks all the time: nothing is denied, whichever is first."""
+    for first, second in ((1, 2), (2, 1)):
+        with Guard(program, "--wait", "10", clamd=False) as guard:
+            services = {port: Service(guard, 1, b"XX", port=port) for port in (1, 2)}
+            guard.await_line(b" connected\n", 2)
+            client, got = connected(guard.opens), []
+            for tag in range(30):
+                if tag == 10:
+                    services[first].learn(2, b"YY")
+                if tag == 20 and second in services:
+                    services[second].learn(2, b"YY")
+                client.sendall(ask(tag, b"content %d" % tag))
+                until = time.time() + SECONDS
+                while time.time() < until:
+                    ready = select.select([client, *services.values()], [], [], 0.1)[0]
+                    for service in [it for it in services.values() if it in ready]:
+                        if not service.turn():
+                            services = {port: it for port, it in services.items() if it is not service}
+                    if client in ready:
+                        got.append(told(client))
+                        break
+            cases.same(f"port {first} is first: no ask is denied", [(tag, what) for tag, what, _ in got], [(tag, "granted") for tag in range(30)])
+            cases.same(f"port {first} is first: the versions", [version for _, _, (_, version) in got], [1] * 10 + [2] * 20)
+            cases.same(f"port {first} is first: those that stay", sorted(services), [1, 2] if first == 1 else [2])
+            if first == 2:
+                back = Service(guard, 2, b"YY", port=1)
+                cases.check("the first one comes back with the newer set", guard.await_line(b"avguard: service of version 2 connected\n"), guard.lines())
+                back.close()
+
+
+def a_port_has_one_service(cases, program):
+    with Guard(program, "--wait", "20", clamd=False) as guard:
+        path = guard.write("set", b"avsig 1\nversion 1\nx 5858\n")
+        spare, waits = greeted(guard, port=2), connected(guard.service)
+        waits.sendall(hello(1, 2))
+        cases.check("a second spare stands by", is_silent(waits), "it was told something")
+        done = subprocess.run([program, "service", "--spare", "--wait", "5", guard.service, path], capture_output=True, timeout=SECONDS)
+        cases.same("a third one", (done.returncode, done.stderr), (1, b"avscan: %s: refused: a service and one that stands by are there\n" % guard.service.encode()))
+        first = greeted(guard)
+        cases.check("the first port has a place of its own", b"avguard: service of version 1 connected\n" in guard.lines(), guard.lines())
+        spare.close()
+        cases.check("who stood by is the spare", guard.await_line(b"avguard: spare of version 1 connected\n", 2), guard.lines())
+        first.sendall(message(8, number(7), port=2))
+        cases.same("a service that names the other port is closed", rest(first), b"")
+        cases.check("it is lost", guard.await_line(b"avguard: service lost\n"), guard.lines())
+        waits.close()
+        guard.await_line(b"avguard: spare lost\n", 2)
+        client = connected(guard.opens)
+        client.sendall(ask(1, b"nobody"))
+        cases.same("without either nothing is judged", told(client), (1, "denied", 3))
+        silent = [connected(guard.service) for _ in range(2)]
+        cases.check("two that do not greet are waited for", all(map(is_silent, silent)), "they were told something")
+        cases.same("a third that comes meanwhile is turned away", rest(connected(guard.service)), struct.pack(">IBBQ", 10, 255, 3, 0))
+
+
 def who_is_turned_away(cases, program):
     with Guard(program, "--wait", "20", clamd=False) as guard:
         path = guard.write("old", b"avsig 1\nversion 1\nx 5858\n")
@@ -231,9 +318,9 @@ def places_are_kept(cases, program):
         cases.check("a service is let in again", guard.await_line(b"connected\n", 2), guard.lines())
         again.close()
     with tempfile.TemporaryDirectory() as folder:
-        words = ["prlimit", "--nofile=16:16", program_beside(program, "avguard"), "run", os.path.join(folder, "o"), os.path.join(folder, "s")]
+        words = ["prlimit", "--nofile=18:18", program_beside(program, "avguard"), "run", os.path.join(folder, "o"), os.path.join(folder, "s")]
         done = subprocess.run(words, capture_output=True, timeout=SECONDS)
-        cases.same("too few descriptors", (done.returncode, done.stderr, os.listdir(folder)), (4, b"avguard: a guard needs 17 descriptors (ulimit -n)\n", []))
+        cases.same("too few descriptors", (done.returncode, done.stderr, os.listdir(folder)), (4, b"avguard: a guard needs 19 descriptors (ulimit -n)\n", []))
 
 
 def standard_error_keeps_nobody(cases, program):
@@ -299,7 +386,8 @@ def main():
     if len(sys.argv) != 2:
         sys.exit("usage: tests/waits.py PROGRAM")
     cases, program = Cases(), os.path.abspath(sys.argv[1])
-    for part in (nobody_is_forgotten, what_is_begun_ends, known_contents_do_not_wait, a_hung_service_gives_way, who_is_turned_away, the_floor_is_kept,
+    for part in (nobody_is_forgotten, what_is_begun_ends, known_contents_do_not_wait, a_hung_service_gives_way,
+                 a_quiet_service_leaves_its_questions, two_services_are_updated, a_port_has_one_service, who_is_turned_away, the_floor_is_kept,
                  a_prepared_reply_is_none, good_before_bad, places_are_kept, standard_error_keeps_nobody, sockets_are_made_safely):
         begun = time.time()
         try:
