@@ -26,9 +26,9 @@ PUBLIC = re.compile(r"\s*pub (?:const )?fn ")
 CLAUSE = re.compile(r"\s*(ensures|requires)\b")
 
 
-def public(crate):
-    """The public functions of a crate: by what names it, each as an edit has it, and whether it has an `ensures`."""
-    found = {}
+def functions(crate):
+    """Each function of a crate's code but tests: its file, its type if any, its name, whether it is public, its clauses, and whether it
+    has a body. Of a trait that a type has it is public if it has clauses of its own."""
     for path in sorted(glob.glob(f"{CRATES}/{crate}/src/**/*.rt", recursive=True)):
         file = os.path.relpath(path, f"{CRATES}/{crate}")
         if "tests" in edits.modules_of(file):
@@ -42,21 +42,34 @@ def public(crate):
                 owner, of_trait = edits.OWNER.match(line)[1], " for " in line
             head = edits.HEAD.match(line)
             if head and not is_test and lines[at - 1].strip() != "#[cfg(test)]":
-                clauses, is_law = contract(lines[at:])
-                if not is_law and (PUBLIC.match(line) or head[1] and of_trait and clauses):
-                    named = (owner if head[1] else None, head[2])
-                    found["::".join([*edits.modules_of(file), *filter(None, named)])] = ((file, *named), "ensures" in clauses)
-    return found
+                clauses, has_body = contract(lines[at:])
+                is_public = bool(PUBLIC.match(line) or head[1] and of_trait and clauses)
+                yield file, owner if head[1] else None, head[2], is_public, clauses, has_body
 
 
 def contract(lines):
-    """The clauses of the function that begins these lines, and whether it has no body."""
-    clauses = set()
-    for line in lines:
-        clause = CLAUSE.match(line)
-        clauses |= {clause[1]} if clause else set()
-        if line.strip() in ("{", "{}") or line.endswith(";") or not clauses and line.endswith(("{", "{}")):
-            return clauses, line.strip() == "{}"
+    """The clauses of the function that begins these lines, and whether it has a body."""
+    clauses, at = [], 0
+    while at < len(lines):
+        line = lines[at]
+        if CLAUSE.match(line):
+            while line.count("{") > line.count("}"):
+                at += 1
+                line += "\n" + lines[at]
+            clauses.append(line.strip())
+        elif line.strip() in ("{", "{}") or line.endswith(";") or not clauses and line.endswith(("{", "{}")):
+            return clauses, line.strip() != "{}"
+        at += 1
+    return clauses, False
+
+
+def public(crate):
+    """The public functions of a crate but laws: by what names it, each as an edit has it, and whether it has an `ensures`."""
+    return {
+        "::".join([*edits.modules_of(file), *filter(None, (owner, name))]): ((file, owner, name), any(it.startswith("ensures") for it in clauses))
+        for file, owner, name, is_public, clauses, has_body in functions(crate)
+        if is_public and has_body
+    }
 
 
 def edited(crate):
