@@ -29,15 +29,20 @@ mkdir -p "$root/usr/share/zsh/vendor-completions"
 mv "$root"/usr/share/zsh/site-functions/* "$root/usr/share/zsh/vendor-completions"
 rmdir "$root/usr/share/zsh/site-functions"
 
-for unit in avscan-guard avscan-service; do
+# where the files of a checkout lie once they are installed
+installed='s,/usr/local/bin/,/usr/bin/,; s,docs/\([A-Z-]*\).md,/usr/share/doc/vizdroun/\1.md.gz,; s,examples/fanotify,/usr/share/doc/vizdroun/&,'
+for unit in avscan-guard avscan-service avscan-spare avscan-onaccess; do
+    # the helper has a unit only if it could be built
+    [ "$unit" != avscan-onaccess ] || [ -x "$root/usr/bin/avguard-onaccess" ] || continue
     install -d "$root/usr/lib/systemd/system"
-    sed 's,/usr/local/bin/,/usr/bin/,; s,docs/OPERATING.md,/usr/share/doc/vizdroun/OPERATING.md.gz,' \
-        "$top/examples/systemd/$unit.service" > "$root/usr/lib/systemd/system/$unit.service"
+    sed "$installed" "$top/examples/systemd/$unit.service" > "$root/usr/lib/systemd/system/$unit.service"
 done
 install -D -m 644 "$here/vizdroun.sysusers" "$root/usr/lib/sysusers.d/vizdroun.conf"
 install -D -m 644 "$top/examples/systemd/avscan.tmpfiles" "$root/usr/lib/tmpfiles.d/vizdroun.conf"
 install -D -m 644 "$here/signatures.avsig" "$root/etc/avscan/signatures.avsig"
-sed 's,docs/FORMATS.md,/usr/share/doc/vizdroun/FORMATS.md.gz,' "$top/examples/systemd/avguard.conf" > "$root/etc/avscan/avguard.conf"
+for settings in avguard.conf onaccess.env; do
+    sed "$installed" "$top/examples/systemd/$settings" > "$root/etc/avscan/$settings"
+done
 
 for page in README CHANGELOG; do
     install -m 644 "$top/$page.md" "$doc"
@@ -53,7 +58,7 @@ find "$doc/examples" -name '*.py' -exec chmod 644 {} +
 size=$(du -sk --apparent-size "$root/usr" "$root/etc" | awk '{ all += $1 } END { print all }')
 architecture=$(dpkg-deb --print-architecture 2> /dev/null || dpkg --print-architecture)
 sed -e "s/@VERSION@/$version/; s/@ARCHITECTURE@/$architecture/; s/@SIZE@/$size/" "$here/control.in" > "$root/DEBIAN/control"
-printf '/etc/avscan/%s\n' avguard.conf signatures.avsig > "$root/DEBIAN/conffiles"
+printf '/etc/avscan/%s\n' avguard.conf onaccess.env signatures.avsig > "$root/DEBIAN/conffiles"
 for script in postinst prerm postrm; do
     install -m 755 "$here/$script" "$root/DEBIAN/$script"
 done

@@ -9,6 +9,7 @@
 #include <linux/magic.h>
 #include <pthread.h>
 #include <signal.h>
+#include <stddef.h>
 #include <stdio.h>
 #include <stdlib.h>
 #include <sys/fanotify.h>
@@ -434,6 +435,19 @@ static void *work(void *of) {
     return NULL;
 }
 
+/* Reports to systemd that the folders are held, if a unit of Type=notify started this program (sd_notify(3)). */
+static void report_ready(void) {
+    const char *path = getenv("NOTIFY_SOCKET");
+    struct sockaddr_un at = {.sun_family = AF_UNIX};
+    if (path == NULL || (*path != '/' && *path != '@') || strlen(path) >= sizeof at.sun_path) return;
+    memcpy(at.sun_path, path, strlen(path));
+    if (*path == '@') at.sun_path[0] = 0;
+    int notify = socket(AF_UNIX, SOCK_DGRAM | SOCK_CLOEXEC, 0);
+    socklen_t length = (socklen_t)(offsetof(struct sockaddr_un, sun_path) + strlen(path));
+    if (notify < 0 || sendto(notify, "READY=1", 7, MSG_NOSIGNAL, (struct sockaddr *)&at, length) < 0) (void)failed("NOTIFY_SOCKET");
+    if (notify >= 0) close(notify);
+}
+
 /* A number of the command line within bounds, or 0. */
 static long number(const char *word, long most) {
     char *end;
@@ -484,5 +498,6 @@ int main(int count, char **words) {
     uint64_t held = FAN_OPEN_PERM | (is_mount ? 0 : FAN_EVENT_ON_CHILD);
     for (int i = optind; i < count; i++)
         if (fanotify_mark(settings.events, FAN_MARK_ADD | whole, held, AT_FDCWD, words[i]) < 0) return failed(words[i]);
+    report_ready();
     return pthread_join(all[0].thread, NULL) == 0 ? DEVICE : failed("thread"); /* no worker ends by itself */
 }
