@@ -10,7 +10,7 @@ SHARE = $(DESTDIR)$(PREFIX)/share
 
 # `run` shows the example before it proves, also with -j
 .NOTPARALLEL:
-.PHONY: build avscan run unproved try test proofs soak gate-times bench install install-built install-onaccess deb $(PROGRAMS:%=install-%) clean kit
+.PHONY: build avscan run unproved try test proofs soak gate-times bench install install-built install-client install-onaccess deb $(PROGRAMS:%=install-%) clean kit
 
 build: kit
 	@echo "building: proving each crate and compiling $(PROGRAMS) (README.md says how long the first time takes)"
@@ -56,7 +56,7 @@ bench: build
 install: build
 	@$(MAKE) --no-print-directory install-built
 
-install-built: $(PROGRAMS:%=install-%) $(if $(filter avguard,$(PROGRAMS)),install-onaccess)
+install-built: $(PROGRAMS:%=install-%) $(if $(filter avguard,$(PROGRAMS)),install-client install-onaccess)
 	@install -d "$(SHARE)/man/man5"
 	@sh man/page.sh avsig.5 $(PROGRAM) > "$(SHARE)/man/man5/avsig.5"
 	@sh man/page.sh avscript.5 $(PROGRAM) > "$(SHARE)/man/man5/avscript.5"
@@ -69,6 +69,10 @@ $(PROGRAMS:%=install-%): install-%:
 	@install -D -m 644 completions/$*.bash "$(SHARE)/bash-completion/completions/$*"
 	@install -D -m 644 completions/_$* "$(SHARE)/zsh/site-functions/_$*"
 	@install -D -m 644 completions/$*.fish "$(SHARE)/fish/vendor_completions.d/$*.fish"
+
+# what a program in C or C++ asks a guard with
+install-client:
+	@install -D -m 644 examples/client/avask.h "$(DESTDIR)$(PREFIX)/include/avask.h"
 
 # the helper that has the kernel hold opens: not proved, for Linux alone, and left out where it can't be built
 install-onaccess:

@@ -32,7 +32,7 @@ _avguard() {
         ;;
     esac
     case $command in
-    run) options="--config --open --closed --wait --keep --questions --max-size --stream-max-size --clamd --names --mode --service-mode --least --most-version --state --log --log-grants --log-json --help" ;;
+    run) options="--config --open --closed --wait --keep --questions --max-size --stream-max-size --clamd --names --trust --mode --service-mode --least --most-version --state --log --log-grants --log-json --help" ;;
     ask) options="--recursive --keep-going --infected --json --print0 --files-from --null --found-status --summary --wait --quiet --help" ;;
     status) options="--json --wait --help" ;;
     metrics) options="--wait --help" ;;

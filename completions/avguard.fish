@@ -37,6 +37,7 @@ complete -c avguard -n "__fish_seen_subcommand_from run" -l questions -x -a "1 6
 complete -c avguard -n "__fish_seen_subcommand_from run" -l max-size -x -d "The most bytes of a content in parts"
 complete -c avguard -n "__fish_seen_subcommand_from run" -l stream-max-size -x -a "26214399" -d "The most bytes of a content of a client of clamd"
 complete -c avguard -n "__fish_seen_subcommand_from run" -l clamd -r -d "A socket for clients of clamd"
+complete -c avguard -n "__fish_seen_subcommand_from run" -l trust -r -d "Take the file of --names only if it is signed with this key"
 complete -c avguard -n "__fish_seen_subcommand_from run" -l names -r -d "The signature file whose names they are told"
 complete -c avguard -n "__fish_seen_subcommand_from paths" -l below -x -a "(__fish_complete_directories)" -d "A folder whose files clients may name"
 complete -c avguard -n "__fish_seen_subcommand_from paths" -l clients -x -a "1 16 64" -d "Clients that are served at a time"

@@ -29,11 +29,11 @@ _avscan() {
     esac
     case $command in
     run) options="--json --help" ;;
-    scan) options="--recursive --keep-going --jobs --max-size --allow-empty --infected --json --print0 --files-from --null --found-status --summary --quiet --help" ;;
-    host) options="--openers --workers --spare --allow-empty --infected --json --print0 --files-from --null --found-status --summary --quiet --help" ;;
+    scan) options="--recursive --exclude --one-file-system --keep-going --jobs --max-size --all-matches --move --set --allow-empty --trust --infected --json --print0 --files-from --null --found-status --summary --quiet --help" ;;
+    host) options="--openers --workers --spare --allow-empty --trust --infected --json --print0 --files-from --null --found-status --summary --quiet --help" ;;
     filter) options="--wait --mode --infected --json --print0 --files-from --null --found-status --summary --quiet --help" ;;
-    service) options="--wait --watch --allow-empty --help" ;;
-    check) options="--help" ;;
+    service) options="--wait --watch --spare --allow-empty --trust --help" ;;
+    check) options="--trust --help" ;;
     help) options="run scan host filter service check" ;;
     *) options="--help" ;;
     esac

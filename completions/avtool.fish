@@ -1,10 +1,11 @@
 # Completion of avtool for fish.
-set -l commands chart generate import merge help
+set -l commands chart generate import merge sign help
 complete -c avtool -n "not __fish_seen_subcommand_from $commands" -f
 complete -c avtool -n "not __fish_seen_subcommand_from $commands" -a chart -d "Run a script and draw what happened"
 complete -c avtool -n "not __fish_seen_subcommand_from $commands" -a generate -d "Print a random script"
 complete -c avtool -n "not __fish_seen_subcommand_from $commands" -a import -d "Write a signature file of signatures of other products"
 complete -c avtool -n "not __fish_seen_subcommand_from $commands" -a merge -d "Write one signature file of several"
+complete -c avtool -n "not __fish_seen_subcommand_from $commands" -a sign -d "Sign a signature file"
 complete -c avtool -n "not __fish_seen_subcommand_from $commands" -a help -d "Print a help text"
 complete -c avtool -n "not __fish_seen_subcommand_from $commands" -s V -l version -d "Print the version"
 complete -c avtool -s h -l help -d "Print the help text"
@@ -19,5 +20,7 @@ complete -c avtool -n "__fish_seen_subcommand_from import" -l any-target -d "Tak
 complete -c avtool -n "__fish_seen_subcommand_from import" -l format-1 -d "Leave out what is bound to a place"
 complete -c avtool -n "__fish_seen_subcommand_from import" -l all -d "Write nothing where anything was left out"
 complete -c avtool -n "__fish_seen_subcommand_from merge" -l set-version -x -d "The version of the signature file"
-complete -c avtool -n "__fish_seen_subcommand_from merge" -l output -r -d "The file that is written in place of standard output"
+complete -c avtool -n "__fish_seen_subcommand_from sign" -l key -r -d "The file with the key to sign with"
+complete -c avtool -n "__fish_seen_subcommand_from merge sign" -l trust -r -d "Take only sets signed with this key"
+complete -c avtool -n "__fish_seen_subcommand_from import merge sign" -l output -r -d "The file that is written in place of standard output"
 complete -c avtool -n "__fish_seen_subcommand_from help" -x -a "$commands"

@@ -85,7 +85,7 @@ avguard.1)
     see_also avscan.1 avsig.5
     ;;
 avtool.1)
-    command_page avtool "draw scripts, make random ones, take signatures of other products, merge signature files" "$2" chart generate import merge
+    command_page avtool "draw scripts, make random ones, take signatures of other products, merge and sign signature files" "$2" chart generate import merge sign
     of_all
     see_also avscan.1 avsig.5 avscript.5
     ;;
