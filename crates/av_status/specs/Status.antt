@@ -1,4 +1,4 @@
-use Rattle.std.specs.Prelude.{ℕ, ⊤, List, [], ◌∷◌, if◌then◌else◌, nat_lt}
+use Rattle.std.specs.Prelude.{ℕ, ◌≤◌, ⊤, List, [], ◌∷◌, if◌then◌else◌, nat_lt}
 use Rattle.av_frame.specs.declared.end.End.{End}
 use Rattle.av_frame.specs.declared.end.End.TheVariants as end
 use Rattle.av_status.specs.declared.status.Status.{Status}
@@ -34,9 +34,18 @@ IsFault Device = ⊤
 IsFault Found = ⊥
 IsFault FoundInPart = ⊥
 
+-- all was done, or something failed
+abbrev pub IsDoneOrFault : Status → Type 0
+IsDoneOrFault Done = ⊤
+IsDoneOrFault s = IsFault s
+
 -- of two statuses the one with the greater number
 abbrev pub graver_status : Status → Status → Status
 graver_status one other = if nat_lt (number_of one) (number_of other) then other else one
+
+-- what went wrong is at least as grave as this
+abbrev pub IsAsGrave : Status → Status → Type 0
+IsAsGrave least ended = number_of least ≤ number_of ended
 
 -- the status for the end of a loop over a stream of frames. That the other side closed it is no fault of its own.
 abbrev pub status_of_end : End → Status
