@@ -1,5 +1,5 @@
 -- What is found in a content under several sets.
-use Rattle.std.specs.Prelude.{ℕ, ◌+◌, ◌||◌, Bool, false, ⊤, List, [], ◌∷◌}
+use Rattle.std.specs.Prelude.{ℕ, ◌≡◌, ◌+◌, ◌≤◌, ◌||◌, Bool, false, ⊤, List, [], ◌∷◌, Option, IfSome, length}
 use Rattle.av_match.specs.Match.{verdict}
 use Rattle.av_match.specs.Scanning.{Compiled, IsScan, ScanState}
 use Rattle.av_sigset.specs.Set.{NumberedSet, patterns_of}
@@ -36,3 +36,21 @@ AreScans [] bytes c [] = ⊤
 AreScans [] bytes c (x ∷ xs) = ⊥
 AreScans (s ∷ sets) bytes c [] = ⊥
 AreScans (s ∷ sets) bytes c (x ∷ xs) = IsScan (compiled_of s.set) bytes c x × AreScans sets bytes c xs
+
+-- a content is all bytes that a reader had left, as far as they are known
+abbrev pub IsWhole : Option (List ℕ) → List ℕ → Type 0
+IsWhole left content = IfSome left (λ all. content ≡ all)
+
+-- the scans of a content that a reader gave until it was at its end, of so many bytes at most
+pub record AreFed (left : Option (List ℕ)) (sets : List NamedSet) (most : ℕ) (scans : List ScanState) : Type 0 where
+  pub content : List ℕ
+  pub whole : IsWhole left content
+  pub short : length content ≤ most
+  pub fed : AreScans sets most content scans
+
+-- what is found in a content that a reader gave until it was at its end, of so many bytes at most
+pub record AreFoundIn (left : Option (List ℕ)) (sets : List NamedSet) (most : ℕ) (fs : List Finding) : Type 0 where
+  pub content : List ℕ
+  pub whole : IsWhole left content
+  pub short : length content ≤ most
+  pub found : fs ≡ findings_of sets content

@@ -1,5 +1,5 @@
 -- The lines that opened files print.
-use Rattle.std.specs.Prelude.{ℕ, ⊤, ◌-◌, Bool, false, true, not, if◌then◌else◌, List, [], ◌∷◌, codes, decimal, map}
+use Rattle.std.specs.Prelude.{ℕ, ◌-◌, Bool, false, true, not, if◌then◌else◌, List, [], ◌∷◌, codes, decimal, map}
 use Rattle.std.specs.List.{filter}
 use Rattle.av_base.specs.Part.{spelt}
 use Rattle.av_base.specs.Cause.{number_of}
@@ -9,7 +9,6 @@ use Rattle.av_json.specs.File.{opened_tokens}
 use Rattle.av_json.specs.Line.{object_line}
 use Rattle.av_pend.specs.declared.answer.Answer.{Answer}
 use Rattle.av_pend.specs.declared.answer.Answer.TheVariants.{Granted, Unscanned, Denied}
-use Rattle.av_status.specs.Status.{IsFault}
 use Rattle.av_status.specs.Tally.{has_line, with_missed, with_scanned}
 use Rattle.av_status.specs.declared.status.Status.{Status}
 use Rattle.av_status.specs.declared.status.Status.TheVariants.{Done, Device}
@@ -68,11 +67,6 @@ is_infected_answer (Denied number cause) = is_infection cause
 -- a signature occurs in the file
 abbrev pub is_infected : Opened → Bool
 is_infected o = is_infected_answer o.answer
-
--- all was done, or something failed
-abbrev pub IsDoneOrFault : Status → Type 0
-IsDoneOrFault Done = ⊤
-IsDoneOrFault s = IsFault s
 
 -- the file has a line
 abbrev pub is_shown : Shown → Opened → Bool

@@ -24,7 +24,7 @@ pub mod walk;
 
 pub use contents::{Contents, GROUP_BYTES, content_of, counted_bytes};
 pub use finding::{Finding, is_found};
-pub use listed::{Failing, with_listed};
+pub use listed::{Failing, Listing, with_listed};
 pub use object::line_failed;
 pub use opened::{Opened, conclude_opened, count_opened, print_opened};
 pub use quoted::quoted_name;

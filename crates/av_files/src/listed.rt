@@ -35,29 +35,36 @@ pub enum Failing {
     Passes,
 }
 
+/// A list of names as it was read: the path of its file, its text, and the byte that ends each name.
+#[derive(Clone, Copy)]
+pub struct Listing<'a> {
+    pub path: &'a str,
+    pub text: &'a [u8],
+    pub end: u8,
+}
+
 /// The given names, and after them the names of a list. A name that is not UTF-8 is told, with its number in the list. It ends the
 /// run, or counts as missed.
 pub fn with_listed<'a, 'b: 'a, E: Write>(
     alloc: Global,
     given: &[&'b str],
-    list: &str,
-    text: &'a [u8],
-    end: u8,
+    list: Listing<'a>,
     failing: Failing,
     tally: &mut Tally,
     err: &mut E,
 ) -> Result<Vec<&'a str>, Status>
-    ensures names { IfOk result (λ names. AreGivenAndListed end text.now (map (λ n. n.now) given.now) (map (λ n. n.now) names.items) tally.old tally.new) }
-    ensures alone { text.now ≡ [] → IfOk result (λ names. (map (λ n. n.now) names.items ≡ map (λ n. n.now) given.now) × (tally.new ≡ tally.old)) }
+    ensures names { IfOk result (λ names. AreGivenAndListed list.entry.end list.entry.text.now (map (λ n. n.now) given.now) (map (λ n. n.now) names.items) tally.old tally.new) }
+    ensures alone { list.entry.text.now ≡ [] → IfOk result (λ names. (map (λ n. n.now) names.items ≡ map (λ n. n.now) given.now) × (tally.new ≡ tally.old)) }
     ensures ends { failing ≡ Ends → IfOk result (λ names. tally.new ≡ tally.old) }
     ensures status { IfErr result (λ status. IsFault status) }
 {
-    let (Ok(listed), Ok(mut names)) = (listed(alloc, text, end), copied(alloc, given)) else {
+    let (Ok(listed), Ok(mut names)) = (listed(alloc, list.text, list.end), copied(alloc, given))
+    else {
         return Err(out_of_memory(err));
     };
     for (before, bytes) in listed.iter().enumerate() {
         let Ok(name) = str::from_utf8(bytes) else {
-            let status = bad_name(err, list, before as u64 + 1);
+            let status = bad_name(err, list.path, before as u64 + 1);
             if failing == Failing::Ends {
                 return Err(status);
             }

@@ -1,7 +1,8 @@
 ghost use Rattle.std.specs.Prelude.{◌≡◌};
 ghost use Rattle.std.specs.Io.KnownBytes.{Appends};
 ghost use Rattle.av_base.specs.Device.{AppendsPrefix, Writes};
-ghost use Rattle.av_files.specs.Opened.{answer_text, denied_text, ended_tally, is_granted, IsDoneOrFault, line_of, object_of, opened_line, opened_lines, tally_from, unscanned_text, worst_of};
+ghost use Rattle.av_files.specs.Opened.{answer_text, denied_text, ended_tally, is_granted, line_of, object_of, opened_line, opened_lines, tally_from, unscanned_text, worst_of};
+ghost use Rattle.av_status.specs.Status.{IsDoneOrFault};
 ghost use Rattle.av_status.specs.Tally.{concluded};
 ghost use Rattle.av_status.specs.declared.status.Status.TheVariants.{Done};
 ghost use Rattle.av_status.specs.declared.tally.Form.TheVariants.{Lines, ZeroEnded};

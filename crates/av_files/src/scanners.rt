@@ -3,7 +3,7 @@
 ghost use Rattle.std.specs.Prelude.{◌≡◌, ◌<◌, ◌≤◌, ◌+◌, ◌++◌, ◌∷◌, [], ℕ, List, length, slice_get, string_bytes, IfOk, IfSome, IsErrOf, MatchResult};
 ghost use Rattle.std.specs.Option.{option_copied};
 ghost use Rattle.av_match.specs.Scanning.{IsScan};
-ghost use Rattle.av_files.specs.Findings.{AreScans, compiled_of, findings_of};
+ghost use Rattle.av_files.specs.Findings.{AreFed, AreFoundIn, AreScans, compiled_of, findings_of};
 
 use crate::finding::Finding;
 use crate::scanner::Scanner;
@@ -102,8 +102,8 @@ impl Scanners {
         self.list.len()
     }
 
-    /// What is found under each set in all bytes that a reader has left, at most `most` of them. They go through the buffer a piece
-    /// at a time, and each piece is read once.
+    /// What is found under each set in the bytes that a reader gives until it is at its end, at most `most` of them. They go through
+    /// the buffer a piece at a time, and each piece is read once.
     pub fn scan_pieces<R: Read>(
         &self,
         alloc: Global,
@@ -112,8 +112,7 @@ impl Scanners {
         most: u64,
     ) -> Result<Vec<Finding>, ReadFault>
         requires { 0 < length buffer.old }
-        ensures findings { IfOk result (λ found. IfSome (R.remaining reader.old) (λ content. found.items ≡ findings_of self.now content)) }
-        ensures short { IfOk result (λ found. IfSome (R.remaining reader.old) (λ content. length content ≤ most)) }
+        ensures findings { IfOk result (λ found. AreFoundIn (R.remaining reader.old) self.now most found.items) }
         ensures long { IsErrOf result ReadFault.TooLong → IfSome (R.remaining reader.old) (λ content. most < length content) }
         ensures buffer { length buffer.new ≡ length buffer.old }
     {
@@ -143,7 +142,7 @@ fn started(alloc: Global, scanners: &[NamedScanner], most: u64) -> Result<Vec<Sc
     Ok(scans)
 }
 
-// Feeds each scan with all bytes that a reader has left. No fault is NoMemory.
+// Feeds each scan with the bytes that a reader gives until it is at its end. No fault is NoMemory.
 fn pieces_fed<R: Read>(
     scanners: &[NamedScanner],
     scans: &mut [Scan],
@@ -153,8 +152,7 @@ fn pieces_fed<R: Read>(
 ) -> Result<(), ReadFault>
     requires room { 0 < length buffer.old }
     requires begun { AreScans scanners.now most [] scans.old }
-    ensures fed { IfOk result (λ _. IfSome (R.remaining reader.old) (λ content. AreScans scanners.now most content scans.new)) }
-    ensures short { IfOk result (λ _. IfSome (R.remaining reader.old) (λ content. length content ≤ most)) }
+    ensures fed { IfOk result (λ _. AreFed (R.remaining reader.old) scanners.now most scans.new) }
     ensures long { IsErrOf result ReadFault.TooLong → IfSome (R.remaining reader.old) (λ content. most < length content) }
     ensures buffer { length buffer.new ≡ length buffer.old }
 {

@@ -2,7 +2,7 @@ ghost use Rattle.std.specs.Prelude.{◌≡◌, IfSome};
 
 use crate::contents::{Contents, content_of};
 use crate::finding::Finding;
-use crate::listed::{Failing, listed, with_listed};
+use crate::listed::{Failing, Listing, listed, with_listed};
 use crate::opened::{Opened, conclude_opened, count_opened, print_opened};
 use crate::quoted::quoted_name;
 use crate::scan::scan_files;
@@ -363,12 +363,15 @@ fn a_name_that_is_no_text_ends_a_list_or_is_passed_over(rt: HostRuntime) -> Resu
         let mut err = FakeWriter::new(rt.alloc());
         let mut tally = Tally::new();
         let given = ["g"];
+        let list = Listing {
+            path: "list",
+            text,
+            end: 0,
+        };
         let got = with_listed(
             rt.alloc(),
             given.as_slice(),
-            "list",
-            text,
-            0,
+            list,
             failing,
             &mut tally,
             &mut err,

@@ -38,4 +38,4 @@ returns-clause-names g c =
 
 pub returns-clause-alone : goal.returns-clause-alone
 returns-clause-alone g c = λ empty.
-    none_listed _ _ _ _ _ (subst (λ text. AreGivenAndListed c.args.end text (map (λ n. n.now) c.args.given.now) (map (λ n. n.now) c.loop-before.names.items) c.args.tally.now c.loop-before.tally) empty (returns-clause-names g c))
+    none_listed _ _ _ _ _ (subst (λ text. AreGivenAndListed c.args.list.end text (map (λ n. n.now) c.args.given.now) (map (λ n. n.now) c.loop-before.names.items) c.args.tally.now c.loop-before.tally) empty (returns-clause-names g c))
