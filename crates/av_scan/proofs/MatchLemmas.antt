@@ -1,7 +1,7 @@
 -- Each signature that occurs in a content, set after set.
 use Rattle.std.proofs.Common.{ℕ, zero, suc, ◌≡◌, ◌∙◌, ◌+◌, ◌++◌, List, [], ◌∷◌, Some, ap, append-nil, append_assoc, arith, drop, drop-drop, length, refl, slice_get, subst, sym}
 use Rattle.av_base.specs.declared.verdict.Verdict.TheVariants.{Clean}
-use Rattle.av_files.specs.Findings.{NamedSet, findings_from, findings_of}
+use Rattle.av_files.specs.Findings.{AreFoundIn, NamedSet, findings_from, findings_of}
 use Rattle.av_files.specs.declared.finding.Finding.{Finding}
 use Rattle.av_findings.proofs.HitsLemmas.{clean_alone}
 use Rattle.av_findings.specs.Findings.{all_verdicts}
@@ -17,6 +17,10 @@ pub record IsPartway (sets : List NamedSet) (content : List ℕ) (rest found : L
   pub sets_left : left ≡ drop place sets
   pub firsts_left : rest ≡ findings_from place left content
   pub so_far : found ++ matches_from place left content ≡ matches_from 0 sets content
+
+-- what is found in a content that is known
+pub of_known : (content : List ℕ) (sets : List NamedSet) (most : ℕ) (fs : List Finding) → AreFoundIn (Some content) sets most fs → fs ≡ findings_of sets content
+of_known content sets most fs are = are.found ∙ ap (findings_of sets) are.whole
 
 -- nothing was found yet
 pub begun : (sets : List NamedSet) (content : List ℕ) (rest found : List Finding) → found ≡ [] → rest ≡ findings_of sets content → IsPartway sets content rest found

@@ -1,9 +1,9 @@
 -- Names on their way through a scan.
-use Rattle.std.specs.Prelude.{ℕ, ◌≡◌, ◌++◌, ⊤, List, Option, None, Some, map}
+use Rattle.std.specs.Prelude.{ℕ, ◌≡◌, ◌++◌, ⊤, Bool, List, Option, None, Some, map}
 use Rattle.std.specs.Io.KnownBytes.{Appends}
 use Rattle.av_files.specs.Findings.{NamedSet}
 use Rattle.av_files.specs.declared.finding.Finding.{Finding}
-use Rattle.av_scan.specs.Outcome.{AreTrue, Outcome, counted_from, texts_of}
+use Rattle.av_scan.specs.Outcome.{AreMoved, AreTrue, Outcome, counted_from, texts_of}
 use Rattle.av_scan.specs.declared.coming.Coming.{Coming}
 use Rattle.av_scan.specs.declared.coming.Coming.TheVariants.{More, Over, Failed}
 use Rattle.av_status.specs.declared.tally.Tally.{Tally}
@@ -20,9 +20,10 @@ AreAll None Over told waiting left = ⊤
 AreAll (Some all) Over told waiting left = all ≡ told ++ waiting
 
 -- A scan that has come so far: what was told of each file is true, the lines are written, all are counted, and the names are all names.
-pub record IsUnderWay (is_true : List ℕ → List Finding → Type 0) (wishes : Wishes) (sets : List NamedSet) (before after : Tally) (old new : Option (List ℕ)) (all : Option (List (List ℕ))) (coming : Coming) (waiting : List (List ℕ)) (left : Option (List (List ℕ))) : Type 0 where
+pub record IsUnderWay (is_true : List ℕ → List Finding → Type 0) (moves : Bool) (wishes : Wishes) (sets : List NamedSet) (before after : Tally) (old new : Option (List ℕ)) (all : Option (List (List ℕ))) (coming : Coming) (waiting : List (List ℕ)) (left : Option (List (List ℕ))) : Type 0 where
   pub outcomes : List Outcome
   pub are_true : AreTrue is_true outcomes
+  pub are_moved : AreMoved moves outcomes
   pub lines : Appends old new (texts_of wishes sets outcomes)
   pub counts : after ≡ counted_from before outcomes
   pub names : AreAll all coming (map (λ o. o.name) outcomes) waiting left

@@ -13,7 +13,7 @@ use Rattle.av_files.specs.declared.finding.Finding.{Finding}
 use Rattle.av_json.specs.File.{file_tokens, named_object}
 use Rattle.av_json.specs.Line.{object_line}
 use Rattle.av_json.specs.Member.{number_tokens, object_tokens, text_tokens}
-use Rattle.av_scan.specs.Moving.{with_fault}
+use Rattle.av_scan.specs.Moving.{IsEndOfMove, is_moved, with_fault}
 use Rattle.av_scan.specs.Told.{status_of, words_of}
 use Rattle.av_scan.specs.declared.told.Unscanned.{Unscanned}
 use Rattle.av_sigset.specs.Set.{NumberedSet}
@@ -28,8 +28,7 @@ use Rattle.av_status.specs.declared.tally.Shown.TheVariants as shown
 use Rattle.av_status.specs.declared.tally.Tally.{Tally}
 use Rattle.av_status.specs.declared.tally.Wishes.{Wishes}
 
--- What became of a file: what is found in it, or why that is not known; and the status of the fault for which it was not moved out of the way, Done
--- where there is none.
+-- What became of a file: what is found in it, or why that is not known; and how its move out of the way ended.
 pub record Outcome : Type 0 where
   pub name : List ℕ
   pub judged : Result (List Finding) Unscanned
@@ -110,16 +109,23 @@ abbrev pub AreTrue : (List ℕ → List Finding → Type 0) → List Outcome →
 AreTrue is_true [] = ⊤
 AreTrue is_true (o ∷ os) = IfOk o.judged (λ fs. ∥ is_true o.name fs ∥₁) × AreTrue is_true os
 
+-- a file stays for a fault only where it was to be moved
+abbrev pub AreMoved : Bool → List Outcome → Type 0
+AreMoved moves [] = ⊤
+AreMoved moves (o ∷ os) = IsEndOfMove (is_moved moves o.judged) o.fault × AreMoved moves os
+
 -- these names, each once
 abbrev pub AreOfNames : Option (List (List ℕ)) → List Outcome → Type 0
 AreOfNames None os = ⊤
 AreOfNames (Some names) os = map (λ o. o.name) os ≡ names
 
--- Files of these names were scanned: what is found in each is true, their lines were written in the order of the names, and all are counted.
-pub record AreScanned (is_true : List ℕ → List Finding → Type 0) (wishes : Wishes) (sets : List NamedSet) (before after : Tally) (old new : Option (List ℕ)) (names : Option (List (List ℕ))) : Type 0 where
+-- Files of these names were scanned, and infected ones moved where they are: what is found in each is true, their lines were written in the order
+-- of the names, and all are counted.
+pub record AreScanned (is_true : List ℕ → List Finding → Type 0) (moves : Bool) (wishes : Wishes) (sets : List NamedSet) (before after : Tally) (old new : Option (List ℕ)) (names : Option (List (List ℕ))) : Type 0 where
   pub outcomes : List Outcome
   pub of_names : AreOfNames names outcomes
   pub are_true : AreTrue is_true outcomes
+  pub are_moved : AreMoved moves outcomes
   pub lines : Appends old new (texts_of wishes sets outcomes)
   pub counts : after ≡ counted_from before outcomes
 
@@ -161,7 +167,7 @@ pub data IsEndOf (wishes : Wishes) (after : Tally) (left : Option ℕ) (old new 
 
 -- How a scan of files ended: all were scanned and their counts written, and the status is that of them all; or a fault ended it behind a front of
 -- true lines, or behind all of them and a front of the counts, and the status is that of this fault, or a graver one of a file before.
-pub data Ends (is_true : List ℕ → List Finding → Type 0) (wishes : Wishes) (sets : List NamedSet) (before : Tally) (old new : Option (List ℕ)) (names : Option (List (List ℕ))) (status : Status) : Type 0 where
-  all_scanned : (after : Tally) (left : Option ℕ) (mid : Option (List ℕ)) → AreScanned is_true wishes sets before after old mid names → Appends mid new (counts_text wishes after left) → status ≡ ended_status wishes after → Ends is_true wishes sets before old new names status
-  failed : (fault worst : Status) → AreScannedSoFar is_true wishes sets old new → IsFault fault → status ≡ graver_status worst fault → Ends is_true wishes sets before old new names status
-  failed_at_counts : (after : Tally) (left : Option ℕ) (mid : Option (List ℕ)) (fault worst : Status) → AreScanned is_true wishes sets before after old mid names → AppendsPrefix mid new (counts_text wishes after left) → IsFault fault → status ≡ graver_status worst fault → Ends is_true wishes sets before old new names status
+pub data Ends (is_true : List ℕ → List Finding → Type 0) (moves : Bool) (wishes : Wishes) (sets : List NamedSet) (before : Tally) (old new : Option (List ℕ)) (names : Option (List (List ℕ))) (status : Status) : Type 0 where
+  all_scanned : (after : Tally) (left : Option ℕ) (mid : Option (List ℕ)) → AreScanned is_true moves wishes sets before after old mid names → Appends mid new (counts_text wishes after left) → status ≡ ended_status wishes after → Ends is_true moves wishes sets before old new names status
+  failed : (fault worst : Status) → AreScannedSoFar is_true wishes sets old new → IsFault fault → status ≡ graver_status worst fault → Ends is_true moves wishes sets before old new names status
+  failed_at_counts : (after : Tally) (left : Option ℕ) (mid : Option (List ℕ)) (fault worst : Status) → AreScanned is_true moves wishes sets before after old mid names → AppendsPrefix mid new (counts_text wishes after left) → IsFault fault → status ≡ graver_status worst fault → Ends is_true moves wishes sets before old new names status

@@ -1,6 +1,6 @@
 -- What became of a file or of an entry of a folder.
-use Rattle.std.specs.Prelude.{ℕ, ◌≡◌, ⊤, List, Option, Result, Ok, Err, IfSome, codes, string_bytes}
-use Rattle.av_files.specs.Findings.{NamedSet}
+use Rattle.std.specs.Prelude.{ℕ, ◌≡◌, ◌≤◌, ⊤, List, Option, Result, Ok, Err, codes, length, string_bytes}
+use Rattle.av_files.specs.Findings.{IsWhole, NamedSet}
 use Rattle.av_files.specs.declared.finding.Finding.{Finding}
 use Rattle.av_files.specs.declared.walk.Met.{Met}
 use Rattle.av_files.specs.declared.walk.Met.TheVariants as met
@@ -60,8 +60,15 @@ judged_of (Missed entry status) = Err (unscanned_of entry.met status)
 abbrev pub Anything : List ℕ → List Finding → Type 0
 Anything name fs = ⊤
 
--- a file was opened as the one of this name, and these are the findings of its content under the sets
-pub record AreFindings {F : Type 0} (matches : Matches) (is_of : List ℕ → F → Type 0) (remaining : F → Option (List ℕ)) (sets : List NamedSet) (name : List ℕ) (fs : List Finding) : Type 0 where
+-- what is found in a content that a reader gave until it was at its end, of so many bytes at most
+pub record AreFoundIn (left : Option (List ℕ)) (matches : Matches) (most : ℕ) (sets : List NamedSet) (fs : List Finding) : Type 0 where
+  pub content : List ℕ
+  pub whole : IsWhole left content
+  pub short : length content ≤ most
+  pub found : fs ≡ found_in matches sets content
+
+-- a file was opened as the one of this name, and these are the findings of the content that it gave, of so many bytes at most
+pub record AreFindings {F : Type 0} (matches : Matches) (most : ℕ) (is_of : List ℕ → F → Type 0) (remaining : F → Option (List ℕ)) (sets : List NamedSet) (name : List ℕ) (fs : List Finding) : Type 0 where
   pub file : F
   pub opened : is_of name file
-  pub judged : IfSome (remaining file) (λ content. fs ≡ found_in matches sets content)
+  pub judged : AreFoundIn (remaining file) matches most sets fs

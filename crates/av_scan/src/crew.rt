@@ -64,7 +64,7 @@ impl Crew {
         scanning: &Scanning<'_, R, O>,
         scanners: &Arc<Scanners, Global>,
     ) -> Option<(Crew, Receiver<Done<T>>)>
-        requires { (name : List ℕ) (fs : List Finding) → AreFindings scanning.now.matches (O.is_of scanning.now.files) F.remaining (arc_value scanners.now) name fs → T.is_true name fs }
+        requires { (name : List ℕ) (fs : List Finding) → AreFindings scanning.now.matches scanning.now.max_size (O.is_of scanning.now.files) F.remaining (arc_value scanners.now) name fs → T.is_true name fs }
     {
         if scanning.jobs < 2 {
             return None;
@@ -125,7 +125,7 @@ fn start_worker<
     works: &Receiver<Work>,
     dones: &Sender<Done<T>>,
 ) -> Option<JoinHandle<()>>
-    requires { (name : List ℕ) (fs : List Finding) → AreFindings scanning.now.matches (O.is_of scanning.now.files) F.remaining (arc_value scanners.now) name fs → T.is_true name fs }
+    requires { (name : List ℕ) (fs : List Finding) → AreFindings scanning.now.matches scanning.now.max_size (O.is_of scanning.now.files) F.remaining (arc_value scanners.now) name fs → T.is_true name fs }
 {
     let mut buffer = scanning.buffer(PIECE)?;
     let scanners = shared(scanners)?;
@@ -137,7 +137,7 @@ fn start_worker<
         &rt,
         move ||
             requires room { 0 < length buffer.items }
-            requires truth { (name : List ℕ) (fs : List Finding) → AreFindings matches (O.is_of files) F.remaining (arc_value scanners) name fs → T.is_true name fs }
+            requires truth { (name : List ℕ) (fs : List Finding) → AreFindings matches max_size (O.is_of files) F.remaining (arc_value scanners) name fs → T.is_true name fs }
         {
             let means = Means {
                 alloc,
@@ -168,7 +168,7 @@ fn serve<T: Truth, F: Read + Drop, O: Opening<F>, R: Wait>(
     buffer: &mut [u8],
 )
     requires room { 0 < length buffer.old }
-    requires truth { (name : List ℕ) (fs : List Finding) → AreFindings means.matches (O.is_of means.files.now) F.remaining means.scanners.now name fs → T.is_true name fs }
+    requires truth { (name : List ℕ) (fs : List Finding) → AreFindings means.matches means.max_size (O.is_of means.files.now) F.remaining means.scanners.now name fs → T.is_true name fs }
 {
     'works: for _ in rt.forever() {
         let Ok(work) = works.recv(rt) else {

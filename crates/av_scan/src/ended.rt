@@ -1,6 +1,6 @@
 // A scan that ends at the first file which can't be scanned: each file is scanned before a line is written.
 
-ghost use Rattle.std.specs.Prelude.{◌≡◌, ◌∷◌, [], ℕ, List, Some, IfErr, IfOk, IfSome, OnErr, OnOk, map};
+ghost use Rattle.std.specs.Prelude.{◌≡◌, ◌∷◌, [], ℕ, List, Some, IfErr, IfOk, IfSome, OnErr, OnOk, is_some, map};
 ghost use Rattle.std.specs.Arc.{arc_value};
 ghost use Rattle.av_files.specs.declared.finding.Finding.{Finding};
 ghost use Rattle.av_scan.specs.Outcome.{AreScanned, AreScannedSoFar, Ends};
@@ -47,7 +47,7 @@ pub fn scan_all<
     out: &mut W,
     err: &mut Progress<'_, C, E>,
 ) -> Status
-    ensures { Ends (AreFindings scanning.now.matches (O.is_of scanning.now.files) F.remaining scanners) scanning.now.wishes scanners no_files (W.contents out.old) (W.contents out.new) (Some (map (λ n. n.now) names.now)) result }
+    ensures { Ends (AreFindings scanning.now.matches scanning.now.max_size (O.is_of scanning.now.files) F.remaining scanners) (is_some scanning.now.folder) scanning.now.wishes scanners no_files (W.contents out.old) (W.contents out.new) (Some (map (λ n. n.now) names.now)) result }
 {
     match Arc::new(scanning.alloc, scanners) {
         Ok(scanners) => {
@@ -73,8 +73,8 @@ fn all_truly<
     out: &mut W,
     err: &mut Progress<'_, C, E>,
 ) -> Status
-    requires { (name : List ℕ) (fs : List Finding) → AreFindings scanning.now.matches (O.is_of scanning.now.files) F.remaining (arc_value scanners.now) name fs → T.is_true name fs }
-    ensures { Ends T.is_true scanning.now.wishes (arc_value scanners.now) no_files (W.contents out.old) (W.contents out.new) (Some (map (λ n. n.now) names.now)) result }
+    requires { (name : List ℕ) (fs : List Finding) → AreFindings scanning.now.matches scanning.now.max_size (O.is_of scanning.now.files) F.remaining (arc_value scanners.now) name fs → T.is_true name fs }
+    ensures { Ends T.is_true (is_some scanning.now.folder) scanning.now.wishes (arc_value scanners.now) no_files (W.contents out.old) (W.contents out.new) (Some (map (λ n. n.now) names.now)) result }
 {
     let Some(mut line) = line_up::<T, F, O, R>(scanning, scanners) else {
         return out_of_memory(err);
@@ -106,7 +106,7 @@ fn judge_all<T: Truth, F: Read + Drop, O: Opening<F>, R: Files + Wait, C: Clock,
     count: usize,
     err: &mut Progress<'_, C, E>,
 ) -> Result<Vec<Judged<T>>, Status>
-    requires truth { (name : List ℕ) (fs : List Finding) → AreFindings by.scanning.now.matches (O.is_of by.scanning.now.files) F.remaining by.scanners.now name fs → T.is_true name fs }
+    requires truth { (name : List ℕ) (fs : List Finding) → AreFindings by.scanning.now.matches by.scanning.now.max_size (O.is_of by.scanning.now.files) F.remaining by.scanners.now name fs → T.is_true name fs }
     requires empty { line.old ≡ [] }
     ensures names { IfOk result (λ all. IfSome feed.old (λ names. map (λ j. name_of j.told) all.items ≡ names)) }
     ensures fault { IfErr result (λ status. IsFault status) }
@@ -156,7 +156,7 @@ fn print_all<T: Truth, F, O: Opening<F>, R: Files, C: Clock, W: Write, E: Write>
     out: &mut W,
     err: &mut Progress<'_, C, E>,
 ) -> Status
-    ensures { Ends T.is_true by.entry.scanning.now.wishes by.entry.scanners.now no_files (W.contents out.old) (W.contents out.new) (Some (map (λ j. name_of j.told) all.now)) result }
+    ensures { Ends T.is_true (is_some by.entry.scanning.now.folder) by.entry.scanning.now.wishes by.entry.scanners.now no_files (W.contents out.old) (W.contents out.new) (Some (map (λ j. name_of j.told) all.now)) result }
 {
     err.wipe();
     let (alloc, wishes) = (by.scanning.alloc, by.scanning.wishes);
@@ -174,7 +174,7 @@ fn print_each<T: Truth, F, O: Opening<F>, R: Files, C: Clock, W: Write, E: Write
     out: &mut W,
     err: &mut Progress<'_, C, E>,
 ) -> Result<(), Status>
-    ensures scanned { OnOk result (AreScanned T.is_true by.entry.scanning.now.wishes by.entry.scanners.now tally.old tally.new (W.contents out.old) (W.contents out.new) (Some (map (λ j. name_of j.told) all.now))) }
+    ensures scanned { OnOk result (AreScanned T.is_true (is_some by.entry.scanning.now.folder) by.entry.scanning.now.wishes by.entry.scanners.now tally.old tally.new (W.contents out.old) (W.contents out.new) (Some (map (λ j. name_of j.told) all.now))) }
     ensures so_far { OnErr result (AreScannedSoFar T.is_true by.entry.scanning.now.wishes by.entry.scanners.now (W.contents out.old) (W.contents out.new)) }
     ensures fault { IfErr result (λ status. IsFault status) }
 {

@@ -1,10 +1,9 @@
 // What is found in one file.
 
-ghost use Rattle.std.specs.Prelude.{◌≡◌, ◌<◌, ℕ, List, length, IfErr, IfOk, IfSome};
+ghost use Rattle.std.specs.Prelude.{◌≡◌, ◌<◌, ℕ, List, length, IfErr, IfOk};
 ghost use Rattle.av_files.specs.declared.finding.Finding.{Finding};
 ghost use Rattle.av_status.specs.Status.{IsFault};
-ghost use Rattle.av_scan.specs.Matches.{found_in};
-ghost use Rattle.av_scan.specs.Told.{AreFindings, judged_of, name_of, path_of};
+ghost use Rattle.av_scan.specs.Told.{AreFindings, AreFoundIn, judged_of, name_of, path_of};
 
 use crate::matches::matches_in;
 use crate::opening::{Opening, Origin};
@@ -38,7 +37,7 @@ pub fn judge<T: Truth, F: Read + Drop, O: Opening<F>>(
     buffer: &mut [u8],
 ) -> Judged<T>
     requires room { 0 < length buffer.old }
-    requires truth { (name : List ℕ) (fs : List Finding) → AreFindings means.matches (O.is_of means.files.now) F.remaining means.scanners.now name fs → T.is_true name fs }
+    requires truth { (name : List ℕ) (fs : List Finding) → AreFindings means.matches means.max_size (O.is_of means.files.now) F.remaining means.scanners.now name fs → T.is_true name fs }
     ensures name { name_of result.told ≡ path_of entry.met }
     ensures buffer { length buffer.new ≡ length buffer.old }
 {
@@ -87,7 +86,7 @@ fn found_under<F: Read + Drop, O: Opening<F>>(
     buffer: &mut [u8],
 ) -> Result<Found, Status>
     requires { 0 < length buffer.old }
-    ensures findings { IfOk result (λ found. AreFindings means.entry.matches (O.is_of means.entry.files.now) F.remaining means.entry.scanners.now name.now found.findings.items) }
+    ensures findings { IfOk result (λ found. AreFindings means.entry.matches means.entry.max_size (O.is_of means.entry.files.now) F.remaining means.entry.scanners.now name.now found.findings.items) }
     ensures status { IfErr result (λ status. IsFault status) }
     ensures buffer { length buffer.new ≡ length buffer.old }
 {
@@ -108,7 +107,7 @@ fn found_in<F: Read, O: Copy>(
     buffer: &mut [u8],
 ) -> Result<Vec<Finding>, ReadFault>
     requires { 0 < length buffer.old }
-    ensures findings { IfOk result (λ found. IfSome (F.remaining file.old) (λ content. found.items ≡ found_in means.entry.matches means.entry.scanners.now content)) }
+    ensures findings { IfOk result (λ found. AreFoundIn (F.remaining file.old) means.entry.matches means.entry.max_size means.entry.scanners.now found.items) }
     ensures buffer { length buffer.new ≡ length buffer.old }
 {
     match means.matches {

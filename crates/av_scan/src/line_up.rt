@@ -109,7 +109,7 @@ impl<T: Truth> LineUp<T> {
         rt: &R,
         means: Means<'_, O>,
     ) -> Option<Judged<T>>
-        requires { (name : List ℕ) (fs : List Finding) → AreFindings means.matches (O.is_of means.files.now) F.remaining means.scanners.now name fs → T.is_true name fs }
+        requires { (name : List ℕ) (fs : List Finding) → AreFindings means.matches means.max_size (O.is_of means.files.now) F.remaining means.scanners.now name fs → T.is_true name fs }
         ensures { MatchOption result ((self.old ≡ []) × (self.new ≡ [])) (λ judged. self.old ≡ name_of judged.told ∷ self.new) }
     {
         let place = self.places.pop_front()?;
@@ -155,7 +155,7 @@ fn fitting<T: Truth, F: Read + Drop, O: Opening<F>>(
     buffer: &mut [u8],
 ) -> Judged<T>
     requires room { 0 < length buffer.old }
-    requires truth { (name : List ℕ) (fs : List Finding) → AreFindings means.matches (O.is_of means.files.now) F.remaining means.scanners.now name fs → T.is_true name fs }
+    requires truth { (name : List ℕ) (fs : List Finding) → AreFindings means.matches means.max_size (O.is_of means.files.now) F.remaining means.scanners.now name fs → T.is_true name fs }
     ensures name { name_of result.told ≡ path_of entry.met }
     ensures buffer { length buffer.new ≡ length buffer.old }
 {

@@ -1,7 +1,9 @@
 // Infected files, moved out of the way where that is asked for.
 
 ghost use Rattle.std.specs.Prelude.{◌≡◌, is_some, IfSome};
-ghost use Rattle.av_scan.specs.Moving.{IsCountedOn, IsMoveOf, is_moved};
+ghost use Rattle.av_status.specs.Status.{IsDoneOrFault};
+ghost use Rattle.av_scan.specs.Moving.{IsCountedOn, IsEndOfMove, IsMoveOf, is_moved};
+ghost use Rattle.av_scan.specs.Told.{judged_of};
 
 use crate::scanning::Scanning;
 use crate::told::Told;
@@ -29,18 +31,28 @@ pub(crate) fn put_away<R: Files, O, E: Write>(
     tally: &mut Tally,
     err: &mut E,
 )
-    ensures { IsCountedOn tally.old tally.new }
+    ensures { IsCountedOn (is_moved (is_some scanning.now.folder) (judged_of told.now)) tally.old tally.new }
 {
-    let status = match moving_of(scanning.folder, told) {
+    tally.worst = tally.worst.or_graver(end_of_move(scanning, told, err));
+}
+
+// How the move of a file ended, where it is moved.
+fn end_of_move<R: Files, O, E: Write>(
+    scanning: &Scanning<'_, R, O>,
+    told: &Told,
+    err: &mut E,
+) -> Status
+    ensures { IsEndOfMove (is_moved (is_some scanning.now.folder) (judged_of told.now)) result }
+{
+    match moving_of(scanning.folder, told) {
         Some(moving) => moved(&scanning.rt, scanning.alloc, moving, err),
         None => Status::Done,
-    };
-    tally.worst = tally.worst.or_graver(status);
+    }
 }
 
 // What has to be moved, of what became of a file: nothing but a file in which something was found.
 fn moving_of<'a>(folder: Option<&'a str>, told: &'a Told) -> Option<Moving<'a>>
-    ensures found { is_some result ≡ is_moved folder.entry told.now }
+    ensures found { is_some result ≡ is_moved (is_some folder.entry) (judged_of told.now) }
     ensures own { IfSome result (IsMoveOf folder.entry told.now) }
 {
     let folder = folder?;
@@ -59,7 +71,9 @@ fn moving_of<'a>(folder: Option<&'a str>, told: &'a Told) -> Option<Moving<'a>>
 }
 
 // Moves a file, and says where it is now: Done, or the status of the fault for which it stays.
-fn moved<R: Files, E: Write>(rt: &R, alloc: Global, moving: Moving<'_>, err: &mut E) -> Status {
+fn moved<R: Files, E: Write>(rt: &R, alloc: Global, moving: Moving<'_>, err: &mut E) -> Status
+    ensures { IsDoneOrFault result }
+{
     let Moving { name, seen, folder } = moving;
     let Some(seen) = seen else {
         say_of(

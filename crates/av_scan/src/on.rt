@@ -1,6 +1,6 @@
 // A scan that goes on where a file can't be scanned: lines are written as they come.
 
-ghost use Rattle.std.specs.Prelude.{◌≡◌, [], ℕ, List, IfErr, IfSome, OnErr, OnOk};
+ghost use Rattle.std.specs.Prelude.{◌≡◌, [], ℕ, List, IfErr, IfSome, OnErr, OnOk, is_some};
 ghost use Rattle.std.specs.Arc.{arc_value};
 ghost use Rattle.av_files.specs.declared.finding.Finding.{Finding};
 ghost use Rattle.av_scan.specs.Outcome.{AreScanned, AreScannedSoFar, Ends};
@@ -48,7 +48,7 @@ pub fn scan_on<
     out: &mut W,
     err: &mut Progress<'_, C, E>,
 ) -> Status
-    ensures { Ends (AreFindings scanning.now.matches (O.is_of scanning.now.files) F.remaining scanners) scanning.now.wishes scanners tally (W.contents out.old) (W.contents out.new) feed.old result }
+    ensures { Ends (AreFindings scanning.now.matches scanning.now.max_size (O.is_of scanning.now.files) F.remaining scanners) (is_some scanning.now.folder) scanning.now.wishes scanners tally (W.contents out.old) (W.contents out.new) feed.old result }
 {
     match Arc::new(scanning.alloc, scanners) {
         Ok(scanners) => {
@@ -75,8 +75,8 @@ fn scan_truly<
     out: &mut W,
     err: &mut Progress<'_, C, E>,
 ) -> Status
-    requires { (name : List ℕ) (fs : List Finding) → AreFindings scanning.now.matches (O.is_of scanning.now.files) F.remaining (arc_value scanners.now) name fs → T.is_true name fs }
-    ensures { Ends T.is_true scanning.now.wishes (arc_value scanners.now) tally (W.contents out.old) (W.contents out.new) feed.old result }
+    requires { (name : List ℕ) (fs : List Finding) → AreFindings scanning.now.matches scanning.now.max_size (O.is_of scanning.now.files) F.remaining (arc_value scanners.now) name fs → T.is_true name fs }
+    ensures { Ends T.is_true (is_some scanning.now.folder) scanning.now.wishes (arc_value scanners.now) tally (W.contents out.old) (W.contents out.new) feed.old result }
 {
     let Some(mut line) = line_up::<T, F, O, R>(scanning, scanners) else {
         return out_of_memory(err);
@@ -107,7 +107,7 @@ pub(crate) fn line_up<
     O: Opening<F>,
     R: Threads + Wait + Copy + Send + 'static,
 >(scanning: &Scanning<'_, R, O>, scanners: &Arc<Scanners, Global>) -> Option<LineUp<T>>
-    requires { (name : List ℕ) (fs : List Finding) → AreFindings scanning.now.matches (O.is_of scanning.now.files) F.remaining (arc_value scanners.now) name fs → T.is_true name fs }
+    requires { (name : List ℕ) (fs : List Finding) → AreFindings scanning.now.matches scanning.now.max_size (O.is_of scanning.now.files) F.remaining (arc_value scanners.now) name fs → T.is_true name fs }
     ensures { IfSome result (λ line. line ≡ []) }
 {
     let piece = if scanning.jobs < 2 { PIECE } else { STAND_IN };
@@ -143,9 +143,9 @@ fn scan_line<
     out: &mut W,
     err: &mut Progress<'_, C, E>,
 ) -> Result<(), Status>
-    requires truth { (name : List ℕ) (fs : List Finding) → AreFindings by.scanning.now.matches (O.is_of by.scanning.now.files) F.remaining by.scanners.now name fs → T.is_true name fs }
+    requires truth { (name : List ℕ) (fs : List Finding) → AreFindings by.scanning.now.matches by.scanning.now.max_size (O.is_of by.scanning.now.files) F.remaining by.scanners.now name fs → T.is_true name fs }
     requires empty { line.old ≡ [] }
-    ensures scanned { OnOk result (AreScanned T.is_true by.entry.scanning.now.wishes by.entry.scanners.now tally.old tally.new (W.contents out.old) (W.contents out.new) feed.old) }
+    ensures scanned { OnOk result (AreScanned T.is_true (is_some by.entry.scanning.now.folder) by.entry.scanning.now.wishes by.entry.scanners.now tally.old tally.new (W.contents out.old) (W.contents out.new) feed.old) }
     ensures so_far { OnErr result (AreScannedSoFar T.is_true by.entry.scanning.now.wishes by.entry.scanners.now (W.contents out.old) (W.contents out.new)) }
     ensures fault { IfErr result (λ status. IsFault status) }
 {

@@ -18,7 +18,7 @@ spawn-requires-after_bounds g c κs within =
             (
               search rules,
               (
-                (λ name fs is. c.requires name fs (subst (λ sets. AreFindings c.args.scanning.now.matches (g.O.Opening.is_of c.args.scanning.now.files) g.F.Read.remaining sets name fs) same is)),
+                (λ name fs is. c.requires name fs (subst (λ sets. AreFindings c.args.scanning.now.matches c.args.scanning.now.max_size (g.O.Opening.is_of c.args.scanning.now.files) g.F.Read.remaining sets name fs) same is)),
                 search (sendable, crosses),
               ),
             ),

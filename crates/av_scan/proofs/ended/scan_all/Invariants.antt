@@ -3,4 +3,4 @@ use Rattle.av_scan.specs.Told.{AreFindings}
 use Rattle.av_scan.proofs.ended.scan_all.Given as goal
 
 abbrev pub ghosts-all_truly : goal.ghosts-all_truly
-ghosts-all_truly g a = record { is_true = AreFindings a.scanning.now.matches (g.O.Opening.is_of a.scanning.now.files) g.F.Read.remaining (arc_value a.scanners.now) }
+ghosts-all_truly g a = record { is_true = AreFindings a.scanning.now.matches a.scanning.now.max_size (g.O.Opening.is_of a.scanning.now.files) g.F.Read.remaining (arc_value a.scanners.now) }
