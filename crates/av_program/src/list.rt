@@ -6,7 +6,7 @@ ghost use Rattle.av_program.specs.List.{AreNamed, failing_of};
 use crate::reading::{Source, say_why};
 use av_base::ReadFault;
 use av_base::device::read_whole;
-use av_files::{Failing, TURNS, with_listed};
+use av_files::{Failing, Listing, TURNS, with_listed};
 use av_status::faults::{out_of_memory, unreadable};
 use av_status::{Status, Tally};
 use av_words::{Finding, List, Named};
@@ -17,7 +17,6 @@ use std::io::{Read, Write};
 /// The names that were given, and behind them those of a list, where there is one: its text is put into this room.
 pub fn names_of<'a, 'b: 'a, E: Write>(
     rt: &HostRuntime,
-    alloc: Global,
     named: &Named<'b>,
     room: &'a mut Vec<u8>,
     failing: Failing,
@@ -30,21 +29,15 @@ pub fn names_of<'a, 'b: 'a, E: Write>(
     ensures ends { failing ≡ Ends → IfOk result (λ names. tally.new ≡ tally.old) }
     ensures fault { IfErr result (λ status. IsFault status) }
 {
+    let alloc = rt.alloc();
     *room = list_text(rt, alloc, named.list, err)?;
     let (path, end) = match named.list {
         Some(list) => (list.path, list.end),
         None => ("", 0),
     };
-    with_listed(
-        alloc,
-        named.files.as_slice(),
-        path,
-        room.as_slice(),
-        end,
-        failing,
-        tally,
-        err,
-    )
+    let text = room.as_slice();
+    let list = Listing { path, text, end };
+    with_listed(alloc, named.files.as_slice(), list, failing, tally, err)
 }
 
 // The text of a list, where one is asked for.
