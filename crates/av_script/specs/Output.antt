@@ -1,5 +1,5 @@
 -- What is written for the text of a script.
-use Rattle.std.specs.Prelude.{ℕ, ◌≡◌, ◌<◌, length, List, Option, Result, Ok, Err}
+use Rattle.std.specs.Prelude.{ℕ, ◌≡◌, ◌<◌, ◌≤◌, ◌⊎◌, length, List, Option, Result, Ok, Err, IfSome}
 use Rattle.std.specs.Io.KnownBytes.{Appends, Keeps}
 use Rattle.av_base.specs.Device.{AppendsPrefix}
 use Rattle.av_script.specs.Script.{ScriptText, script_of}
@@ -45,6 +45,17 @@ PrintsJsonSome old new input (Err f) = Keeps old new
 -- a front of the objects of a script was written
 abbrev pub PrintsJsonFront : Option (List ℕ) → Option (List ℕ) → List ℕ → Type 0
 PrintsJsonFront old new input = PrintsJsonSome old new input (script_of input)
+
+-- it holds of a text that a reader gave until it was at its end: all that it had left, as far as that is known, and no longer than a script may be
+pub record IsOfRead (left : Option (List ℕ)) (holds : List ℕ → Type 0) : Type 0 where
+  pub text : List ℕ
+  pub whole : IfSome left (λ all. text ≡ all)
+  pub short : length text ≤ MAX_SCRIPT
+  pub so : holds text
+
+-- nothing was written, or a front of what is printed for a text that was read
+abbrev pub IsFrontOfRead : Option (List ℕ) → Option (List ℕ) → Option (List ℕ) → (List ℕ → Type 0) → Type 0
+IsFrontOfRead left old new prints = Keeps old new ⊎ IsOfRead left prints
 
 -- a fault that comes once lines may be written: memory was refused, or a write failed
 abbrev pub IsLate : RunFault → Type 0

@@ -5,7 +5,7 @@ ghost use Rattle.av_json.specs.Member.{Puts};
 ghost use Rattle.av_output.specs.Objects.{report_tokens};
 ghost use Rattle.av_script.specs.CommandObjects.{command_tokens, did, line_object, lines_json, refused, said_json, said_tokens, said_world, step_tokens, told_by};
 ghost use Rattle.av_output.specs.Objects.Lines.{judged_tokens, line_tokens};
-ghost use Rattle.av_script.specs.Output.{IsLate, IsTrueOf, KeepsEarly, PrintsJson, PrintsJsonFront};
+ghost use Rattle.av_script.specs.Output.{IsFrontOfRead, IsLate, IsOfRead, IsTrueOf, KeepsEarly, PrintsJson, PrintsJsonFront};
 ghost use Rattle.av_script.specs.Script.Grammar.{line_of};
 ghost use Rattle.av_script.specs.Script.Statement.{is_told, meaning};
 ghost use Rattle.av_history.specs.declared.report.Line.TheVariants.{Booted};
@@ -35,8 +35,8 @@ pub fn run_json<R: Read, W: Write>(
     writer: &mut W,
     turns: u64,
 ) -> Result<(), RunFault>
-    ensures ok { OnOk result (IfSome (R.remaining reader.old) (PrintsJson (W.contents writer.old) (W.contents writer.new))) }
-    ensures err { OnErr result (IfSome (R.remaining reader.old) (PrintsJsonFront (W.contents writer.old) (W.contents writer.new))) }
+    ensures ok { OnOk result (IsOfRead (R.remaining reader.old) (PrintsJson (W.contents writer.old) (W.contents writer.new))) }
+    ensures err { OnErr result (IsFrontOfRead (R.remaining reader.old) (W.contents writer.old) (W.contents writer.new) (PrintsJsonFront (W.contents writer.old) (W.contents writer.new))) }
     ensures fault { IfErr result (λ f. IfSome (R.remaining reader.old) (IsTrueOf f)) }
     ensures early { IfErr result (λ f. KeepsEarly f (W.contents writer.old) (W.contents writer.new)) }
 {

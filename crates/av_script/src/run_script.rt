@@ -1,6 +1,6 @@
 ghost use Rattle.std.specs.Prelude.{◌≡◌, ◌≤◌, ◌++◌, is_ok, length, IfErr, IfOk, IfSome, Ok, OnOk, OnErr};
 ghost use Rattle.av_base.specs.Device.{Writes};
-ghost use Rattle.av_script.specs.Output.{IsLate, IsTrueOf, KeepsEarly, Prints, PrintsFront};
+ghost use Rattle.av_script.specs.Output.{IsFrontOfRead, IsLate, IsOfRead, IsTrueOf, KeepsEarly, Prints, PrintsFront};
 ghost use Rattle.av_script.specs.CommandText.{boot_text, command_text, command_world, commands_text, script_text, step_text};
 ghost use Rattle.av_script.specs.Script.{script_of};
 ghost use Rattle.av_history.specs.World.{after, step_of};
@@ -49,9 +49,8 @@ pub fn run_script<R: Read, W: Write>(
     writer: &mut W,
     turns: u64,
 ) -> Result<(), RunFault>
-    ensures ok { OnOk result (IfSome (R.remaining reader.old) (Prints (W.contents writer.old) (W.contents writer.new))) }
-    ensures bound { OnOk result (IfSome (R.remaining reader.old) (λ input. length input ≤ MAX_SCRIPT)) }
-    ensures err { OnErr result (IfSome (R.remaining reader.old) (PrintsFront (W.contents writer.old) (W.contents writer.new))) }
+    ensures ok { OnOk result (IsOfRead (R.remaining reader.old) (Prints (W.contents writer.old) (W.contents writer.new))) }
+    ensures err { OnErr result (IsFrontOfRead (R.remaining reader.old) (W.contents writer.old) (W.contents writer.new) (PrintsFront (W.contents writer.old) (W.contents writer.new))) }
     ensures fault { IfErr result (λ f. IfSome (R.remaining reader.old) (IsTrueOf f)) }
     ensures early { IfErr result (λ f. KeepsEarly f (W.contents writer.old) (W.contents writer.new)) }
 {
