@@ -1,6 +1,6 @@
 ghost use Rattle.std.specs.Prelude.{◌≡◌, ◌≤◌, codes, false, IfOk, IsSome};
 ghost use Rattle.std.specs.Io.KnownBytes.{Appends};
-ghost use Rattle.av_files.specs.Opened.{IsDoneOrFault};
+ghost use Rattle.av_status.specs.Status.{IsDoneOrFault};
 ghost use Rattle.av_sigset.specs.Catalogue.{set_at};
 ghost use Rattle.av_status.specs.declared.status.Status.TheVariants.{Done};
 

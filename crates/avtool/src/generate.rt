@@ -1,7 +1,7 @@
 ghost use Rattle.std.specs.Prelude.{◌≡◌, ◌≢◌};
 ghost use Rattle.std.specs.Io.KnownBytes.{Appends};
 ghost use Rattle.av_base.specs.Device.{AppendsPrefix};
-ghost use Rattle.av_files.specs.Opened.{IsDoneOrFault};
+ghost use Rattle.av_status.specs.Status.{IsDoneOrFault};
 ghost use Rattle.av_generate.specs.Generated.{generated};
 ghost use Rattle.av_status.specs.declared.status.Status.TheVariants.{Done};
 ghost use Rattle.avtool.specs.Generate.{profile_of};

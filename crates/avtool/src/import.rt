@@ -1,9 +1,8 @@
 ghost use Rattle.std.specs.Prelude.{◌≡◌, IfErr, IsSome};
 ghost use Rattle.std.specs.Io.KnownBytes.{Appends};
-ghost use Rattle.av_files.specs.Opened.{IsDoneOrFault};
 ghost use Rattle.av_import.specs.Import.{Taken};
 ghost use Rattle.av_sigset.specs.Spelling.{spelling};
-ghost use Rattle.av_status.specs.Status.{IsFault};
+ghost use Rattle.av_status.specs.Status.{IsDoneOrFault, IsFault};
 ghost use Rattle.av_status.specs.declared.status.Status.TheVariants.{Done};
 ghost use Rattle.avtool.specs.Import.{Writes, status_of};
 

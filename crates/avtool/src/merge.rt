@@ -1,9 +1,8 @@
 ghost use Rattle.std.specs.Prelude.{◌≡◌, ◌≢◌, List, ℕ, IfErr, IfOk, length, unwrap_or};
 ghost use Rattle.std.specs.Io.KnownBytes.{Appends};
 ghost use Rattle.av_base.specs.Device.{AppendsPrefix};
-ghost use Rattle.av_files.specs.Opened.{IsDoneOrFault};
 ghost use Rattle.av_sigset.specs.Spelling.{ReadsBack, spelling};
-ghost use Rattle.av_status.specs.Status.{IsFault};
+ghost use Rattle.av_status.specs.Status.{IsDoneOrFault, IsFault};
 ghost use Rattle.av_status.specs.declared.status.Status.TheVariants.{Device, Done};
 ghost use Rattle.avtool.specs.Merge.{IsMergeFile, IsMergeOfFiles, Leaves};
 ghost use Rattle.avtool.specs.Placing.{GoesOut};

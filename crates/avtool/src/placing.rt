@@ -1,6 +1,6 @@
 //! Files that are written in one step: beside their place first, and put there once they are whole.
 
-ghost use Rattle.av_files.specs.Opened.{IsDoneOrFault};
+ghost use Rattle.av_status.specs.Status.{IsDoneOrFault};
 
 use av_program::{reasons, say_error};
 use av_status::faults::{out_of_memory, say_of, text};

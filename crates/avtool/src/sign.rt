@@ -1,8 +1,7 @@
 ghost use Rattle.std.specs.Prelude.{◌≡◌, ◌≢◌, List, ℕ, IfErr, IfOk};
 ghost use Rattle.std.specs.Io.KnownBytes.{Appends};
 ghost use Rattle.av_base.specs.Device.{AppendsPrefix};
-ghost use Rattle.av_files.specs.Opened.{IsDoneOrFault};
-ghost use Rattle.av_status.specs.Status.{IsFault};
+ghost use Rattle.av_status.specs.Status.{IsDoneOrFault, IsFault};
 ghost use Rattle.av_status.specs.declared.status.Status.TheVariants.{Device, Done};
 ghost use Rattle.avtool.specs.Placing.{GoesOut};
 ghost use Rattle.avtool.specs.Sign.{IsSignedSet, LeavesSigned};
