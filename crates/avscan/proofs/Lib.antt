@@ -1,1 +1,3 @@
+pub mod CheckLemmas
 pub mod OpeningLemmas
+pub mod ScanLemmas

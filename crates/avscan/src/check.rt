@@ -1,8 +1,9 @@
-ghost use Rattle.std.specs.Prelude.{IfErr, OnOk};
+ghost use Rattle.std.specs.Prelude.{◌≡◌, map, IfErr, OnOk};
 ghost use Rattle.std.specs.Option.{option_copied};
 ghost use Rattle.std.specs.Io.KnownBytes.{Appends};
-ghost use Rattle.av_status.specs.Status.{IsFault};
-ghost use Rattle.avscan.specs.Check.{IsChecked, checked_line, line_of};
+ghost use Rattle.av_status.specs.Status.{IsDoneOrFault, IsFault};
+ghost use Rattle.av_status.specs.declared.status.Status.TheVariants.{Done};
+ghost use Rattle.avscan.specs.Check.{AreAllGood, AreGood, IsChecked, IsGood, checked_line, line_of};
 
 use av_base::parts::write_parts;
 use av_base::{Part, Refusal, WriteFault};
@@ -17,37 +18,93 @@ use avscan_words::Check;
 use std::alloc::Global;
 use std::io::Write;
 
-/// Checks signature files: a line to `out` for each that is good, and one to `err` for each that is not. The status is the greatest.
+/// Checks signature files: a line to `out` for each that is good, and one to `err` for each that is not. The status is the greatest: Done
+/// only if all are good.
 pub fn check_named<W: Write, E: Write>(
     rt: &HostRuntime,
     alloc: Global,
     asked: &Check<'_>,
     out: &mut W,
     err: &mut E,
-) -> Status {
+) -> Status
+    ensures ended { IsDoneOrFault result }
+    ensures good { result ≡ Done → AreAllGood asked.now (W.contents out.old) (W.contents out.new) }
+{
     let key = match key_asked(rt, alloc, asked.trust, err) {
         Ok(key) => key,
         Err(status) => return status,
     };
     let trust = Trust::by(key.as_ref());
-    let Ok(mut buffer) = vec![in alloc; 0u8; MAX_FILE + 2] else {
+    let by = Checking { rt, alloc, trust };
+    check_all(by, asked.sets.as_slice(), out, err)
+}
+
+// By what signature files are checked: the system and its memory, and which files may be taken.
+#[derive(Clone, Copy)]
+struct Checking<'a, 'b> {
+    rt: &'a HostRuntime,
+    alloc: Global,
+    trust: Trust<'b>,
+}
+
+// Checks the files of these names, and leaves no line in a buffer.
+#[tactic(auto, using(av_status::proofs::StatusLemmas::graver_ends, av_status::proofs::StatusLemmas::fault_stays))]
+fn check_all<W: Write, E: Write>(
+    by: Checking<'_, '_>,
+    names: &[&str],
+    out: &mut W,
+    err: &mut E,
+) -> Status
+    ensures ended { IsDoneOrFault result }
+    ensures good { result ≡ Done → AreGood by.entry.trust (map (λ n. n.now) names.now) (W.contents out.old) (W.contents out.new) }
+{
+    let Ok(mut buffer) = vec![in by.alloc; 0u8; MAX_FILE + 2] else {
         return out_of_memory(err);
     };
-    let mut worst = Status::Done;
-    'sets: for name in asked.sets.as_slice() {
-        let file = read_file(rt, name, &mut buffer);
-        let checked = match file.content {
-            Some(_) => check_set(alloc, trust, file, out, err),
-            None => Err(unread(rt, alloc, name, err)),
-        };
-        if let Err(status) = checked {
-            worst = worst.or_graver(status);
-        }
-    }
+    let worst = check_each(by, names, &mut buffer, out, err);
     if out.flush().is_err() {
         return worst.or_graver(device_failed(err));
     }
     worst
+}
+
+// Checks the files of these names, each read into the buffer.
+fn check_each<W: Write, E: Write>(
+    by: Checking<'_, '_>,
+    names: &[&str],
+    buffer: &mut [u8],
+    out: &mut W,
+    err: &mut E,
+) -> Status
+    ensures ended { IsDoneOrFault result }
+    ensures good { result ≡ Done → AreGood by.entry.trust (map (λ n. n.now) names.now) (W.contents out.old) (W.contents out.new) }
+{
+    let mut worst = Status::Done;
+    'names: for name in names {
+        worst = worst.or_graver(check_one(by, name, buffer, out, err));
+    }
+    worst
+}
+
+// Checks the file of a name.
+fn check_one<W: Write, E: Write>(
+    by: Checking<'_, '_>,
+    name: &str,
+    buffer: &mut [u8],
+    out: &mut W,
+    err: &mut E,
+) -> Status
+    ensures ended { IsDoneOrFault result }
+    ensures good { result ≡ Done → IsGood by.entry.trust name.now (W.contents out.old) (W.contents out.new) }
+{
+    let file = read_file(by.rt, name, buffer);
+    if file.content.is_none() {
+        return unread(by.rt, by.alloc, name, err);
+    }
+    match check_set(by.alloc, by.trust, file, out, err) {
+        Ok(()) => Status::Done,
+        Err(status) => status,
+    }
 }
 
 /// Checks what was read of a signature file.

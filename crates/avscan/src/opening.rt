@@ -87,7 +87,7 @@ fn host_over<R: Hosting, W: Write, E: Write>(
     ensures hosted { EndsWell result → HostsAll named.now host.now.signatures.now host.now.crew.openers host.now.wishes (W.contents out.old) (W.contents out.new) result }
 {
     let mut text = Vec::new(host.alloc);
-    match all_names(rt, host.alloc, named, &mut text, err) {
+    match all_names(rt, named, &mut text, err) {
         Ok(names) => host_all(rt, host, names.as_slice(), out, err),
         Err(status) => status,
     }
@@ -157,7 +157,7 @@ pub fn filter_named<R: Hosting, W: Write, E: Write>(
         files: &disk,
     };
     let mut text = Vec::new(alloc);
-    match all_names(rt, alloc, &asked.named, &mut text, err) {
+    match all_names(rt, &asked.named, &mut text, err) {
         Ok(names) => filter_all(rt, filtering, asked, names.as_slice(), out, err),
         Err(status) => status,
     }
@@ -203,7 +203,6 @@ impl<'a> Contents for Disk<'a> {
 // The names of all files, of which there is one at least: who opened none has judged none. A name of a list that is no text ends it.
 fn all_names<'a, 'b: 'a, E: Write>(
     rt: &HostRuntime,
-    alloc: Global,
     named: &Named<'b>,
     text: &'a mut Vec<u8>,
     err: &mut E,
@@ -212,7 +211,7 @@ fn all_names<'a, 'b: 'a, E: Write>(
     ensures fault { IfErr result (λ status. IsFault status) }
 {
     let tally = &mut Tally::new();
-    let names = names_of(rt, alloc, named, text, Failing::Ends, tally, err)?;
+    let names = names_of(rt, named, text, Failing::Ends, tally, err)?;
     if names.is_empty() {
         return Err(no_file(err));
     }

@@ -1,4 +1,5 @@
-ghost use Rattle.std.specs.Prelude.{◌≡◌, ◌≢◌, IfSome, OnOk, OnErr};
+ghost use Rattle.std.specs.Prelude.{◌≡◌, ◌≢◌, None, OnOk, OnErr};
+ghost use Rattle.av_script.specs.Output.{IsFrontOfRead, IsOfRead};
 ghost use Rattle.av_status.specs.declared.status.Status.TheVariants.{Done, Usage};
 ghost use Rattle.avscan.specs.Run.{PrintsIn, PrintsInFront, status_of};
 
@@ -15,7 +16,7 @@ use std::alloc::Global;
 use std::fs;
 use std::io::{Read, Write};
 
-/// Runs the script in this file, or on standard input for `-`.
+/// Runs the script in this file, or on standard input for `-`: the whole output of a text that was read, or a front of it.
 pub fn run_named<W: Write, E: Write>(
     rt: &HostRuntime,
     alloc: Global,
@@ -23,6 +24,8 @@ pub fn run_named<W: Write, E: Write>(
     out: &mut W,
     err: &mut E,
 ) -> Status
+    ensures done { result ≡ Done → IsOfRead None (PrintsIn script.entry.form (W.contents out.old) (W.contents out.new)) }
+    ensures failed { result ≢ Done → IsFrontOfRead None (W.contents out.old) (W.contents out.new) (PrintsInFront script.entry.form (W.contents out.old) (W.contents out.new)) }
     ensures words { result ≢ Usage }
 {
     if script.path == "-" {
@@ -47,8 +50,8 @@ pub fn run_text<R: Read, W: Write, E: Write>(
     out: &mut W,
     err: &mut E,
 ) -> Status
-    ensures done { result ≡ Done → IfSome (R.remaining reader.old) (PrintsIn form (W.contents out.old) (W.contents out.new)) }
-    ensures failed { result ≢ Done → IfSome (R.remaining reader.old) (PrintsInFront form (W.contents out.old) (W.contents out.new)) }
+    ensures done { result ≡ Done → IsOfRead (R.remaining reader.old) (PrintsIn form (W.contents out.old) (W.contents out.new)) }
+    ensures failed { result ≢ Done → IsFrontOfRead (R.remaining reader.old) (W.contents out.old) (W.contents out.new) (PrintsInFront form (W.contents out.old) (W.contents out.new)) }
     ensures words { result ≢ Usage }
 {
     match run_in(form, alloc, reader, out) {
@@ -64,8 +67,8 @@ fn run_in<R: Read, W: Write>(
     reader: &mut R,
     out: &mut W,
 ) -> Result<(), RunFault>
-    ensures ok { OnOk result (IfSome (R.remaining reader.old) (PrintsIn form (W.contents out.old) (W.contents out.new))) }
-    ensures err { OnErr result (IfSome (R.remaining reader.old) (PrintsInFront form (W.contents out.old) (W.contents out.new))) }
+    ensures ok { OnOk result (IsOfRead (R.remaining reader.old) (PrintsIn form (W.contents out.old) (W.contents out.new))) }
+    ensures err { OnErr result (IsFrontOfRead (R.remaining reader.old) (W.contents out.old) (W.contents out.new) (PrintsInFront form (W.contents out.old) (W.contents out.new))) }
 {
     match form {
         Form::Lines | Form::ZeroEnded => run_script(alloc, reader, out, TURNS),

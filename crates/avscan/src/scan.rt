@@ -1,22 +1,22 @@
-ghost use Rattle.std.specs.Prelude.{◌≡◌, map, IfErr, IfOk};
+ghost use Rattle.std.specs.Prelude.{◌≡◌, ◌⊎◌, [], None, map, IfErr, IfOk};
 ghost use Rattle.av_status.specs.Status.{IsFault};
-ghost use Rattle.avscan.specs.Scanning.{AreEveryName, AsksFor, end_of, matches_of};
+ghost use Rattle.avscan.specs.Scanning.{AreEveryName, AsksFor, EndsOfAll, EndsUnder, IsAskedFor, IsNotBegun, IsScanOf, end_of, folders_of, matches_of};
 
 use crate::disk::Disk;
 use av_files::listed::listed;
-use av_files::{Bounds, Failing, Scanners};
+use av_files::{Bounds, Scanners};
 use av_host::Hosting;
 use av_program::{Sets, failing, is_folder, names_of, scanners_named};
 use av_scan::{Feed, Folders, Matches, Scanning, jobs_of, scan_all, scan_on};
 use av_status::faults::{out_of_memory, say_of, text};
 use av_status::{Progress, Status, Tally};
-use av_words::{List, Named};
+use av_words::{Finding, List, Named};
 use avscan_words::Scan;
 use std::alloc::{AllocError, Global};
 use std::io::{IsTerminal, Write};
 
-/// Scans files by their names, as `scan_files` does by their contents, by as many threads as are asked for. What is written does not
-/// depend on how many they are.
+/// Scans files by their names, by as many threads as are asked for. What is written does not depend on how many they are: a line for each
+/// file, by the verdict of a content that was read for it, in the order of the names. Whatever the status, nothing else was written.
 pub fn scan_named<R: Hosting, W: Write, E: Write>(
     rt: &HostRuntime,
     system: &R,
@@ -24,7 +24,9 @@ pub fn scan_named<R: Hosting, W: Write, E: Write>(
     asked: &Scan<'_>,
     out: &mut W,
     err: &mut Progress<'_, HostRuntime, E>,
-) -> Status {
+) -> Status
+    ensures { IsScanOf asked.now (W.contents out.old) (W.contents out.new) result }
+{
     match asked.folder {
         Some(folder) if !is_folder(rt, folder) => return no_folder(folder, err),
         _ => {}
@@ -87,33 +89,40 @@ fn scan_listed<R: Hosting, W: Write, E: Write>(
     asked: &Scan<'_>,
     out: &mut W,
     err: &mut Progress<'_, HostRuntime, E>,
-) -> Status {
-    let alloc = scanning.alloc;
-    let mut text = Vec::new(alloc);
-    if let Err(status) = list_read(scanning, asked, &mut text, err) {
-        return status;
-    }
-    match every_name(alloc, &asked.named, text.as_slice()) {
+) -> Status
+    requires { IsAskedFor asked.now scanning.now }
+    ensures { IsNotBegun (W.contents out.old) (W.contents out.new) result ⊎ EndsOfAll asked.now scanners (W.contents out.old) (W.contents out.new) result }
+{
+    let text = match list_read(scanning, asked, err) {
+        Ok(text) => text,
+        Err(status) => return status,
+    };
+    match every_name(scanning.alloc, &asked.named, text.as_slice()) {
         Ok(names) => scan_each(scanning, scanners, asked, names.as_slice(), out, err),
         Err(_) => out_of_memory(err),
     }
 }
 
-// Reads the list of further files into this room. A name that is no text is told: it ends the run, or is missed at its turn.
+// The text of the list of further files, where there is one. A name that is no text is told: it ends the run, or is missed at its turn.
 fn list_read<R: Hosting, E: Write>(
     scanning: &Scanning<'_, R, Disk>,
     asked: &Scan<'_>,
-    room: &mut Vec<u8>,
     err: &mut Progress<'_, HostRuntime, E>,
-) -> Result<(), Status>
-    ensures { IfErr result (λ status. IsFault status) }
+) -> Result<Vec<u8>, Status>
+    ensures none { IfOk result (λ text. asked.now.named.list ≡ None → text.items ≡ []) }
+    ensures fault { IfErr result (λ status. IsFault status) }
 {
-    let (rt, failing) = (&scanning.files.rt, failing(asked.finding));
-    let tally = &mut Tally::new();
-    match names_of(rt, scanning.alloc, &asked.named, room, failing, tally, err) {
-        Ok(_) => Ok(()),
-        Err(status) => Err(status),
+    let mut text = Vec::new(scanning.alloc);
+    if asked.named.list.is_none() {
+        return Ok(text);
     }
+    let (rt, failing) = (&scanning.files.rt, failing(asked.finding));
+    let (room, tally) = (&mut text, &mut Tally::new());
+    match names_of(rt, &asked.named, room, failing, tally, err) {
+        Ok(_) => {}
+        Err(status) => return Err(status),
+    }
+    Ok(text)
 }
 
 // All names that were given, and behind them those of a list, text or not.
@@ -159,30 +168,45 @@ fn scan_each<R: Hosting, W: Write, E: Write>(
     names: &[&[u8]],
     out: &mut W,
     err: &mut Progress<'_, HostRuntime, E>,
-) -> Status {
+) -> Status
+    requires { IsAskedFor asked.now scanning.now }
+    ensures { EndsUnder asked.now scanners (map (λ n. n.now) names.now) (W.contents out.old) (W.contents out.new) result }
+{
     let scanning = &in_turn(scanning, names);
-    if failing(asked.finding) == Failing::Ends {
+    if !asked.finding.keeps_going {
         return scan_all(scanning, scanners, names, out, err);
     }
-    let folders = if asked.finding.is_recursive {
-        Folders::Entered
-    } else {
-        Folders::Refused
-    };
     let bounds = Bounds {
         globs: asked.globs.as_slice(),
         is_one_device: asked.is_one_device,
     };
+    let folders = folders_of(asked.finding);
     let mut feed = Feed::new(&scanning.rt, scanning.alloc, names, folders, bounds);
     scan_on(scanning, scanners, &mut feed, Tally::new(), out, err)
 }
 
-// The same, by one thread where two of the files may be one pipe: what one reader takes of it is lost to the other, so the first has to
+// What a folder stands for.
+fn folders_of(finding: Finding) -> Folders
+    ensures { result ≡ folders_of finding }
+{
+    if finding.is_recursive {
+        Folders::Entered
+    } else {
+        Folders::Refused
+    }
+}
+
+// The same scan, by one thread where two of the files may be one pipe: what one reader takes of it is lost to the other, so the first has to
 // have all of it.
 fn in_turn<'a, R: Hosting>(
     scanning: &Scanning<'a, R, Disk>,
     names: &[&[u8]],
-) -> Scanning<'a, R, Disk> {
+) -> Scanning<'a, R, Disk>
+    ensures matches { result.matches ≡ scanning.now.matches }
+    ensures most { result.max_size ≡ scanning.now.max_size }
+    ensures wishes { result.wishes ≡ scanning.now.wishes }
+    ensures folder { result.folder ≡ scanning.now.folder }
+{
     let handed = names.iter().filter(|name| is_handed(name)).count();
     let jobs = if handed > 1 { 1 } else { scanning.jobs };
     Scanning { jobs, ..*scanning }

@@ -1,8 +1,7 @@
 ghost use Rattle.std.specs.Prelude.{◌≡◌, codes, IfErr, IfOk, IfSome};
 ghost use Rattle.std.specs.Io.KnownBytes.{Appends};
-ghost use Rattle.av_files.specs.Opened.{IsDoneOrFault};
 ghost use Rattle.av_program.specs.Sets.{IsTrustFor, IsTrustedFor};
-ghost use Rattle.av_status.specs.Status.{IsFault};
+ghost use Rattle.av_status.specs.Status.{IsDoneOrFault, IsFault};
 ghost use Rattle.av_status.specs.declared.status.Status.TheVariants.{Done};
 
 use av_base::Port;
