@@ -1,17 +1,17 @@
 -- A status that tells of no fault is of files that were all judged; and what was written by then.
-use Rattle.std.proofs.Common.{add-one, arith, ℕ, zero, suc, ◌≡◌, ◌<◌, ◌+◌, ◌++◌, ◌||◌, ◌==◌, true≢false, Bool, false, true, if◌then◌else◌, List, [], ◌∷◌, Option, None, Some, length, map, take, refl, rules, ap, sym, subst, ◌∙◌, inl, inr}
+use Rattle.std.proofs.Common.{add-one, arith, ℕ, zero, suc, ◌≡◌, ◌<◌, ◌+◌, ◌++◌, ◌||◌, ◌==◌, true≢false, Bool, false, true, if◌then◌else◌, List, [], ◌∷◌, Option, None, Some, length, map, take, refl, rules, ap, sym, subst, ◌∙◌}
 use Rattle.std.proofs.KnownBytes.{Appends-nil}
 use Rattle.std.specs.Io.KnownBytes.{Appends}
-use Rattle.std.proofs.lemmas.Bool.{cases_Bool, ltb-false, ltb-true}
 use Rattle.std.proofs.lemmas.List.{length_push, map-append, take_more}
 use Rattle.std.proofs.lemmas.List.Elements.{recursion_from_All}
 use Rattle.std.specs.Borrow.{Bor}
 use Rattle.std.specs.List.{All, AllByRecursion}
-use Rattle.std.specs.Prelude.{IsSome, nat_lt, slice_get, slice_index_or}
+use Rattle.std.specs.Prelude.{IsSome, slice_get, slice_index_or}
 use Rattle.std.specs.String.{string_bytes}
 use Rattle.av_base.specs.Device.{AppendsPrefix}
 use Rattle.av_files.specs.Opened.{is_granted, is_infected_answer, with_opened, worst_of}
-use Rattle.av_status.specs.Status.{EndsWell, graver_status, number_of, IsFault}
+use Rattle.av_status.proofs.StatusLemmas.{graver_than_one, graver_than_other, none_as_grave}
+use Rattle.av_status.specs.Status.{IsAsGrave, graver_status}
 use Rattle.av_status.specs.Tally.{concluded, ending_of, has_found, no_files, with_missed, with_scanned}
 use Rattle.av_status.specs.declared.status.Status.{Status}
 use Rattle.av_status.specs.declared.status.Status.TheVariants.{Done, Refused, Usage, Memory, Device, Found, FoundInPart}
@@ -20,20 +20,10 @@ use Rattle.av_status.specs.declared.tally.Wishes.{Wishes}
 use Rattle.av_client.specs.declared.reply.Reply.{Reply}
 use Rattle.av_client.specs.declared.reply.Reply.TheVariants.{Open, Large}
 use Rattle.av_client.specs.Asking.{AreAtTheirTags, Forgets}
-use Rattle.avguard.specs.Ask.{AreAsked, AreJudged, AreJudgedIfDone, AreToldSoFar, IsAsGrave, IsJudged, IsToldSoFar, answered, asked_tally, names_found}
+use Rattle.avguard.specs.Ask.{AreAsked, AreJudged, AreJudgedIfDone, AreToldSoFar, IsJudged, IsToldSoFar, answered, asked_tally, names_found}
 use Rattle.avguard.specs.Told.{is_judged, tally_told, told_lines, with_reply}
 use Rattle.avguard.specs.declared.inquiry.Found.{Found as FoundFile}
 use Rattle.avguard.specs.declared.told.Told.{Told}
-
--- a fault is no good end
-pub no_good_end : {A : Type 0} (s : Status) → IsFault s → EndsWell s → A
-no_good_end Done fault well = absurd fault
-no_good_end Refused fault well = absurd well
-no_good_end Usage fault well = absurd well
-no_good_end Memory fault well = absurd well
-no_good_end Device fault well = absurd well
-no_good_end Found fault well = absurd fault
-no_good_end FoundInPart fault well = absurd fault
 
 -- of files that are there, one at least has a name
 pub some_found : (fs : List FoundFile) → (length fs == 0) ≡ false → 0 < length (names_found fs)
@@ -89,45 +79,6 @@ none_ended w t Memory e = absurd (elim (has_found w t) as (λ b. (if b then Foun
 none_ended w t Device e = absurd (elim (has_found w t) as (λ b. (if b then FoundInPart else Device) ≡ Done → ⊥) [ true ↦ search rules | false ↦ search rules ] e)
 none_ended w t Found e = absurd (elim (has_found w t) as (λ b. (if b then FoundInPart else Found) ≡ Done → ⊥) [ true ↦ search rules | false ↦ search rules ] e)
 none_ended w t FoundInPart e = absurd (elim (has_found w t) as (λ b. (if b then FoundInPart else FoundInPart) ≡ Done → ⊥) [ true ↦ search rules | false ↦ search rules ] e)
-
--- what went wrong is as grave as itself, and the graver of two as each
-pub as_grave : (s : Status) → IsAsGrave s s
-as_grave s = omega arith
-
-pub graver_than_one : (one other : Status) → IsAsGrave one (graver_status one other)
-graver_than_one one other = elim (cases_Bool (nat_lt (number_of one) (number_of other))) [
-  | inl less ↦ rw less (omega (arith, ltb-true _ _ less))
-  | inr not ↦ rw not (omega arith)
-]
-
-pub graver_than_other : (one other : Status) → IsAsGrave other (graver_status one other)
-graver_than_other one other = elim (cases_Bool (nat_lt (number_of one) (number_of other))) [
-  | inl less ↦ rw less (omega arith)
-  | inr not ↦ rw not (omega (arith, ltb-false _ _ not))
-]
-
-pub grave_then : (least one other : Status) → IsAsGrave least one → IsAsGrave least (graver_status one other)
-grave_then least one other grave = omega (arith, grave, graver_than_one one other)
-
-pub grave_more : (least one other : Status) → IsAsGrave least one → IsAsGrave one other → IsAsGrave least other
-grave_more least one other grave more = omega (arith, grave, more)
-
--- only where all was done nothing is as grave as that
-pub none_as_grave : (least ended : Status) → IsAsGrave least ended → ended ≡ Done → least ≡ Done
-none_as_grave Done ended grave e = refl
-none_as_grave Refused ended grave e = absurd (omega (arith, grave, ap number_of e))
-none_as_grave Usage ended grave e = absurd (omega (arith, grave, ap number_of e))
-none_as_grave Memory ended grave e = absurd (omega (arith, grave, ap number_of e))
-none_as_grave Device ended grave e = absurd (omega (arith, grave, ap number_of e))
-none_as_grave Found ended grave e = absurd (omega (arith, grave, ap number_of e))
-none_as_grave FoundInPart ended grave e = absurd (omega (arith, grave, ap number_of e))
-
--- a fault is never none
-pub fault_stays : (one fault : Status) → IsFault fault → graver_status one fault ≡ Done → ⊥
-fault_stays one fault is e = no_fault fault (none_as_grave fault _ (graver_than_other one fault) e) is
-  where
-    no_fault : (s : Status) → s ≡ Done → IsFault s → ⊥
-    no_fault s e is = subst IsFault e is
 
 -- the opens ended well, and each was judged, where that is what decides
 ended_none : (ended counted : Status) → worst_of (graver_status ended counted) counted ≡ Done → ended ≡ Done

@@ -1,5 +1,5 @@
 -- What is told of files that a guard was asked about.
-use Rattle.std.specs.Prelude.{ℕ, ⊤, ◌≡◌, ◌<◌, ◌≤◌, Bool, false, true, List, Option, length, map}
+use Rattle.std.specs.Prelude.{ℕ, ⊤, ◌≡◌, ◌<◌, Bool, false, true, List, Option, length, map}
 use Rattle.std.specs.Borrow.{Bor}
 use Rattle.std.specs.Io.KnownBytes.{Appends}
 use Rattle.std.specs.List.{AllByRecursion, filter_map, zip}
@@ -12,7 +12,7 @@ use Rattle.av_client.specs.declared.asking.AskingFault.TheVariants as asking
 use Rattle.av_client.specs.declared.reply.Reply.{Reply}
 use Rattle.av_files.specs.Opened.{ended_tally}
 use Rattle.av_program.specs.List.{AreNamed}
-use Rattle.av_status.specs.Status.{graver_status, number_of}
+use Rattle.av_status.specs.Status.{IsAsGrave, graver_status}
 use Rattle.av_status.specs.Tally.{concluded, no_files}
 use Rattle.av_status.specs.declared.status.Status.{Status}
 use Rattle.av_status.specs.declared.status.Status.TheVariants.{Done, Refused, Memory, Device}
@@ -35,10 +35,6 @@ answered names answers = filter_map told_as (zip names answers)
 -- of so many files these were answered, and others failed with this greatest status
 abbrev pub asked_tally : List Told → ℕ → Status → Tally
 asked_tally told files missed = let t = tally_told no_files told in ended_tally t files (graver_status missed t.worst)
-
--- what went wrong is at least as grave as this
-abbrev pub IsAsGrave : Status → Status → Type 0
-IsAsGrave least ended = number_of least ≤ number_of ended
 
 -- the names of files that were found
 abbrev pub names_found : List Found → List (List ℕ)

@@ -5,11 +5,10 @@ ghost use Rattle.std.specs.Io.KnownBytes.{Appends};
 ghost use Rattle.std.specs.List.{All};
 ghost use Rattle.av_base.specs.Device.{AppendsPrefix};
 ghost use Rattle.av_client.specs.Asking.{AreAtTheirTags, IsOwedEach};
-ghost use Rattle.av_files.specs.Opened.{IsDoneOrFault};
-ghost use Rattle.av_status.specs.Status.{EndsWell, IsFault};
+ghost use Rattle.av_status.specs.Status.{EndsWell, IsAsGrave, IsDoneOrFault, IsFault};
 ghost use Rattle.av_status.specs.Tally.{concluded};
 ghost use Rattle.av_status.specs.declared.status.Status.TheVariants.{Done};
-ghost use Rattle.avguard.specs.Ask.{AreAsked, AreFoundAndAsked, AreNamedAndAsked, AreToldSoFar, IsAsGrave, IsToldSoFar, answered, asked_tally, names_found};
+ghost use Rattle.avguard.specs.Ask.{AreAsked, AreFoundAndAsked, AreNamedAndAsked, AreToldSoFar, IsToldSoFar, answered, asked_tally, names_found};
 ghost use Rattle.avguard.specs.Told.{told_lines};
 
 use crate::guarding::Guards;
@@ -43,7 +42,6 @@ pub fn ask_named<R: Guards, W: Write, E: Write>(
     let mut tally = Tally::new();
     match names_of(
         rt,
-        alloc,
         &asked.named,
         &mut text,
         failing(asked.finding),
@@ -92,7 +90,7 @@ fn ask_names<R: Guards, W: Write, E: Write>(
 }
 
 // Adds the files of these names, and those below each that is a folder, where folders stand for files.
-#[tactic(auto, using(crate::proofs::AskLemmas::as_grave, crate::proofs::AskLemmas::grave_more))]
+#[tactic(auto, using(av_status::proofs::StatusLemmas::as_grave, av_status::proofs::StatusLemmas::grave_more))]
 fn add_files<R: Guards, E: Write>(
     asking: &Asking<'_, R>,
     names: &[&str],
@@ -125,7 +123,7 @@ fn add_name(alloc: Global, name: &str, files: &mut Vec<Found>) -> Result<(), All
 }
 
 // Adds what a walk meets from here on.
-#[tactic(auto, using(crate::proofs::AskLemmas::as_grave, crate::proofs::AskLemmas::grave_then))]
+#[tactic(auto, using(av_status::proofs::StatusLemmas::as_grave, av_status::proofs::StatusLemmas::grave_then))]
 fn add_entries<R: Guards, E: Write>(
     asking: &Asking<'_, R>,
     walk: &mut Walk<'_, HostRuntime>,
@@ -221,7 +219,7 @@ fn ask_all<R: Guards, W: Write, E: Write>(
 }
 
 // Asks about each file in turn, and gives what went wrong of it, or of what ends it all. The names are of those that were asked about.
-#[tactic(auto, using(crate::proofs::AskLemmas::as_grave, crate::proofs::AskLemmas::fault_stays, crate::proofs::AskLemmas::grave_then))]
+#[tactic(auto, using(av_status::proofs::StatusLemmas::as_grave, av_status::proofs::StatusLemmas::fault_stays, av_status::proofs::StatusLemmas::grave_then))]
 fn ask_each<'b, R: Guards, E: Write>(
     asking: &Asking<'_, R>,
     asker: &mut Asker<'_, R>,

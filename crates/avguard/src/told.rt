@@ -3,10 +3,9 @@
 ghost use Rattle.std.specs.Prelude.{◌≡◌, map, IfErr};
 ghost use Rattle.std.specs.Io.KnownBytes.{Appends};
 ghost use Rattle.av_base.specs.Device.{AppendsPrefix, Writes};
-ghost use Rattle.av_files.specs.Opened.{IsDoneOrFault};
 ghost use Rattle.av_json.specs.File.{named_object};
 ghost use Rattle.av_json.specs.Member.{Puts, member_tokens};
-ghost use Rattle.av_status.specs.Status.{IsFault};
+ghost use Rattle.av_status.specs.Status.{IsDoneOrFault, IsFault};
 ghost use Rattle.av_status.specs.declared.status.Status.TheVariants.{Done};
 ghost use Rattle.av_status.specs.declared.tally.Form.TheVariants.{Lines};
 ghost use Rattle.avguard.specs.Told.{denied_text, large_line, large_object, large_text, large_tokens, shown_large, tally_told, told_line, told_lines, unscanned_text};

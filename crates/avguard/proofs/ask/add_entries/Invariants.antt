@@ -1,4 +1,4 @@
-use Rattle.avguard.specs.Ask.{IsAsGrave}
+use Rattle.av_status.specs.Status.{IsAsGrave}
 use Rattle.avguard.proofs.ask.add_entries.Given as goal
 
 -- what went wrong before is not forgotten

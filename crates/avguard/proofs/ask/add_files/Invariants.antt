@@ -1,5 +1,6 @@
 use Rattle.std.proofs.Common.{◌≡◌, ◌++◌, false, map, take}
-use Rattle.avguard.specs.Ask.{IsAsGrave, names_found}
+use Rattle.avguard.specs.Ask.{names_found}
+use Rattle.av_status.specs.Status.{IsAsGrave}
 use Rattle.avguard.proofs.ask.add_files.Given as goal
 
 -- the files of the names so far were added, where no folder stands for those below it

@@ -1,9 +1,10 @@
 use Rattle.std.proofs.Common.{◌≡◌, ◌∙◌, ◌++◌, ◌∷◌, [], ap, arith, length, rules, subst, sym}
 use Rattle.std.proofs.lemmas.List.{length_push}
 use Rattle.std.specs.String.{string_bytes}
-use Rattle.avguard.specs.Ask.{IsAsGrave}
+use Rattle.av_status.specs.Status.{IsAsGrave}
 use Rattle.avguard.specs.declared.inquiry.Found.{Found}
-use Rattle.avguard.proofs.AskLemmas.{fault_stays, found_more, grave_then}
+use Rattle.av_status.proofs.StatusLemmas.{fault_stays, grave_then}
+use Rattle.avguard.proofs.AskLemmas.{found_more}
 use Rattle.avguard.proofs.ask.ask_each.Goals as goal
 
 pub returns-then-is_err-clause-tags : goal.returns-then-is_err-clause-tags

@@ -1,7 +1,8 @@
 use Rattle.std.proofs.Common.{◌≡◌, length, map, take}
 use Rattle.av_client.specs.Asking.{AreAtTheirTags, IsOwedEach}
 use Rattle.av_status.specs.declared.status.Status.TheVariants.{Done}
-use Rattle.avguard.specs.Ask.{IsAsGrave, names_found}
+use Rattle.avguard.specs.Ask.{names_found}
+use Rattle.av_status.specs.Status.{IsAsGrave}
 use Rattle.avguard.proofs.ask.ask_each.Given as goal
 
 -- each answer stands at the place of its tag, as before; and if nothing went wrong each file so far was asked about

@@ -1,6 +1,7 @@
 use Rattle.std.proofs.Common.{◌∙◌, ◌==◌, ap, length, subst, sym}
 use Rattle.av_client.specs.Asking.{AreAtTheirTags}
-use Rattle.avguard.proofs.AskLemmas.{no_good_end, no_tags, none_asked, some_found}
+use Rattle.av_status.proofs.StatusLemmas.{no_good_end}
+use Rattle.avguard.proofs.AskLemmas.{no_tags, none_asked, some_found}
 use Rattle.avguard.proofs.ask.ask_found.Goals as goal
 
 pub returns-in_default-clause-so_far : goal.returns-in_default-clause-so_far
