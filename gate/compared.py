@@ -72,6 +72,13 @@ def exact(text, names, known, within=()):
         if value is None and atoms[0].startswith("If") and atoms[0] != "IfNone":
             value, inner = "found", f"{inner} found"
         yield from exact(inner, names, known | {it: bound for it in (value or "").split()}, within)
+    elif isinstance(known.get(atoms[0]), tuple):
+        # (a statement that another one was given: with what it is given there)
+        inner, there, own = known[atoms[0]]
+        value, inner = re.match(r"(?:λ ([^.]*)\. )?(.*)", without_brackets(inner)).groups()
+        given = [RESULT if is_result(it, names, known) else (it, names, known) for it in atoms[1:]]
+        words = value.split() if value else [f"given_{n}" for n in range(len(given))]
+        yield from exact(inner if value else " ".join([inner, *words]), there, own | dict(zip(words, given)), within)
     else:
         yield from by_statement(atoms, names, known, within)
 

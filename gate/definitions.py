@@ -19,6 +19,7 @@ BEGIN, END = "<!-- definitions of {} -->\n", "<!-- as far as here -->\n"
 CLAIMS = {
     "a world": ("av_world", "src/world.rt", "step", ["promise"]),
     "a host": ("avscan", "src/opening.rt", "host_named", ["so_far", "hosted"]),
+    "a scan": ("avscan", "src/scan.rt", "scan_named", []),
     "a filter": ("avscan", "src/opening.rt", "filter_named", []),
 }
 
