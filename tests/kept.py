@@ -328,8 +328,14 @@ def bounds(cases, it, most):
 
 
 def deleted(process):
-    ends = [os.readlink(f"/proc/{process}/fd/{end}") for end in os.listdir(f"/proc/{process}/fd")]
-    return [name for name in ends if name.endswith(" (deleted)")]
+    """The deleted files that a process has open. What it closes meanwhile is none of them."""
+    names = []
+    for end in os.listdir(f"/proc/{process}/fd"):
+        try:
+            names.append(os.readlink(f"/proc/{process}/fd/{end}"))
+        except OSError:
+            pass
+    return [name for name in names if name.endswith(" (deleted)")]
 
 
 def rushed(cases, it):
