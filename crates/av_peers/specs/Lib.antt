@@ -2,6 +2,7 @@ pub mod Adopted
 pub mod Asked
 pub mod Belief
 pub mod Client
+pub mod Clients
 pub mod Line
 pub mod Parts
 pub mod Service
