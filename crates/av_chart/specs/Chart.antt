@@ -3,6 +3,7 @@ use Rattle.std.specs.Prelude.{ℕ, ◌≡◌, ◌<◌, ◌&&◌, Bool, nat_le, L
 use Rattle.std.specs.Io.KnownBytes.{Appends, Keeps}
 use Rattle.av_base.specs.Device.{AppendsPrefix}
 use Rattle.av_base.specs.Line.{lines_of}
+use Rattle.av_script.specs.Output.{IsOfRead}
 use Rattle.av_script.specs.Script.{ScriptText, script_of}
 use Rattle.av_history.specs.World.{WorldState, start}
 use Rattle.av_script.specs.declared.run_script.TheConstants.{MAX_SCRIPT}
@@ -127,11 +128,11 @@ IsEarly NoLines = Unit {0}
 IsEarly NoMemory = Unit {0}
 IsEarly Write = ⊥
 
--- nothing was written but where a write failed; there it was a front of the picture
-abbrev pub Leaves : Lines → List ℕ → Option (List ℕ) → Option (List ℕ) → ChartFault → List ℕ → Type 0
-Leaves lines title old new Write text = DrawsFront lines title old new text
-Leaves lines title old new Read text = Keeps old new
-Leaves lines title old new TooLong text = Keeps old new
-Leaves lines title old new (BadScript line) text = Keeps old new
-Leaves lines title old new NoLines text = Keeps old new
-Leaves lines title old new NoMemory text = Keeps old new
+-- nothing was written but where a write failed; there it was a front of the picture of a text that was read
+abbrev pub Leaves : Option (List ℕ) → Lines → List ℕ → Option (List ℕ) → Option (List ℕ) → ChartFault → Type 0
+Leaves left lines title old new Write = IsOfRead left (DrawsFront lines title old new)
+Leaves left lines title old new Read = Keeps old new
+Leaves left lines title old new TooLong = Keeps old new
+Leaves left lines title old new (BadScript line) = Keeps old new
+Leaves left lines title old new NoLines = Keeps old new
+Leaves left lines title old new NoMemory = Keeps old new

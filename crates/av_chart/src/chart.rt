@@ -5,6 +5,7 @@ ghost use Rattle.av_chart.specs.Picture.{picture_text};
 ghost use Rattle.av_chart.specs.Place.{StandAt, bottom_of};
 ghost use Rattle.av_chart.specs.Row.{height_of};
 ghost use Rattle.av_chart.specs.Story.{story_of};
+ghost use Rattle.av_script.specs.Output.{IsOfRead};
 
 use crate::fault::ChartFault;
 use crate::happened::{Happened, Span, Step};
@@ -45,9 +46,9 @@ pub fn write_chart<R: Read, W: Write>(
     writer: &mut W,
     turns: u64,
 ) -> Result<(), ChartFault>
-    ensures ok { OnOk result (IfSome (R.remaining reader.old) (Draws lines title.now (W.contents writer.old) (W.contents writer.new))) }
+    ensures ok { OnOk result (IsOfRead (R.remaining reader.old) (Draws lines title.now (W.contents writer.old) (W.contents writer.new))) }
     ensures fault { IfErr result (λ f. IfSome (R.remaining reader.old) (IsTrueOf lines f)) }
-    ensures err { IfErr result (λ f. IfSome (R.remaining reader.old) (Leaves lines title.now (W.contents writer.old) (W.contents writer.new) f)) }
+    ensures err { IfErr result (Leaves (R.remaining reader.old) lines title.now (W.contents writer.old) (W.contents writer.new)) }
 {
     let page = read_page(alloc, title, lines, reader, turns)?;
     write_page(writer, &page)
@@ -61,7 +62,7 @@ fn read_page<R: Read>(
     reader: &mut R,
     turns: u64,
 ) -> Result<Vec<u8>, ChartFault>
-    ensures ok { IfOk result (λ page. IfSome (R.remaining reader.old) (λ text. IsPicture lines title.now text page.items)) }
+    ensures ok { IfOk result (λ page. IsOfRead (R.remaining reader.old) (λ text. IsPicture lines title.now text page.items)) }
     ensures fault { IfErr result (λ f. IfSome (R.remaining reader.old) (IsTrueOf lines f)) }
     ensures early { IfErr result IsEarly }
 {
