@@ -133,6 +133,7 @@ fn start_worker<
     let dones = dones.clone().ok()?;
     let (rt, alloc, files) = (scanning.rt, scanning.alloc, scanning.files);
     let (matches, max_size) = (scanning.matches, scanning.max_size);
+    let is_moving = scanning.folder.is_some();
     thread::spawn(
         &rt,
         move ||
@@ -145,6 +146,7 @@ fn start_worker<
                 scanners: &*scanners,
                 matches,
                 max_size,
+                is_moving,
             };
             serve::<T, F, O, R>(&rt, means, &works, &dones, &mut buffer);
         },

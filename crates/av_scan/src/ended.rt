@@ -118,6 +118,7 @@ fn judge_all<T: Truth, F: Read + Drop, O: Opening<F>, R: Files + Wait, C: Clock,
         scanners: by.scanners,
         matches: by.scanning.matches,
         max_size: by.scanning.max_size,
+        is_moving: by.scanning.folder.is_some(),
     };
     let mut all = Vec::new(by.scanning.alloc);
     let mut coming = Coming::More;

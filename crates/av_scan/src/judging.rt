@@ -18,8 +18,8 @@ use av_status::Status;
 use std::alloc::Global;
 use std::io::Read;
 
-/// By what files are judged: the memory, where they come from, the sets, which signatures are reported, and how many bytes a file may
-/// have.
+/// By what files are judged: the memory, where they come from, the sets, which signatures are reported, how many bytes a file may have,
+/// and whether infected ones are moved, for which it has to be known which files they are.
 #[derive(Clone, Copy)]
 pub struct Means<'a, O> {
     pub alloc: Global,
@@ -27,6 +27,7 @@ pub struct Means<'a, O> {
     pub scanners: &'a Scanners,
     pub matches: Matches,
     pub max_size: u64,
+    pub is_moving: bool,
 }
 
 /// What becomes of an entry. Of a file that was not scanned the status says why: Refused that it is too large, Device
@@ -93,7 +94,11 @@ fn found_under<F: Read + Drop, O: Opening<F>>(
     let Some(mut file) = means.files.opened(name, origin) else {
         return Err(Status::Device);
     };
-    let seen = means.files.seen(&file);
+    let seen = if means.is_moving {
+        means.files.seen(&file)
+    } else {
+        None
+    };
     match found_in::<F, O>(means, &mut file, buffer) {
         Ok(findings) => Ok(Found { findings, seen }),
         Err(fault) => Err(status_of(fault)),

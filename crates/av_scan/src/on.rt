@@ -156,6 +156,7 @@ fn scan_line<
         scanners: by.scanners,
         matches: by.scanning.matches,
         max_size: by.scanning.max_size,
+        is_moving: by.scanning.folder.is_some(),
     };
     let reporting = Reporting {
         alloc: by.scanning.alloc,

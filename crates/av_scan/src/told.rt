@@ -17,7 +17,7 @@ pub struct Entry {
 /// What became of it.
 #[derive(Drop)]
 pub enum Told {
-    /// A file with what is found in its content under each set, and which file that was, as far as it is known.
+    /// A file with what is found in its content under each set, and which file that was, as far as that is known and wanted.
     Scanned {
         name: String,
         findings: Vec<Finding>,
