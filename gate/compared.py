@@ -73,10 +73,10 @@ def exact(text, names, known, within=()):
             value, inner = "found", f"{inner} found"
         yield from exact(inner, names, known | {it: bound for it in (value or "").split()}, within)
     elif isinstance(known.get(atoms[0]), tuple):
-        # (a statement that another one was given: with what it is given there)
+        # (a statement that another one was given: with what it is given there, where what is said to exist is an argument and no result)
         inner, there, own = known[atoms[0]]
         value, inner = re.match(r"(?:λ ([^.]*)\. )?(.*)", without_brackets(inner)).groups()
-        given = [RESULT if is_result(it, names, known) else (it, names, known) for it in atoms[1:]]
+        given = [("", names, known) if known.get(it) is RESULT else (it, names, known) for it in atoms[1:]]
         words = value.split() if value else [f"given_{n}" for n in range(len(given))]
         yield from exact(inner if value else " ".join([inner, *words]), there, own | dict(zip(words, given)), within)
     else:

@@ -1,7 +1,8 @@
-ghost use Rattle.std.specs.Prelude.{◌≡◌, ◌≢◌, IfSome};
+ghost use Rattle.std.specs.Prelude.{◌≡◌, ◌≢◌, None};
 ghost use Rattle.av_chart.specs.Chart.{Draws};
+ghost use Rattle.av_script.specs.Output.{IsOfRead};
 ghost use Rattle.av_status.specs.declared.status.Status.TheVariants.{Done, Refused, Usage};
-ghost use Rattle.avtool.specs.Chart.{IsFaultOf, status_of};
+ghost use Rattle.avtool.specs.Chart.{IsFaultOf, lines_for, status_of, title_of};
 
 use av_base::Part;
 use av_chart::{ChartFault, Lines, write_chart};
@@ -15,6 +16,7 @@ use avtool_words::Chart;
 use std::alloc::Global;
 use std::fs;
 use std::io::{Read, Write};
+use std::path::Path;
 
 /// Draws the run of the script in this file, or on standard input for `-`: of these lines.
 pub fn chart_named<W: Write, E: Write>(
@@ -24,10 +26,12 @@ pub fn chart_named<W: Write, E: Write>(
     out: &mut W,
     err: &mut E,
 ) -> Status
+    ensures done { result ≡ Done → IsOfRead None (Draws (lines_for asked.entry) (title_of asked.entry.script.now) (W.contents out.old) (W.contents out.new)) }
+    ensures failed { result ≢ Done → IsFaultOf (lines_for asked.entry) (title_of asked.entry.script.now) None (W.contents out.old) (W.contents out.new) result }
     ensures words { result ≢ Usage }
 {
     let script = asked.script;
-    let title = name_of(script);
+    let title = title_of(script);
     let lines = Lines {
         from: asked.from,
         to: asked.to,
@@ -54,7 +58,7 @@ fn chart<R: Read, W: Write, E: Write>(
     out: &mut W,
     err: &mut E,
 ) -> Status
-    ensures done { result ≡ Done → IfSome (R.remaining reader.old) (Draws lines title.now (W.contents out.old) (W.contents out.new)) }
+    ensures done { result ≡ Done → IsOfRead (R.remaining reader.old) (Draws lines title.now (W.contents out.old) (W.contents out.new)) }
     ensures failed { result ≢ Done → IsFaultOf lines title.now (R.remaining reader.old) (W.contents out.old) (W.contents out.new) result }
     ensures words { result ≢ Usage }
 {
@@ -77,12 +81,11 @@ fn failed<E: Write>(err: &mut E, lines: Lines, fault: ChartFault) -> Status
     }
 }
 
-// A path without the folders in front.
-fn name_of(path: &str) -> &str {
-    match path.rsplit_once('/') {
-        Some((_, name)) => name,
-        None => path,
-    }
+// The title of the picture of a script in a file.
+fn title_of(path: &str) -> &str
+    ensures { result.now ≡ title_of path.now }
+{
+    Path::new(path).file_name().unwrap_or(path)
 }
 
 fn no_command<E: Write>(err: &mut E, lines: Lines) -> Status
