@@ -21,6 +21,7 @@ CLAIMS = {
     "a host": ("avscan", "src/opening.rt", "host_named", ["so_far", "hosted"]),
     "a scan": ("avscan", "src/scan.rt", "scan_named", []),
     "a filter": ("avscan", "src/opening.rt", "filter_named", []),
+    "a guard": ("av_daemon", "src/daemon/telling.rt", "settle", []),
 }
 
 

@@ -4,3 +4,4 @@ pub mod Late
 pub mod Names
 pub mod Recorder
 pub mod Relaying
+pub mod Telling

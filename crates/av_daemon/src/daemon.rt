@@ -1,3 +1,7 @@
+ghost use Rattle.std.specs.Prelude.{◌≡◌, true, OnOk};
+ghost use Rattle.av_daemon.specs.Telling.{is_of_service};
+ghost use Rattle.av_peers.specs.Clients.{IsSilent};
+
 mod accepting;
 mod asking;
 mod greeting;
@@ -394,7 +398,10 @@ impl<'a, R: Files + Net + Clock> Daemon<'a, R> {
     }
 
     // A connection is among those to which something is sent next.
-    fn wants_to_send(&mut self, number: u64) -> Result<(), Stop> {
+    fn wants_to_send(&mut self, number: u64) -> Result<(), Stop>
+        ensures silent { OnOk result (IsSilent self.old.clients.entries self.new.clients.entries) }
+        ensures same { is_of_service number ≡ true → self.new.clients ≡ self.old.clients }
+    {
         let was_sending = match number {
             SERVING | SPARE => match self.services.get_mut(&number) {
                 Some(service) => mem::replace(&mut service.is_sending, true),
@@ -417,7 +424,9 @@ impl<'a, R: Files + Net + Clock> Daemon<'a, R> {
 }
 
 // The number of the connection of the service at a port.
-fn connection_of(port: Port) -> u64 {
+fn connection_of(port: Port) -> u64
+    ensures { is_of_service result ≡ true }
+{
     match port {
         Port::One => SERVING,
         Port::Two => SPARE,

@@ -1,5 +1,9 @@
 //! Who comes to a door.
 
+ghost use Rattle.std.specs.Prelude.{◌≡◌, OnOk};
+ghost use Rattle.av_daemon.specs.Telling.{connection_for};
+ghost use Rattle.av_peers.specs.Clients.{IsLost};
+
 use super::{AT_ONCE, Daemon, FIRST, Stop, millis};
 use crate::door::Door;
 use av_guard::Guard;
@@ -85,7 +89,9 @@ impl<'a, R: Files + Net + Clock> Daemon<'a, R> {
     }
 
     // A client is gone, of which the turns know already: it is told nothing any more, and what it began is dropped.
-    pub(super) fn remove(&mut self, guard: &mut Guard, client: u64) -> Result<(), Stop> {
+    pub(super) fn remove(&mut self, guard: &mut Guard, client: u64) -> Result<(), Stop>
+        ensures { OnOk result (IsLost (connection_for client) self.old.clients.entries self.new.clients.entries) }
+    {
         guard.client_lost(client);
         self.watches.forget(client);
         let connection = client.saturating_add(FIRST);
@@ -98,7 +104,9 @@ impl<'a, R: Files + Net + Clock> Daemon<'a, R> {
     }
 
     // A client is gone.
-    pub(super) fn lose(&mut self, guard: &mut Guard, client: u64) -> Result<(), Stop> {
+    pub(super) fn lose(&mut self, guard: &mut Guard, client: u64) -> Result<(), Stop>
+        ensures { OnOk result (IsLost (connection_for client) self.old.clients.entries self.new.clients.entries) }
+    {
         self.turns.closed(client);
         self.remove(guard, client)
     }

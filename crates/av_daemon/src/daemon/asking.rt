@@ -1,5 +1,9 @@
 //! What clients ask: each in its turn, and from the line.
 
+ghost use Rattle.std.specs.Prelude.{◌≡◌, OnOk};
+ghost use Rattle.av_daemon.specs.Telling.{IsAskedOrDenied, IsAskedOrStands, IsTaken};
+ghost use Rattle.av_peers.specs.Clients.{IsSilent};
+
 use super::relaying::Beginning;
 use super::telling::Reply;
 use super::watching::Watch;
@@ -195,34 +199,33 @@ impl<'a, R: Files + Net + Clock> Daemon<'a, R> {
         Ok(piece.len())
     }
 
-    // Does what a client said, and says whether its turn goes on. A content that is known, or about which the service is asked
-    // already, is asked about at once; another one stands in line.
+    // Does what a client said, and says whether its turn goes on.
     fn take(
         &mut self,
         guard: &mut Guard,
         client: u64,
         thing: Thing<'_>,
         now: Duration,
-    ) -> Result<bool, Broken> {
-        let (tag, content) = match thing {
+    ) -> Result<bool, Broken>
+        ensures { OnOk result (IsTaken client thing.entry guard.old guard.new self.old.clients.entries self.new.clients.entries) }
+    {
+        match thing {
             Thing::Begun { tag, label, first } => {
                 let begun = Beginning { tag, label, first };
-                return self.begin_content(guard, client, begun, now);
+                self.begin_content(guard, client, begun, now)
             }
             Thing::Part(some) => {
                 self.bring(guard, client, some, now)?;
-                return Ok(true);
+                Ok(true)
             }
             Thing::Ended(ending) => {
                 self.end_content(guard, client, ending, now)?;
-                return Ok(true);
+                Ok(true)
             }
             Thing::Watches { tag, version } => {
-                return self.watch(guard, client, Watch { tag, version }, now);
+                self.watch(guard, client, Watch { tag, version }, now)
             }
-            Thing::Said(bytes) => {
-                return self.count(client, turns::Thing::Said(bytes as u64), now);
-            }
+            Thing::Said(bytes) => self.count(client, turns::Thing::Said(bytes as u64), now),
             Thing::Asked {
                 tag,
                 label,
@@ -230,9 +233,23 @@ impl<'a, R: Files + Net + Clock> Daemon<'a, R> {
             } => {
                 self.counts.asked();
                 self.keep_note(client, tag, label, content.len() as u64);
-                (tag, content)
+                self.ask(guard, client, tag, content, now)
             }
-        };
+        }
+    }
+
+    // Asks about a content that is known, or about which the service is asked already. Another one stands in line. Says whether the
+    // client's turn goes on.
+    fn ask(
+        &mut self,
+        guard: &mut Guard,
+        client: u64,
+        tag: u64,
+        content: Vec<u8>,
+        now: Duration,
+    ) -> Result<bool, Broken>
+        ensures { OnOk result (IsAskedOrStands client tag content.items guard.old guard.new self.old.clients.entries self.new.clients.entries) }
+    {
         if guard.class(&content) == Class::New {
             return self.stand(client, tag, content, now);
         }
@@ -251,7 +268,9 @@ impl<'a, R: Files + Net + Clock> Daemon<'a, R> {
     }
 
     // What a client asks about is kept for the line of the answer, where there is a log.
-    pub(super) fn keep_note(&mut self, client: u64, tag: u64, label: Option<ByteList>, bytes: u64) {
+    pub(super) fn keep_note(&mut self, client: u64, tag: u64, label: Option<ByteList>, bytes: u64)
+        ensures { IsSilent self.old.clients.entries self.new.clients.entries }
+    {
         if self.recorder.is_none() {
             return;
         }
@@ -266,7 +285,9 @@ impl<'a, R: Files + Net + Clock> Daemon<'a, R> {
         client: u64,
         thing: turns::Thing,
         now: Duration,
-    ) -> Result<bool, Broken> {
+    ) -> Result<bool, Broken>
+        ensures { self.new.clients ≡ self.old.clients }
+    {
         match self.turns.parsed(client, thing, millis(now)) {
             Ok(Parsed::GoesOn) => Ok(true),
             Ok(Parsed::TurnEnds) => Ok(false),
@@ -281,14 +302,18 @@ impl<'a, R: Files + Net + Clock> Daemon<'a, R> {
         tag: u64,
         content: Vec<u8>,
         now: Duration,
-    ) -> Result<bool, Broken> {
+    ) -> Result<bool, Broken>
+        ensures { OnOk result (IsSilent self.old.clients.entries self.new.clients.entries) }
+    {
         let goes_on = self.count(client, turns::Thing::New { tag, content }, now)?;
         self.waits(client);
         Ok(goes_on)
     }
 
     // A client waits for one answer more.
-    pub(super) fn waits(&mut self, client: u64) {
+    pub(super) fn waits(&mut self, client: u64)
+        ensures { IsSilent self.old.clients.entries self.new.clients.entries }
+    {
         if let Some(who) = self.clients.get_mut(&client.saturating_add(FIRST)) {
             who.asked();
         }
@@ -337,7 +362,9 @@ impl<'a, R: Files + Net + Clock> Daemon<'a, R> {
         guard: &mut Guard,
         standing: Standing,
         now: Duration,
-    ) -> Result<(), Stop> {
+    ) -> Result<(), Stop>
+        ensures { OnOk result (IsAskedOrDenied standing self.old.mode guard.old self.old.clients.entries self.new.clients.entries) }
+    {
         let Standing {
             client,
             tag,

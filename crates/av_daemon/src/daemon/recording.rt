@@ -1,5 +1,7 @@
 //! What is said on standard error, and in the log of decisions.
 
+ghost use Rattle.std.specs.Prelude.{◌≡◌};
+
 use super::telling::Reply;
 use super::{Daemon, LOG, millis};
 use crate::log::send_lines;
@@ -43,7 +45,9 @@ impl<'a, R: Files + Net + Clock> Daemon<'a, R> {
     }
 
     // The log has a line of an answer, where there is a log and it has lines of such answers.
-    pub(super) fn record_told(&mut self, reply: Reply, way: Way, note: Option<Note>) {
+    pub(super) fn record_told(&mut self, reply: Reply, way: Way, note: Option<Note>)
+        ensures { self.new.clients ≡ self.old.clients }
+    {
         let judged = judged_of(reply.told);
         let is_logged = match &self.recorder {
             Some(recorder) => is_logged(recorder.logging.has_grants, judged),

@@ -1,7 +1,10 @@
 //! Contents that come in parts: they are relayed to the service as they come, over its second connection, and nothing of them is kept.
 
-ghost use Rattle.std.specs.Prelude.{◌≡◌};
+ghost use Rattle.std.specs.Prelude.{◌≡◌, OnOk};
 ghost use Rattle.av_daemon.specs.Relaying.{held, waits_behind};
+ghost use Rattle.av_daemon.specs.Telling.{AreTidings, connection_for};
+ghost use Rattle.av_peers.specs.Clients.{IsSilent, IsTold};
+ghost use Rattle.av_peers.specs.Told.{large_told};
 
 use super::asking::Broken;
 use super::sending::is_late;
@@ -190,7 +193,9 @@ impl<'a, R: Files + Net + Clock> Daemon<'a, R> {
     }
 
     // The contents of a client that is gone are dropped.
-    pub(super) fn drop_contents(&mut self, client: u64) -> Result<(), Stop> {
+    pub(super) fn drop_contents(&mut self, client: u64) -> Result<(), Stop>
+        ensures { OnOk result (self.new.clients ≡ self.old.clients) }
+    {
         let mut dropped = Vec::new(self.alloc);
         self.large.leave(client, &mut dropped)?;
         'contents: for number in dropped {
@@ -204,12 +209,9 @@ impl<'a, R: Files + Net + Clock> Daemon<'a, R> {
 
     // Hands on what an event of a content came to. One that is neither answered nor ended waits for its next bytes from now on, and one
     // that has ended for its verdict.
-    fn settle_content(
-        &mut self,
-        guard: &mut Guard,
-        event: Event,
-        now: Duration,
-    ) -> Result<(), Stop> {
+    fn settle_content(&mut self, guard: &mut Guard, event: Event, now: Duration) -> Result<(), Stop>
+        ensures { OnOk result (AreTidings event.told self.old.mode self.old.clients.entries self.new.clients.entries) }
+    {
         let client = event.client;
         let number = event.number;
         let goes_on = event.goes_on;
@@ -224,7 +226,9 @@ impl<'a, R: Files + Net + Clock> Daemon<'a, R> {
     }
 
     // An order for the service, if there is one, where its second connection is there.
-    fn order(&mut self, order: Option<Order<'_>>) -> Result<(), Stop> {
+    fn order(&mut self, order: Option<Order<'_>>) -> Result<(), Stop>
+        ensures { OnOk result (self.new.clients ≡ self.old.clients) }
+    {
         let Some(order) = order else {
             return Ok(());
         };
@@ -238,7 +242,9 @@ impl<'a, R: Files + Net + Clock> Daemon<'a, R> {
         }
     }
 
-    fn tell_content(&mut self, guard: &mut Guard, told: Told, now: Duration) -> Result<(), Stop> {
+    fn tell_content(&mut self, guard: &mut Guard, told: Told, now: Duration) -> Result<(), Stop>
+        ensures { OnOk result (IsTold (connection_for told.client) told.tag (large_told self.old.mode told.answer) self.old.clients.entries self.new.clients.entries) }
+    {
         let reply = Reply {
             client: told.client,
             tag: told.tag,
@@ -248,7 +254,10 @@ impl<'a, R: Files + Net + Clock> Daemon<'a, R> {
     }
 
     // A content is waited for no more. What still comes of it is passed over.
-    fn is_answered(&mut self, client: u64, number: u64) {
+    fn is_answered(&mut self, client: u64, number: u64)
+        ensures silent { IsSilent self.old.clients.entries self.new.clients.entries }
+        ensures mode { self.new.mode ≡ self.old.mode }
+    {
         self.contents.end(number);
         let Some(who) = self.clients.get_mut(&client.saturating_add(FIRST)) else {
             return;
@@ -263,7 +272,10 @@ impl<'a, R: Files + Net + Clock> Daemon<'a, R> {
     }
 
     // The line of the answer says how many bytes came, where there is a log.
-    fn count_note(&mut self, client: u64, open: Open) {
+    fn count_note(&mut self, client: u64, open: Open)
+        ensures silent { IsSilent self.old.clients.entries self.new.clients.entries }
+        ensures mode { self.new.mode ≡ self.old.mode }
+    {
         let Some(who) = self.clients.get_mut(&client.saturating_add(FIRST)) else {
             return;
         };

@@ -1,14 +1,20 @@
 //! What the guard gives out: messages for the service, and answers for clients.
 
+ghost use Rattle.std.specs.Prelude.{◌≡◌, IfSome, None, OnOk};
+ghost use Rattle.av_daemon.specs.Telling.{AreTold, connection_for};
+ghost use Rattle.av_peers.specs.Clients.{IsSilent, IsSilentBeside, IsTold, client_at};
+ghost use Rattle.av_peers.specs.declared.told.LargeTold.TheVariants.{Answered};
+
 use super::recording::{look, name_in};
 use super::{Daemon, FIRST, Stop, connection_of, millis};
+use crate::names::Names;
 use crate::recorder::judged_of;
 use av_frame::encode::encode_into;
 use av_frame::{Body, Message};
 use av_guard::{Given, Guard, Told};
 use av_log::{Note, Way};
 use av_peers::asked::Question;
-use av_peers::client::Lost;
+use av_peers::client::{Client, Lost};
 use av_peers::told::LargeTold;
 use std::collections::BTreeMap;
 use std::fs::Files;
@@ -17,19 +23,30 @@ use std::time::{Clock, Duration};
 
 impl<'a, R: Files + Net + Clock> Daemon<'a, R> {
     // Hands on what an event gave. A question that it asks is about what began to come at the moment `first`.
-    pub(super) fn settle(
-        &mut self,
-        guard: &mut Guard,
-        given: Given,
-        first: u64,
-    ) -> Result<(), Stop> {
-        let Given { told, messages } = given;
-        'messages: for message in messages.iter() {
+    pub(super) fn settle(&mut self, guard: &mut Guard, given: Given, first: u64) -> Result<(), Stop>
+        ensures { OnOk result (AreTold given.told.items self.old.clients.entries self.new.clients.entries) }
+    {
+        self.put_messages(&given.messages, first)?;
+        self.tell_each(guard, &given.told)
+    }
+
+    // The messages for the services.
+    fn put_messages(&mut self, messages: &[Message], first: u64) -> Result<(), Stop>
+        ensures { OnOk result (self.new.clients ≡ self.old.clients) }
+    {
+        'messages: for message in messages {
             self.put_message(message, first)?;
         }
+        Ok(())
+    }
+
+    // The answers for the clients.
+    fn tell_each(&mut self, guard: &mut Guard, told: &[Told]) -> Result<(), Stop>
+        ensures { OnOk result (AreTold told.now self.old.clients.entries self.new.clients.entries) }
+    {
         let now = self.now()?;
-        'told: for told in told {
-            self.tell(guard, Reply::from(told), now)?;
+        'told: for one in told {
+            self.tell(guard, Reply::from(*one), now)?;
         }
         Ok(())
     }
@@ -42,23 +59,23 @@ impl<'a, R: Files + Net + Clock> Daemon<'a, R> {
         given: Given,
         firsts: &BTreeMap<u64, u64>,
         now: Duration,
-    ) -> Result<(), Stop> {
-        let Given { told, messages } = given;
-        'messages: for message in messages.iter() {
+    ) -> Result<(), Stop>
+        ensures { OnOk result (AreTold given.told.items self.old.clients.entries self.new.clients.entries) }
+    {
+        'messages: for message in given.messages.iter() {
             let first = match message.body() {
                 Body::Scan { stream, .. } => firsts.get(&stream.get()).copied(),
                 _ => None,
             };
             self.put_message(message, first.unwrap_or(millis(now)))?;
         }
-        'told: for told in told {
-            self.tell(guard, Reply::from(told), now)?;
-        }
-        Ok(())
+        self.tell_each(guard, &given.told)
     }
 
     // A message for the service of a port, where it is still there.
-    fn put_message(&mut self, message: &Message, first: u64) -> Result<(), Stop> {
+    fn put_message(&mut self, message: &Message, first: u64) -> Result<(), Stop>
+        ensures { OnOk result (self.new.clients ≡ self.old.clients) }
+    {
         let connection = connection_of(message.port());
         match message.body() {
             Body::Scan {
@@ -96,17 +113,19 @@ impl<'a, R: Files + Net + Clock> Daemon<'a, R> {
         guard: &mut Guard,
         reply: Reply,
         now: Duration,
-    ) -> Result<(), Stop> {
+    ) -> Result<(), Stop>
+        ensures { OnOk result (IsTold (connection_for reply.client) reply.tag reply.told self.old.clients.entries self.new.clients.entries) }
+    {
         let who = reply.client;
         let connection = who.saturating_add(FIRST);
-        let note = self.take_note(connection, reply.tag);
-        let way = self.way_of(connection);
         let Some((done, bytes)) = self.put_told(connection, &reply) else {
             return Ok(());
         };
         if done.is_err() {
             return self.lose(guard, who);
         }
+        let note = self.take_note(connection, reply.tag);
+        let way = self.way_of(connection);
         self.counts.told(judged_of(reply.told));
         self.record_told(reply, way, note);
         self.turns.answered(who, bytes as u64, millis(now))?;
@@ -114,7 +133,9 @@ impl<'a, R: Files + Net + Clock> Daemon<'a, R> {
     }
 
     // What a client asked about under a tag, where that was kept.
-    fn take_note(&mut self, connection: u64, tag: u64) -> Option<Note> {
+    fn take_note(&mut self, connection: u64, tag: u64) -> Option<Note>
+        ensures { IsSilent self.old.clients.entries self.new.clients.entries }
+    {
         self.clients.get_mut(&connection)?.notes.take(tag)
     }
 
@@ -127,18 +148,29 @@ impl<'a, R: Files + Net + Clock> Daemon<'a, R> {
     }
 
     // Puts an answer to what a client is sent, and says how many bytes that took.
-    fn put_told(&mut self, connection: u64, reply: &Reply) -> Option<(Result<(), Lost>, usize)> {
+    fn put_told(&mut self, connection: u64, reply: &Reply) -> Option<(Result<(), Lost>, usize)>
+        ensures told { IfSome result (λ done. OnOk done.0 (IsTold connection reply.now.tag reply.now.told self.old.clients.entries self.new.clients.entries)) }
+        ensures others { IsSilentBeside connection self.old.clients.entries self.new.clients.entries }
+        ensures nobody { result ≡ None → (client_at connection self.old.clients.entries ≡ None) × (self.new.clients ≡ self.old.clients) }
+    {
         let client = self.clients.get_mut(&connection)?;
         let before = client.line.waiting();
-        let done = if client.is_of_clamd() {
+        if client.is_of_clamd() {
             look(&mut self.names, self.rt, self.alloc, reply.told);
-            let name = name_in(&self.names, reply.told);
-            client.tell(reply.tag, reply.told, name)
-        } else {
-            client.tell(reply.tag, reply.told, None)
-        };
+        }
+        let name = name_for(client, &self.names, reply.told);
+        let done = client.tell(reply.tag, reply.told, name);
         let bytes = client.line.waiting().saturating_sub(before);
         Some((done, bytes))
+    }
+}
+
+// The name that a client gets with an answer: one of clamd alone gets one.
+fn name_for<'n>(client: &Client, names: &'n Names<'_>, told: LargeTold) -> Option<&'n [u8]> {
+    if client.is_of_clamd() {
+        name_in(names, told)
+    } else {
+        None
     }
 }
 
@@ -151,7 +183,9 @@ pub(super) struct Reply {
 }
 
 impl From<Told> for Reply {
-    fn from(told: Told) -> Reply {
+    fn from(told: Told) -> Reply
+        ensures { result ≡ record { client = told.client; tag = told.tag; told = Answered told.answer } }
+    {
         Reply {
             client: told.client,
             tag: told.tag,

@@ -1,0 +1,8 @@
+use Rattle.std.proofs.Common.{ℕ, List, drop}
+use Rattle.av_peers.specs.declared.client.Client.{Client}
+use Rattle.av_daemon.specs.Telling.{AreTold}
+use Rattle.av_daemon.proofs.daemon.Daemon.tell_each.Given as goal
+
+-- what is told of the answers that are left is told of all
+abbrev pub invariant-told : goal.invariant-told
+invariant-told g l = (new : List (ℕ × Client)) → AreTold (drop l.one-index l.told) l.self.clients.entries new → AreTold l.told l.initial.self.clients.entries new
