@@ -1,26 +1,23 @@
 -- A walk that passes what is no find, and the stops that tell it.
-use Rattle.std.proofs.Common.{ℕ, suc, ◌≡◌, ◌≤◌, ◌<◌, ◌+◌, ◌-◌, ◌*◌, ◌==◌, Bool, true, false, List, [], ◌∷◌, ◌++◌, length, take, drop, slice_index, None, Some, refl, sym, ◌∙◌, ap, ap₂, arith, eqb-true, if◌then◌else◌, drop-drop, inl, inr, ◌&&◌, nat_lt, slice_index_or, lt-ltb, le-ltb, length-drop, length-take-le, take-append-drop}
-use Rattle.std.proofs.lemmas.Bool.{and_parts, and_from, cases_lt, true≢false, and_right}
-use Rattle.std.proofs.lemmas.Bool.Decides.{nat_tests}
-use Rattle.std.proofs.lemmas.List.{take_all, length-map, get_or-map}
+use Rattle.std.proofs.Common.{ℕ, suc, ◌≡◌, ◌≤◌, ◌<◌, ◌+◌, ◌-◌, ◌*◌, ◌==◌, Bool, true, false, List, [], ◌∷◌, ◌++◌, length, take, drop, slice_index, None, Some, refl, sym, ◌∙◌, ap, ap₂, arith, eqb-true, if◌then◌else◌, drop-drop, inl, inr, ◌&&◌, nat_lt, lt-ltb, le-ltb, length-drop, length-take-le, take-append-drop}
+use Rattle.std.proofs.lemmas.Bool.{cases_lt, and_right}
 use Rattle.av_base.specs.declared.verdict.Verdict.TheVariants.{Infected}
 use Rattle.av_sigset.specs.declared.signature.Pattern.{Pattern}
-use Rattle.av_match.specs.Longest.{longest, is_end}
-use Rattle.av_match.specs.Part.{AllPatterns, IsAutomaton, IsPart, number_of}
+use Rattle.av_match.specs.Longest.{longest}
+use Rattle.av_match.specs.Part.{IsAutomaton, IsPart}
 use Rattle.av_match.specs.Ranged.{IsHorizon, IsStop, found_or, reach_find}
 use Rattle.av_match.specs.Reach.{reach}
 use Rattle.av_match.specs.Scanning.{are_bound, index_of, is_past, state_words, resting, word_after, moved, step, run, landed}
-use Rattle.av_match.specs.Search.{bytes_of, find_at, index_at, occurs_at}
+use Rattle.av_match.specs.Search.{bytes_of, find_at, index_at}
 use Rattle.av_match.specs.Words.{word_at, is_word, AllBytes}
 use Rattle.av_match.specs.declared.cells.Reached.{Reached}
 use Rattle.av_match.specs.declared.cells.Reached.TheVariants.{Through, Hit}
-use Rattle.av_match.proofs.DeadLemmas.{index_none}
-use Rattle.av_match.proofs.OccursLemmas.{end_is, is_end-from, occurs-is_end, find_same, find_silent, same_from}
+use Rattle.av_match.proofs.OccursLemmas.{find_silent}
 use Rattle.av_match.proofs.ReachLemmas.{gives_at}
 use Rattle.av_match.proofs.RunLemmas.{index_found, moved_is, rests_bound, step_open, number_none}
 use Rattle.av_match.proofs.SpanLemmas.{open_before, and_true}
 use Rattle.av_match.proofs.TableLemmas.{landed_at, rested_run, run_found, searching, found}
-use Rattle.av_match.proofs.WordLemmas.{false_from, is_word-at}
+use Rattle.av_match.proofs.WordLemmas.{is_word-at}
 
 -- two walks one after the other
 pub finds_joined : (ps : List Pattern) (cells : List ℕ) (fed : ℕ) (v w : List ℕ) (s k m : ℕ) → reach_find ps cells fed s k v ≡ Through m → reach_find ps cells fed s k (v ++ w) ≡ reach_find ps cells fed m (k + length v) w
@@ -117,99 +114,6 @@ module _ (ps : List Pattern) (cells : List ℕ) (part : IsPart (state_words ps) 
         (finds_run w version total fed (resting ps node) 0 fed small l (omega arith) early)
 
 -- ---- stops
-
--- an end of an end is an end, and of two ends the shorter is one of the longer
-pub end_of_end : (p q w : List ℕ) → is_end p w ≡ true → is_end q p ≡ true → is_end q w ≡ true
-end_of_end p q w e f =
-    let big = end_is p w e in
-    let low = end_is q p f in
-    let sum : (length w - length p) + (length p - length q) ≡ length w - length q = (let a = big.0 in let b = low.0 in omega arith) in
-    is_end-from q w (let a = big.0 in let b = low.0 in omega arith)
-    (ap (λ n. drop n w) (sym sum) ∙ sym (drop-drop (length p - length q) (length w - length p) w) ∙ ap (drop (length p - length q)) big.1 ∙ low.1)
-
-pub shorter_end : (p q w : List ℕ) → is_end p w ≡ true → is_end q w ≡ true → length q ≤ length p → is_end q p ≡ true
-shorter_end p q w e f short =
-    let big = end_is p w e in
-    let low = end_is q w f in
-    let sum : (length w - length p) + (length p - length q) ≡ length w - length q = (let a = big.0 in let b = low.0 in omega arith) in
-    is_end-from q p short (ap (drop (length p - length q)) (sym big.1) ∙ drop-drop (length p - length q) (length w - length p) w ∙ ap (λ n. drop n w) sum ∙ low.1)
-
-whole_end : (p w : List ℕ) → occurs_at p w (length w) ≡ is_end p w
-whole_end p w = occurs-is_end p w (length w) (omega arith) ∙ ap (is_end p) (take_all (length w) w (omega arith))
-
--- the longest pattern that ends a word has the word's finds
-pub longest_stop : (ps : List Pattern) (p w : List ℕ) (e : ℕ) → occurs_at p w (length w) ≡ true
-    → ((j : ℕ) → j < length ps → occurs_at (word_at (bytes_of ps) j) w (length w) ≡ true → length (word_at (bytes_of ps) j) ≤ length p)
-    → find_at 0 ps p (length p) e ≡ find_at 0 ps w (length w) e
-longest_stop ps p w e ends most =
-    let is : is_end p w ≡ true = sym (whole_end p w) ∙ ends in
-    find_same 0 ps p w (length p) (length w) e (λ j l.
-    let q = word_at (bytes_of ps) j in
-    whole_end q p
-    ∙ same_from (is_end q p) (is_end q w) (λ f. end_of_end p q w is f) (λ f. shorter_end p q w is f (most j l (whole_end q w ∙ f)))
-    ∙ sym (whole_end q w))
-
--- of the first patterns that end a word the longest, counted from 1, or 0 where none does
-pub record IsBest (ps : List Pattern) (w : List ℕ) (i best longest : ℕ) : Type 0 where
-  pub within : best ≤ i
-  pub none : best ≡ 0 → longest ≡ 0
-  pub ends : 0 < best → occurs_at (word_at (bytes_of ps) (best - 1)) w (length w) ≡ true
-  pub long : 0 < best → length (word_at (bytes_of ps) (best - 1)) ≡ longest
-  pub most : (j : ℕ) → j < i → occurs_at (word_at (bytes_of ps) j) w (length w) ≡ true → length (word_at (bytes_of ps) j) ≤ longest
-
-pub bytes_at : (ps : List Pattern) (i : ℕ) (p d : Pattern) → i < length ps → p ≡ slice_index_or ps i d → word_at (bytes_of ps) i ≡ p.bytes
-bytes_at ps i p d l e = get_or-map (λ (q : Pattern). q.bytes) ps i d [] l ∙ sym (ap (λ (q : Pattern). q.bytes) e)
-
-module _ (ps : List Pattern) (w p : List ℕ) (i best longest : ℕ) (was : IsBest ps w i best longest) (is : word_at (bytes_of ps) i ≡ p) where
-  pub best_more : (nat_lt longest (length p) && occurs_at p w (length w)) ≡ true → IsBest ps w (i + 1) (i + 1) (length p)
-  best_more test =
-      let parts = and_parts (nat_lt longest (length p)) (occurs_at p w (length w)) test in
-      let above : nat_lt longest (length p) ≡ true = parts.0 in
-      let more : longest < length p = grind (arith, nat_tests) in
-      let last : i + 1 - 1 ≡ i = omega arith in
-      record {
-        within = omega arith;
-        none = λ e. absurd (omega arith);
-        ends = λ l. ap (λ n. occurs_at (word_at (bytes_of ps) n) w (length w)) last ∙ ap (λ q. occurs_at q w (length w)) is ∙ parts.1;
-        long = λ l. ap (λ n. length (word_at (bytes_of ps) n)) last ∙ ap length is;
-        most = λ j l e. elim (cases_lt j i) [
-          | inl before ↦ let low = was.most j before e in omega arith
-          | inr here ↦ let same : j ≡ i = omega arith in omega (arith, ap (λ n. length (word_at (bytes_of ps) n)) same, ap length is)
-        ];
-      }
-
-  pub best_same : (nat_lt longest (length p) && occurs_at p w (length w)) ≡ false → IsBest ps w (i + 1) best longest
-  best_same test =
-      record {
-        within = (let low = was.within in omega arith);
-        none = was.none;
-        ends = was.ends;
-        long = was.long;
-        most = λ j l e. elim (cases_lt j i) [
-          | inl before ↦ was.most j before e
-          | inr here ↦
-              let same : j ≡ i = omega arith in
-              let ends : occurs_at p w (length w) ≡ true = ap (λ q. occurs_at q w (length w)) (sym is) ∙ ap (λ n. occurs_at (word_at (bytes_of ps) n) w (length w)) (sym same) ∙ e in
-              let size : length (word_at (bytes_of ps) j) ≡ length p = ap (λ n. length (word_at (bytes_of ps) n)) same ∙ ap length is in
-              elim (cases_lt longest (length p)) [
-                | inl less ↦ absurd (true≢false (sym (and_from (nat_lt longest (length p)) (occurs_at p w (length w)) (lt-ltb _ _ less) ends) ∙ test))
-                | inr most ↦ omega (arith, size)
-              ]
-        ];
-      }
-
-pub best_stop : (ps : List Pattern) (w : List ℕ) (i best longest : ℕ) → AllPatterns (bytes_of ps) → i ≡ length ps → IsBest ps w i best longest → IsStop ps w best
-best_stop ps w i best longest solid whole b =
-    let size : length (bytes_of ps) ≡ length ps = length-map ps (λ (q : Pattern). q.bytes) in
-    record {
-      none = λ e. ap number_of (index_none 0 (bytes_of ps) w (length w) (λ j l. false_from (occurs_at (word_at (bytes_of ps) j) w (length w)) (λ h. (
-          let low = b.most j (omega (arith, size, whole)) h in
-          let some = (solid j l).0 in
-          let zero_long = b.none e in
-          omega arith))));
-      inside = λ l. (let low = b.within in omega arith);
-      same = λ l e. longest_stop ps (word_at (bytes_of ps) (best - 1)) w e (b.ends l) (λ j k h. (let low = b.most j (omega (arith, whole)) h in let long = b.long l in omega arith));
-    }
 
 -- a state whose stop is 0 has no find
 pub stop_none : (ps : List Pattern) (w : List ℕ) (n e : ℕ) → IsStop ps w n → n ≡ 0 → find_at 0 ps w (length w) e ≡ None

@@ -13,6 +13,7 @@ pub mod Scanning
 pub mod Search
 pub mod Shifts
 pub mod Shorts
+pub mod States
 pub mod Step
 pub mod Tables
 pub mod Words

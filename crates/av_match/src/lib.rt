@@ -15,6 +15,7 @@ mod endings;
 mod lanes;
 pub mod laws;
 mod leaps;
+mod outputs;
 mod parts;
 mod pieces;
 pub mod plain;

@@ -6,6 +6,7 @@ ghost use Rattle.av_match.specs.Ranged.{AreStops, IsHorizon, IsRanged, IsRangedO
 ghost use Rattle.av_match.specs.Reach.{place_of, reach};
 ghost use Rattle.av_match.specs.Scanning.{are_bound, is_bound, state_words};
 ghost use Rattle.av_match.specs.Search.{bytes_of, find_at, occurs_at};
+ghost use Rattle.av_match.specs.States.{AreFails, AreOwn};
 ghost use Rattle.av_match.specs.Tables.{AreTables, AreTablesOf};
 ghost use Rattle.av_match.specs.Words.{word_at, AllBytes};
 ghost use Rattle.av_match.specs.declared.cells.Reached.TheVariants.{Through};
@@ -13,12 +14,11 @@ ghost use Rattle.av_match.specs.declared.cells.Reached.TheVariants.{Through};
 use crate::cells::Reached;
 use crate::credit::Patience;
 use crate::endings::{Endings, endings_of};
+use crate::outputs::stops_of;
 use crate::pieces::{PIECE, piece_state};
-use crate::plain::occurs;
 use crate::quiet::quiet_piece;
 use crate::reach::Position;
 use crate::tables::Tables;
-use av_base::ByteList;
 use av_sigset::signature::MAX_PLACE;
 use av_sigset::{Pattern, Span};
 use std::alloc::{AllocError, Global};
@@ -70,66 +70,31 @@ pub fn horizon_of(patterns: &[Pattern]) -> Option<u64>
     Some(horizon)
 }
 
-/// What is kept of these patterns, of which these are the rows before those of states that give something out led to
-/// themselves. Nothing where none is bound.
+/// What is kept of these patterns. The cells are the rows before those of states that give something out led to themselves;
+/// own and fails are each state's own number and its fail. Nothing where no pattern is bound.
 pub fn ranged_of(
     alloc: Global,
     patterns: &[Pattern],
-    words: &[ByteList],
     cells: &[u16],
+    own: &[u16],
+    fails: &[u16],
 ) -> Result<Option<Ranged>, AllocError>
     requires patterns { ArePatterns (bytes_of patterns.now) }
-    requires words { words.now ≡ state_words patterns.now }
-    requires part { IsPart words.now cells.now (length words.now) }
+    requires part { IsPart (state_words patterns.now) cells.now (length (state_words patterns.now)) }
+    requires own { AreOwn (bytes_of patterns.now) (state_words patterns.now) own.now }
+    requires fails { AreFails (state_words patterns.now) (length (state_words patterns.now)) fails.now }
     ensures { IfOk result (λ r. IsRangedOf patterns.now r) }
 {
     if !are_bound(patterns) {
         return Ok(None);
     }
-    let stops = stops_of(alloc, patterns, words)?;
+    let stops = stops_of(alloc, own, fails)?;
     let endings = endings_of(alloc, patterns, stops.as_slice())?;
     Ok(Some(Ranged {
         cells: cells.to_vec(alloc)?,
         stops,
         endings,
     }))
-}
-
-// The longest pattern that ends each word.
-fn stops_of(alloc: Global, patterns: &[Pattern], words: &[ByteList]) -> Result<Vec<u16>, AllocError>
-    requires patterns { ArePatterns (bytes_of patterns.now) }
-    requires words { words.now ≡ state_words patterns.now }
-    ensures { IfOk result (λ s. AreStops patterns.now s.items) }
-{
-    let mut stops = Vec::with_capacity(alloc, words.len())?;
-    for word in words {
-        stops.push(stop_of(patterns, word.as_slice()))?;
-    }
-    Ok(stops)
-}
-
-// The number of the longest pattern that ends a word, counted from 1, and 0 where none does.
-fn stop_of(patterns: &[Pattern], word: &[u8]) -> u16
-    requires patterns { ArePatterns (bytes_of patterns.now) }
-    ensures { IsStop patterns.now word.now result }
-{
-    let mut best = 0usize;
-    let mut longest = 0usize;
-    for index in 0..patterns.len() {
-        let bytes = patterns[index].bytes.as_slice();
-        if is_longer(longest, bytes, word) {
-            best = index + 1;
-            longest = bytes.len();
-        }
-    }
-    best as u16
-}
-
-// Whether bytes are more than so many and end a word.
-fn is_longer(longest: usize, bytes: &[u8], word: &[u8]) -> bool
-    ensures { result ≡ (nat_lt longest (length bytes.now) && occurs_at bytes.now word.now (length word.now)) }
-{
-    longest < bytes.len() && occurs(bytes, word, word.len())
 }
 
 /// What a walk goes by: the patterns, and what is kept of them.
