@@ -3,6 +3,7 @@
 ghost use Rattle.std.specs.Prelude.{◌≡◌, OnOk};
 ghost use Rattle.av_daemon.specs.Telling.{connection_for};
 ghost use Rattle.av_peers.specs.Clients.{IsLost};
+ghost use Rattle.av_daemon.specs.Passing.{KeepsFilter};
 
 use super::{AT_ONCE, Daemon, FIRST, Stop, millis};
 use crate::door::Door;
@@ -90,7 +91,8 @@ impl<'a, R: Files + Net + Clock> Daemon<'a, R> {
 
     // A client is gone, of which the turns know already: it is told nothing any more, and what it began is dropped.
     pub(super) fn remove(&mut self, guard: &mut Guard, client: u64) -> Result<(), Stop>
-        ensures { OnOk result (IsLost (connection_for client) self.old.clients.entries self.new.clients.entries) }
+        ensures guard { OnOk result (KeepsFilter guard.old guard.new) }
+        ensures clients { OnOk result (IsLost (connection_for client) self.old.clients.entries self.new.clients.entries) }
     {
         guard.client_lost(client);
         self.watches.forget(client);
@@ -105,7 +107,8 @@ impl<'a, R: Files + Net + Clock> Daemon<'a, R> {
 
     // A client is gone.
     pub(super) fn lose(&mut self, guard: &mut Guard, client: u64) -> Result<(), Stop>
-        ensures { OnOk result (IsLost (connection_for client) self.old.clients.entries self.new.clients.entries) }
+        ensures guard { OnOk result (KeepsFilter guard.old guard.new) }
+        ensures clients { OnOk result (IsLost (connection_for client) self.old.clients.entries self.new.clients.entries) }
     {
         self.turns.closed(client);
         self.remove(guard, client)

@@ -1,5 +1,8 @@
 //! What comes from the scanning services.
 
+ghost use Rattle.std.specs.Prelude.{OnOk};
+ghost use Rattle.av_daemon.specs.Passing.{IsGiven, IsToldOfLosses};
+
 use super::{Daemon, PORTS, Stop, connection_of, millis, place_of};
 use av_arrival::{TurnedAway, put_refusal};
 use av_base::Port;
@@ -98,7 +101,9 @@ impl<'a, R: Files + Net + Clock> Daemon<'a, R> {
         port: Port,
         message: &Message,
         now: Duration,
-    ) -> Result<Stay, Stop> {
+    ) -> Result<Stay, Stop>
+        ensures { OnOk result (IsGiven message.now guard.old guard.new) }
+    {
         if message.port() != port {
             self.lose_service(guard, port, now)?;
             return Ok(Stay::IsLost);
@@ -178,7 +183,9 @@ impl<'a, R: Files + Net + Clock> Daemon<'a, R> {
 
     // The service that is asked first has to have the newest set, since its verdicts would grant nothing: else it is turned away.
     // Whether the service of this port stays.
-    fn end_outdated(&mut self, guard: &mut Guard, port: Port, now: Duration) -> Result<Stay, Stop> {
+    fn end_outdated(&mut self, guard: &mut Guard, port: Port, now: Duration) -> Result<Stay, Stop>
+        ensures { OnOk result (IsToldOfLosses guard.old guard.new) }
+    {
         let asked = if guard.connected(Port::One) {
             Port::One
         } else {
@@ -208,7 +215,9 @@ impl<'a, R: Files + Net + Clock> Daemon<'a, R> {
         claim: &Claim,
         why: TurnedAway,
         now: Duration,
-    ) -> Result<(), Stop> {
+    ) -> Result<(), Stop>
+        ensures { OnOk result (IsToldOfLosses guard.old guard.new) }
+    {
         if let Some(entry) = refused(claim, &why) {
             self.happened(&entry);
         }
@@ -231,7 +240,9 @@ impl<'a, R: Files + Net + Clock> Daemon<'a, R> {
         guard: &mut Guard,
         port: Port,
         now: Duration,
-    ) -> Result<(), Stop> {
+    ) -> Result<(), Stop>
+        ensures { OnOk result (IsToldOfLosses guard.old guard.new) }
+    {
         let mut firsts = BTreeMap::new(self.alloc);
         if let Some(mut service) = self.services.remove(&connection_of(port)) {
             'questions: for _ in 0..u64::MAX {

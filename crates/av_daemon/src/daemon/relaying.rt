@@ -5,6 +5,7 @@ ghost use Rattle.av_daemon.specs.Relaying.{held, waits_behind};
 ghost use Rattle.av_daemon.specs.Telling.{AreTidings, connection_for};
 ghost use Rattle.av_peers.specs.Clients.{IsSilent, IsTold};
 ghost use Rattle.av_peers.specs.Told.{large_told};
+ghost use Rattle.av_daemon.specs.Passing.{KeepsFilter};
 
 use super::asking::Broken;
 use super::sending::is_late;
@@ -210,7 +211,8 @@ impl<'a, R: Files + Net + Clock> Daemon<'a, R> {
     // Hands on what an event of a content came to. One that is neither answered nor ended waits for its next bytes from now on, and one
     // that has ended for its verdict.
     fn settle_content(&mut self, guard: &mut Guard, event: Event, now: Duration) -> Result<(), Stop>
-        ensures { OnOk result (AreTidings event.told self.old.mode self.old.clients.entries self.new.clients.entries) }
+        ensures guard { OnOk result (KeepsFilter guard.old guard.new) }
+        ensures told { OnOk result (AreTidings event.told self.old.mode self.old.clients.entries self.new.clients.entries) }
     {
         let client = event.client;
         let number = event.number;
@@ -243,7 +245,8 @@ impl<'a, R: Files + Net + Clock> Daemon<'a, R> {
     }
 
     fn tell_content(&mut self, guard: &mut Guard, told: Told, now: Duration) -> Result<(), Stop>
-        ensures { OnOk result (IsTold (connection_for told.client) told.tag (large_told self.old.mode told.answer) self.old.clients.entries self.new.clients.entries) }
+        ensures guard { OnOk result (KeepsFilter guard.old guard.new) }
+        ensures told { OnOk result (IsTold (connection_for told.client) told.tag (large_told self.old.mode told.answer) self.old.clients.entries self.new.clients.entries) }
     {
         let reply = Reply {
             client: told.client,
@@ -513,7 +516,9 @@ impl<'a, R: Files + Net + Clock> Daemon<'a, R> {
     }
 
     // It is gone: each content without an answer is told so, and who waited for it is read again.
-    pub(super) fn lose_parts(&mut self, guard: &mut Guard, now: Duration) -> Result<(), Stop> {
+    pub(super) fn lose_parts(&mut self, guard: &mut Guard, now: Duration) -> Result<(), Stop>
+        ensures guard { OnOk result (KeepsFilter guard.old guard.new) }
+    {
         if self.parts.is_none() {
             return Ok(());
         }

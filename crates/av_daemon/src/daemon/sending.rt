@@ -2,6 +2,9 @@
 
 ghost use Rattle.std.specs.Prelude.{◌≡◌};
 ghost use Rattle.av_daemon.specs.Late.{is_late};
+ghost use Rattle.std.specs.Prelude.{◌∷◌, [], OnOk};
+ghost use Rattle.av_daemon.specs.Passing.{ArePassed};
+ghost use Rattle.av_filter.specs.Conduct.{TimesOut};
 
 use super::telling::Reply;
 use super::{
@@ -98,7 +101,9 @@ impl<'a, R: Files + Net + Clock> Daemon<'a, R> {
     }
 
     // The time of a question is up, which counts as a miss of the service that was asked.
-    fn end_question(&mut self, guard: &mut Guard, seq: u64, now: Duration) -> Result<(), Stop> {
+    fn end_question(&mut self, guard: &mut Guard, seq: u64, now: Duration) -> Result<(), Stop>
+        ensures { OnOk result (ArePassed (TimesOut seq ∷ []) guard.old guard.new) }
+    {
         'ports: for port in PORTS {
             if self.was_asked(port, seq) {
                 self.turns.missed(place_of(port));

@@ -4,6 +4,7 @@ ghost use Rattle.std.specs.Prelude.{◌≡◌, IfSome, None, OnOk};
 ghost use Rattle.av_daemon.specs.Telling.{AreTold, connection_for};
 ghost use Rattle.av_peers.specs.Clients.{IsSilent, IsSilentBeside, IsTold, client_at};
 ghost use Rattle.av_peers.specs.declared.told.LargeTold.TheVariants.{Answered};
+ghost use Rattle.av_daemon.specs.Passing.{KeepsFilter};
 
 use super::recording::{look, name_in};
 use super::{Daemon, FIRST, Stop, connection_of, millis};
@@ -24,7 +25,8 @@ use std::time::{Clock, Duration};
 impl<'a, R: Files + Net + Clock> Daemon<'a, R> {
     // Hands on what an event gave. A question that it asks is about what began to come at the moment `first`.
     pub(super) fn settle(&mut self, guard: &mut Guard, given: Given, first: u64) -> Result<(), Stop>
-        ensures { OnOk result (AreTold given.told.items self.old.clients.entries self.new.clients.entries) }
+        ensures guard { OnOk result (KeepsFilter guard.old guard.new) }
+        ensures told { OnOk result (AreTold given.told.items self.old.clients.entries self.new.clients.entries) }
     {
         self.put_messages(&given.messages, first)?;
         self.tell_each(guard, &given.told)
@@ -42,7 +44,8 @@ impl<'a, R: Files + Net + Clock> Daemon<'a, R> {
 
     // The answers for the clients.
     fn tell_each(&mut self, guard: &mut Guard, told: &[Told]) -> Result<(), Stop>
-        ensures { OnOk result (AreTold told.now self.old.clients.entries self.new.clients.entries) }
+        ensures guard { OnOk result (KeepsFilter guard.old guard.new) }
+        ensures told { OnOk result (AreTold told.now self.old.clients.entries self.new.clients.entries) }
     {
         let now = self.now()?;
         'told: for one in told {
@@ -60,7 +63,8 @@ impl<'a, R: Files + Net + Clock> Daemon<'a, R> {
         firsts: &BTreeMap<u64, u64>,
         now: Duration,
     ) -> Result<(), Stop>
-        ensures { OnOk result (AreTold given.told.items self.old.clients.entries self.new.clients.entries) }
+        ensures guard { OnOk result (KeepsFilter guard.old guard.new) }
+        ensures told { OnOk result (AreTold given.told.items self.old.clients.entries self.new.clients.entries) }
     {
         'messages: for message in given.messages.iter() {
             let first = match message.body() {
@@ -114,7 +118,8 @@ impl<'a, R: Files + Net + Clock> Daemon<'a, R> {
         reply: Reply,
         now: Duration,
     ) -> Result<(), Stop>
-        ensures { OnOk result (IsTold (connection_for reply.client) reply.tag reply.told self.old.clients.entries self.new.clients.entries) }
+        ensures guard { OnOk result (KeepsFilter guard.old guard.new) }
+        ensures told { OnOk result (IsTold (connection_for reply.client) reply.tag reply.told self.old.clients.entries self.new.clients.entries) }
     {
         let who = reply.client;
         let connection = who.saturating_add(FIRST);

@@ -1,5 +1,8 @@
 //! Clients that want to be told of a newer version.
 
+ghost use Rattle.std.specs.Prelude.{OnOk};
+ghost use Rattle.av_daemon.specs.Passing.{KeepsFilter};
+
 use super::asking::Broken;
 use super::{Daemon, FIRST, Stop, millis};
 use av_guard::Guard;
@@ -28,7 +31,9 @@ impl<'a, R: Files + Net + Clock> Daemon<'a, R> {
     }
 
     // Tells each client that waits for a newer version than it named, where the guard's is newer now.
-    pub(super) fn tell_newer(&mut self, guard: &mut Guard, now: Duration) -> Result<(), Stop> {
+    pub(super) fn tell_newer(&mut self, guard: &mut Guard, now: Duration) -> Result<(), Stop>
+        ensures guard { OnOk result (KeepsFilter guard.old guard.new) }
+    {
         let floor = guard.floor();
         'watches: for _ in 0..u64::MAX {
             let Some(client) = self.watches.next(floor.get()) else {

@@ -5,8 +5,8 @@ use Rattle.av_daemon.specs.Telling.{connection_for}
 use Rattle.av_daemon.proofs.TellingLemmas.{told_well}
 use Rattle.av_daemon.proofs.daemon.Daemon.tell.Goals as goal
 
-pub returns : goal.returns
-returns g c =
+pub returns-clause-told : goal.returns-clause-told
+returns-clause-told g c =
     let Told = λ (n : ℕ). IsTold n c.args.reply.tag c.args.reply.told c.args.self.now.clients.entries in
     let Tells = Told (connection_for c.args.reply.client) in
     let connection : c.saturating_add-connection.result ≡ connection_for c.args.reply.client = search rules in
