@@ -1,5 +1,6 @@
 //! A file that was judged, moved into a folder on its file system.
-ghost use Rattle.std.specs.Prelude.{◌≡◌, ◌≢◌, ◌↔◌, IfErr};
+ghost use Rattle.std.specs.Prelude.{◌≡◌, ◌≢◌, ◌↔◌, IfErr, IfOk, string_bytes};
+ghost use Rattle.av_quarantine.specs.Naming.{IsLinked, IsMovedTo, IsTried};
 ghost use Rattle.av_quarantine.specs.declared.steps.Outcome.TheVariants.{Done, Elsewhere, Taken};
 ghost use Rattle.av_status.specs.Status.{IsFault};
 ghost use Rattle.av_status.specs.declared.status.Status.TheVariants.{Device};
@@ -35,7 +36,8 @@ pub fn move_into<R: Files, E: Write>(
     folder: &str,
     err: &mut E,
 ) -> Result<String, Status>
-    ensures { IfErr result (λ status. IsFault status) }
+    ensures moved { IfOk result (λ new. IsMovedTo folder.now file.entry.path.now (string_bytes new)) }
+    ensures failed { IfErr result (λ status. IsFault status) }
 {
     let Some(name) = Path::new(file.path).file_name() else {
         return Err(not_moved(alloc, file.path, MoveFault::NotRegular, None, err));
@@ -95,7 +97,14 @@ struct Names<'a, R> {
 }
 
 impl<'a, R: Files> Disk for Names<'a, R> {
+    ghost use Rattle.std.specs.Prelude.{string_bytes};
+    ghost use Rattle.av_quarantine.specs.Naming.{IsNamedAt};
+
     ghost step_of = { λ names. names.step };
+
+    ghost place = { λ names. (names.folder.now, names.name.now) };
+
+    ghost is_well = { λ names. IsNamedAt names.folder.now names.name.now names.step (string_bytes names.new_path) };
 
     fn step(&self) -> Step {
         self.step
@@ -111,7 +120,9 @@ impl<'a, R: Files> Disk for Names<'a, R> {
 impl<'a, R: Files> Names<'a, R> {
     // What comes of a step on the disk.
     fn tried(&mut self, step: Step) -> Outcome
-        ensures { self.new.step ≡ self.old.step }
+        ensures step { self.new.step ≡ self.old.step }
+        ensures into { (self.new.folder ≡ self.old.folder) × (self.new.name ≡ self.old.name) }
+        ensures path { IsTried self.old.folder.now self.old.name.now step result (string_bytes self.old.new_path) (string_bytes self.new.new_path) }
     {
         match step {
             Step::Link { number } => self.link(number),
@@ -124,7 +135,9 @@ impl<'a, R: Files> Names<'a, R> {
 
     // Gives the file a name in the folder. The system refuses a name that is there, in the same call.
     fn link(&mut self, number: u16) -> Outcome
-        ensures { self.new.step ≡ self.old.step }
+        ensures step { self.new.step ≡ self.old.step }
+        ensures into { (self.new.folder ≡ self.old.folder) × (self.new.name ≡ self.old.name) }
+        ensures path { IsLinked self.old.folder.now self.old.name.now number result (string_bytes self.new.new_path) }
     {
         let Ok(new) = place(self.alloc, self.folder, self.name, number) else {
             self.is_short = true;
@@ -142,7 +155,9 @@ impl<'a, R: Files> Names<'a, R> {
 
     // Whether the file under the new name is the one that was judged.
     fn compare(&mut self) -> Outcome
-        ensures { self.new.step ≡ self.old.step }
+        ensures step { self.new.step ≡ self.old.step }
+        ensures into { (self.new.folder ≡ self.old.folder) × (self.new.name ≡ self.old.name) }
+        ensures path { self.new.new_path ≡ self.old.new_path }
     {
         self.error = None;
         match found_at(self.rt, self.new_path.as_str()) {
@@ -153,7 +168,9 @@ impl<'a, R: Files> Names<'a, R> {
 
     // Removes the old name. Where it is gone, or another file's by now, there is nothing to remove.
     fn remove(&mut self) -> Outcome
-        ensures { self.new.step ≡ self.old.step }
+        ensures step { self.new.step ≡ self.old.step }
+        ensures into { (self.new.folder ≡ self.old.folder) × (self.new.name ≡ self.old.name) }
+        ensures path { self.new.new_path ≡ self.old.new_path }
     {
         let removed = match fs::symlink_metadata(self.rt, self.file.path) {
             Ok(metadata) if Node::of(&metadata) == self.file.seen.node => fs::remove_file(
@@ -168,7 +185,9 @@ impl<'a, R: Files> Names<'a, R> {
 
     // Removes the new name, unless it is the only one that its file has.
     fn undo(&mut self) -> Outcome
-        ensures { self.new.step ≡ self.old.step }
+        ensures step { self.new.step ≡ self.old.step }
+        ensures into { (self.new.folder ≡ self.old.folder) × (self.new.name ≡ self.old.name) }
+        ensures path { self.new.new_path ≡ self.old.new_path }
     {
         match fs::symlink_metadata(self.rt, self.new_path.as_str()) {
             Ok(metadata) if metadata.nlink() > 1 => {
@@ -183,7 +202,9 @@ impl<'a, R: Files> Names<'a, R> {
 
     // A name that is gone needs no removing.
     fn outcome_of(&mut self, removed: io::Result<()>) -> Outcome
-        ensures { self.new.step ≡ self.old.step }
+        ensures step { self.new.step ≡ self.old.step }
+        ensures into { (self.new.folder ≡ self.old.folder) × (self.new.name ≡ self.old.name) }
+        ensures path { self.new.new_path ≡ self.old.new_path }
     {
         match removed {
             Ok(()) => Outcome::Done,

@@ -20,7 +20,13 @@ struct Scripted {
 }
 
 impl Disk for Scripted {
+    ghost use Rattle.std.specs.Prelude.{⊤, []};
+
     ghost step_of = { λ s. s.next };
+
+    ghost place = { λ s. ([], []) };
+
+    ghost is_well = { λ s. ⊤ };
 
     fn step(&self) -> Step {
         self.next
