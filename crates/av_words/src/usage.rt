@@ -1,7 +1,7 @@
 //! How a command line is read, and what is said where it is not understood.
 
-ghost use Rattle.std.specs.Prelude.{◌≡◌, ◌≤◌, IfErr, IfOk, IfSome};
-ghost use Rattle.av_words.specs.Words.{IsOfWords};
+ghost use Rattle.std.specs.Prelude.{◌≡◌, ◌≤◌, map, IfErr, IfOk, IfSome};
+ghost use Rattle.av_words.specs.Words.{AreOfWords, IsOfWords};
 
 use av_base::device::write_text;
 use av_status::faults::{device_failed, out_of_memory};
@@ -23,7 +23,8 @@ pub fn matches_of<'a, S: AsStr, W: Write, E: Write>(
     out: &mut W,
     err: &mut E,
 ) -> Result<ArgMatches<'a>, Status>
-    ensures { IfErr result (IsOfWords (W.contents out.old) (W.contents out.new)) }
+    ensures matches { IfOk result (AreOfWords command.entry (map S.text words.now)) }
+    ensures ends { IfErr result (IsOfWords (W.contents out.old) (W.contents out.new)) }
 {
     match matched(command, words) {
         Ok(matches) => Ok(matches),
@@ -31,10 +32,13 @@ pub fn matches_of<'a, S: AsStr, W: Write, E: Write>(
     }
 }
 
+// What the words are by the commands.
 fn matched<'a, S: AsStr>(
     command: Result<Command<'a>, AllocError>,
     words: &'a [S],
-) -> Result<ArgMatches<'a>, Error> {
+) -> Result<ArgMatches<'a>, Error>
+    ensures { IfOk result (AreOfWords command.entry (map S.text words.now)) }
+{
     command?.try_get_matches_from(words)
 }
 
