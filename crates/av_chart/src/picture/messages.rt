@@ -1,10 +1,11 @@
 //! The arrows of messages.
 
-ghost use Rattle.std.specs.Prelude.{◌≡◌, ◌++◌, map, slice_get, vec_len, IfOk, OnOk};
+ghost use Rattle.std.specs.Prelude.{◌≡◌, ◌+◌, ◌++◌, map, slice_get, vec_len, IfOk, OnOk};
 ghost use Rattle.std.specs.List.{list_any};
 ghost use Rattle.av_base.specs.Part.{spelt};
 ghost use Rattle.av_output.specs.Text.Messages.{placed};
 ghost use Rattle.av_chart.specs.Arrow.{arrival_text, arrival_words, arrives_at, back, class_of, crossed_text, cut_text, goal_of, head_of, leaves_at, leaving_text, look_of, look_of_departure, lost_text, manner_of, near_text, side_of, start_of, towards};
+ghost use Rattle.av_chart.specs.Number.{capped};
 ghost use Rattle.av_chart.specs.Messages.{arrival_at, arrival_shown, arrivals_text, bodies_on, departure_shown, departure_text, is_shown, leaving_line, manner_at, message_at, message_shown, message_text, messages_text, near_arrival, sent_by_step, sent_on, sent_text, step_late, step_messages, step_spent};
 ghost use Rattle.av_chart.specs.Place.{shows};
 
@@ -185,25 +186,17 @@ fn put_each(
     ensures { OnOk result (page.new.items ≡ page.old.items ++ placed (message_at picture.now way span) 0 messages.now) }
 {
     for (order, sent) in messages.iter().enumerate() {
-        put_at(alloc, page, picture, way, span, order, sent)?;
+        let index = place_in(span, order);
+        put_if_shown(alloc, page, picture, way, index, sent)?;
     }
     Ok(())
 }
 
-// Puts the message that is so many behind the first of a span.
-fn put_at(
-    alloc: Global,
-    page: &mut Vec<u8>,
-    picture: &Picture<'_, '_>,
-    way: Way,
-    span: Span,
-    order: usize,
-    sent: &Sent,
-) -> Result<(), AllocError>
-    ensures { OnOk result (page.new.items ≡ page.old.items ++ message_at picture.now way span order sent.now) }
+// The place of the message that is so many behind the first of a span.
+fn place_in(span: Span, order: usize) -> u64
+    ensures { result ≡ capped (span.from + order) }
 {
-    let index = span.from.saturating_add(order as u64);
-    put_if_shown(alloc, page, picture, way, index, sent)
+    span.from.saturating_add(order as u64)
 }
 
 // Puts the message at a place, where it is shown.
