@@ -3,7 +3,7 @@
 ghost use Rattle.std.specs.Prelude.{◌≡◌, ◌≢◌, ◌≤◌, ◌<◌, length, take, Err, IfOk, IfSome, IsErrOf};
 ghost use Rattle.av_base.specs.Device.{Writes};
 
-use std::alloc::{AllocError, Global};
+use std::alloc::AllocError;
 use std::io::{Read, Write};
 use thiserror::Error;
 
@@ -36,38 +36,9 @@ impl From<AllocError> for ReadFault {
 #[error("device")]
 pub struct WriteFault;
 
-/// All bytes that a reader has left, where they are at most `limit` and end within `turns` reads; the read that finds
-/// the end counts as one. The first of a failing read and a byte too many decides between the faults.
-pub fn read_whole<R: Read>(
-    alloc: Global,
-    reader: &mut R,
-    limit: usize,
-    turns: u64,
-) -> Result<Vec<u8>, ReadFault>
-    ensures whole { IfOk result (λ bytes. IfSome (R.remaining reader.old) (λ input. bytes.items ≡ input)) }
-    ensures short { IfOk result (λ bytes. length bytes.items ≤ limit) }
-    ensures long { IsErrOf result ReadFault.TooLong → IfSome (R.remaining reader.old) (λ input. limit < length input) }
-{
-    let mut bytes = Vec::new(alloc);
-    let mut piece = [0u8; 4096];
-    'reads: for _ in 0..turns {
-        let Ok(count) = reader.read(&mut piece) else {
-            return Err(ReadFault::Device);
-        };
-        if count == 0 {
-            return Ok(bytes);
-        }
-        if count > limit - bytes.len() {
-            return Err(ReadFault::TooLong);
-        }
-        bytes.extend_from_slice(&piece[..count])?;
-    }
-    Err(ReadFault::Device)
-}
-
 /// Reads all bytes that a reader has left into the front of a buffer, which can be used again and again, and answers how many
 /// they are. They must be fewer than the buffer holds, since only a read behind the last byte finds the end. Otherwise as
-/// [`read_whole`], without memory.
+/// [`crate::recorded::read_whole`], without memory.
 pub fn read_into<R: Read>(reader: &mut R, buffer: &mut [u8], turns: u64) -> Result<usize, ReadFault>
     ensures whole { IfOk result (λ count. IfSome (R.remaining reader.old) (λ input. take count buffer.new ≡ input)) }
     ensures short { IfOk result (λ count. count < length buffer.new) }

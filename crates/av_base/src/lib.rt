@@ -20,6 +20,7 @@ pub mod number;
 pub mod overwrite;
 pub mod parts;
 pub mod port;
+pub mod recorded;
 pub mod refusal;
 #[cfg(test)]
 mod tests;

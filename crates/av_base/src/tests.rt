@@ -1,12 +1,13 @@
 use crate::byte_list::ByteList;
 use crate::cause::Cause;
 use crate::decimal::decimal;
-use crate::device::{ReadFault, read_into, read_whole, write_text};
+use crate::device::{ReadFault, read_into, write_text};
 use crate::limits::{LimitFault, LimitField, LimitValues, Limits};
 use crate::line::{first_line, first_piece};
 use crate::number::{Generation, Lease, OpenId, StreamId, Version};
 use crate::parts::{Part, write_parts};
 use crate::port::Port;
+use crate::recorded::{Recorded, read_whole};
 use av_fakes::{FakeReader, FakeWriter, Fault, may_refuse, refuse_no_more};
 use std::alloc::AllocError;
 use std::test::Fail;
@@ -162,15 +163,15 @@ fn byte_lists_are_the_same_where_their_bytes_are(rt: HostRuntime) -> Result<(), 
 #[test]
 fn an_input_is_read_whole_or_refused(rt: HostRuntime) -> Result<(), Fail> {
     let alloc = rt.alloc();
-    let mut reader = b"abc".as_slice();
+    let mut reader = Recorded::new(b"abc".as_slice());
     let whole = read_whole(alloc, &mut reader, 3, 2)?;
     assert_eq!(rt; whole.as_slice(), b"abc".as_slice());
-    let mut long = b"abc".as_slice();
+    let mut long = Recorded::new(b"abc".as_slice());
     assert_eq!(rt;
         read_whole(alloc, &mut long, 2, 2).err(),
         Some(ReadFault::TooLong)
     );
-    let mut late = b"abc".as_slice();
+    let mut late = Recorded::new(b"abc".as_slice());
     assert_eq!(rt;
         read_whole(alloc, &mut late, 3, 1).err(),
         Some(ReadFault::Device)
@@ -186,7 +187,7 @@ fn an_input_is_the_same_however_its_reads_are_cut(rt: HostRuntime) -> Result<(),
     let text = b"volume 1 closed\n".as_slice();
     for piece in 1..18 {
         let mut whole = FakeReader::new(text).in_pieces_of(piece);
-        let read = read_whole(rt.alloc(), &mut whole, 16, 99)?;
+        let read = read_whole(rt.alloc(), &mut Recorded::new(&mut whole), 16, 99)?;
         assert_eq!(rt; read.as_slice(), text, "in pieces of {piece}");
         let mut buffer = [7u8; 17];
         let mut into = FakeReader::new(text).in_pieces_of(piece);
@@ -205,7 +206,7 @@ fn a_failing_read_is_a_device_wherever_it_comes(rt: HostRuntime) -> Result<(), F
     let text = b"volume 1 closed\n".as_slice();
     for read in 1..18 {
         let mut whole = FakeReader::new(text).in_pieces_of(1).failing_at(read);
-        let fault = read_whole(rt.alloc(), &mut whole, 16, 99).err();
+        let fault = read_whole(rt.alloc(), &mut Recorded::new(&mut whole), 16, 99).err();
         assert_eq!(rt; fault, Some(ReadFault::Device), "at read {read}");
         assert_eq!(rt; whole.reads(), read);
         let mut into = FakeReader::new(text).in_pieces_of(1).failing_at(read);
@@ -221,7 +222,7 @@ fn reads_end_with_their_turns(rt: HostRuntime) -> Result<(), Fail> {
     let text = b"abc".as_slice();
     for (turns, whole) in [(0, false), (1, false), (3, false), (4, true)] {
         let mut reader = FakeReader::new(text).in_pieces_of(1);
-        let read = read_whole(rt.alloc(), &mut reader, 3, turns);
+        let read = read_whole(rt.alloc(), &mut Recorded::new(&mut reader), 3, turns);
         assert_eq!(rt; read.is_ok(), whole, "{turns} turns");
         let mut into = FakeReader::new(text).in_pieces_of(1);
         let read = read_into(&mut into, &mut [0u8; 4], turns);
@@ -235,7 +236,10 @@ fn reads_end_with_their_turns(rt: HostRuntime) -> Result<(), Fail> {
 fn an_input_of_one_byte_too_many_is_too_long(rt: HostRuntime) -> Result<(), Fail> {
     for (limit, fault) in [(2, Some(ReadFault::TooLong)), (3, None)] {
         let mut reader = FakeReader::new(b"abc".as_slice()).in_pieces_of(1);
-        assert_eq!(rt; read_whole(rt.alloc(), &mut reader, limit, 9).err(), fault);
+        assert_eq!(rt;
+            read_whole(rt.alloc(), &mut Recorded::new(&mut reader), limit, 9).err(),
+            fault
+        );
         let mut buffer = [0u8; 4];
         let mut into = FakeReader::new(b"abc".as_slice()).in_pieces_of(1);
         assert_eq!(rt;
@@ -298,7 +302,7 @@ fn refused_or_not_a_list_of_bytes_is_as_it_was_or_changed(rt: HostRuntime) -> Re
     may_refuse(alloc);
     let overwritten = list.overwrite(1, longer);
     let again: Result<ByteList, AllocError> = list.clone();
-    let mut reader = b"abc".as_slice();
+    let mut reader = Recorded::new(b"abc".as_slice());
     let read = read_whole(alloc, &mut reader, 3, 2);
     refuse_no_more(alloc);
     if overwritten.is_err() {

@@ -2,6 +2,7 @@ mod ChartLemmas
 pub mod DrawnLemmas
 mod EscapeLemmas
 pub mod LifeLemmas
+pub mod FaultLemmas
 mod LoopLemmas
 mod NumberLemmas
 mod OneBarLemmas

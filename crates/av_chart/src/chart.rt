@@ -1,6 +1,7 @@
 ghost use Rattle.std.specs.Prelude.{◌≡◌, ◌+◌, ◌<◌, ◌^◌, count_by, length, map, position, IfErr, IfOk, IfSome, Ok, OnOk};
 ghost use Rattle.av_base.specs.Device.{Writes};
 ghost use Rattle.av_chart.specs.Chart.{Draws, HaveSlots, IsDrawn, IsEarly, IsNotDrawn, IsOfDrawing, IsPicture, IsRunDrawn, IsTrueOf, Leaves, Shows, asks, begun};
+ghost use Rattle.av_chart.specs.Fault.{IsOfReads};
 ghost use Rattle.av_chart.specs.Picture.{picture_text};
 ghost use Rattle.av_chart.specs.Place.{StandAt, bottom_of};
 ghost use Rattle.av_chart.specs.Row.{height_of};
@@ -14,11 +15,12 @@ use crate::life::Moment;
 use crate::picture::{Picture, put_picture};
 use crate::place::{Places, height_of};
 use av_base::device::write_text;
+use av_base::recorded::RecordedRead;
 use av_script::Script;
 use av_script::run_script::read_script;
 use av_world::World;
 use std::alloc::{AllocError, Global};
-use std::io::{Read, Write};
+use std::io::Write;
 
 /// The lines of a script whose commands are drawn, from 1. All of them: from 1 to `u64::MAX`.
 #[derive(Clone, Copy, Debug)]
@@ -38,7 +40,7 @@ impl Lines {
 
 /// Reads a script whole, runs it and writes its picture, an SVG, with this title. Where that fails nothing was written, but
 /// where a write failed: there it was a front of the picture.
-pub fn write_chart<R: Read, W: Write>(
+pub fn write_chart<R: RecordedRead, W: Write>(
     alloc: Global,
     title: &[u8],
     lines: Lines,
@@ -48,6 +50,7 @@ pub fn write_chart<R: Read, W: Write>(
 ) -> Result<(), ChartFault>
     ensures ok { OnOk result (IsOfRead (R.remaining reader.old) (Draws lines title.now (W.contents writer.old) (W.contents writer.new))) }
     ensures fault { IfErr result (λ f. IfSome (R.remaining reader.old) (IsTrueOf lines f)) }
+    ensures device { IfErr result (λ f. IsOfReads f (R.has_failed reader.new) turns (R.reads reader.old) (R.reads reader.new)) }
     ensures err { IfErr result (Leaves (R.remaining reader.old) lines title.now (W.contents writer.old) (W.contents writer.new)) }
 {
     let page = read_page(alloc, title, lines, reader, turns)?;
@@ -55,7 +58,7 @@ pub fn write_chart<R: Read, W: Write>(
 }
 
 // Reads a script whole, runs it and gives its picture.
-fn read_page<R: Read>(
+fn read_page<R: RecordedRead>(
     alloc: Global,
     title: &[u8],
     lines: Lines,
@@ -64,6 +67,7 @@ fn read_page<R: Read>(
 ) -> Result<Vec<u8>, ChartFault>
     ensures ok { IfOk result (λ page. IsOfRead (R.remaining reader.old) (λ text. IsPicture lines title.now text page.items)) }
     ensures fault { IfErr result (λ f. IfSome (R.remaining reader.old) (IsTrueOf lines f)) }
+    ensures device { IfErr result (λ f. IsOfReads f (R.has_failed reader.new) turns (R.reads reader.old) (R.reads reader.new)) }
     ensures early { IfErr result IsEarly }
 {
     let (text, script) = match read_script(alloc, reader, turns) {

@@ -3,6 +3,7 @@ use crate::mark::{Mark, Side, put_marks};
 use crate::place::Places;
 use crate::spot::Spot;
 use crate::{ChartFault, Lines, write_chart};
+use av_base::recorded::Recorded;
 use av_fakes::{FakeReader, FakeWriter, Fault, may_refuse, refuse_no_more};
 use std::test::Fail;
 
@@ -73,13 +74,17 @@ fn an_arrow_is_a_line_and_a_head(rt: HostRuntime) -> Result<(), Fail> {
 #[test]
 fn what_is_no_script_has_no_picture(rt: HostRuntime) -> Result<(), Fail> {
     let mut out = FakeWriter::new(rt.alloc());
-    let mut reader = FakeReader::new(b"volume 1 closed\nbogus\n".as_slice()).in_pieces_of(3);
+    let mut reader = Recorded::new(FakeReader::new(
+        b"volume 1 closed\nbogus\n".as_slice(),
+    ).in_pieces_of(3));
     let bad = write_chart(rt.alloc(), b"t", ALL, &mut reader, &mut out, 100);
     assert!(rt; matches!(&bad, Err(ChartFault::BadScript { line: 2 })));
-    let mut reader = FakeReader::new(b"volume 1 closed\nconnect\n".as_slice()).failing_at(1);
+    let mut reader = Recorded::new(FakeReader::new(
+        b"volume 1 closed\nconnect\n".as_slice(),
+    ).failing_at(1));
     let failed = write_chart(rt.alloc(), b"t", ALL, &mut reader, &mut out, 100);
     assert!(rt; matches!(&failed, Err(ChartFault::Read)));
-    let mut reader = FakeReader::new(b"volume 1 closed\n\nconnect\n".as_slice());
+    let mut reader = Recorded::new(FakeReader::new(b"volume 1 closed\n\nconnect\n".as_slice()));
     let lines = Lines { from: 4, to: 9 };
     let none = write_chart(rt.alloc(), b"t", lines, &mut reader, &mut out, 100);
     assert!(rt; matches!(&none, Err(ChartFault::NoLines)));
@@ -90,13 +95,13 @@ fn what_is_no_script_has_no_picture(rt: HostRuntime) -> Result<(), Fail> {
 #[test]
 fn a_failing_writer_is_told(rt: HostRuntime) -> Result<(), Fail> {
     for write in 1..4u64 {
-        let mut reader = FakeReader::new(b"volume 1 closed\n".as_slice());
+        let mut reader = Recorded::new(FakeReader::new(b"volume 1 closed\n".as_slice()));
         let mut out = FakeWriter::new(rt.alloc())
             .in_pieces_of(100)
             .with(Fault::Fails { write });
         let failed = write_chart(rt.alloc(), b"t", ALL, &mut reader, &mut out, 100);
         assert!(rt; matches!(&failed, Err(ChartFault::Write)));
-        let mut reader = FakeReader::new(b"volume 1 closed\n".as_slice());
+        let mut reader = Recorded::new(FakeReader::new(b"volume 1 closed\n".as_slice()));
         let mut out = FakeWriter::new(rt.alloc()).with(Fault::KeepsUnflushed);
         let kept = write_chart(rt.alloc(), b"t", ALL, &mut reader, &mut out, 100);
         assert!(rt; matches!(&kept, Err(ChartFault::Write)));
@@ -108,10 +113,10 @@ fn a_failing_writer_is_told(rt: HostRuntime) -> Result<(), Fail> {
 fn a_picture_is_the_same_in_any_pieces(rt: HostRuntime) -> Result<(), Fail> {
     let script = b"volume 1 closed\ncreate a\nopen a\n".as_slice();
     let mut whole = FakeWriter::new(rt.alloc());
-    let mut reader = FakeReader::new(script);
+    let mut reader = Recorded::new(FakeReader::new(script));
     assert!(rt; write_chart(rt.alloc(), b"t", ALL, &mut reader, &mut whole, 100).is_ok());
     let mut pieces = FakeWriter::new(rt.alloc()).in_pieces_of(7);
-    let mut reader = FakeReader::new(script).in_pieces_of(1);
+    let mut reader = Recorded::new(FakeReader::new(script).in_pieces_of(1));
     assert!(rt; write_chart(rt.alloc(), b"t", ALL, &mut reader, &mut pieces, 100).is_ok());
     assert_eq!(rt; pieces.taken(), whole.taken());
     Ok(())
@@ -125,7 +130,7 @@ const SCRIPT: &[u8] =
 #[test]
 fn the_lines_that_are_asked_for_are_drawn(rt: HostRuntime) -> Result<(), Fail> {
     let mut out = FakeWriter::new(rt.alloc());
-    let mut reader = FakeReader::new(SCRIPT);
+    let mut reader = Recorded::new(FakeReader::new(SCRIPT));
     let lines = Lines { from: 7, to: 9 };
     assert!(rt; write_chart(rt.alloc(), b"t", lines, &mut reader, &mut out, 100).is_ok());
     let page = out.taken();
@@ -150,7 +155,7 @@ const BOTH_LOST: &[u8] =
 #[test]
 fn a_question_that_is_asked_anew_has_a_bar_of_its_own(rt: HostRuntime) -> Result<(), Fail> {
     let mut out = FakeWriter::new(rt.alloc());
-    let mut reader = FakeReader::new(SPARE);
+    let mut reader = Recorded::new(FakeReader::new(SPARE));
     assert!(rt; write_chart(rt.alloc(), b"t", ALL, &mut reader, &mut out, 100).is_ok());
     let page = out.taken();
     assert!(rt; holds(page, b"question 1.1: a generation 2, ended"));
@@ -165,7 +170,7 @@ fn a_question_that_is_asked_anew_has_a_bar_of_its_own(rt: HostRuntime) -> Result
 #[test]
 fn the_service_of_the_second_port_is_told_by_its_port(rt: HostRuntime) -> Result<(), Fail> {
     let mut out = FakeWriter::new(rt.alloc());
-    let mut reader = FakeReader::new(BOTH_LOST);
+    let mut reader = Recorded::new(FakeReader::new(BOTH_LOST));
     assert!(rt; write_chart(rt.alloc(), b"t", ALL, &mut reader, &mut out, 100).is_ok());
     let page = out.taken();
     assert!(rt; holds(page, b">service is lost<"));
@@ -189,10 +194,10 @@ fn holds(page: &[u8], text: &[u8]) -> bool {
 fn refused_or_not_a_picture_is_whole_or_a_front(rt: HostRuntime) -> Result<(), Fail> {
     let alloc = rt.alloc();
     let mut whole = FakeWriter::new(alloc);
-    let mut reader = FakeReader::new(SCRIPT);
+    let mut reader = Recorded::new(FakeReader::new(SCRIPT));
     assert!(rt; write_chart(alloc, b"t", ALL, &mut reader, &mut whole, 100).is_ok());
     let mut out = FakeWriter::new(alloc);
-    let mut reader = FakeReader::new(SCRIPT);
+    let mut reader = Recorded::new(FakeReader::new(SCRIPT));
     may_refuse(alloc);
     let written = write_chart(alloc, b"t", ALL, &mut reader, &mut out, 100);
     refuse_no_more(alloc);

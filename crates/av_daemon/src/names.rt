@@ -3,7 +3,7 @@ ghost use Rattle.std.specs.Option.{option_copied};
 ghost use Rattle.av_daemon.specs.Names.{count_of, has, is_missing, name_at, name_of};
 
 use av_base::Version;
-use av_base::device::read_whole;
+use av_base::recorded::{Recorded, read_whole};
 use av_files::{MAX_FILE, TURNS};
 use av_guard::Answered;
 use av_sigset::SignatureSet;
@@ -115,8 +115,8 @@ impl<'a> Names<'a> {
 }
 
 fn set_in<R: Files>(rt: &R, alloc: Global, path: &str, trust: Trust<'_>) -> Option<SignatureSet> {
-    let mut file = fs::open(rt, path).ok()?;
-    let bytes = read_whole(alloc, &mut file, MAX_FILE, TURNS).ok()?;
+    let file = fs::open(rt, path).ok()?;
+    let bytes = read_whole(alloc, &mut Recorded::new(file), MAX_FILE, TURNS).ok()?;
     let text = text_of(trust, bytes.as_slice()).ok()?;
     SignatureSet::read(alloc, text).ok()
 }

@@ -5,7 +5,7 @@ ghost use Rattle.av_glob.specs.Glob.{is_left_out};
 use crate::listed::listed;
 use crate::streams::TURNS;
 use av_base::ReadFault;
-use av_base::device::read_whole;
+use av_base::recorded::{Recorded, read_whole};
 use av_glob::{Glob, any_leaves_out};
 use std::alloc::{AllocError, Global};
 use std::fs;
@@ -221,10 +221,10 @@ fn names_of<R: Files>(
     alloc: Global,
     path: &str,
 ) -> Result<Option<Vec<Vec<u8>>>, AllocError> {
-    let Ok(mut folder) = files.open_dir(path) else {
+    let Ok(folder) = files.open_dir(path) else {
         return Ok(None);
     };
-    match read_whole(alloc, &mut folder, usize::MAX, TURNS) {
+    match read_whole(alloc, &mut Recorded::new(folder), usize::MAX, TURNS) {
         Ok(text) => Ok(Some(turned(alloc, text.as_slice())?)),
         Err(ReadFault::NoMemory) => Err(AllocError),
         Err(_) => Ok(None),

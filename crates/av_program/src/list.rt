@@ -5,14 +5,14 @@ ghost use Rattle.av_program.specs.List.{AreNamed, failing_of};
 
 use crate::reading::{Source, say_why};
 use av_base::ReadFault;
-use av_base::device::read_whole;
+use av_base::recorded::{Recorded, RecordedRead, read_whole};
 use av_files::{Failing, Listing, TURNS, with_listed};
 use av_status::faults::{out_of_memory, unreadable};
 use av_status::{Status, Tally};
 use av_words::{Finding, List, Named};
 use std::alloc::Global;
 use std::fs;
-use std::io::{Read, Write};
+use std::io::Write;
 
 /// The names that were given, and behind them those of a list, where there is one: its text is put into this room.
 pub fn names_of<'a, 'b: 'a, E: Write>(
@@ -51,7 +51,7 @@ fn list_text<E: Write>(
     ensures fault { IfErr result (λ status. IsFault status) }
 {
     match list {
-        Some(List { path: "-", .. }) => text_of(alloc, "-", &mut rt.stdin(), err),
+        Some(List { path: "-", .. }) => text_of(alloc, "-", &mut Recorded::new(rt.stdin()), err),
         Some(List { path, .. }) => whole_text(rt, alloc, path, err),
         None => Ok(Vec::new(alloc)),
     }
@@ -67,7 +67,7 @@ pub fn whole_text<E: Write>(
     ensures { IfErr result (λ status. IsFault status) }
 {
     match fs::open(rt, path) {
-        Ok(mut file) => text_of(alloc, path, &mut file, err),
+        Ok(file) => text_of(alloc, path, &mut Recorded::new(file), err),
         Err(_) => {
             let status = unreadable(err, path);
             say_why(rt, alloc, path, Source::Other, err);
@@ -77,7 +77,7 @@ pub fn whole_text<E: Write>(
 }
 
 // All that a reader has left.
-fn text_of<R: Read, E: Write>(
+fn text_of<R: RecordedRead, E: Write>(
     alloc: Global,
     path: &str,
     reader: &mut R,

@@ -1,5 +1,5 @@
 -- The lines that the commands of a script print.
-use Rattle.std.specs.Prelude.{ℕ, ◌+◌, List, [], ◌∷◌, ◌++◌, Result, Ok, Err, codes}
+use Rattle.std.specs.Prelude.{ℕ, List, [], ◌∷◌, ◌++◌, Result, Ok, Err, codes}
 use Rattle.av_history.specs.declared.fault.JudgeFault.{JudgeFault}
 use Rattle.av_history.specs.declared.fault.StepFault.{StepFault}
 use Rattle.av_history.specs.declared.report.Judged.{Judged}

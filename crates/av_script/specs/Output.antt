@@ -1,7 +1,8 @@
 -- What is written for the text of a script.
-use Rattle.std.specs.Prelude.{ℕ, ◌≡◌, ◌<◌, ◌≤◌, ◌⊎◌, length, List, Option, Result, Ok, Err, IfSome}
+use Rattle.std.specs.Prelude.{ℕ, ◌≡◌, ◌<◌, ◌≤◌, ◌⊎◌, Bool, length, List, Option, Result, Ok, Err, IfSome}
 use Rattle.std.specs.Io.KnownBytes.{Appends, Keeps}
 use Rattle.av_base.specs.Device.{AppendsPrefix}
+use Rattle.av_base.specs.Recorded.{IsReadFault}
 use Rattle.av_script.specs.Script.{ScriptText, script_of}
 use Rattle.av_script.specs.CommandObjects.{script_json}
 use Rattle.av_script.specs.CommandText.{script_text}
@@ -72,6 +73,16 @@ IsTrueOf TooLong input = MAX_SCRIPT < length input
 IsTrueOf Read input = Unit {0}
 IsTrueOf NoMemory input = Unit {0}
 IsTrueOf Write input = Unit {0}
+
+-- a script is not read only where the last read failed, or as many reads were made as were allowed
+abbrev pub IsOfReads : RunFault → Bool → ℕ → ℕ → ℕ → Type 0
+IsOfReads Read failed allowed before after = IsReadFault failed allowed before after
+IsOfReads _ failed allowed before after = Unit {0}
+
+-- a fault that comes before anything is to be written
+abbrev pub IsUnwritten : RunFault → Type 0
+IsUnwritten Write = ⊥
+IsUnwritten _ = Unit {0}
 
 -- nothing is written of a script that was not read, or is bad
 abbrev pub KeepsEarly : RunFault → Option (List ℕ) → Option (List ℕ) → Type 0

@@ -5,7 +5,7 @@ ghost use Rattle.av_json.specs.Member.{Puts};
 ghost use Rattle.av_output.specs.Objects.{report_tokens};
 ghost use Rattle.av_script.specs.CommandObjects.{command_tokens, did, line_object, lines_json, refused, said_json, said_tokens, said_world, step_tokens, told_by};
 ghost use Rattle.av_output.specs.Objects.Lines.{judged_tokens, line_tokens};
-ghost use Rattle.av_script.specs.Output.{IsFrontOfRead, IsLate, IsOfRead, IsTrueOf, KeepsEarly, PrintsJson, PrintsJsonFront};
+ghost use Rattle.av_script.specs.Output.{IsFrontOfRead, IsLate, IsOfRead, IsOfReads, IsTrueOf, KeepsEarly, PrintsJson, PrintsJsonFront};
 ghost use Rattle.av_script.specs.Script.Grammar.{line_of};
 ghost use Rattle.av_script.specs.Script.Statement.{is_told, meaning};
 ghost use Rattle.av_history.specs.declared.report.Line.TheVariants.{Booted};
@@ -18,6 +18,7 @@ use crate::run_script::{RunFault, read_script};
 use crate::statement::Statement;
 use av_base::Refusal;
 use av_base::line::first_line;
+use av_base::recorded::RecordedRead;
 use av_history::event::Event;
 use av_history::report::{Judged, Line, Report};
 use av_json::{LineFault, Member, put_members, put_named, write_line};
@@ -25,11 +26,11 @@ use av_output::objects::line::{put_judged, put_line};
 use av_world::world::World;
 use json::Writer;
 use std::alloc::{AllocError, Global};
-use std::io::{Read, Write};
+use std::io::Write;
 
 /// Reads a script whole and writes an object for its volume line and for each of its commands, a line each, and nothing else.
 /// Where that fails a front of these lines was written, and none where the script was not read or is bad.
-pub fn run_json<R: Read, W: Write>(
+pub fn run_json<R: RecordedRead, W: Write>(
     alloc: Global,
     reader: &mut R,
     writer: &mut W,
@@ -38,6 +39,7 @@ pub fn run_json<R: Read, W: Write>(
     ensures ok { OnOk result (IsOfRead (R.remaining reader.old) (PrintsJson (W.contents writer.old) (W.contents writer.new))) }
     ensures err { OnErr result (IsFrontOfRead (R.remaining reader.old) (W.contents writer.old) (W.contents writer.new) (PrintsJsonFront (W.contents writer.old) (W.contents writer.new))) }
     ensures fault { IfErr result (λ f. IfSome (R.remaining reader.old) (IsTrueOf f)) }
+    ensures device { IfErr result (λ f. IsOfReads f (R.has_failed reader.new) turns (R.reads reader.old) (R.reads reader.new)) }
     ensures early { IfErr result (λ f. KeepsEarly f (W.contents writer.old) (W.contents writer.new)) }
 {
     let (text, script) = read_script(alloc, reader, turns)?;

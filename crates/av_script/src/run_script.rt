@@ -1,13 +1,14 @@
 ghost use Rattle.std.specs.Prelude.{◌≡◌, ◌≤◌, ◌++◌, is_ok, length, IfErr, IfOk, IfSome, Ok, OnOk, OnErr};
 ghost use Rattle.av_base.specs.Device.{Writes};
-ghost use Rattle.av_script.specs.Output.{IsFrontOfRead, IsLate, IsOfRead, IsTrueOf, KeepsEarly, Prints, PrintsFront};
+ghost use Rattle.av_script.specs.Output.{IsFrontOfRead, IsLate, IsOfRead, IsOfReads, IsTrueOf, IsUnwritten, KeepsEarly, Prints, PrintsFront};
 ghost use Rattle.av_script.specs.CommandText.{boot_text, command_text, command_world, commands_text, script_text, step_text};
 ghost use Rattle.av_script.specs.Script.{script_of};
 ghost use Rattle.av_history.specs.World.{after, step_of};
 
 use crate::command::Command;
 use crate::script::{Script, parse_script};
-use av_base::device::{read_whole, write_text};
+use av_base::device::write_text;
+use av_base::recorded::{RecordedRead, read_whole};
 use av_base::{ReadFault, Refusal, WriteFault};
 use av_history::event::Event;
 use av_output::judgement::print_judged;
@@ -15,7 +16,7 @@ use av_output::refusal::print_refused;
 use av_world::world::World;
 use std::alloc::Global;
 use std::collections::VecDeque;
-use std::io::{Read, Write};
+use std::io::Write;
 use thiserror::Error;
 
 /// The most bytes of a script.
@@ -43,7 +44,7 @@ pub enum RunFault {
 
 /// Reads a script whole and writes the lines that it prints, and nothing else. Where that fails a front of these lines
 /// was written, and none where the script was not read or is bad.
-pub fn run_script<R: Read, W: Write>(
+pub fn run_script<R: RecordedRead, W: Write>(
     alloc: Global,
     reader: &mut R,
     writer: &mut W,
@@ -52,6 +53,7 @@ pub fn run_script<R: Read, W: Write>(
     ensures ok { OnOk result (IsOfRead (R.remaining reader.old) (Prints (W.contents writer.old) (W.contents writer.new))) }
     ensures err { OnErr result (IsFrontOfRead (R.remaining reader.old) (W.contents writer.old) (W.contents writer.new) (PrintsFront (W.contents writer.old) (W.contents writer.new))) }
     ensures fault { IfErr result (λ f. IfSome (R.remaining reader.old) (IsTrueOf f)) }
+    ensures device { IfErr result (λ f. IsOfReads f (R.has_failed reader.new) turns (R.reads reader.old) (R.reads reader.new)) }
     ensures early { IfErr result (λ f. KeepsEarly f (W.contents writer.old) (W.contents writer.new)) }
 {
     let (_text, script) = read_script(alloc, reader, turns)?;
@@ -59,7 +61,7 @@ pub fn run_script<R: Read, W: Write>(
 }
 
 /// Reads a script whole, and gives its text and what it says.
-pub fn read_script<R: Read>(
+pub fn read_script<R: RecordedRead>(
     alloc: Global,
     reader: &mut R,
     turns: u64,
@@ -68,6 +70,8 @@ pub fn read_script<R: Read>(
     ensures script { IfOk result (λ p. script_of p.0.items ≡ Ok p.1) }
     ensures bound { IfOk result (λ p. length p.0.items ≤ MAX_SCRIPT) }
     ensures fault { IfErr result (λ f. IfSome (R.remaining reader.old) (IsTrueOf f)) }
+    ensures device { IfErr result (λ f. IsOfReads f (R.has_failed reader.new) turns (R.reads reader.old) (R.reads reader.new)) }
+    ensures unwritten { IfErr result IsUnwritten }
 {
     let text = match read_whole(alloc, reader, MAX_SCRIPT, turns) {
         Ok(text) => text,

@@ -5,7 +5,8 @@ ghost use Rattle.av_status.specs.Status.{IsFault};
 
 use crate::guarding::{Guards, guard_named};
 use av_base::ReadFault;
-use av_base::device::{read_whole, write_text};
+use av_base::device::write_text;
+use av_base::recorded::{Recorded, read_whole};
 use av_files::TURNS;
 use av_program::{Source, open_file, say_why};
 use av_status::faults::{device_failed, out_of_memory, unreadable};
@@ -92,12 +93,12 @@ fn config_text<E: Write>(
 ) -> Result<Vec<u8>, Status>
     ensures { IfErr result (λ status. IsFault status) }
 {
-    let Some(mut file) = open_file(rt, path) else {
+    let Some(file) = open_file(rt, path) else {
         let status = unreadable(err, path);
         say_why(rt, alloc, path, Source::Other, err);
         return Err(status);
     };
-    match read_whole(alloc, &mut file, MAX_CONFIG, TURNS) {
+    match read_whole(alloc, &mut Recorded::new(file), MAX_CONFIG, TURNS) {
         Ok(text) => Ok(text),
         Err(ReadFault::TooLong) => Err(config_too_long(err, path)),
         Err(ReadFault::NoMemory) => Err(out_of_memory(err)),

@@ -3,6 +3,7 @@ ghost use Rattle.av_script.specs.Output.{IsFrontOfRead, IsOfRead};
 ghost use Rattle.av_status.specs.declared.status.Status.TheVariants.{Done, Usage};
 ghost use Rattle.avscan.specs.Run.{PrintsIn, PrintsInFront, status_of};
 
+use av_base::recorded::{Recorded, RecordedRead};
 use av_files::TURNS;
 use av_program::{Source, say_why};
 use av_script::RunFault;
@@ -14,7 +15,7 @@ use av_status::status::Status;
 use avscan_words::Script;
 use std::alloc::Global;
 use std::fs;
-use std::io::{Read, Write};
+use std::io::Write;
 
 /// Runs the script in this file, or on standard input for `-`: the whole output of a text that was read, or a front of it.
 pub fn run_named<W: Write, E: Write>(
@@ -29,10 +30,10 @@ pub fn run_named<W: Write, E: Write>(
     ensures words { result ≢ Usage }
 {
     if script.path == "-" {
-        return run_text(script.form, alloc, &mut rt.stdin(), out, err);
+        return run_text(script.form, alloc, &mut Recorded::new(rt.stdin()), out, err);
     }
     match fs::open(rt, script.path) {
-        Ok(mut file) => run_text(script.form, alloc, &mut file, out, err),
+        Ok(file) => run_text(script.form, alloc, &mut Recorded::new(file), out, err),
         Err(_) => {
             let status = unreadable(err, script.path);
             say_why(rt, alloc, script.path, Source::Other, err);
@@ -43,7 +44,7 @@ pub fn run_named<W: Write, E: Write>(
 
 /// Runs the script that a reader gives. The lines that it prints in this form go to `out`; where it does not end well one line
 /// to `err` says why, as far as that can be written.
-pub fn run_text<R: Read, W: Write, E: Write>(
+pub fn run_text<R: RecordedRead, W: Write, E: Write>(
     form: Form,
     alloc: Global,
     reader: &mut R,
@@ -61,7 +62,7 @@ pub fn run_text<R: Read, W: Write, E: Write>(
 }
 
 // Runs the script that a reader gives, in this form.
-fn run_in<R: Read, W: Write>(
+fn run_in<R: RecordedRead, W: Write>(
     form: Form,
     alloc: Global,
     reader: &mut R,

@@ -5,6 +5,7 @@ ghost use Rattle.av_status.specs.declared.status.Status.TheVariants.{Done, Refus
 ghost use Rattle.avtool.specs.Chart.{IsFaultOf, lines_for, status_of, title_of};
 
 use av_base::Part;
+use av_base::recorded::{Recorded, RecordedRead};
 use av_chart::{ChartFault, Lines, write_chart};
 use av_files::TURNS;
 use av_program::{Source, say_why};
@@ -15,7 +16,7 @@ use av_status::status::Status;
 use avtool_words::Chart;
 use std::alloc::Global;
 use std::fs;
-use std::io::{Read, Write};
+use std::io::Write;
 use std::path::Path;
 
 /// Draws the run of the script in this file, or on standard input for `-`: of these lines.
@@ -37,10 +38,17 @@ pub fn chart_named<W: Write, E: Write>(
         to: asked.to,
     };
     if script == "-" {
-        return chart(alloc, title, lines, &mut rt.stdin(), out, err);
+        return chart(
+            alloc,
+            title,
+            lines,
+            &mut Recorded::new(rt.stdin()),
+            out,
+            err,
+        );
     }
     match fs::open(rt, script) {
-        Ok(mut file) => chart(alloc, title, lines, &mut file, out, err),
+        Ok(file) => chart(alloc, title, lines, &mut Recorded::new(file), out, err),
         Err(_) => {
             let status = unreadable(err, script);
             say_why(rt, alloc, script, Source::Other, err);
@@ -50,7 +58,7 @@ pub fn chart_named<W: Write, E: Write>(
 }
 
 // Draws the run of the script that a reader gives, under this title.
-fn chart<R: Read, W: Write, E: Write>(
+fn chart<R: RecordedRead, W: Write, E: Write>(
     alloc: Global,
     title: &str,
     lines: Lines,

@@ -2,6 +2,7 @@ use crate::command::Command;
 use crate::run_json::run_json;
 use crate::script::{ScriptFault, parse_script};
 use crate::tests::world::world_after;
+use av_base::recorded::Recorded;
 use av_base::{Port, Refusal};
 use av_history::event::Event;
 use std::alloc::Global;
@@ -248,7 +249,7 @@ fn an_object_of_the_second_port_names_it_last(rt: HostRuntime) -> Result<(), Fai
             wanted.push(b'\n')?;
         }
     }
-    let mut reader = script.as_slice();
+    let mut reader = Recorded::new(script.as_slice());
     let mut objects = Vec::new(rt.alloc());
     let ended = run_json(rt.alloc(), &mut reader, &mut objects, 9);
     assert_eq!(rt; ended, Ok(()));

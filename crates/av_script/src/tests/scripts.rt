@@ -1,5 +1,6 @@
 use crate::run_script::{RunFault, run_script};
 use crate::script::{ScriptFault, parse_script};
+use av_base::recorded::Recorded;
 use av_base::{Mode, Refusal};
 use av_fakes::{FakeReader, FakeWriter, Fault, may_refuse, refuse_no_more};
 use av_history::fault::{JudgeFault, StepFault};
@@ -33,13 +34,13 @@ fn a_script_is_read_and_run(rt: HostRuntime) -> Result<(), Fail> {
     };
     assert_eq!(rt; bad, Refusal::Fault(ScriptFault { line: 2 }));
     let mut output = Vec::new(alloc);
-    let mut reader = text;
+    let mut reader = Recorded::new(text);
     assert_eq!(rt; run_script(alloc, &mut reader, &mut output, 3), Ok(()));
     assert_eq!(rt;
         output.as_slice(),
         b"boot 1\nstream 1 generation 1\nrefused Hole\n".as_slice()
     );
-    let mut again = text;
+    let mut again = Recorded::new(text);
     assert_eq!(rt;
         run_script(alloc, &mut again, &mut output, 1),
         Err(RunFault::Read)
@@ -54,7 +55,7 @@ const LINES: &[u8] = b"boot 1\nstream 1 generation 1\nrefused Exists\n";
 #[test]
 fn a_script_prints_the_same_however_reads_and_writes_are_cut(rt: HostRuntime) -> Result<(), Fail> {
     for piece in 1..40 {
-        let mut reader = FakeReader::new(SCRIPT).in_pieces_of(piece);
+        let mut reader = Recorded::new(FakeReader::new(SCRIPT).in_pieces_of(piece));
         let mut writer = FakeWriter::new(rt.alloc()).in_pieces_of(piece);
         assert_eq!(rt;
             run_script(rt.alloc(), &mut reader, &mut writer, 99),
@@ -69,13 +70,13 @@ fn a_script_prints_the_same_however_reads_and_writes_are_cut(rt: HostRuntime) ->
 #[test]
 fn a_failing_read_writes_nothing(rt: HostRuntime) -> Result<(), Fail> {
     for read in 1..36 {
-        let mut reader = FakeReader::new(SCRIPT).in_pieces_of(1).failing_at(read);
+        let mut reader = Recorded::new(FakeReader::new(SCRIPT).in_pieces_of(1).failing_at(read));
         let mut writer = FakeWriter::new(rt.alloc());
         let ended = run_script(rt.alloc(), &mut reader, &mut writer, 99);
         assert_eq!(rt; ended, Err(RunFault::Read), "at read {read}");
         assert!(rt; writer.taken().is_empty(), "at read {read}");
     }
-    let mut reader = FakeReader::new(SCRIPT).in_pieces_of(1);
+    let mut reader = Recorded::new(FakeReader::new(SCRIPT).in_pieces_of(1));
     let mut writer = FakeWriter::new(rt.alloc());
     let ended = run_script(rt.alloc(), &mut reader, &mut writer, 34);
     assert_eq!(rt; ended, Err(RunFault::Read));
@@ -86,7 +87,7 @@ fn a_failing_read_writes_nothing(rt: HostRuntime) -> Result<(), Fail> {
 fn a_failing_write_leaves_a_front_of_the_lines(rt: HostRuntime) -> Result<(), Fail> {
     for write in 1..45 {
         for fault in [Fault::Fails { write }, Fault::TakesNothing { write }] {
-            let mut reader = SCRIPT;
+            let mut reader = Recorded::new(SCRIPT);
             let mut writer = FakeWriter::new(rt.alloc()).in_pieces_of(1).with(fault);
             let ended = run_script(rt.alloc(), &mut reader, &mut writer, 9);
             assert_eq!(rt; ended, Err(RunFault::Write), "{fault:?}");
@@ -98,7 +99,7 @@ fn a_failing_write_leaves_a_front_of_the_lines(rt: HostRuntime) -> Result<(), Fa
             );
         }
     }
-    let mut reader = SCRIPT;
+    let mut reader = Recorded::new(SCRIPT);
     let mut writer = FakeWriter::new(rt.alloc()).with(Fault::KeepsUnflushed);
     let ended = run_script(rt.alloc(), &mut reader, &mut writer, 9);
     assert_eq!(rt; ended, Err(RunFault::Write));
@@ -112,7 +113,7 @@ fn refused_or_not_a_script_prints_its_lines_or_a_front_of_them(
     let alloc = rt.alloc();
     may_refuse(alloc);
     let parsed = parse_script(alloc, SCRIPT);
-    let mut reader = SCRIPT;
+    let mut reader = Recorded::new(SCRIPT);
     let mut writer = FakeWriter::new(alloc);
     let ended = run_script(alloc, &mut reader, &mut writer, 9);
     refuse_no_more(alloc);
