@@ -3,6 +3,7 @@ pub mod ExchangeLemmas
 pub mod ServingLemmas
 pub mod FreshLemmas
 pub mod RenewingLemmas
+pub mod CauseLemmas
 pub mod EventLemmas
 pub mod WatchingLemmas
 pub mod ExampleLemmas

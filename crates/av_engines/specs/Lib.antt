@@ -1,3 +1,4 @@
+pub mod Cause
 pub mod Incoming
 pub mod Outgoing
 pub mod Exchange

@@ -1,11 +1,14 @@
 ghost use Rattle.std.specs.Prelude.{◌≡◌, ◌∷◌, ◌<◌, ◌≤◌, [], false, IfErr, IfOk, OnErr, OnOk};
+ghost use Rattle.av_base.specs.Recorded.{AreLeft};
+ghost use Rattle.av_engines.specs.Cause.{IsOfReader};
 ghost use Rattle.av_engines.specs.Incoming.{EndsAs, GivesFront, HasArrived, HasNoFront, HasNoneFor, IsDue, Reads, ReadsNothing, Takes, listed, nothing_yet, to_come, unread};
 ghost use Rattle.av_frame.specs.declared.end.End.TheVariants.{Memory};
 
 use av_base::Refusal;
+use av_base::recorded::RecordedRead;
 use av_frame::{End, Feed, FeedFault, Message};
 use std::alloc::{AllocError, Global};
-use std::io::{ErrorKind, Read};
+use std::io::ErrorKind;
 use std::marker::Model;
 
 // How many bytes are read at once: two frames of the greatest length, or some hundred small ones.
@@ -59,12 +62,14 @@ impl Incoming {
     /// earlier one. Else Frame, where what came next is no frame of a message, also at every later call; Closed, where the
     /// input ended, also within a frame; ReadFault, where a read failed or none is left; Memory. All but Frame may be called
     /// again: nothing that came is lost. A read that was interrupted is made again.
-    pub fn next<R: Read>(&mut self, reader: &mut R) -> Result<Message, End>
+    pub fn next<R: RecordedRead>(&mut self, reader: &mut R) -> Result<Message, End>
         ensures message { IfOk result (λ m. Takes self.old self.new (R.remaining reader.old) (R.remaining reader.new) (m ∷ [])) }
         ensures nothing { OnErr result (Takes self.old self.new (R.remaining reader.old) (R.remaining reader.new) []) }
         ensures end { IfErr result (λ e. EndsAs e self.new (R.remaining reader.new)) }
         ensures spent { self.old.turns ≡ 0 → R.remaining reader.new ≡ R.remaining reader.old }
         ensures fault { IfErr result (λ e. IsDue e self.old.turns self.new.turns) }
+        ensures cause { IfErr result (λ e. IsOfReader e (R.has_failed reader.new) self.new.turns) }
+        ensures counted { AreLeft self.old.turns (R.reads reader.old) (R.reads reader.new) self.new.turns }
     {
         'looks: loop {
             if let Some(message) = self.step(reader, Patience::None)? {
@@ -75,26 +80,34 @@ impl Incoming {
 
     /// The next message where it has come whole, as `next` gives it; else one read is made and none is given, whatever it
     /// brought. Where the read's time was up (WouldBlock) it brought nothing, which is no fault here.
-    pub fn look<R: Read>(&mut self, reader: &mut R) -> Result<Option<Message>, End>
+    pub fn look<R: RecordedRead>(&mut self, reader: &mut R) -> Result<Option<Message>, End>
         ensures message { IfOk result
             (λ o. Takes self.old self.new (R.remaining reader.old) (R.remaining reader.new) (listed o)) }
         ensures nothing { OnErr result (Takes self.old self.new (R.remaining reader.old) (R.remaining reader.new) []) }
         ensures end { IfErr result (λ e. EndsAs e self.new (R.remaining reader.new)) }
         ensures spent { self.old.turns ≡ 0 → R.remaining reader.new ≡ R.remaining reader.old }
         ensures fault { IfErr result (λ e. IsDue e self.old.turns self.new.turns) }
+        ensures cause { IfErr result (λ e. IsOfReader e (R.has_failed reader.new) self.new.turns) }
+        ensures counted { AreLeft self.old.turns (R.reads reader.old) (R.reads reader.new) self.new.turns }
         ensures less { OnOk result (to_come self.new < to_come self.old) }
     {
         self.step(reader, Patience::Timed)
     }
 
     // The same with this patience.
-    fn step<R: Read>(&mut self, reader: &mut R, patience: Patience) -> Result<Option<Message>, End>
+    fn step<R: RecordedRead>(
+        &mut self,
+        reader: &mut R,
+        patience: Patience,
+    ) -> Result<Option<Message>, End>
         ensures message { IfOk result
             (λ o. Takes self.old self.new (R.remaining reader.old) (R.remaining reader.new) (listed o)) }
         ensures nothing { OnErr result (Takes self.old self.new (R.remaining reader.old) (R.remaining reader.new) []) }
         ensures end { IfErr result (λ e. EndsAs e self.new (R.remaining reader.new)) }
         ensures spent { self.old.turns ≡ 0 → R.remaining reader.new ≡ R.remaining reader.old }
         ensures fault { IfErr result (λ e. IsDue e self.old.turns self.new.turns) }
+        ensures cause { IfErr result (λ e. IsOfReader e (R.has_failed reader.new) self.new.turns) }
+        ensures counted { AreLeft self.old.turns (R.reads reader.old) (R.reads reader.new) self.new.turns }
         ensures less { OnOk result (to_come self.new < to_come self.old) }
         ensures turns { self.new.turns ≤ self.old.turns }
     {
@@ -149,20 +162,22 @@ impl Incoming {
     }
 
     // One read, which gives nothing where it is to be made again.
-    fn read<R: Read>(&mut self, reader: &mut R, patience: Patience) -> Result<(), End>
+    fn read<R: RecordedRead>(&mut self, reader: &mut R, patience: Patience) -> Result<(), End>
         requires waiting { self.old.waiting ≡ [] }
         requires sound { self.old.fed.broken ≡ false }
         ensures ok { OnOk result (Reads self.old self.new (R.remaining reader.old) (R.remaining reader.new)) }
         ensures turns { OnOk result (self.new.turns < self.old.turns) }
         ensures spent { self.old.turns ≡ 0 → R.remaining reader.new ≡ R.remaining reader.old }
         ensures fault { IfErr result (λ e. IsDue e self.old.turns self.new.turns) }
+        ensures cause { IfErr result (λ e. IsOfReader e (R.has_failed reader.new) self.new.turns) }
+        ensures counted { AreLeft self.old.turns (R.reads reader.old) (R.reads reader.new) self.new.turns }
         ensures err { IfErr result (λ e. ReadsNothing e self.old self.new (R.remaining reader.old) (R.remaining reader.new)) }
     {
         if self.turns == 0 {
             return Err(End::ReadFault);
         }
         self.turns -= 1;
-        match reader.read(&mut self.buffer) {
+        match reader.read_recorded(&mut self.buffer) {
             Ok(0) => Err(End::Closed),
             Ok(count) => {
                 self.waiting = count;

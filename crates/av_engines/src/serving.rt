@@ -1,5 +1,6 @@
 ghost use Rattle.std.specs.Prelude.{◌≡◌, ◌≤◌, ◌⊎◌, ◌∷◌, ◌++◌, [], false, None, IfOk, IsSome, OnErr, OnOk};
 ghost use Rattle.std.specs.List.{flat_map};
+ghost use Rattle.av_engines.specs.Cause.{IsOfReads, IsOfWriter};
 ghost use Rattle.av_engines.specs.FreshEnd.{HearsFresh, RunsFresh, ServesFresh};
 ghost use Rattle.av_engines.specs.Incoming.{unread};
 ghost use Rattle.av_engines.specs.ServiceEnd.{IsAmid, Puts, ServesTo, always};
@@ -13,6 +14,7 @@ use crate::fresh::Fresh;
 use crate::outgoing::Outgoing;
 use crate::renewing::refresh;
 use av_base::Refusal;
+use av_base::recorded::{RecordedRead, RecordedWrite};
 use av_frame::laws::bytes_spell_one_list;
 use av_frame::{End, Message};
 use av_match::Automaton;
@@ -20,13 +22,12 @@ use av_service::laws::works_are_lent_under_the_present_version;
 use av_service::{Service, ServiceOut, Work};
 use av_sigset::Catalogue;
 use std::alloc::{AllocError, AllocFailed, Global};
-use std::io::{Read, Write};
 
 /// Runs a scanning service over a stream of frames: it connects, handles each message that comes, and runs each work at
 /// once, under the set of its version. It ends with ReadFault, also once `turns` reads were made; WriteFault; Frame; Closed;
 /// each of these disconnects the service; or with Memory, which leaves it where the messages led, or within the last of them.
 /// It holds the automaton of the set, a buffer and the frames of one message. It is `serve_fresh` where no set comes.
-pub fn serve_service<R: Read, W: Write>(
+pub fn serve_service<R: RecordedRead, W: RecordedWrite>(
     alloc: Global,
     service: &mut Service,
     catalogue: &mut Catalogue,
@@ -40,6 +41,8 @@ pub fn serve_service<R: Read, W: Write>(
     ensures serves { ServesTo catalogue.old.sets service.old.desk service.new.desk (R.remaining reader.old) (W.contents writer.old)
         (W.contents writer.new) turns result }
     ensures kept { catalogue.new.sets ≡ catalogue.old.sets }
+    ensures read { IsOfReads result (R.has_failed reader.new) turns (R.reads reader.old) (R.reads reader.new) }
+    ensures written { IsOfWriter result (W.has_failed writer.new) }
 {
     serve_fresh(alloc, service, catalogue, reader, writer, turns, &mut ())
 }
@@ -48,7 +51,7 @@ pub fn serve_service<R: Read, W: Write>(
 /// published, where it is above the set before it and the catalogue has room; the filter is told (Updated), and each job begins
 /// anew under it. A set that is refused, also for want of memory, changes nothing. Each is told which it was. A read whose time
 /// was up (WouldBlock) is made again, so a reader that gives the sets their turn has reads of a bounded time.
-pub fn serve_fresh<R: Read, W: Write, F: Fresh>(
+pub fn serve_fresh<R: RecordedRead, W: RecordedWrite, F: Fresh>(
     alloc: Global,
     service: &mut Service,
     catalogue: &mut Catalogue,
@@ -60,8 +63,10 @@ pub fn serve_fresh<R: Read, W: Write, F: Fresh>(
     requires idle { service.old.desk.connected ≡ false }
     requires version { 1 ≤ service.old.desk.version }
     requires set { IsSome (set_at catalogue.old.sets service.old.desk.version) }
-    ensures { ServesFresh catalogue.old.sets catalogue.new.sets service.old.desk service.new.desk (F.coming fresh.old)
+    ensures serves { ServesFresh catalogue.old.sets catalogue.new.sets service.old.desk service.new.desk (F.coming fresh.old)
         (F.coming fresh.new) (R.remaining reader.old) (W.contents writer.old) (W.contents writer.new) turns result }
+    ensures read { IsOfReads result (R.has_failed reader.new) turns (R.reads reader.old) (R.reads reader.new) }
+    ensures written { IsOfWriter result (W.has_failed writer.new) }
 {
     let end = serve(alloc, service, catalogue, reader, writer, turns, fresh);
     if end != End::Memory {
@@ -71,7 +76,7 @@ pub fn serve_fresh<R: Read, W: Write, F: Fresh>(
 }
 
 // The same, without the disconnection.
-fn serve<R: Read, W: Write, F: Fresh>(
+fn serve<R: RecordedRead, W: RecordedWrite, F: Fresh>(
     alloc: Global,
     service: &mut Service,
     catalogue: &mut Catalogue,
@@ -83,8 +88,10 @@ fn serve<R: Read, W: Write, F: Fresh>(
     requires idle { service.old.desk.connected ≡ false }
     requires version { 1 ≤ service.old.desk.version }
     requires set { IsSome (set_at catalogue.old.sets service.old.desk.version) }
-    ensures { RunsFresh catalogue.old.sets catalogue.new.sets service.old.desk service.new.desk (F.coming fresh.old)
+    ensures runs { RunsFresh catalogue.old.sets catalogue.new.sets service.old.desk service.new.desk (F.coming fresh.old)
         (F.coming fresh.new) (R.remaining reader.old) (W.contents writer.old) (W.contents writer.new) turns result }
+    ensures read { IsOfReads result (R.has_failed reader.new) turns (R.reads reader.old) (R.reads reader.new) }
+    ensures written { IsOfWriter result (W.has_failed writer.new) }
 {
     works_are_lent_under_the_present_version();
     let Ok(mut automaton) = automaton_of(alloc, service, catalogue) else {
@@ -144,7 +151,7 @@ fn greet(alloc: Global, service: &mut Service, outgoing: &mut Outgoing) -> Resul
 }
 
 // Handles each message and each newer set that comes, until no message does.
-fn hear_all<R: Read, W: Write, F: Fresh>(
+fn hear_all<R: RecordedRead, W: RecordedWrite, F: Fresh>(
     alloc: Global,
     service: &mut Service,
     catalogue: &mut Catalogue,
@@ -157,9 +164,11 @@ fn hear_all<R: Read, W: Write, F: Fresh>(
     requires unread { unread exchange.old.incoming ≡ [] }
     requires newest { service.old.desk.version ≤ latest catalogue.old.sets }
     requires patterns { automaton.old.patterns ≡ patterns_at catalogue.old.sets service.old.desk.version }
-    ensures { HearsFresh catalogue.old.sets catalogue.new.sets service.old.desk service.new.desk (F.coming fresh.old)
+    ensures hears { HearsFresh catalogue.old.sets catalogue.new.sets service.old.desk service.new.desk (F.coming fresh.old)
         (F.coming fresh.new) exchange.old.outgoing (R.remaining reader.old) (W.contents writer.old)
         (W.contents writer.new) exchange.old.incoming.turns result }
+    ensures read { IsOfReads result (R.has_failed reader.new) exchange.old.incoming.turns (R.reads reader.old) (R.reads reader.new) }
+    ensures written { IsOfWriter result (W.has_failed writer.new) }
 {
     bytes_spell_one_list();
     works_are_lent_under_the_present_version();

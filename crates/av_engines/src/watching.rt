@@ -2,6 +2,7 @@ ghost use Rattle.std.specs.Prelude.{◌≡◌, ◌≤◌, ◌<◌, ◌+◌, ◌+
 ghost use Rattle.std.specs.List.{flat_map};
 ghost use Rattle.std.specs.Vec.{vec_capacity};
 ghost use Rattle.av_base.specs.declared.port.Port.TheVariants.{One, Two};
+ghost use Rattle.av_engines.specs.Cause.{IsOfReads, IsOfWriter};
 ghost use Rattle.av_engines.specs.FilterEnd.{Hears, IsAmid, IsAt, Leaves, Puts, RunsOver, WatchesOver, WatchesTo};
 ghost use Rattle.av_engines.specs.Watching.{all_happened, begun, due, events_of, happened, heard, joined, opens_of, standing, unled};
 ghost use Rattle.av_frame.specs.declared.end.End.TheVariants.{Done};
@@ -14,13 +15,13 @@ ghost use Rattle.av_store.specs.Store.{greatest};
 use crate::exchange::Exchange;
 use crate::outgoing::Outgoing;
 use crate::tally::Tally;
+use av_base::recorded::{RecordedRead, RecordedWrite};
 use av_base::{Port, Refusal, StreamId, Version};
 use av_filter::{Mounted, Out};
 use av_frame::laws::bytes_spell_one_list;
 use av_frame::{End, Message};
 use av_pend::Answer;
 use std::alloc::{AllocError, Global};
-use std::io::{Read, Write};
 
 /// How the engine of a filter ended, and each answer that the filter gave meanwhile, the oldest first.
 #[derive(Debug, Drop)]
@@ -49,7 +50,7 @@ impl Watched {
 /// Closed; each of these disconnects the port, so that each open that was submitted is answered; or with Memory, also where it is
 /// refused to that: the filter is where the messages led, or within the next of them. It holds the answers, a buffer, and the frames
 /// of one message.
-pub fn serve_filter<R: Read, W: Write>(
+pub fn serve_filter<R: RecordedRead, W: RecordedWrite>(
     alloc: Global,
     mounted: &mut Mounted,
     opens: &[StreamId],
@@ -61,6 +62,8 @@ pub fn serve_filter<R: Read, W: Write>(
     requires left { mounted.old.volume.opens + length opens.now ≤ greatest }
     ensures watches { WatchesTo opens.now mounted.old.table mounted.old.volume mounted.new.table mounted.new.volume
         result.answers.items (R.remaining reader.old) (W.contents writer.old) (W.contents writer.new) turns result.end }
+    ensures read { IsOfReads result.end (R.has_failed reader.new) turns (R.reads reader.old) (R.reads reader.new) }
+    ensures written { IsOfWriter result.end (W.has_failed writer.new) }
 {
     let tally = Tally::new(alloc, mounted.volume().opens(), false);
     match Exchange::new(alloc, turns) {
@@ -75,7 +78,7 @@ pub fn serve_filter<R: Read, W: Write>(
 /// The same for further opens over a stream that goes on: they are submitted at once where the filter is connected, else right after
 /// the message that connects it. What had come behind the last message before is taken first, and what comes behind the last one now
 /// is left to the next call, where this one ended with Done.
-pub fn serve_further<R: Read, W: Write>(
+pub fn serve_further<R: RecordedRead, W: RecordedWrite>(
     alloc: Global,
     mounted: &mut Mounted,
     opens: &[StreamId],
@@ -90,13 +93,15 @@ pub fn serve_further<R: Read, W: Write>(
         result.answers.items exchange.old.incoming exchange.new.incoming
         (R.remaining reader.old) (R.remaining reader.new) (W.contents writer.old) (W.contents writer.new) result.end }
     ensures nothing { result.end ≡ Done → exchange.new.outgoing ≡ [] }
+    ensures read { IsOfReads result.end (R.has_failed reader.new) exchange.old.incoming.turns (R.reads reader.old) (R.reads reader.new) }
+    ensures written { IsOfWriter result.end (W.has_failed writer.new) }
 {
     let tally = Tally::new(alloc, mounted.volume().opens(), true);
     serve(alloc, mounted, opens, tally, exchange, reader, writer)
 }
 
 // The same, with a tally that has no answer yet.
-fn serve<R: Read, W: Write>(
+fn serve<R: RecordedRead, W: RecordedWrite>(
     alloc: Global,
     mounted: &mut Mounted,
     opens: &[StreamId],
@@ -112,6 +117,8 @@ fn serve<R: Read, W: Write>(
         mounted.new.volume result.answers.items exchange.old.incoming exchange.new.incoming
         (R.remaining reader.old) (R.remaining reader.new) (W.contents writer.old) (W.contents writer.new) result.end }
     ensures nothing { result.end ≡ Done → exchange.new.outgoing ≡ [] }
+    ensures read { IsOfReads result.end (R.has_failed reader.new) exchange.old.incoming.turns (R.reads reader.old) (R.reads reader.new) }
+    ensures written { IsOfWriter result.end (W.has_failed writer.new) }
 {
     let line = &mut tally;
     let would = watch(alloc, mounted, opens, line, exchange, reader, writer);
@@ -120,7 +127,7 @@ fn serve<R: Read, W: Write>(
 }
 
 // Submits the opens where that may be at once, and handles each message that comes, until all opens are answered or none comes.
-fn watch<R: Read, W: Write>(
+fn watch<R: RecordedRead, W: RecordedWrite>(
     alloc: Global,
     mounted: &mut Mounted,
     opens: &[StreamId],
@@ -136,6 +143,8 @@ fn watch<R: Read, W: Write>(
         mounted.new.volume tally.new.answers.items exchange.old.incoming exchange.new.incoming
         (R.remaining reader.old) (R.remaining reader.new) (W.contents writer.old) (W.contents writer.new) result }
     ensures nothing { result ≡ Done → exchange.new.outgoing ≡ [] }
+    ensures read { IsOfReads result (R.has_failed reader.new) exchange.old.incoming.turns (R.reads reader.old) (R.reads reader.new) }
+    ensures written { IsOfWriter result (W.has_failed writer.new) }
 {
     bytes_spell_one_list();
     let outgoing = &mut exchange.outgoing;

@@ -4,6 +4,7 @@ use crate::serving::serve_fresh;
 use crate::tests::frames::{CHUNK, CLEAN, HELLO, READ, SCAN};
 use crate::tests::sides::{Unmade, catalogue_of_one};
 use crate::tests::text::bytes_of;
+use av_base::recorded::Recorded;
 use av_base::{Limits, Port, Refusal, Version};
 use av_fakes::{FakeWriter, may_refuse, refuse_no_more};
 use av_frame::End;
@@ -154,8 +155,8 @@ fn served_over(
         alloc,
         &mut service,
         &mut catalogue,
-        reader,
-        writer,
+        &mut Recorded::new(reader),
+        &mut Recorded::new(writer),
         turns,
         fresh,
     );

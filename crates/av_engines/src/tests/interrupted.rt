@@ -1,5 +1,6 @@
 // A read that was interrupted, as where the process was stopped and continued, is made again.
 use crate::incoming::Incoming;
+use av_base::recorded::Recorded;
 use av_frame::{Body, End};
 use std::io;
 use std::io::{ErrorKind, Read};
@@ -31,10 +32,10 @@ const HELLO: &[u8] = &[
 
 #[test]
 fn a_read_that_was_interrupted_is_made_again(rt: HostRuntime) -> Result<(), Fail> {
-    let mut reader = Stuttering {
+    let mut reader = Recorded::new(Stuttering {
         rest: HELLO,
         is_ready: false,
-    };
+    });
     let mut incoming = Incoming::new(rt.alloc(), 1_000)?;
     let is_whole = match incoming.next(&mut reader) {
         Ok(message) => matches!(message.body(), Body::Hello { .. }),

@@ -4,6 +4,7 @@ use crate::exchange::Exchange;
 use crate::serving::serve_service;
 use crate::tests::frames::{DOWN, UP};
 use crate::watching::{Watched, serve_filter, serve_further};
+use av_base::recorded::Recorded;
 use av_base::{LimitField, LimitValues, Limits, Mode, Port, StreamId, Version};
 use av_fakes::{FakeReader, FakeWriter, may_refuse, refuse_no_more};
 use av_filter::Mounted;
@@ -86,7 +87,14 @@ pub fn watched_within<R: Read, W: Write>(
         return Err(Unmade);
     }
     may_refuse(alloc);
-    let watched = serve_filter(alloc, &mut mounted, opens, reader, writer, turns);
+    let watched = serve_filter(
+        alloc,
+        &mut mounted,
+        opens,
+        &mut Recorded::new(reader),
+        &mut Recorded::new(writer),
+        turns,
+    );
     refuse_no_more(alloc);
     let _volume = mounted.abandon();
     Ok(watched)
@@ -122,7 +130,14 @@ fn watched_over<R: Read, W: Write>(
     if mounted.filter().connected(Port::Two) || mounted.volume().opens_left() < opens.len() as u64 {
         return Err(Unmade);
     }
-    Ok(serve_filter(alloc, mounted, opens, reader, writer, 1_000))
+    Ok(serve_filter(
+        alloc,
+        mounted,
+        opens,
+        &mut Recorded::new(reader),
+        &mut Recorded::new(writer),
+        1_000,
+    ))
 }
 
 // A filter just mounted.
@@ -161,13 +176,28 @@ fn further_over<R: Read, W: Write>(
         return Err(Unmade);
     }
     let one = [StreamId::new(1)];
-    let first = serve_further(alloc, mounted, &one, &mut exchange, reader, writer);
+    let (mut reader, mut writer) = (Recorded::new(reader), Recorded::new(writer));
+    let first = serve_further(
+        alloc,
+        mounted,
+        &one,
+        &mut exchange,
+        &mut reader,
+        &mut writer,
+    );
     let is_over = first.end != End::Done || mounted.filter().connected(Port::Two);
     if is_over || mounted.volume().opens_left() < opens.len() as u64 {
         return Err(Unmade);
     }
     exchange.incoming.allow(1_000);
-    let second = serve_further(alloc, mounted, opens, &mut exchange, reader, writer);
+    let second = serve_further(
+        alloc,
+        mounted,
+        opens,
+        &mut exchange,
+        &mut reader,
+        &mut writer,
+    );
     Ok((first, second))
 }
 
@@ -199,7 +229,14 @@ pub fn served_within<R: Read, W: Write>(
         return Err(Unmade);
     }
     may_refuse(alloc);
-    let end = serve_service(alloc, &mut service, &mut catalogue, reader, writer, turns);
+    let end = serve_service(
+        alloc,
+        &mut service,
+        &mut catalogue,
+        &mut Recorded::new(reader),
+        &mut Recorded::new(writer),
+        turns,
+    );
     refuse_no_more(alloc);
     Ok(end)
 }

@@ -1,4 +1,5 @@
 use Rattle.std.proofs.Common.{◌≡◌, ◌≤◌}
+use Rattle.av_base.specs.Recorded.{AreLeft}
 use Rattle.av_engines.specs.Incoming.{to_come}
 use Rattle.av_engines.specs.Serving.{patterns_at}
 use Rattle.av_engines.proofs.FreshLemmas.{Goes}
@@ -13,6 +14,7 @@ invariant-looks g l = record {
       (g.R.Read.remaining l.initial.reader) (g.R.Read.remaining l.reader) (g.W.Write.contents l.initial.writer) (g.W.Write.contents l.writer);
   newest : l.service.desk.version ≤ latest l.catalogue.sets;
   patterns : l.automaton.patterns ≡ patterns_at l.catalogue.sets l.service.desk.version;
+  counted : AreLeft l.initial.exchange.incoming.turns (g.R.RecordedRead.reads l.initial.reader) (g.R.RecordedRead.reads l.reader) l.exchange.incoming.turns;
 }
 
 abbrev pub decreases-looks : goal.decreases-looks

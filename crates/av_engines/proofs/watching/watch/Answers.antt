@@ -1,6 +1,7 @@
 use Rattle.std.proofs.Common.{◌+◌, ◌≤◌, ◌∙◌, length, sym, subst, eq-eqb}
 use Rattle.std.proofs.lemmas.Bool.{ne_eqb}
 use Rattle.av_store.specs.Store.{greatest}
+use Rattle.av_engines.proofs.CauseLemmas.{left_all, left_then, of_reads}
 use Rattle.av_engines.proofs.IncomingLemmas.{takes_less}
 use Rattle.av_engines.proofs.WatchingLemmas.{done_is, nothing_watched, watching_begins, watching_goes_on, watching_stops, watching_fails, watching_ends, watching_breaks}
 use Rattle.av_engines.proofs.watching.watch.Goals as goal
@@ -13,6 +14,7 @@ messages-init g c = record {
   watching = watching_begins _ _ _ _ _ _ _ _ _ _ _ _ _ c.requires.nothing c.in-Ok.ensures.ok;
   left = λ before. subst (λ n. n + length c.args.opens.now ≤ greatest) (sym (c.in-Ok.ensures.left before)) c.requires.left;
   first = c.begin.ensures.first ∙ c.requires.none.1;
+  counted = left_all _ _;
 }
 
 pub returns-in-Err-next-clause-runs : goal.returns-in-Err-next-clause-runs
@@ -41,6 +43,7 @@ messages-preserved-in-Ok-hear g c =
       watching = watching_goes_on _ _ _ _ _ c.messages.exchange c.next.new.self _ _ _ _ _ _ _ _ _ _ _ _ _ _ _ _ h open_still c.in-Ok-next.ensures.message c.in-Ok-hear.ensures.ok;
       left = λ before. let kept = c.in-Ok-hear.ensures.left before in subst (λ n. n + length c.args.opens.now ≤ greatest) (sym kept.1) (c.messages.invariant.left kept.0);
       first = c.hear.ensures.first ∙ c.messages.invariant.first;
+      counted = left_then _ _ _ _ _ _ c.messages.invariant.counted c.next.ensures.counted;
     }
 
 pub messages-preserved : goal.messages-preserved
@@ -51,6 +54,7 @@ messages-preserved g c =
       watching = watching_goes_on _ _ _ _ _ c.messages.exchange c.next.new.self _ _ _ _ _ _ _ _ _ _ _ _ _ _ _ _ h open_still c.in-Ok-next.ensures.message c.in-Ok-hear.ensures.ok;
       left = λ before. let kept = c.in-Ok-hear.ensures.left before in subst (λ n. n + length c.args.opens.now ≤ greatest) (sym kept.1) (c.messages.invariant.left kept.0);
       first = c.hear.ensures.first ∙ c.messages.invariant.first;
+      counted = left_then _ _ _ _ _ _ c.messages.invariant.counted c.next.ensures.counted;
     }
 
 pub returns-in-Ok-flush-clause-runs : goal.returns-in-Ok-flush-clause-runs
@@ -62,3 +66,7 @@ returns-in-Ok-flush-clause-runs g c =
 pub returns-in-Err-flush-clause-runs : goal.returns-in-Err-flush-clause-runs
 returns-in-Err-flush-clause-runs g c =
     watching_breaks _ _ _ _ _ _ _ _ _ _ _ _ _ _ _ _ c.messages.invariant.watching c.in-Err-flush.ensures.writes
+
+pub returns-in-Err-next-clause-read : goal.returns-in-Err-next-clause-read
+returns-in-Err-next-clause-read g c =
+    of_reads _ _ _ _ _ _ (left_then _ _ _ _ _ _ c.messages.invariant.counted c.next.ensures.counted) c.in-Err-next.ensures.read
