@@ -6,6 +6,7 @@ ghost use Rattle.av_gate.specs.Seats.{IsSeatOf};
 ghost use Rattle.av_host.specs.declared.carrying.Way.TheVariants.{Into};
 
 use crate::wire::{Line, Wire};
+use av_base::recorded::Recorded;
 use av_desk::Desk;
 use av_engines::End;
 use av_files::streams::TURNS;
@@ -66,7 +67,7 @@ fn into_gate<R: Wait>(
 {
     make_room(alloc);
     let wire = line.wire;
-    let mut reader = wire.reader();
+    let mut reader = Recorded::new(wire.reader());
     let side = GateSide {
         rt,
         alloc,
@@ -126,7 +127,7 @@ pub fn into_desk<R: Wait>(
     ensures end { result.1 ≢ Done }
 {
     make_room(alloc);
-    let mut reader = wire.reader();
+    let mut reader = Recorded::new(wire.reader());
     let side = DeskSide {
         rt,
         alloc,

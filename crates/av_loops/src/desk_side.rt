@@ -1,14 +1,18 @@
 ghost use Rattle.std.specs.Prelude.{◌≡◌, ◌≢◌, IfErr};
+ghost use Rattle.av_base.specs.Recorded.{AreLeft};
+ghost use Rattle.av_engines.specs.Cause.{IsOfReader, IsOfReads};
 ghost use Rattle.av_frame.specs.declared.end.End.TheVariants.{Done};
+ghost use Rattle.av_loops.specs.Ends.{EndsSo, IsUnread};
 
 use crate::ending::end_of;
 use crate::sender::{Sender, Unsent};
+use av_base::recorded::RecordedRead;
 use av_desk::{Desk, Lent, Taken};
 use av_engines::{End, Incoming};
 use av_frame::Message;
 use av_pool::{Giver, Taker};
 use std::alloc::Global;
-use std::io::{Read, Write};
+use std::io::Write;
 use std::sync::Wait;
 
 /// A desk with the writing end of its stream, as the loops round it share them.
@@ -31,7 +35,7 @@ enum Runner {
 /// Closed, ReadFault, Frame, each of which is a disconnection of the desk, and so is WriteFault; Memory and AuditFull, which are
 /// none. Each work that a message gives out goes to the pool. What the desk sends meanwhile is written before the stream is read
 /// again. At its end it wakes who takes from the pool.
-pub fn desk_in<R: Wait, S: Read, W: Write>(
+pub fn desk_in<R: Wait, S: RecordedRead, W: Write>(
     side: &DeskSide<'_, R, W>,
     giver: &mut Giver,
     reader: &mut S,
@@ -39,6 +43,7 @@ pub fn desk_in<R: Wait, S: Read, W: Write>(
 ) -> End
     ensures same { giver.new.channel ≡ giver.old.channel }
     ensures end { result ≢ Done }
+    ensures read { IsOfReads result (S.has_failed reader.new) turns (S.reads reader.old) (S.reads reader.new) }
 {
     let runner = Runner::Pool;
     read_to_end(side, giver, reader, turns, runner)
@@ -46,7 +51,7 @@ pub fn desk_in<R: Wait, S: Read, W: Write>(
 
 /// Does what [`desk_in`] does, but runs a work itself if no further message has come whole. For such a work no other thread has
 /// to be woken.
-pub fn desk_in_running_works<R: Wait, S: Read, W: Write>(
+pub fn desk_in_running_works<R: Wait, S: RecordedRead, W: Write>(
     side: &DeskSide<'_, R, W>,
     giver: &mut Giver,
     reader: &mut S,
@@ -54,13 +59,14 @@ pub fn desk_in_running_works<R: Wait, S: Read, W: Write>(
 ) -> End
     ensures same { giver.new.channel ≡ giver.old.channel }
     ensures end { result ≢ Done }
+    ensures read { IsOfReads result (S.has_failed reader.new) turns (S.reads reader.old) (S.reads reader.new) }
 {
     let runner = Runner::Reader;
     read_to_end(side, giver, reader, turns, runner)
 }
 
 // Both loops into a desk.
-fn read_to_end<R: Wait, S: Read, W: Write>(
+fn read_to_end<R: Wait, S: RecordedRead, W: Write>(
     side: &DeskSide<'_, R, W>,
     giver: &mut Giver,
     reader: &mut S,
@@ -69,6 +75,7 @@ fn read_to_end<R: Wait, S: Read, W: Write>(
 ) -> End
     ensures same { giver.new.channel ≡ giver.old.channel }
     ensures end { result ≢ Done }
+    ensures read { IsOfReads result (S.has_failed reader.new) turns (S.reads reader.old) (S.reads reader.new) }
 {
     let end = match Incoming::new(side.alloc, turns) {
         Ok(mut incoming) => take_messages(side, giver, reader, &mut incoming, runner),
@@ -79,7 +86,7 @@ fn read_to_end<R: Wait, S: Read, W: Write>(
 }
 
 // Each message as an event.
-fn take_messages<R: Wait, S: Read, W: Write>(
+fn take_messages<R: Wait, S: RecordedRead, W: Write>(
     side: &DeskSide<'_, R, W>,
     giver: &mut Giver,
     reader: &mut S,
@@ -88,6 +95,7 @@ fn take_messages<R: Wait, S: Read, W: Write>(
 ) -> End
     ensures same { giver.new.channel ≡ giver.old.channel }
     ensures end { result ≢ Done }
+    ensures read { IsOfReads result (S.has_failed reader.new) incoming.old.turns (S.reads reader.old) (S.reads reader.new) }
 {
     let mut lent = None;
     'messages: for _ in side.rt.forever() {
@@ -105,8 +113,7 @@ fn take_messages<R: Wait, S: Read, W: Write>(
 
 // The end at a refusal. What the desk sent before still goes out.
 fn after_sending<R: Wait, W: Write>(side: &DeskSide<'_, R, W>, end: End) -> End
-    requires { end ≢ Done }
-    ensures { result ≢ Done }
+    ensures { EndsSo end result }
 {
     match send(side) {
         Ok(()) => end,
@@ -115,7 +122,7 @@ fn after_sending<R: Wait, W: Write>(side: &DeskSide<'_, R, W>, end: End) -> End
 }
 
 // The next message. Before it is waited for, the work that the last one gave out is run or given, and what waits is sent.
-fn next_message<R: Wait, S: Read, W: Write>(
+fn next_message<R: Wait, S: RecordedRead, W: Write>(
     side: &DeskSide<'_, R, W>,
     giver: &mut Giver,
     reader: &mut S,
@@ -125,6 +132,8 @@ fn next_message<R: Wait, S: Read, W: Write>(
 ) -> Result<Message, End>
     ensures same { giver.new.channel ≡ giver.old.channel }
     ensures end { IfErr result (λ end. end ≢ Done) }
+    ensures read { IfErr result (λ end. IsOfReader end (S.has_failed reader.new) incoming.new.turns) }
+    ensures counted { AreLeft incoming.old.turns (S.reads reader.old) (S.reads reader.new) incoming.new.turns }
 {
     if let Ok(Some(message)) = incoming.arrived() {
         if let Some(lent) = lent {
@@ -166,7 +175,7 @@ pub fn desk_done<R: Wait, W: Write>(side: &DeskSide<'_, R, W>, taker: &mut Taker
 
 // Takes a work back that was run.
 fn finish<R: Wait, W: Write>(side: &DeskSide<'_, R, W>, done: av_service::Done) -> Result<(), End>
-    ensures { IfErr result (λ end. end ≢ Done) }
+    ensures { IfErr result IsUnread }
 {
     match side.desk.finish_quietly(side.rt, side.alloc, done) {
         Ok(_) => Ok(()),
@@ -194,7 +203,7 @@ pub fn desk_out<R: Wait, W: Write>(side: &DeskSide<'_, R, W>) -> End {
 
 // Sends what waits. A write that fails is told to the desk by who meets it.
 fn send<R: Wait, W: Write>(side: &DeskSide<'_, R, W>) -> Result<(), End>
-    ensures { IfErr result (λ end. end ≢ Done) }
+    ensures { IfErr result IsUnread }
 {
     match side.sender.send(side.rt, side.alloc, side.desk) {
         Ok(()) => Ok(()),
@@ -206,7 +215,7 @@ fn send<R: Wait, W: Write>(side: &DeskSide<'_, R, W>) -> Result<(), End>
 
 // Tells the desk that the filter is lost, where this end says so.
 fn with_disconnection<R: Wait, W: Write>(side: &DeskSide<'_, R, W>, end: End) -> End
-    ensures end { end ≢ Done → result ≢ Done }
+    ensures end { EndsSo end result }
 {
     match end {
         End::Done | End::Memory | End::AuditFull => end,

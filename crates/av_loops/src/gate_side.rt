@@ -1,15 +1,19 @@
 ghost use Rattle.std.specs.Prelude.{◌≢◌, ◌≤◌, IfErr};
+ghost use Rattle.av_base.specs.Recorded.{AreLeft};
+ghost use Rattle.av_engines.specs.Cause.{IsOfReader, IsOfReads};
 ghost use Rattle.av_frame.specs.declared.end.End.TheVariants.{Done};
 ghost use Rattle.av_gate.specs.Seats.{IsSeatOf, floor_seen};
+ghost use Rattle.av_loops.specs.Ends.{EndsSo, IsUnread};
 
 use crate::ending::end_of;
 use crate::sender::{PortOutbox, Sender, Unsent};
 use av_base::Port;
+use av_base::recorded::RecordedRead;
 use av_engines::{End, Incoming};
 use av_frame::Message;
 use av_gate::{Gate, Seat};
 use std::alloc::Global;
-use std::io::{Read, Write};
+use std::io::Write;
 use std::sync::Wait;
 
 /// A port of a gate with the writing end of its stream, as the loops round it share them.
@@ -26,7 +30,7 @@ pub struct GateSide<'a, R, W> {
 /// ends, fails, or was read `turns` times: Closed, ReadFault, Frame, each of which is a disconnection of the port, and so is
 /// WriteFault; Memory and AuditFull, which are none, so that opens may stay without an answer. What the gate gives out at the port
 /// meanwhile is sent before the stream is read again: a message that has come whole is handled first.
-pub fn gate_in<R: Wait, S: Read, W: Write>(
+pub fn gate_in<R: Wait, S: RecordedRead, W: Write>(
     side: &GateSide<'_, R, W>,
     seat: &mut Seat,
     reader: &mut S,
@@ -36,6 +40,7 @@ pub fn gate_in<R: Wait, S: Read, W: Write>(
     ensures same { IsSeatOf side.now.gate.now seat.new }
     ensures later { floor_seen seat.old ≤ floor_seen seat.new }
     ensures end { result ≢ Done }
+    ensures read { IsOfReads result (S.has_failed reader.new) turns (S.reads reader.old) (S.reads reader.new) }
 {
     let Ok(mut incoming) = Incoming::new(side.alloc, turns) else {
         return End::Memory;
@@ -44,7 +49,7 @@ pub fn gate_in<R: Wait, S: Read, W: Write>(
 }
 
 // Each message of the port as an event.
-fn take_messages<R: Wait, S: Read, W: Write>(
+fn take_messages<R: Wait, S: RecordedRead, W: Write>(
     side: &GateSide<'_, R, W>,
     seat: &mut Seat,
     reader: &mut S,
@@ -54,6 +59,7 @@ fn take_messages<R: Wait, S: Read, W: Write>(
     ensures same { IsSeatOf side.now.gate.now seat.new }
     ensures later { floor_seen seat.old ≤ floor_seen seat.new }
     ensures end { result ≢ Done }
+    ensures read { IsOfReads result (S.has_failed reader.new) incoming.old.turns (S.reads reader.old) (S.reads reader.new) }
 {
     'messages: for _ in side.rt.forever() {
         let message = match next_message(side, seat, reader, incoming) {
@@ -75,11 +81,10 @@ fn take_messages<R: Wait, S: Read, W: Write>(
 
 // The end at a refusal. What the gate gave out before still goes out.
 fn after_sending<R: Wait, W: Write>(side: &GateSide<'_, R, W>, seat: &mut Seat, end: End) -> End
-    requires seat { IsSeatOf side.now.gate.now seat.old }
-    requires end { end ≢ Done }
+    requires { IsSeatOf side.now.gate.now seat.old }
     ensures same { IsSeatOf side.now.gate.now seat.new }
     ensures later { floor_seen seat.old ≤ floor_seen seat.new }
-    ensures end { result ≢ Done }
+    ensures end { EndsSo end result }
 {
     match send(side, seat) {
         Ok(()) => end,
@@ -88,7 +93,7 @@ fn after_sending<R: Wait, W: Write>(side: &GateSide<'_, R, W>, seat: &mut Seat, 
 }
 
 // The next message. What waits is sent before it is waited for.
-fn next_message<R: Wait, S: Read, W: Write>(
+fn next_message<R: Wait, S: RecordedRead, W: Write>(
     side: &GateSide<'_, R, W>,
     seat: &mut Seat,
     reader: &mut S,
@@ -98,6 +103,8 @@ fn next_message<R: Wait, S: Read, W: Write>(
     ensures same { IsSeatOf side.now.gate.now seat.new }
     ensures later { floor_seen seat.old ≤ floor_seen seat.new }
     ensures end { IfErr result (λ end. end ≢ Done) }
+    ensures read { IfErr result (λ end. IsOfReader end (S.has_failed reader.new) incoming.new.turns) }
+    ensures counted { AreLeft incoming.old.turns (S.reads reader.old) (S.reads reader.new) incoming.new.turns }
 {
     if let Ok(Some(message)) = incoming.arrived() {
         return Ok(message);
@@ -133,7 +140,7 @@ fn send<R: Wait, W: Write>(side: &GateSide<'_, R, W>, seat: &mut Seat) -> Result
     requires { IsSeatOf side.now.gate.now seat.old }
     ensures same { IsSeatOf side.now.gate.now seat.new }
     ensures later { floor_seen seat.old ≤ floor_seen seat.new }
-    ensures end { IfErr result (λ end. end ≢ Done) }
+    ensures end { IfErr result IsUnread }
 {
     let (gate, port) = (side.gate, side.port);
     match side
@@ -156,7 +163,7 @@ fn with_disconnection<R: Wait, W: Write>(
     requires { IsSeatOf side.now.gate.now seat.old }
     ensures same { IsSeatOf side.now.gate.now seat.new }
     ensures later { floor_seen seat.old ≤ floor_seen seat.new }
-    ensures end { end ≢ Done → result ≢ Done }
+    ensures end { EndsSo end result }
 {
     match end {
         End::Done | End::Memory | End::AuditFull => end,

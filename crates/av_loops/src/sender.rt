@@ -1,4 +1,5 @@
 use av_base::Port;
+use av_base::recorded::Recorded;
 use av_desk::Desk;
 use av_engines::Outgoing;
 use av_frame::Message;
@@ -17,7 +18,7 @@ pub struct Sender<W> {
 // What lies under the lock.
 #[derive(Drop)]
 struct Open<W> {
-    writer: W,
+    writer: Recorded<W>,
     outgoing: Outgoing,
     // What later calls are told where messages were lost, maybe in the middle of a frame.
     lost: Option<Unsent>,
@@ -64,7 +65,7 @@ impl<W: Write> Sender<W> {
     pub fn new(alloc: Global, writer: W) -> Sender<W> {
         Sender {
             open: Mutex::new(Open {
-                writer,
+                writer: Recorded::new(writer),
                 outgoing: Outgoing::new(alloc),
                 lost: None,
             }),
@@ -97,7 +98,7 @@ impl<W: Write> Sender<W> {
             outgoing: _,
             lost: _,
         } = open.into_inner();
-        writer
+        writer.device
     }
 }
 

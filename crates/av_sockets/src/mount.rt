@@ -3,6 +3,7 @@ ghost use Rattle.av_frame.specs.declared.end.End.TheVariants.{Done, Memory};
 ghost use Rattle.av_sockets.specs.Run.{Adds, Leads, LeadsLate, LeadsOn, first};
 
 use crate::duplex::{Duplex, Hearing, Saying};
+use av_base::recorded::Recorded;
 use av_base::{Limits, Mode, Port, Refusal, StreamId, Version};
 use av_engines::{End, Exchange, Watched, serve_further};
 use av_files::streams::empty_volume;
@@ -55,8 +56,8 @@ pub(crate) fn serve<C: Clock>(
             answers: Vec::new(alloc),
         };
     }
-    let mut reader = Hearing { duplex };
-    let mut writer = Saying { duplex };
+    let mut reader = Recorded::new(Hearing { duplex });
+    let mut writer = Recorded::new(Saying { duplex });
     serve_further(alloc, mount, streams, exchange, &mut reader, &mut writer)
 }
 

@@ -12,6 +12,7 @@ use crate::sockets::{Meeting, connect};
 use crate::watch::{Watch, Watched};
 use av_arrival::turned_away;
 use av_base::device::write_text;
+use av_base::recorded::Recorded;
 use av_base::{Limits, Port, Version};
 use av_engines::{End, serve_fresh, serve_service};
 use av_files::streams::VOLUME;
@@ -120,8 +121,8 @@ fn serve_over<'a, R: Files + Clock + Wait, E: Write>(
         first: duplex,
         second,
     } = lines;
-    let mut reader = Greeting { rt, duplex, second };
-    let mut writer = Saying { duplex };
+    let mut reader = Recorded::new(Greeting { rt, duplex, second });
+    let mut writer = Recorded::new(Saying { duplex });
     let Some(watched) = watched else {
         return serve_service(alloc, service, catalogue, &mut reader, &mut writer, READS);
     };

@@ -3,6 +3,7 @@ ghost use Rattle.std.specs.Prelude.{◌≡◌};
 
 use crate::tests::meeting::{Begun, Meeting};
 use crate::{DeskSide, Sender, desk_done, desk_in, desk_in_running_works, desk_out};
+use av_base::recorded::Recorded;
 use av_base::{Limits, Port, Version};
 use av_desk::{Audit, Desk, Event, Taken};
 use av_engines::{End, Incoming};
@@ -93,7 +94,7 @@ fn in_and_done<R: Wait>(
     ensures taker { taker.new.channel ≡ taker.old.channel }
 {
     let side = side_of(rt, alloc, desk, sender);
-    let into = desk_in(&side, giver, reader, 1_000);
+    let into = desk_in(&side, giver, &mut Recorded::new(reader), 1_000);
     (into, desk_done(&side, taker))
 }
 
@@ -144,7 +145,7 @@ fn talk_in<R: Wait>(
     let sender = Sender::new(alloc, FakeWriter::new(alloc));
     let mut reader = FakeReader::new(TWO_CONTENTS).in_pieces_of(piece);
     let side = side_of(rt, alloc, &desk, &sender);
-    desk_in_running_works(&side, giver, &mut reader, 1_000);
+    desk_in_running_works(&side, giver, &mut Recorded::new(&mut reader), 1_000);
     Ok((sender.into_writer(), kinds(alloc, &desk.close())?))
 }
 
@@ -179,7 +180,7 @@ fn a_work_behind_which_nothing_has_come_is_run_by_who_read_it(rt: HostRuntime) -
 fn give_both<R: Wait>(rt: &R, alloc: Global, desk: &Desk, giver: &mut Giver) -> Result<(), Fail>
     ensures { giver.new.channel ≡ giver.old.channel }
 {
-    let mut reader = FakeReader::new(TWO_CONTENTS);
+    let mut reader = Recorded::new(FakeReader::new(TWO_CONTENTS));
     let mut incoming = Incoming::new(alloc, 10)?;
     for _ in 0..4u32 {
         let Ok(message) = incoming.next(&mut reader) else {
@@ -257,7 +258,12 @@ fn ends_in<R: Wait>(
 {
     let desk = connected(rt, alloc)?;
     let sender = Sender::new(alloc, FakeWriter::new(alloc));
-    let end = desk_in(&side_of(rt, alloc, &desk, &sender), giver, reader, 10);
+    let end = desk_in(
+        &side_of(rt, alloc, &desk, &sender),
+        giver,
+        &mut Recorded::new(reader),
+        10,
+    );
     Ok((end, kinds(alloc, &desk.close())?))
 }
 
@@ -320,7 +326,12 @@ fn greets_in_vain<R: Wait>(
     let sender = Sender::new(alloc, writer);
     let mut reader = FakeReader::new(TWO_CONTENTS);
     let first = if is_into {
-        desk_in(&side_of(rt, alloc, &desk, &sender), giver, &mut reader, 10)
+        desk_in(
+            &side_of(rt, alloc, &desk, &sender),
+            giver,
+            &mut Recorded::new(&mut reader),
+            10,
+        )
     } else {
         desk_out(&side_of(rt, alloc, &desk, &sender))
     };

@@ -3,6 +3,7 @@ ghost use Rattle.std.specs.Prelude.{IfOk};
 ghost use Rattle.av_gate.specs.Seats.{IsSeatOf};
 
 use crate::{GateSide, Sender, gate_in, gate_out};
+use av_base::recorded::Recorded;
 use av_base::{Cause, LimitValues, Limits, Mode, OpenId, Port};
 use av_engines::End;
 use av_fakes::{FakeReader, FakeWriter, Fault, may_refuse, refuse_no_more};
@@ -71,7 +72,7 @@ fn ends_in<R: Wait>(
         port: Port::One,
         sender: &sender,
     };
-    let end = gate_in(&side, &mut seat, reader, turns);
+    let end = gate_in(&side, &mut seat, &mut Recorded::new(reader), turns);
     let (events, disconnects) = ended(alloc, gate, seat)?;
     Ok((end, events, disconnects))
 }
@@ -200,7 +201,7 @@ fn out_of<R: Wait>(
         sender,
     };
     let end = match reader {
-        Some(mut reader) => gate_in(&side, seat, &mut reader, 10),
+        Some(mut reader) => gate_in(&side, seat, &mut Recorded::new(&mut reader), 10),
         None => gate_out(&side, seat),
     };
     let answer = ticket.poll(&mut ticket.note()).copied();
@@ -220,7 +221,7 @@ fn welcome<R: Wait>(
     ensures { IsSeatOf gate.now seat.new }
 {
     let mut incoming = av_engines::Incoming::new(alloc, 10)?;
-    match incoming.next(reader) {
+    match incoming.next(&mut Recorded::new(reader)) {
         Ok(message) => Ok(gate.message(rt, alloc, seat, &message)?),
         Err(_) => Err(Fail::new("no message")),
     }
@@ -288,7 +289,7 @@ fn refused_or_not_a_loop_into_a_gate_comes_to_an_end(rt: HostRuntime) -> Result<
         port: Port::One,
         sender: &sender,
     };
-    let end = gate_in(&side, &mut seat, &mut reader, 10);
+    let end = gate_in(&side, &mut seat, &mut Recorded::new(&mut reader), 10);
     refuse_no_more(alloc);
     let (events, disconnects) = ended(alloc, gate, seat)?;
     assert!(&rt;

@@ -3,6 +3,7 @@ ghost use Rattle.std.specs.Prelude.{IfOk};
 ghost use Rattle.av_gate.specs.Seats.{IsSeatOf};
 
 use crate::{GateSide, Sender, gate_in, gate_out};
+use av_base::recorded::Recorded;
 use av_base::{Limits, Mode, Port};
 use av_engines::{End, Incoming, Outgoing};
 use av_fakes::{FakeReader, FakeWriter};
@@ -56,7 +57,7 @@ fn reads<R: Wait>(
         port: Port::One,
         sender,
     };
-    let end = gate_in(&side, &mut seat, &mut reader, 10_000);
+    let end = gate_in(&side, &mut seat, &mut Recorded::new(&mut reader), 10_000);
     (seat, end)
 }
 
@@ -138,7 +139,7 @@ fn begun<R: Wait>(rt: &R, alloc: Global, gate: &Gate, seat: &mut Seat) -> Result
     requires { IsSeatOf gate.now seat.old }
     ensures { IsSeatOf gate.now seat.new }
 {
-    let mut hello = FakeReader::new(HELLO);
+    let mut hello = Recorded::new(FakeReader::new(HELLO));
     let mut incoming = Incoming::new(alloc, 10)?;
     let Ok(message) = incoming.next(&mut hello) else {
         return Err(Fail::new("no message"));
@@ -177,14 +178,14 @@ fn frames_of(alloc: Global, gate: Gate, seats: Vec<Seat>) -> Result<FakeWriter, 
             return Err(Fail::new("not closed"));
         }
     };
-    let mut writer = FakeWriter::new(alloc);
+    let mut writer = Recorded::new(FakeWriter::new(alloc));
     let mut outgoing = Outgoing::new(alloc);
     for entry in &audit.events {
         if outgoing.send(&mut writer, entry.messages()).is_err() {
             return Err(Fail::new("not written"));
         }
     }
-    Ok(writer)
+    Ok(writer.device)
 }
 
 // What went out, what the audit says of it, and how the loops ended.
