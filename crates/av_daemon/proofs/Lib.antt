@@ -1,2 +1,3 @@
+pub mod HearingLemmas
 pub mod PassingLemmas
 pub mod TellingLemmas

@@ -1,10 +1,11 @@
 -- Which events a guard was given, one call after the other.
-use Rattle.std.proofs.Common.{◌≡◌, inr, List, [], ◌∷◌, refl, sym, subst, ◌∙◌}
+use Rattle.std.proofs.Common.{◌≡◌, ◌++◌, inl, inr, List, [], ◌∷◌, refl, sym, subst, ◌∙◌}
 use Rattle.av_base.specs.declared.port.Port.{Port}
+use Rattle.av_base.specs.declared.port.Port.TheVariants.{One}
 use Rattle.av_filter.specs.Conduct.{Disconnects, FilterEvent, Receives}
 use Rattle.av_frame.specs.Message.{Letter}
 use Rattle.av_guard.specs.State.{State, happens}
-use Rattle.av_daemon.specs.Passing.{ArePassed, IsGiven, IsToldOfLosses, KeepsFilter}
+use Rattle.av_daemon.specs.Passing.{AreGiven, IsGiven, IsLosing, IsLosingOne, HappensOnce, KeepsFilter}
 
 pub keeps_all : (g h : State) → h ≡ g → KeepsFilter g h
 keeps_all g h same = subst (KeepsFilter g) (sym same) (refl, refl, refl)
@@ -12,28 +13,25 @@ keeps_all g h same = subst (KeepsFilter g) (sym same) (refl, refl, refl)
 keeps_on : (g m h : State) → KeepsFilter g m → KeepsFilter m h → KeepsFilter g h
 keeps_on g m h first then = (then.0 ∙ first.0, then.1 ∙ first.1, then.2 ∙ first.2)
 
-passed_on : (es : List FilterEvent) (g m h : State) → ArePassed es g m → KeepsFilter m h → ArePassed es g h
-passed_on [] g m h passed keeps = keeps_on g m h passed keeps
-passed_on (e ∷ es) g m h passed keeps = (passed.0, passed.1, passed_on es ((happens passed.0 e).state) m h passed.2 keeps)
+-- an event was given, and what follows leaves the filter as it is
+pub told_once : (g m h : State) (e : FilterEvent) → m ≡ (happens g e).state → KeepsFilter m h → HappensOnce e g h
+told_once g m h e told keeps = (g, keeps_all g g refl, subst (λ s. KeepsFilter s h) told keeps)
 
--- no service is lost
-pub no_loss : (g h : State) → KeepsFilter g h → IsToldOfLosses g h
-no_loss g h keeps = ([], tt, keeps)
+pub losing_on : (port : Port) (g m h : State) → IsLosing port g m → KeepsFilter m h → IsLosing port g h
+losing_on port g m h (inl first) keeps = inl (keeps_on g m h first keeps)
+losing_on port g m h (inr lost) keeps = inr (lost.0, lost.1, keeps_on ((happens lost.0 (Disconnects port)).state) m h lost.2 keeps)
 
--- that of one port is
-pub one_loss : (g m h : State) (port : Port) → m ≡ (happens g (Disconnects port)).state → KeepsFilter m h → IsToldOfLosses g h
-one_loss g m h port lost keeps =
-    (Disconnects port ∷ [], ((port, refl), tt), (g, keeps_all g g refl, subst (λ s. KeepsFilter s h) lost keeps))
+-- nothing is told
+pub none_lost : (g h : State) → KeepsFilter g h → IsLosingOne g h
+none_lost g h keeps = (One, inl keeps)
 
--- and then none
-pub losses_on : (g m h : State) → IsToldOfLosses g m → KeepsFilter m h → IsToldOfLosses g h
-losses_on g m h lost keeps = (lost.0, lost.1, passed_on lost.0 g m h lost.2 keeps)
+-- a message was given, and then a service is lost, or none
+pub message_given : (g m next after h : State) (message : Letter) → m ≡ (happens g (Receives message)).state → KeepsFilter m next → KeepsFilter next after
+    → IsLosingOne after h → IsGiven message g h
+message_given g m next after h message given first then lost =
+    inr (after, told_once g m after (Receives message) given (keeps_on m next after first then), lost)
 
-passed_after : (es : List FilterEvent) (g m h : State) → KeepsFilter g m → ArePassed es m h → ArePassed es g h
-passed_after [] g m h keeps passed = keeps_on g m h keeps passed
-passed_after (e ∷ es) g m h keeps passed = (passed.0, keeps_on g m passed.0 keeps passed.1, passed.2)
-
--- a message was given, and then services are lost
-pub message_given : (g after next m h : State) (message : Letter) → after ≡ (happens g (Receives message)).state → KeepsFilter after next → KeepsFilter next m → IsToldOfLosses m h → IsGiven message g h
-message_given g after next m h message given first then lost =
-    inr (g, keeps_all g g refl, subst (λ s. IsToldOfLosses s h) given (lost.0, lost.1, passed_after lost.0 after m h (keeps_on after next m first then) lost.2))
+-- one more message is given behind others
+pub given_then : (ms : List Letter) (g m h : State) (message : Letter) → AreGiven ms g m → IsGiven message m h → AreGiven (ms ++ message ∷ []) g h
+given_then [] g m h message before then = (h, subst (λ s. IsGiven message s h) before then, refl)
+given_then (first ∷ ms) g m h message before then = (before.0, before.1, given_then ms before.0 m h message before.2 then)

@@ -2,6 +2,7 @@ pub mod Descriptors
 pub mod Guarding
 pub mod Late
 pub mod Names
+pub mod Hearing
 pub mod Passing
 pub mod Recorder
 pub mod Relaying

@@ -1,5 +1,5 @@
 -- Which events of its filter a guard is given: a service's message is passed on as it came, and nothing is made up.
-use Rattle.std.specs.Prelude.{◌≡◌, ◌⊎◌, ⊤, List, [], ◌∷◌}
+use Rattle.std.specs.Prelude.{◌≡◌, ◌⊎◌, List, [], ◌∷◌}
 use Rattle.av_base.specs.declared.port.Port.{Port}
 use Rattle.av_filter.specs.Conduct.{Disconnects, FilterEvent, Receives}
 use Rattle.av_frame.specs.Message.{Letter}
@@ -9,20 +9,23 @@ use Rattle.av_guard.specs.State.{State, happens}
 abbrev pub KeepsFilter : State → State → Type 0
 KeepsFilter g h = (h.table ≡ g.table) × (h.volume ≡ g.volume) × (h.waiting ≡ g.waiting)
 
--- a guard was given these events, one after the other; clients may have left meanwhile
-abbrev pub ArePassed : List FilterEvent → State → State → Type 0
-ArePassed [] g h = KeepsFilter g h
-ArePassed (e ∷ es) g h = (before : State) × KeepsFilter g before × ArePassed es ((happens before e).state) h
+-- a guard was given this event, and no other; clients may have left meanwhile
+abbrev pub HappensOnce : FilterEvent → State → State → Type 0
+HappensOnce e g h = (before : State) × KeepsFilter g before × KeepsFilter ((happens before e).state) h
 
--- each of these events is the loss of a service
-abbrev pub AreLosses : List FilterEvent → Type 0
-AreLosses [] = ⊤
-AreLosses (e ∷ es) = ((port : Port) × (e ≡ Disconnects port)) × AreLosses es
+-- it was told that the service of a port is lost, or nothing
+abbrev pub IsLosing : Port → State → State → Type 0
+IsLosing port g h = KeepsFilter g h ⊎ HappensOnce (Disconnects port) g h
 
--- a guard was told that services are lost, and nothing else
-abbrev pub IsToldOfLosses : State → State → Type 0
-IsToldOfLosses g h = (es : List FilterEvent) × AreLosses es × ArePassed es g h
+-- that of one of the ports
+abbrev pub IsLosingOne : State → State → Type 0
+IsLosingOne g h = (port : Port) × IsLosing port g h
 
--- a guard was given this message at most, and then told that services are lost
+-- it was given this message, or not, and then told that a service is lost, or not
 abbrev pub IsGiven : Letter → State → State → Type 0
-IsGiven message g h = IsToldOfLosses g h ⊎ ((before : State) × KeepsFilter g before × IsToldOfLosses ((happens before (Receives message)).state) h)
+IsGiven message g h = IsLosingOne g h ⊎ ((after : State) × HappensOnce (Receives message) g after × IsLosingOne after h)
+
+-- these messages were given so in turn
+abbrev pub AreGiven : List Letter → State → State → Type 0
+AreGiven [] g h = h ≡ g
+AreGiven (m ∷ ms) g h = (after : State) × IsGiven m g after × AreGiven ms after h

@@ -1,4 +1,5 @@
 ghost use Rattle.std.specs.Prelude.{◌≡◌, true, OnOk};
+ghost use Rattle.av_daemon.specs.Hearing.{guest_number, number_at};
 ghost use Rattle.av_daemon.specs.Telling.{is_of_service};
 ghost use Rattle.av_peers.specs.Clients.{IsSilent};
 
@@ -425,7 +426,8 @@ impl<'a, R: Files + Net + Clock> Daemon<'a, R> {
 
 // The number of the connection of the service at a port.
 fn connection_of(port: Port) -> u64
-    ensures { is_of_service result ≡ true }
+    ensures number { result ≡ number_at port }
+    ensures service { is_of_service result ≡ true }
 {
     match port {
         Port::One => SERVING,
@@ -434,7 +436,9 @@ fn connection_of(port: Port) -> u64
 }
 
 // The number of the connection of one who waits at the services' door.
-fn guest_connection(guest: Nth) -> u64 {
+fn guest_connection(guest: Nth) -> u64
+    ensures { result ≡ guest_number guest }
+{
     match guest {
         Nth::First => GUEST,
         Nth::Second => OTHER_GUEST,

@@ -1,1 +1,2 @@
 pub mod ClientsLemmas
+pub mod ServiceLemmas

@@ -1,5 +1,5 @@
 -- A connection of which no call waits.
-use Rattle.std.specs.Prelude.{ℕ, ◌≡◌, ◌+◌, ◌-◌, ◌==◌, ◌&&◌, ◌||◌, Bool, false, true, min, nat_le, nat_lt, if◌then◌else◌, List, length, drop, ◌≤◌, Option, None, Some, is_none}
+use Rattle.std.specs.Prelude.{ℕ, ◌≡◌, ◌+◌, ◌-◌, ◌==◌, ◌&&◌, ◌||◌, Bool, false, min, nat_le, nat_lt, if◌then◌else◌, List, length, drop, ◌≤◌, Option, None, Some, is_none}
 use Rattle.std.specs.declared.time.Duration.{Duration}
 use Rattle.mio.specs.declared.event.event.Event.{Event}
 use Rattle.mio.specs.Event.{is_error, is_read_closed, is_readable, is_writable, is_write_closed}

@@ -1,7 +1,9 @@
 -- What the scanning service says, and since when it is waited for.
-use Rattle.std.specs.Prelude.{ℕ, ◌≡◌, ◌&&◌, ◌⊎◌, Bool, nat_lt, if◌then◌else◌, [], ◌++◌, false, true, length, Option, None, Some, Result, Ok, Err, IsErr}
+use Rattle.std.specs.Prelude.{ℕ, ◌≡◌, ◌&&◌, ◌⊎◌, Bool, nat_lt, if◌then◌else◌, List, [], ◌++◌, false, true, length, Option, None, Some, Result, Ok, Err, IsErr}
 use Rattle.std.specs.Duration.{as_nanos}
+use Rattle.std.specs.List.{flat_map}
 use Rattle.std.specs.declared.time.Duration.{Duration}
+use Rattle.av_base.specs.declared.port.Port.{Port}
 use Rattle.av_frame.specs.Feed.{BeginsWithFrame, Fed, front_of}
 use Rattle.av_frame.specs.Message.{IsLetter, Letter}
 use Rattle.av_frame.specs.Spelling.{frame}
@@ -55,6 +57,32 @@ abbrev pub GivesMessage : Fed → Fed → Result (Option Letter) Gone → Type 0
 GivesMessage old new (Ok (Some m)) = IsLetter m × (old.rest ≡ frame m ++ new.rest)
 GivesMessage old new (Ok None) = (front_of old.rest ≡ Ok None) × (new ≡ old)
 GivesMessage old new (Err gone) = IsBroken old
+
+-- the frame of a greeting that was read and not passed on
+abbrev pub kept_frame : Option Letter → List ℕ
+kept_frame None = []
+kept_frame (Some m) = frame m
+
+-- what came of a service and was not passed on: its greeting, and what is in its feed
+abbrev pub unheard : Service → List ℕ
+unheard s = kept_frame s.greeting ++ s.feed.rest
+
+-- more came, behind what had come, and nothing was passed on
+abbrev pub HearsMore : Service → Service → Type 0
+HearsMore old new = (bytes : List ℕ) × (unheard new ≡ unheard old ++ bytes)
+
+-- a greeting came now, at this port, and is kept; or none did
+abbrev pub IsGreetedAt : Service → Service → Option Port → Type 0
+IsGreetedAt old new None = new.greeting ≡ old.greeting
+IsGreetedAt old new (Some port) = (old.greeting ≡ None) × ((m : Letter) × (new.greeting ≡ Some m) × (port ≡ m.port))
+
+-- bytes begin with the frames of these messages
+abbrev pub SaysFirst : List Letter → List ℕ → Type 0
+SaysFirst messages bytes = (more : List ℕ) × (bytes ≡ flat_map frame messages ++ more)
+
+-- these messages were taken off, and no whole frame is left
+abbrev pub LeavesOff : Service → Service → List Letter → Type 0
+LeavesOff old new messages = (unheard old ≡ flat_map frame messages ++ unheard new) × (front_of new.feed.rest ≡ Ok None)
 
 -- what is said of the version of a set: a greeting and news of a newer set name it
 abbrev pub claimed : Body → Option Claim

@@ -1,11 +1,11 @@
-ghost use Rattle.std.specs.Prelude.{ℕ, ◌≡◌, ◌≤◌, ◌++◌, length, take, OnOk};
-ghost use Rattle.av_peers.specs.Service.{GivesMessage, came, claimed, earlier, goes_on, is_outdated, named, waited_since};
+ghost use Rattle.std.specs.Prelude.{ℕ, ◌≡◌, ◌≤◌, ◌∷◌, ◌++◌, [], false, length, take, is_some, None, IfOk, OnErr, OnOk};
+ghost use Rattle.av_peers.specs.Service.{GivesMessage, HearsMore, IsGreetedAt, LeavesOff, SaysFirst, came, claimed, earlier, goes_on, is_outdated, named, unheard, waited_since};
 ghost use Rattle.av_arrival.specs.Place.{passed_at};
 
 use crate::asked::Asked;
 use crate::line::{Came, Line};
 use av_arrival::Arriving;
-use av_base::Version;
+use av_base::{Port, Version};
 use av_frame::{Body, Feed, Message};
 use std::alloc::Global;
 use std::time::Duration;
@@ -23,8 +23,8 @@ pub struct Service {
     version: Version,
     /// What it was asked and has not answered.
     pub asked: Asked,
-    /// Its greeting, where that came and is still to be passed on.
-    pub greeting: Option<Message>,
+    // Its greeting, where that came and is still to be passed on.
+    greeting: Option<Message>,
     /// It is among those to which something is sent next.
     pub is_sending: bool,
 }
@@ -32,6 +32,15 @@ pub struct Service {
 /// The connection is of no more use.
 #[derive(Clone, Copy, Debug, PartialEq, Eq)]
 pub struct Gone;
+
+/// What a service said whole.
+#[derive(Drop)]
+pub struct Whole {
+    /// The messages, in their order.
+    pub messages: Vec<Message>,
+    /// Behind them the connection is of no more use: a frame is none of a message, or memory was refused for one.
+    pub is_gone: bool,
+}
 
 impl Service {
     /// One that came just now.
@@ -85,7 +94,8 @@ impl Service {
 
     /// Reads a piece.
     pub fn hear(&mut self, buffer: &mut [u8], now: Duration) -> Result<(), Gone>
-        ensures { OnOk result ((count : ℕ) × (count ≤ length buffer.new) × (self.new.feed.rest ≡ self.old.feed.rest ++ take count buffer.new)) }
+        ensures rest { (count : ℕ) × (count ≤ length buffer.new) × (self.new.feed.rest ≡ self.old.feed.rest ++ take count buffer.new) }
+        ensures greeting { self.new.greeting ≡ self.old.greeting }
     {
         match self.line.read(buffer) {
             Came::Nothing => Ok(()),
@@ -97,6 +107,8 @@ impl Service {
     // Takes bytes that came.
     fn take(&mut self, piece: &[u8], now: Duration) -> Result<(), Gone>
         ensures rest { OnOk result (self.new.feed.rest ≡ self.old.feed.rest ++ piece.now) }
+        ensures none { OnErr result (self.new.feed ≡ self.old.feed) }
+        ensures greeting { self.new.greeting ≡ self.old.greeting }
         ensures arriving { self.new.arriving ≡ passed_at now piece.now self.old.arriving }
     {
         self.arriving.pass(piece, now);
@@ -104,6 +116,61 @@ impl Service {
             Ok(()) => Ok(()),
             Err(_) => Err(Gone),
         }
+    }
+
+    /// Whether its greeting came and is still to be passed on.
+    pub fn keeps_greeting(&self) -> bool
+        ensures { result ≡ is_some self.now.greeting }
+    {
+        self.greeting.is_some()
+    }
+
+    /// Reads a piece up to its greeting, where that has not come, and keeps it. The port of a greeting that came now.
+    pub fn hear_greeting(&mut self, buffer: &mut [u8], now: Duration) -> Result<Option<Port>, Gone>
+        ensures more { OnOk result (HearsMore self.old self.new) }
+        ensures port { IfOk result (λ port. IsGreetedAt self.old self.new port) }
+    {
+        if self.greeting.is_some() || !self.line.may_read() {
+            return Ok(None);
+        }
+        let heard = self.hear(buffer, now);
+        match self.next()? {
+            Some(greeting) => {
+                let port = greeting.port();
+                self.greeting = Some(greeting);
+                Ok(Some(port))
+            }
+            None => match heard {
+                Ok(()) => Ok(None),
+                Err(gone) => Err(gone),
+            },
+        }
+    }
+
+    /// Its messages that are there whole, its greeting first. They are taken off.
+    pub fn take_whole(&mut self, alloc: Global) -> Whole
+        ensures messages { SaysFirst result.messages.items (unheard self.old) }
+        ensures rest { result.is_gone ≡ false → LeavesOff self.old self.new result.messages.items }
+        ensures same { self.new ≡ record self.old { feed = self.new.feed; greeting = None } }
+    {
+        let mut messages = Vec::new(alloc);
+        let is_gone = self.put_whole(&mut messages).is_err();
+        Whole { messages, is_gone }
+    }
+
+    // Puts its whole messages into an empty list, in their order.
+    fn put_whole(&mut self, messages: &mut Vec<Message>) -> Result<(), Gone>
+        ensures messages { messages.old.items ≡ [] → SaysFirst messages.new.items (unheard self.old) }
+        ensures rest { OnOk result (messages.old.items ≡ [] → LeavesOff self.old self.new messages.new.items) }
+        ensures same { self.new ≡ record self.old { feed = self.new.feed; greeting = None } }
+    {
+        if let Some(greeting) = self.greeting.take() {
+            add(messages, greeting)?;
+        }
+        'messages: while let Some(message) = self.next()? {
+            add(messages, message)?;
+        }
+        Ok(())
     }
 
     /// Its next message.
@@ -115,6 +182,17 @@ impl Service {
             Ok(message) => Ok(message),
             Err(_) => Err(Gone),
         }
+    }
+}
+
+// Adds a message to others.
+fn add(messages: &mut Vec<Message>, message: Message) -> Result<(), Gone>
+    ensures ok { OnOk result (messages.new.items ≡ messages.old.items ++ message ∷ []) }
+    ensures err { OnErr result (messages.new.items ≡ messages.old.items) }
+{
+    match messages.push(message) {
+        Ok(()) => Ok(()),
+        Err(_) => Err(Gone),
     }
 }
 

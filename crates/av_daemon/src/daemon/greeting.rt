@@ -1,9 +1,11 @@
 //! Who comes as a scanning service: it greets at a port, and is the service there, or stands by, or is turned away.
 
+ghost use Rattle.std.specs.Prelude.{OnOk};
+ghost use Rattle.av_daemon.specs.Hearing.{MoreIsHeard, guest_number};
+
 use super::{Daemon, GUESTS, Stop, connection_of, guest_connection, millis, place_of};
 use av_arrival::{TurnedAway, put_refusal};
 use av_base::Port;
-use av_frame::Message;
 use av_peers::line::{LEAST, Line};
 use av_peers::service::{Gone, Service};
 use av_turns::{Arrived, Nth};
@@ -34,46 +36,39 @@ impl<'a, R: Files + Net + Clock> Daemon<'a, R> {
         Ok(())
     }
 
-    // Reads a piece of what each guest has, up to its greeting. What follows that is read once it is a service.
+    // Reads a piece of what each guest has, up to its greeting, which is kept. What follows that is read once it is a service.
     pub(super) fn read_guests(&mut self, now: Duration) -> Result<(), Stop> {
         'guests: for guest in GUESTS {
             match self.hear_guest(guest, now) {
-                Ok(Some(greeting)) => self.greet(guest, greeting, now)?,
-                Ok(None) => {}
+                Ok(Some(port)) => self.greet(guest, port, now)?,
+                Ok(None) => self.goes_on = self.goes_on || self.is_heard_on(guest),
                 Err(Gone) => self.lose_guest(guest),
             }
         }
         Ok(())
     }
 
-    fn hear_guest(&mut self, guest: Nth, now: Duration) -> Result<Option<Message>, Gone> {
-        let Some(service) = self.services.get_mut(&guest_connection(guest)) else {
-            return Ok(None);
-        };
-        if service.greeting.is_some() || !service.line.may_read() {
-            return Ok(None);
-        }
-        let heard = service.hear(&mut self.buffer, now);
-        match service.next() {
-            Ok(Some(greeting)) => Ok(Some(greeting)),
-            Ok(None) => {
-                self.goes_on = self.goes_on || service.line.may_read();
-                match heard {
-                    Ok(()) => Ok(None),
-                    Err(gone) => Err(gone),
-                }
-            }
-            Err(gone) => Err(gone),
+    // The port at which a guest greeted just now.
+    fn hear_guest(&mut self, guest: Nth, now: Duration) -> Result<Option<Port>, Gone>
+        ensures { OnOk result (MoreIsHeard (guest_number guest) self.old.services.entries self.new.services.entries) }
+    {
+        match self.services.get_mut(&guest_connection(guest)) {
+            Some(service) => service.hear_greeting(&mut self.buffer, now),
+            None => Ok(None),
         }
     }
 
-    // A guest's first message came, which says at which port it is.
-    fn greet(&mut self, guest: Nth, greeting: Message, now: Duration) -> Result<(), Stop> {
-        let port = greeting.port();
-        let arrived = self.turns.service_greeted(guest, place_of(port));
-        if let Some(service) = self.services.get_mut(&guest_connection(guest)) {
-            service.greeting = Some(greeting);
+    // Whether more can be read of a guest at once.
+    fn is_heard_on(&self, guest: Nth) -> bool {
+        match self.services.get(&guest_connection(guest)) {
+            Some(service) => !service.keeps_greeting() && service.line.may_read(),
+            None => false,
         }
+    }
+
+    // A guest greeted just now at this port.
+    fn greet(&mut self, guest: Nth, port: Port, now: Duration) -> Result<(), Stop> {
+        let arrived = self.turns.service_greeted(guest, place_of(port));
         match arrived {
             Arrived::Place => {
                 self.take_place(guest, port);

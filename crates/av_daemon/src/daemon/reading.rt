@@ -1,7 +1,8 @@
 //! What comes from the scanning services.
 
 ghost use Rattle.std.specs.Prelude.{OnOk};
-ghost use Rattle.av_daemon.specs.Passing.{IsGiven, IsToldOfLosses};
+ghost use Rattle.av_daemon.specs.Hearing.{IsHeard, MoreIsHeard, TakesOf, number_at, unheard_at};
+ghost use Rattle.av_daemon.specs.Passing.{IsGiven, IsLosing, IsLosingOne};
 
 use super::{Daemon, PORTS, Stop, connection_of, millis, place_of};
 use av_arrival::{TurnedAway, put_refusal};
@@ -9,8 +10,7 @@ use av_base::Port;
 use av_frame::{Body, Message};
 use av_guard::Guard;
 use av_log::Entry;
-use av_peers::client::Lost;
-use av_peers::service::{Claim, claim_of};
+use av_peers::service::{Claim, Whole, claim_of};
 use std::collections::BTreeMap;
 use std::fs::Files;
 use std::net::Net;
@@ -33,17 +33,11 @@ impl<'a, R: Files + Net + Clock> Daemon<'a, R> {
         Ok(())
     }
 
-    fn read_service(&mut self, guard: &mut Guard, port: Port, now: Duration) -> Result<(), Stop> {
-        if self.take_messages(guard, port, now)? == Stay::IsLost {
-            return Ok(());
-        }
-        let Some(service) = self.services.get_mut(&connection_of(port)) else {
-            return Ok(());
-        };
-        if !service.goes_on() {
-            return Ok(());
-        }
-        let is_gone = service.hear(&mut self.buffer, now).is_err();
+    // Reads a piece of what the service of a port has, and takes its messages.
+    fn read_service(&mut self, guard: &mut Guard, port: Port, now: Duration) -> Result<(), Stop>
+        ensures { OnOk result (IsHeard port self.old.services.entries guard.old guard.new) }
+    {
+        let is_gone = self.hear_service(port, now);
         if self.take_messages(guard, port, now)? == Stay::IsLost {
             return Ok(());
         }
@@ -56,42 +50,37 @@ impl<'a, R: Files + Net + Clock> Daemon<'a, R> {
         Ok(())
     }
 
-    // Takes the messages of a service that are whole.
-    fn take_messages(
-        &mut self,
-        guard: &mut Guard,
-        port: Port,
-        now: Duration,
-    ) -> Result<Stay, Stop> {
-        'messages: for _ in 0..u64::MAX {
-            match self.next_message(port) {
-                Ok(Some(message)) => {
-                    if self.take_message(guard, port, &message, now)? == Stay::IsLost {
-                        return Ok(Stay::IsLost);
-                    }
-                }
-                Ok(None) => break,
-                Err(Lost) => {
-                    self.lose_service(guard, port, now)?;
-                    return Ok(Stay::IsLost);
-                }
-            }
+    // Reads a piece of what the service of a port has, where it may be read. Whether its connection is of no more use.
+    fn hear_service(&mut self, port: Port, now: Duration) -> bool
+        ensures { MoreIsHeard (number_at port) self.old.services.entries self.new.services.entries }
+    {
+        let Some(service) = self.services.get_mut(&connection_of(port)) else {
+            return false;
+        };
+        if !service.goes_on() {
+            return false;
         }
-        Ok(Stay::Stays)
+        service.hear(&mut self.buffer, now).is_err()
     }
 
-    // The next whole message of a service, where one is there: its greeting first.
-    fn next_message(&mut self, port: Port) -> Result<Option<Message>, Lost> {
+    // Takes the messages of a service that are whole, its greeting first.
+    fn take_messages(&mut self, guard: &mut Guard, port: Port, now: Duration) -> Result<Stay, Stop>
+        ensures { OnOk result (TakesOf (unheard_at (number_at port) self.old.services.entries) guard.old guard.new) }
+    {
         let Some(service) = self.services.get_mut(&connection_of(port)) else {
-            return Ok(None);
+            return Ok(Stay::Stays);
         };
-        if let Some(greeting) = service.greeting.take() {
-            return Ok(Some(greeting));
+        let Whole { messages, is_gone } = service.take_whole(self.alloc);
+        'messages: for message in messages.as_slice() {
+            if self.take_message(guard, port, message, now)? == Stay::IsLost {
+                return Ok(Stay::IsLost);
+            }
         }
-        match service.next() {
-            Ok(message) => Ok(message),
-            Err(_) => Err(Lost),
+        if is_gone {
+            self.lose_service(guard, port, now)?;
+            return Ok(Stay::IsLost);
         }
+        Ok(Stay::Stays)
     }
 
     // A message of the service of a port. One that names the other port, or claims a set that is not believed, loses it its place.
@@ -184,7 +173,7 @@ impl<'a, R: Files + Net + Clock> Daemon<'a, R> {
     // The service that is asked first has to have the newest set, since its verdicts would grant nothing: else it is turned away.
     // Whether the service of this port stays.
     fn end_outdated(&mut self, guard: &mut Guard, port: Port, now: Duration) -> Result<Stay, Stop>
-        ensures { OnOk result (IsToldOfLosses guard.old guard.new) }
+        ensures { OnOk result (IsLosingOne guard.old guard.new) }
     {
         let asked = if guard.connected(Port::One) {
             Port::One
@@ -193,7 +182,7 @@ impl<'a, R: Files + Net + Clock> Daemon<'a, R> {
         };
         let floor = guard.floor();
         let is_outdated = match self.services.get(&connection_of(asked)) {
-            Some(service) => service.greeting.is_none() && service.is_outdated(floor),
+            Some(service) => !service.keeps_greeting() && service.is_outdated(floor),
             None => false,
         };
         if !is_outdated {
@@ -216,7 +205,7 @@ impl<'a, R: Files + Net + Clock> Daemon<'a, R> {
         why: TurnedAway,
         now: Duration,
     ) -> Result<(), Stop>
-        ensures { OnOk result (IsToldOfLosses guard.old guard.new) }
+        ensures { OnOk result (IsLosing port guard.old guard.new) }
     {
         if let Some(entry) = refused(claim, &why) {
             self.happened(&entry);
@@ -241,7 +230,7 @@ impl<'a, R: Files + Net + Clock> Daemon<'a, R> {
         port: Port,
         now: Duration,
     ) -> Result<(), Stop>
-        ensures { OnOk result (IsToldOfLosses guard.old guard.new) }
+        ensures { OnOk result (IsLosing port guard.old guard.new) }
     {
         let mut firsts = BTreeMap::new(self.alloc);
         if let Some(mut service) = self.services.remove(&connection_of(port)) {

@@ -1,9 +1,8 @@
 //! What goes out, and who is waited for too long.
 
-ghost use Rattle.std.specs.Prelude.{◌≡◌};
+ghost use Rattle.std.specs.Prelude.{◌≡◌, OnOk};
 ghost use Rattle.av_daemon.specs.Late.{is_late};
-ghost use Rattle.std.specs.Prelude.{◌∷◌, [], OnOk};
-ghost use Rattle.av_daemon.specs.Passing.{ArePassed};
+ghost use Rattle.av_daemon.specs.Passing.{HappensOnce, IsLosing};
 ghost use Rattle.av_filter.specs.Conduct.{TimesOut};
 
 use super::telling::Reply;
@@ -102,7 +101,7 @@ impl<'a, R: Files + Net + Clock> Daemon<'a, R> {
 
     // The time of a question is up, which counts as a miss of the service that was asked.
     fn end_question(&mut self, guard: &mut Guard, seq: u64, now: Duration) -> Result<(), Stop>
-        ensures { OnOk result (ArePassed (TimesOut seq ∷ []) guard.old guard.new) }
+        ensures { OnOk result (HappensOnce (TimesOut seq) guard.old guard.new) }
     {
         'ports: for port in PORTS {
             if self.was_asked(port, seq) {
@@ -115,12 +114,9 @@ impl<'a, R: Files + Net + Clock> Daemon<'a, R> {
 
     // A service that takes nothing, or ends no frame, is lost; and so is one that answers none of its questions for half of the wait,
     // where the other can be asked: so they have time left there.
-    fn end_late_service(
-        &mut self,
-        guard: &mut Guard,
-        port: Port,
-        now: Duration,
-    ) -> Result<(), Stop> {
+    fn end_late_service(&mut self, guard: &mut Guard, port: Port, now: Duration) -> Result<(), Stop>
+        ensures { OnOk result (IsLosing port guard.old guard.new) }
+    {
         let (since, quiet) = match self.services.get(&connection_of(port)) {
             Some(service) => (service.since(), service.asked.since()),
             None => (None, None),
@@ -136,7 +132,9 @@ impl<'a, R: Files + Net + Clock> Daemon<'a, R> {
     }
 
     // A service answered none of many questions in a row.
-    fn end_service(&mut self, guard: &mut Guard, port: Port, now: Duration) -> Result<(), Stop> {
+    fn end_service(&mut self, guard: &mut Guard, port: Port, now: Duration) -> Result<(), Stop>
+        ensures { OnOk result (IsLosing port guard.old guard.new) }
+    {
         self.happened(&Entry::Stuck(port));
         self.lose_service(guard, port, now)
     }
