@@ -243,7 +243,7 @@ class Tally:
         if is_refused:
             keep(edit.digest(self.crates))
         self.refused += is_refused
-        self.failed += [] if is_refused else [f"{edit.crate}/{edit.name}"]
+        self.failed += [] if is_refused else [f"{edit.crate}/{edit.name} failed: {text}"]
 
     def is_over(self, count):
         """Whether the time is over, so that so many edits are not tried."""
@@ -374,11 +374,11 @@ def main(words):
     oldest_first = sorted((it for it in standing if standing[it]), key=lambda it: day_of(standing[it][0]))
     if asked.again is not None and time.time() < asked.again:
         tallies += all_tried({it: standing[it] for it in oldest_first}, crates, asked, asked.again)
-    refused, failed = sum(it.refused for it in tallies), sorted(name for it in tallies for name in it.failed)
+    refused, failed = sum(it.refused for it in tallies), sorted(why for it in tallies for why in it.failed)
     stand = sum(map(len, standing.values()))
     since = f", the oldest since {day_of(standing[oldest_first[0]][0])}" if stand else ""
     print(f"edits: {refused + len(failed)} tried now; {stand} were refused before as they are{since}; {never} were never tried as they are")
-    print("\n".join(f"edits: {name} failed" for name in failed), end="\n" * bool(failed))
+    print("\n".join(f"edits: {why}" for why in failed), end="\n" * bool(failed))
     print(f"{refused} passed, {len(failed)} failed")
     return 1 if failed or never and not refused else 0
 

@@ -3,7 +3,7 @@
 # built, and the must-fail edits. The last line counts them all.
 # `rt ci` runs in a copy without edits and almost without tests: it would try each edit in a check of its own, and prove each crate again
 # with its tests. The edits are tried over the libraries that it built. They come last: first those that were not refused before on this
-# machine as they are, of which none is begun once the gate has run for 125 minutes, and then the others, those first that were refused
+# machine as they are, of which none is begun once the gate has run for 140 minutes, and then the others, those first that were refused
 # longest ago, until it has run for 60. A line says what was left. docs/GATE.md says what each part costs.
 set -u
 cd "$(dirname "$0")/.."
@@ -145,7 +145,7 @@ step must-be-spent python3 gate/must_be_spent.py
 echo "gate: a program that embeds the filter"
 step embed python3 gate/embed.py
 echo "gate: must-fail edits, over the libraries that were built"
-step edits python3 gate/edits.py --times "$times" --until $((begun + 7500)) --again $((begun + 3600)) --over "$room/whole/crates"
+step edits python3 gate/edits.py --times "$times" --until $((begun + 8400)) --again $((begun + 3600)) --over "$room/whole/crates"
 echo "gate: $(nproc) processors, $(($(date +%s) - begun)) s; out/gate-times has what each part took"
 echo "gate: seconds, and of a processor:$(awk '$1 == "part" { printf " %s %d %d;", $2, $4, $5 }' "$times")"
 [ -z "$not_whole" ] || { cat "$room/failed"; echo "gate: something failed in:$not_whole"; }
