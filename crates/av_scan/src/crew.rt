@@ -12,7 +12,7 @@ use crate::scanning::Scanning;
 use crate::told::Entry;
 use crate::truth::{Judged, Truth};
 use av_files::{MAX_FILE, Scanners};
-use crossbeam_channel::{Receiver, Sender, bounded};
+use crossbeam_channel::{Receiver, Sender, TryRecvError, bounded};
 use std::alloc::Global;
 use std::io::Read;
 use std::sync::{Arc, Wait};
@@ -24,6 +24,9 @@ pub(crate) const PIECE: usize = MAX_FILE + 2;
 
 /// As many files are under way at most.
 pub(crate) const ROOM: usize = 1_024;
+
+// How often a thread looks for a file before it sleeps: some tens of microseconds in all, in which small files follow each other.
+const LOOKS: usize = 100;
 
 // So many bytes are left free where threads are started, for what is found in as many files: a thread that has no memory of its own is
 // given a page of the system for each. So where memory is short there are fewer threads, and none misses a file for want of it.
@@ -173,7 +176,7 @@ fn serve<T: Truth, F: Read + Drop, O: Opening<F>, R: Wait>(
     requires truth { (name : List ℕ) (fs : List Finding) → AreFindings means.matches means.max_size (O.is_of means.files.now) F.remaining means.scanners.now name fs → T.is_true name fs }
 {
     'works: for _ in rt.forever() {
-        let Ok(work) = works.recv(rt) else {
+        let Some(work) = next_work(rt, works) else {
             return;
         };
         let done = Done {
@@ -184,4 +187,17 @@ fn serve<T: Truth, F: Read + Drop, O: Opening<F>, R: Wait>(
             return;
         }
     }
+}
+
+// The next file, none where no more comes. It is looked for a while before this thread sleeps, since waking it costs who gives it a call
+// of the system.
+fn next_work<R: Wait>(rt: &R, works: &Receiver<Work>) -> Option<Work> {
+    'looks: for _ in 0..LOOKS {
+        match works.try_recv(rt) {
+            Ok(work) => return Some(work),
+            Err(TryRecvError::Empty) => thread::yield_now(),
+            Err(TryRecvError::Disconnected) => return None,
+        }
+    }
+    works.recv(rt).ok()
 }
