@@ -1,5 +1,6 @@
 use crate::check::check_set;
 use crate::run::run_text;
+use av_base::recorded::Recorded;
 use av_fakes::{FakeReader, FakeWriter, Fault};
 use av_files::Input;
 use av_host::{Crew, host_files};
@@ -61,7 +62,7 @@ fn a_script_ends_with_its_status_and_one_line(rt: HostRuntime) -> Result<(), Fai
         (b"", Status::Refused, b"", b"line 1: bad script\n"),
     ];
     for (script, status, lines, line) in cases {
-        let mut reader = FakeReader::new(script).in_pieces_of(1);
+        let mut reader = Recorded::new(FakeReader::new(script).in_pieces_of(1));
         let mut out = FakeWriter::new(rt.alloc()).in_pieces_of(1);
         let mut err = FakeWriter::new(rt.alloc()).in_pieces_of(1);
         assert_eq!(rt;
@@ -76,7 +77,7 @@ fn a_script_ends_with_its_status_and_one_line(rt: HostRuntime) -> Result<(), Fai
 
 #[test]
 fn a_script_is_told_as_json(rt: HostRuntime) -> Result<(), Fail> {
-    let mut reader = FakeReader::new(SCRIPT).in_pieces_of(1);
+    let mut reader = Recorded::new(FakeReader::new(SCRIPT).in_pieces_of(1));
     let mut out = FakeWriter::new(rt.alloc()).in_pieces_of(1);
     let mut err = FakeWriter::new(rt.alloc());
     let status = run_text(Form::Json, rt.alloc(), &mut reader, &mut out, &mut err);
@@ -89,7 +90,7 @@ fn a_script_is_told_as_json(rt: HostRuntime) -> Result<(), Fail> {
 #[test]
 fn a_script_over_a_failing_device_is_told(rt: HostRuntime) -> Result<(), Fail> {
     for place in 1..25 {
-        let mut reader = FakeReader::new(SCRIPT).in_pieces_of(1).failing_at(place);
+        let mut reader = Recorded::new(FakeReader::new(SCRIPT).in_pieces_of(1).failing_at(place));
         let mut out = FakeWriter::new(rt.alloc());
         let mut err = FakeWriter::new(rt.alloc());
         assert_eq!(rt;
@@ -98,7 +99,7 @@ fn a_script_over_a_failing_device_is_told(rt: HostRuntime) -> Result<(), Fail> {
         );
         assert!(rt; out.taken().is_empty());
         assert_eq!(rt; err.taken(), b"device\n".as_slice());
-        let mut whole = SCRIPT;
+        let mut whole = Recorded::new(SCRIPT);
         let mut full = FakeWriter::new(rt.alloc())
             .in_pieces_of(1)
             .with(Fault::Fails { write: place });
