@@ -1,3 +1,4 @@
 pub mod HearingLemmas
+pub mod KeepingLemmas
 pub mod PassingLemmas
 pub mod TellingLemmas

@@ -3,6 +3,7 @@ pub mod Guarding
 pub mod Late
 pub mod Names
 pub mod Hearing
+pub mod Keeping
 pub mod Passing
 pub mod Recorder
 pub mod Relaying

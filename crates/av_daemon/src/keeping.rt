@@ -1,3 +1,6 @@
+ghost use Rattle.std.specs.Prelude.{◌≡◌, None, IfOk, IfSome};
+ghost use Rattle.av_daemon.specs.Keeping.{SaysVersion, kept_after};
+
 use av_base::device::read_into;
 use av_base::{Part, Version};
 use av_status::faults::{say_of, text};
@@ -24,7 +27,9 @@ pub struct BadKeeping;
 
 impl<'a> Keeping<'a> {
     /// In this file, where one was named, which keeps this version.
-    pub fn new(path: Option<&'a str>, kept: Version) -> Keeping<'a> {
+    pub fn new(path: Option<&'a str>, kept: Version) -> Keeping<'a>
+        ensures { result ≡ record { path = path.entry; kept = kept } }
+    {
         Keeping { path, kept }
     }
 
@@ -36,7 +41,10 @@ impl<'a> Keeping<'a> {
         alloc: Global,
         version: Version,
         err: &mut E,
-    ) -> Option<Version> {
+    ) -> Option<Version>
+        ensures kept { self.new ≡ record self.old { kept = kept_after self.old.path self.old.kept version } }
+        ensures told { IfSome result (λ told. told ≡ version) }
+    {
         let path = self.path?;
         if version <= self.kept {
             return None;
@@ -59,7 +67,9 @@ impl<'a> Keeping<'a> {
 }
 
 /// The version that the file says: none, which is 0, where no file was named or there is none yet.
-pub fn kept_version<R: Files>(rt: &R, path: Option<&str>) -> Result<Version, BadKeeping> {
+pub fn kept_version<R: Files>(rt: &R, path: Option<&str>) -> Result<Version, BadKeeping>
+    ensures { path.entry ≡ None → IfOk result (λ version. version ≡ 0) }
+{
     match path {
         None => Ok(Version::new(0)),
         Some(path) => version_in(rt, path),
@@ -84,7 +94,10 @@ fn version_in<R: Files>(rt: &R, path: &str) -> Result<Version, BadKeeping> {
     }
 }
 
-fn spelled(line: &[u8]) -> Option<Version> {
+// The version that a line says.
+fn spelled(line: &[u8]) -> Option<Version>
+    ensures { IfSome result (λ version. SaysVersion line.now version) }
+{
     let number = line
         .strip_prefix(b"version ".as_slice())?
         .strip_suffix(b"\n".as_slice())?;
