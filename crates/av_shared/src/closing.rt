@@ -1,4 +1,4 @@
-ghost use Rattle.std.specs.Prelude.{◌≡◌, IfErr, IfOk, IfSome};
+ghost use Rattle.std.specs.Prelude.{◌≡◌, is_some, IfErr, IfOk, IfSome};
 ghost use Rattle.std.specs.List.{All};
 ghost use Rattle.av_gate.specs.Claims.{AreCallsOf, IsLegal, Stands};
 ghost use Rattle.av_shared.specs.History.{IsDeskAudit};
@@ -35,6 +35,7 @@ pub fn close_all(
     ensures receipts { IfOk result (λ c. All (Stands c.gate.events.items) receipts.items) }
     ensures desk { IfOk result (λ c. IsDeskAudit c.desk) }
     ensures spare { IfOk result (λ c. IfSome c.spare (λ a. IsDeskAudit a)) }
+    ensures both { IfOk result (λ c. is_some c.spare ≡ is_some spare) }
     ensures back { IfErr result (λ e. (e.unclosed.seats ≡ seats) × (e.unclosed.receipts ≡ receipts)) }
 {
     match gate.close(seats, receipts) {
@@ -52,7 +53,8 @@ pub fn close_all(
 }
 
 fn close_spare(spare: Option<Desk>) -> Option<DeskAudit>
-    ensures { IfSome result (λ a. IsDeskAudit a) }
+    ensures audit { IfSome result (λ a. IsDeskAudit a) }
+    ensures both { is_some result ≡ is_some spare }
 {
     match spare {
         None => None,
