@@ -123,7 +123,14 @@ impl Scanner {
         ensures status { IfErr result (λ status. IsFault status) }
     {
         let content = fitting(file, err)?;
-        Ok(judge(&self.set, &self.automaton, content))
+        Ok(self.judge(content))
+    }
+
+    /// The verdict of a content that is in memory, of any length.
+    pub fn judge(&self, content: &[u8]) -> Verdict
+        ensures { result ≡ verdict (patterns_of self.now.signatures) content.now }
+    {
+        judge(&self.set, &self.automaton, content)
     }
 
     // A scan of a content of so many bytes, of which none has come.
