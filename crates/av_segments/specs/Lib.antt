@@ -1,0 +1,5 @@
+pub mod Examples
+pub mod Joining
+pub mod Laws
+pub mod Seams
+pub mod Segments
