@@ -56,6 +56,7 @@ static int fails(void) {
 }
 
 ssize_t read(int fd, void *to, size_t size) { return fails() ? -1 : syscall(SYS_read, fd, to, size); }
+ssize_t pread(int fd, void *to, size_t size, off_t place) { return fails() ? -1 : syscall(SYS_pread64, fd, to, size, place); }
 ssize_t write(int fd, const void *of, size_t size) { return fails() ? -1 : syscall(SYS_write, fd, of, size); }
 ssize_t readv(int fd, const struct iovec *to, int count) { return fails() ? -1 : syscall(SYS_readv, fd, to, count); }
 ssize_t writev(int fd, const struct iovec *of, int count) { return fails() ? -1 : syscall(SYS_writev, fd, of, count); }

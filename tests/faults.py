@@ -109,6 +109,19 @@ def each_call(cases, library, words, may_say=is_front):
             cases.check(f"{name}: call {number} of {count} fails{' and all behind it' * is_forever}", fault is None, f"{fault}: {got}")
 
 
+def in_stretches(cases, library, program, work):
+    """A large file that several threads read: which calls they make shows that they do, and each of them fails in turn."""
+    large = os.path.join(work, "large")
+    with open(EICAR, "rb") as eicar, open(large, "wb") as file:
+        file.truncate(67108864)
+        file.seek(33554432 - 30)
+        file.write(eicar.read())
+    words = [program, "scan", "--max-size", "64M", SET, large]
+    counts = [calls(library, [*words, "-j", threads]) for threads in ("1", "4")]
+    cases.check("several threads read a large file, by smaller reads", counts[0] < 100 and counts[1] > 250, f"{counts}")
+    each_call(cases, library, [*words, "-j", "4"])
+
+
 class Pair:
     """A guard, or a filter, and a service, of which one has calls that fail."""
 
@@ -207,6 +220,7 @@ def main():
         for words in ([program, "run", SCRIPT], [program, "run", "--json", SCRIPT], [program, "scan", SET, LETTER, EICAR], [program, "check", SET], [tool, "chart", SCRIPT], [tool, "generate", "--seed", "2", "--commands", "60"], [tool, "merge", SET, SET], [tool, "sign", "--key", key, SET]):
             each_call(cases, library, words)
         each_call(cases, library, [program, "scan", "--json", "-k", SET, LETTER, EICAR], objects_of)
+        in_stretches(cases, library, program, work)
         for words in ([program, "scan", "-r", SET, EXAMPLES], [program, "scan", "-j", "4", "-r", SET, EXAMPLES]):
             each_call(cases, library, words, some_of)
         for words in ([program, "host", SET, LETTER, EICAR], [program, "host", "--spare", SET, LETTER, EICAR]):

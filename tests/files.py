@@ -16,6 +16,8 @@ HERE = os.path.dirname(os.path.abspath(__file__))
 DATA = os.path.join(HERE, "files")
 EICAR = rb"X5O!P%@AP[4\PZX54(P^)7CC)7}$EICAR-STANDARD-ANTIVIRUS-TEST-FILE!$"
 PIECE = 1048576 + 2
+# From so many bytes on a file is read by several threads.
+LARGE = 67108864
 NOTHING = b"avscan: no file was scanned\n"
 
 
@@ -572,6 +574,99 @@ def jobs(cases, program):
             cases.check(f"scan -j {given!r}", got[:2] == (2, b""), f"{got[0]} {got[2]}")
 
 
+class LargeFile:
+    """A file of zeros, in which contents are put and taken away again."""
+
+    def __init__(self, folder, size=LARGE):
+        self.path, self.size = write(os.path.join(folder, "large"), b""), size
+        os.truncate(self.path, size)
+
+    def put(self, content, end):
+        with open(self.path, "r+b") as file:
+            file.seek(end - len(content))
+            file.write(content)
+
+    def take(self, content, end):
+        self.put(bytes(len(content)), end)
+
+
+def stretches(cases, program):
+    """A large file is read by several threads, each a stretch of it: whatever lies across a cut, the line is that of one thread."""
+    chance = random.Random(17)
+    with tempfile.TemporaryDirectory() as work:
+        patterns = [chance.randbytes(length).replace(b"\0", b"z") for length in (64, 63, 2, 1)]
+        rows = "".join(f"s{number} {pattern.hex()}\n" for number, pattern in enumerate(patterns))
+        each = [write(os.path.join(work, f"{number}.avsig"), f"avsig 1\nversion 1\ns {pattern.hex()}\n".encode()) for number, pattern in enumerate(patterns)]
+        all_of_them = write(os.path.join(work, "all.avsig"), f"avsig 1\nversion 1\n{rows}".encode())
+        bound = write(os.path.join(work, "bound.avsig"), f"avsig 2\nversion 1\n{rows}t 01 3 9\n".encode())
+        for size in (LARGE, LARGE + 12345):
+            large = LargeFile(work, size)
+            name = os.fsencode(large.path)
+            words = [program, "scan", "--max-size", str(size)]
+            for threads in (2, 3, 4, 16):
+                for number in sorted({1, threads // 2, threads - 1}):
+                    cut = size // threads * number
+                    for pattern, signatures in zip(patterns, each):
+                        for end in sorted({cut, cut + 1, cut + len(pattern) // 2, cut + len(pattern) - 1, cut + len(pattern)}):
+                            large.put(pattern, end)
+                            got = run([*words, "-j", str(threads), signatures, large.path])
+                            cases.check(f"{len(pattern)} bytes up to {end - cut} behind cut {number} of {threads}", got == (0, b"%s infected 0 s end %d\n" % (name, end), b""), f"{got}")
+                            large.take(pattern, end)
+            for _ in range(30):
+                hits = sorted((size // 4 * chance.randrange(1, 4) + chance.randrange(-80, 80), chance.randrange(4)) for _ in range(chance.randrange(4)))
+                for end, number in hits:
+                    large.put(patterns[number], end)
+                for signatures in (["all.avsig"], ["0.avsig", "--set", "2.avsig", "--set", "1.avsig"], ["bound.avsig"], ["0.avsig", "--set", "bound.avsig"]):
+                    wanted = run([*words, "-j", "1", *signatures, large.path], cwd=work)
+                    for threads in ("2", "4"):
+                        got = run([*words, "-j", threads, *signatures, large.path], cwd=work)
+                        cases.check(f"{hits} under {signatures}, -j {threads}", got == wanted and got[0] == 0, f"{got}, wanted {wanted}")
+                for end, number in hits:
+                    large.take(patterns[number], end)
+            got = run([*words[:-1], str(size - 1), "-j", "4", all_of_them, large.path])
+            cases.check(f"{size} bytes of {size - 1}, -j 4", got == (1, b"", b"avscan: " + name + b": TooLarge\n"), f"{got}")
+        whole = b"%s infected 0 s end %d\n" % (name, large.size)
+        large.put(patterns[0], large.size)
+        several = [large.path] * 12
+        got = run([*words, "-j", "4", each[0], *several])
+        cases.check("twelve large files at once", got == (0, whole * 12, b""), f"{got}")
+        got = run(["sh", "-c", 'ulimit -v 40000; "$@"', "sh", *words, "-j", "16", each[0], *several])
+        cases.check("twelve large files in 40 MB", got == (0, whole * 12, b""), f"{got}")
+        library, number, in_a_row = built(work, "fail_nth"), 0, 0
+        wanted = run([*words, "-j", "3", each[0], large.path])
+        while in_a_row < 20 and number < 400:
+            number += 1
+            done = run([*words, "-j", "3", each[0], large.path], env=dict(os.environ, LD_PRELOAD=library, FAIL_NTH=str(number)))
+            in_a_row = in_a_row + 1 if done == wanted else 0
+            if done != wanted and not is_without_memory(done, wanted):
+                cases.check("a large file without memory", False, f"request {number} refused: {done}")
+                break
+        cases.check("a large file without memory", number > 20, f"{number}")
+
+
+def growth(cases, program):
+    """A large file that grows or shrinks while several threads read it: it has a line as one of some length, or is too large."""
+    with tempfile.TemporaryDirectory() as work:
+        signatures, large = write(os.path.join(work, "a.avsig"), b"avsig 1\nversion 1\na 0102\n"), LargeFile(work)
+        over = threading.Event()
+
+        def change():
+            while not over.is_set():
+                os.truncate(large.path, LARGE + 5000)
+                os.truncate(large.path, LARGE)
+                os.truncate(large.path, LARGE - 5000)
+
+        writer = threading.Thread(target=change)
+        writer.start()
+        name = os.fsencode(large.path)
+        lines = ((0, name + b" clean\n", b""), (1, b"", b"avscan: " + name + b": TooLarge\n"))
+        for _ in range(30):
+            got = run([program, "scan", "-j", "4", "--max-size", str(LARGE + 100), signatures, large.path])
+            cases.check("a large file that grows and shrinks", got in lines, f"{got}")
+        over.set()
+        writer.join()
+
+
 def taken(cases, program):
     """Files go while several threads scan: each line and each fault is of one file, in the order of the walk."""
     with tempfile.TemporaryDirectory() as work:
@@ -819,7 +914,7 @@ def main():
     if len(sys.argv) != 2:
         sys.exit("usage: tests/files.py PROGRAM")
     cases = Cases()
-    for part in (tables, links, named_links, excluded, file_systems, names_alone, names, forged, at_once, swapped, sets, lists, pieces, changes, closed, many, statuses, devices, jobs, taken, standard_input):
+    for part in (tables, links, named_links, excluded, file_systems, names_alone, names, forged, at_once, swapped, sets, lists, pieces, changes, closed, many, statuses, devices, jobs, stretches, growth, taken, standard_input):
         try:
             part(cases, os.path.abspath(sys.argv[1]))
         except Exception as fault:

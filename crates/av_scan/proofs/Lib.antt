@@ -3,3 +3,4 @@ pub mod WayLemmas
 pub mod LineLemmas
 pub mod MatchLemmas
 pub mod EndLemmas
+pub mod StretchLemmas

@@ -4,3 +4,4 @@ pub mod Moving
 pub mod Outcome
 pub mod Feed
 pub mod Coming
+pub mod Stretches

@@ -1,11 +1,11 @@
 -- Which files are moved out of the way, and how a fault of that counts.
-use Rattle.std.specs.Prelude.{ℕ, ◌≡◌, ◌&&◌, Bool, true, false, List, Option, None, Some, Result, Ok, Err, string_bytes}
+use Rattle.std.specs.Prelude.{ℕ, ◌≡◌, ◌&&◌, Bool, true, false, List, Option, Some, Result, Ok, Err, string_bytes}
 use Rattle.std.specs.Borrow.{Bor}
 use Rattle.av_files.specs.Findings.{is_found}
 use Rattle.av_files.specs.declared.finding.Finding.{Finding}
 use Rattle.av_scan.specs.declared.moving.Moving.{Moving}
 use Rattle.av_scan.specs.declared.told.Told.{Told}
-use Rattle.av_scan.specs.declared.told.Told.TheVariants.{Scanned, Missed}
+use Rattle.av_scan.specs.declared.told.Told.TheVariants.{Scanned}
 use Rattle.av_scan.specs.declared.told.Unscanned.{Unscanned}
 use Rattle.av_status.specs.Status.{IsDoneOrFault, graver_status}
 use Rattle.av_status.specs.declared.status.Status.{Status}

@@ -9,12 +9,12 @@ ghost use Rattle.av_scan.specs.Told.{AreFindings};
 use crate::judging::{Means, judge};
 use crate::opening::Opening;
 use crate::scanning::Scanning;
+use crate::stretches::{Hands, ReadAnywhere, Turn};
 use crate::told::Entry;
 use crate::truth::{Judged, Truth};
 use av_files::{MAX_FILE, Scanners};
 use crossbeam_channel::{Receiver, Sender, TryRecvError, bounded};
 use std::alloc::Global;
-use std::io::Read;
 use std::sync::{Arc, Wait};
 use std::thread;
 use std::thread::{JoinHandle, Threads};
@@ -60,9 +60,9 @@ impl Crew {
     /// comes back.
     pub(crate) fn start<
         T: Truth + Send + 'static,
-        F: Read + Drop + Send + 'static,
+        F: ReadAnywhere + Drop + Send + Sync + 'static,
         O: Opening<F>,
-        R: Threads + Wait + Copy + Send + 'static,
+        R: Threads + Wait + Copy + Send + Sync + 'static,
     >(
         scanning: &Scanning<'_, R, O>,
         scanners: &Arc<Scanners, Global>,
@@ -76,9 +76,11 @@ impl Crew {
         let (works, left) = bounded::<Work, Global>(alloc, ROOM).ok()?;
         let (done, dones) = bounded::<Done<T>, Global>(alloc, ROOM).ok()?;
         let mut threads = Vec::with_capacity(alloc, scanning.jobs).ok()?;
+        let turn = Arc::new(alloc, Turn::new()).ok()?;
         let reserve: Vec<u8> = Vec::with_capacity(alloc, RESERVE).ok()?;
         'threads: for _ in 0..scanning.jobs {
-            let Some(thread) = start_worker::<T, F, O, R>(scanning, scanners, &left, &done) else {
+            let Some(thread) = start_worker::<T, F, O, R>(scanning, scanners, &turn, &left, &done)
+            else {
                 break;
             };
             if threads.push(thread).is_err() {
@@ -119,12 +121,13 @@ impl Crew {
 
 fn start_worker<
     T: Truth + Send + 'static,
-    F: Read + Drop + Send + 'static,
+    F: ReadAnywhere + Drop + Send + Sync + 'static,
     O: Opening<F>,
-    R: Threads + Wait + Copy + Send + 'static,
+    R: Threads + Wait + Copy + Send + Sync + 'static,
 >(
     scanning: &Scanning<'_, R, O>,
     scanners: &Arc<Scanners, Global>,
+    turn: &Arc<Turn, Global>,
     works: &Receiver<Work>,
     dones: &Sender<Done<T>>,
 ) -> Option<JoinHandle<()>>
@@ -132,10 +135,11 @@ fn start_worker<
 {
     let mut buffer = scanning.buffer(PIECE)?;
     let scanners = shared(scanners)?;
+    let turn = turn.clone().ok()?;
     let works = works.clone().ok()?;
     let dones = dones.clone().ok()?;
     let (rt, alloc, files) = (scanning.rt, scanning.alloc, scanning.files);
-    let (matches, max_size) = (scanning.matches, scanning.max_size);
+    let (matches, max_size, jobs) = (scanning.matches, scanning.max_size, scanning.jobs);
     let is_moving = scanning.folder.is_some();
     thread::spawn(
         &rt,
@@ -150,6 +154,7 @@ fn start_worker<
                 matches,
                 max_size,
                 is_moving,
+                hands: Some(Hands { jobs, turn: &*turn }),
             };
             serve::<T, F, O, R>(&rt, means, &works, &dones, &mut buffer);
         },
@@ -165,7 +170,7 @@ fn shared(scanners: &Arc<Scanners, Global>) -> Option<Arc<Scanners, Global>>
 }
 
 // Scans what comes, until nothing more comes or nobody takes what is done.
-fn serve<T: Truth, F: Read + Drop, O: Opening<F>, R: Wait>(
+fn serve<T: Truth, F: ReadAnywhere + Drop + Sync, O: Opening<F>, R: Threads + Wait + Sync>(
     rt: &R,
     means: Means<'_, O>,
     works: &Receiver<Work>,
@@ -181,7 +186,7 @@ fn serve<T: Truth, F: Read + Drop, O: Opening<F>, R: Wait>(
         };
         let done = Done {
             place: work.place,
-            judged: judge::<T, F, O>(means, work.entry, buffer),
+            judged: judge::<T, F, O, R>(rt, means, work.entry, buffer),
         };
         if dones.send(rt, done).is_err() {
             return;

@@ -18,6 +18,7 @@ use crate::on::{By, line_up};
 use crate::opening::Opening;
 use crate::report::{Reporting, report, say_unscanned};
 use crate::scanning::Scanning;
+use crate::stretches::ReadAnywhere;
 use crate::told::{Told, unscanned_of};
 use crate::truth::{Judged, Truth};
 use av_files::{Bounds, Scanners};
@@ -25,7 +26,7 @@ use av_status::faults::{device_failed, out_of_memory};
 use av_status::{Progress, Status, Tally};
 use std::alloc::Global;
 use std::fs::Files;
-use std::io::{Read, Write};
+use std::io::Write;
 use std::marker::Brand;
 use std::sync::{Arc, Wait};
 use std::thread::Threads;
@@ -34,9 +35,9 @@ use std::time::Clock;
 /// Scans files of these names before a line is written, and then writes their lines. The first file that can't be scanned ends it, with no
 /// line for any.
 pub fn scan_all<
-    F: Read + Drop + Send + 'static,
+    F: ReadAnywhere + Drop + Send + Sync + 'static,
     O: Opening<F>,
-    R: Files + Threads + Wait + Copy + Send + 'static,
+    R: Files + Threads + Wait + Copy + Send + Sync + 'static,
     C: Clock,
     W: Write,
     E: Write,
@@ -60,9 +61,9 @@ pub fn scan_all<
 // The same, where something is true of each verdict.
 fn all_truly<
     T: Truth + Send + 'static,
-    F: Read + Drop + Send + 'static,
+    F: ReadAnywhere + Drop + Send + Sync + 'static,
     O: Opening<F>,
-    R: Files + Threads + Wait + Copy + Send + 'static,
+    R: Files + Threads + Wait + Copy + Send + Sync + 'static,
     C: Clock,
     W: Write,
     E: Write,
@@ -99,7 +100,14 @@ fn all_truly<
 }
 
 // What became of all files, so many, where each was scanned.
-fn judge_all<T: Truth, F: Read + Drop, O: Opening<F>, R: Files + Wait, C: Clock, E: Write>(
+fn judge_all<
+    T: Truth,
+    F: ReadAnywhere + Drop + Sync,
+    O: Opening<F>,
+    R: Files + Threads + Wait + Sync,
+    C: Clock,
+    E: Write,
+>(
     by: By<'_, R, O>,
     line: &mut LineUp<T>,
     feed: &mut Feed<'_, R>,
@@ -119,6 +127,7 @@ fn judge_all<T: Truth, F: Read + Drop, O: Opening<F>, R: Files + Wait, C: Clock,
         matches: by.scanning.matches,
         max_size: by.scanning.max_size,
         is_moving: by.scanning.folder.is_some(),
+        hands: None,
     };
     let mut all = Vec::new(by.scanning.alloc);
     let mut coming = Coming::More;

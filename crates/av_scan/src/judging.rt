@@ -4,10 +4,12 @@ ghost use Rattle.std.specs.Prelude.{◌≡◌, ◌<◌, ℕ, List, length, IfErr
 ghost use Rattle.av_files.specs.declared.finding.Finding.{Finding};
 ghost use Rattle.av_status.specs.Status.{IsFault};
 ghost use Rattle.av_scan.specs.Told.{AreFindings, AreFoundIn, judged_of, name_of, path_of};
+ghost use Rattle.av_scan.specs.declared.scanning.Matches.TheVariants.{First};
 
 use crate::matches::matches_in;
 use crate::opening::{Opening, Origin};
 use crate::scanning::Matches;
+use crate::stretches::{Hands, ReadAnywhere, found_at_once};
 use crate::told::{Entry, Told};
 use crate::truth::{Judged, Truth};
 use av_base::ReadFault;
@@ -16,10 +18,11 @@ use av_files::{Finding, Met, Scanners};
 use av_quarantine::Seen;
 use av_status::Status;
 use std::alloc::Global;
-use std::io::Read;
+use std::thread::Threads;
 
 /// By what files are judged: the memory, where they come from, the sets, which signatures are reported, how many bytes a file may have,
-/// and whether infected ones are moved, for which it has to be known which files they are.
+/// whether infected ones are moved, for which it has to be known which files they are, and the threads that read a large one, if there
+/// are some.
 #[derive(Clone, Copy)]
 pub struct Means<'a, O> {
     pub alloc: Global,
@@ -28,11 +31,13 @@ pub struct Means<'a, O> {
     pub matches: Matches,
     pub max_size: u64,
     pub is_moving: bool,
+    pub hands: Option<Hands<'a>>,
 }
 
 /// What becomes of an entry. Of a file that was not scanned the status says why: Refused that it is too large, Device
 /// that it can't be read, Memory that there is none for what is found in it.
-pub fn judge<T: Truth, F: Read + Drop, O: Opening<F>>(
+pub fn judge<T: Truth, F: ReadAnywhere + Drop + Sync, O: Opening<F>, R: Threads + Sync>(
+    rt: &R,
     means: Means<'_, O>,
     entry: Entry,
     buffer: &mut [u8],
@@ -44,7 +49,7 @@ pub fn judge<T: Truth, F: Read + Drop, O: Opening<F>>(
 {
     let Entry { met, origin } = entry;
     match met {
-        Met::File(name) => match found_under::<F, O>(means, name.as_str(), origin, buffer) {
+        Met::File(name) => match found_under::<F, O, R>(rt, means, name.as_str(), origin, buffer) {
             Ok(Found { findings, seen }) => Judged::new(Told::Scanned {
                 name,
                 findings,
@@ -80,7 +85,8 @@ struct Found {
 }
 
 // What is found under a name. The file is opened once, and read once.
-fn found_under<F: Read + Drop, O: Opening<F>>(
+fn found_under<F: ReadAnywhere + Drop + Sync, O: Opening<F>, R: Threads + Sync>(
+    rt: &R,
     means: Means<'_, O>,
     name: &str,
     origin: Origin,
@@ -99,14 +105,15 @@ fn found_under<F: Read + Drop, O: Opening<F>>(
     } else {
         None
     };
-    match found_in::<F, O>(means, &mut file, buffer) {
+    match found_in::<F, O, R>(rt, means, &mut file, buffer) {
         Ok(findings) => Ok(Found { findings, seen }),
         Err(fault) => Err(status_of(fault)),
     }
 }
 
 // What is found in a file that is open.
-fn found_in<F: Read, O: Copy>(
+fn found_in<F: ReadAnywhere + Sync, O: Copy, R: Threads + Sync>(
+    rt: &R,
     means: Means<'_, O>,
     file: &mut F,
     buffer: &mut [u8],
@@ -116,11 +123,7 @@ fn found_in<F: Read, O: Copy>(
     ensures buffer { length buffer.new ≡ length buffer.old }
 {
     match means.matches {
-        Matches::First => {
-            means
-                .scanners
-                .scan_pieces(means.alloc, file, buffer, means.max_size)
-        }
+        Matches::First => first_in(rt, means, file, buffer),
         Matches::All => {
             let count = read_into(file, buffer, u64::MAX)?;
             if count as u64 > means.max_size {
@@ -129,6 +132,31 @@ fn found_in<F: Read, O: Copy>(
             matches_in(means.alloc, means.scanners, &buffer[..count])
         }
     }
+}
+
+// The verdict of a file under each set. It is read by several threads if it is large and they are there.
+fn first_in<F: ReadAnywhere + Sync, O: Copy, R: Threads + Sync>(
+    rt: &R,
+    means: Means<'_, O>,
+    file: &mut F,
+    buffer: &mut [u8],
+) -> Result<Vec<Finding>, ReadFault>
+    requires { 0 < length buffer.old }
+    ensures findings { IfOk result (λ found. AreFoundIn (F.remaining file.old) First means.entry.max_size means.entry.scanners.now found.items) }
+    ensures buffer { length buffer.new ≡ length buffer.old }
+{
+    let Means {
+        alloc,
+        scanners,
+        max_size,
+        ..
+    } = means;
+    if let Some(hands) = means.hands
+        && let Some(found) = found_at_once(rt, alloc, hands, scanners, &*file, max_size)
+    {
+        return Ok(found);
+    }
+    scanners.scan_pieces(alloc, file, buffer, max_size)
 }
 
 // The status for a file that was not read to its end.

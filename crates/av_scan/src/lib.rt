@@ -21,6 +21,7 @@ mod on;
 pub mod opening;
 mod report;
 pub mod scanning;
+pub mod stretches;
 pub mod told;
 mod truth;
 
@@ -30,4 +31,5 @@ pub use feed::{Feed, Folders};
 pub use on::scan_on;
 pub use opening::{Opening, Origin};
 pub use scanning::{MAX_JOBS, Matches, Scanning, jobs_of};
+pub use stretches::ReadAnywhere;
 pub use told::{Entry, Told, Unscanned};

@@ -8,13 +8,13 @@ use crate::arrivals::Arrivals;
 use crate::crew::{Crew, Done, ROOM, Work};
 use crate::judging::{Means, judge};
 use crate::opening::Opening;
+use crate::stretches::ReadAnywhere;
 use crate::told::{Entry, name_of, path_of};
 use crate::truth::{Judged, Truth};
 use av_files::Met;
 use crossbeam_channel::Receiver;
 use std::alloc::{AllocError, Global};
 use std::collections::VecDeque;
-use std::io::Read;
 use std::marker::Model;
 use std::sync::Wait;
 use std::thread::Threads;
@@ -104,7 +104,7 @@ impl<T: Truth> LineUp<T> {
     }
 
     /// What became of the first file, which leaves. Nothing where there is none.
-    pub(crate) fn take<F: Read + Drop, O: Opening<F>, R: Wait>(
+    pub(crate) fn take<F: ReadAnywhere + Drop + Sync, O: Opening<F>, R: Threads + Wait + Sync>(
         &mut self,
         rt: &R,
         means: Means<'_, O>,
@@ -117,7 +117,7 @@ impl<T: Truth> LineUp<T> {
             self.arrivals.wait(rt);
         }
         let arrived = self.arrivals.take();
-        Some(fitting::<T, F, O>(means, place.entry, arrived, &mut self.buffer))
+        Some(fitting::<T, F, O, R>(rt, means, place.entry, arrived, &mut self.buffer))
     }
 
     /// Ends the threads that scan.
@@ -148,7 +148,8 @@ fn send<R: Wait>(rt: &R, alloc: Global, crew: &Option<Crew>, place: u64, entry: 
 }
 
 // What became of an entry: what has come under its name, else what this thread finds.
-fn fitting<T: Truth, F: Read + Drop, O: Opening<F>>(
+fn fitting<T: Truth, F: ReadAnywhere + Drop + Sync, O: Opening<F>, R: Threads + Sync>(
+    rt: &R,
     means: Means<'_, O>,
     entry: Entry,
     arrived: Option<Judged<T>>,
@@ -160,11 +161,11 @@ fn fitting<T: Truth, F: Read + Drop, O: Opening<F>>(
     ensures buffer { length buffer.new ≡ length buffer.old }
 {
     let Some(judged) = arrived else {
-        return judge::<T, F, O>(means, entry, buffer);
+        return judge::<T, F, O, R>(rt, means, entry, buffer);
     };
     if name_of(&judged.told) == path_of(&entry.met) {
         judged
     } else {
-        judge::<T, F, O>(means, entry, buffer)
+        judge::<T, F, O, R>(rt, means, entry, buffer)
     }
 }

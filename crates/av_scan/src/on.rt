@@ -17,13 +17,14 @@ use crate::moving::put_away;
 use crate::opening::Opening;
 use crate::report::{Reporting, report};
 use crate::scanning::Scanning;
+use crate::stretches::ReadAnywhere;
 use crate::truth::Truth;
 use av_files::Scanners;
 use av_status::faults::{device_failed, out_of_memory};
 use av_status::{Progress, Status, Tally};
 use std::alloc::Global;
 use std::fs::Files;
-use std::io::{Read, Write};
+use std::io::Write;
 use std::marker::Brand;
 use std::sync::{Arc, Wait};
 use std::thread::Threads;
@@ -34,9 +35,9 @@ const STAND_IN: usize = 65_536;
 
 /// Scans files and writes their lines as they come, in the order of the feed. What can't be scanned is reported and passed over.
 pub fn scan_on<
-    F: Read + Drop + Send + 'static,
+    F: ReadAnywhere + Drop + Send + Sync + 'static,
     O: Opening<F>,
-    R: Files + Threads + Wait + Copy + Send + 'static,
+    R: Files + Threads + Wait + Copy + Send + Sync + 'static,
     C: Clock,
     W: Write,
     E: Write,
@@ -61,9 +62,9 @@ pub fn scan_on<
 // The same, where something is true of each verdict.
 fn scan_truly<
     T: Truth + Send + 'static,
-    F: Read + Drop + Send + 'static,
+    F: ReadAnywhere + Drop + Send + Sync + 'static,
     O: Opening<F>,
-    R: Files + Threads + Wait + Copy + Send + 'static,
+    R: Files + Threads + Wait + Copy + Send + Sync + 'static,
     C: Clock,
     W: Write,
     E: Write,
@@ -103,9 +104,9 @@ fn scan_truly<
 /// A line-up with its threads, where there is memory for it.
 pub(crate) fn line_up<
     T: Truth + Send + 'static,
-    F: Read + Drop + Send + 'static,
+    F: ReadAnywhere + Drop + Send + Sync + 'static,
     O: Opening<F>,
-    R: Threads + Wait + Copy + Send + 'static,
+    R: Threads + Wait + Copy + Send + Sync + 'static,
 >(scanning: &Scanning<'_, R, O>, scanners: &Arc<Scanners, Global>) -> Option<LineUp<T>>
     requires { (name : List ℕ) (fs : List Finding) → AreFindings scanning.now.matches scanning.now.max_size (O.is_of scanning.now.files) F.remaining (arc_value scanners.now) name fs → T.is_true name fs }
     ensures { IfSome result (λ line. line ≡ []) }
@@ -129,9 +130,9 @@ pub(crate) struct By<'a, R, O> {
 // Scans what comes, until nothing more comes, and reports each file once it is the first.
 fn scan_line<
     T: Truth,
-    F: Read + Drop,
+    F: ReadAnywhere + Drop + Sync,
     O: Opening<F>,
-    R: Files + Wait,
+    R: Files + Threads + Wait + Sync,
     C: Clock,
     W: Write,
     E: Write,
@@ -157,6 +158,7 @@ fn scan_line<
         matches: by.scanning.matches,
         max_size: by.scanning.max_size,
         is_moving: by.scanning.folder.is_some(),
+        hands: None,
     };
     let reporting = Reporting {
         alloc: by.scanning.alloc,
