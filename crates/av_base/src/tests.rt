@@ -10,6 +10,7 @@ use crate::port::Port;
 use crate::recorded::{Recorded, read_whole};
 use av_fakes::{FakeReader, FakeWriter, Fault, may_refuse, refuse_no_more};
 use std::alloc::AllocError;
+use std::io::{Read, Write};
 use std::test::Fail;
 
 // Each limit in the order in which they are tested, with its greatest value.
@@ -157,6 +158,23 @@ fn byte_lists_are_the_same_where_their_bytes_are(rt: HostRuntime) -> Result<(), 
     for other in [b"".as_slice(), b"ab", b"abd", b"abcd"] {
         assert!(rt; list != ByteList::copied(rt.alloc(), other)?);
     }
+    Ok(())
+}
+
+#[test]
+fn a_recorded_device_is_read_and_written_as_it_is(rt: HostRuntime) -> Result<(), Fail> {
+    let mut reader = Recorded::new(b"abc".as_slice());
+    let mut piece = [0u8; 2];
+    assert_eq!(rt; reader.read(&mut piece)?, 2);
+    assert_eq!(rt; piece.as_slice(), b"ab".as_slice());
+    assert_eq!(rt; reader.read(&mut piece)?, 1);
+    assert_eq!(rt; reader.read(&mut piece)?, 0);
+    let mut writer = Recorded::new(FakeWriter::new(rt.alloc()).in_pieces_of(2));
+    assert_eq!(rt; writer.write(b"abc")?, 2);
+    assert_eq!(rt; writer.device.taken(), b"ab".as_slice());
+    assert_eq!(rt; writer.device.flushed(), 0);
+    writer.flush()?;
+    assert_eq!(rt; writer.device.flushed(), 2);
     Ok(())
 }
 
