@@ -3,30 +3,39 @@ use Rattle.std.specs.Prelude.{ℕ, ◌≡◌, ◌≤◌, ◌<◌, ◌⊎◌, Lis
 use Rattle.std.specs.List.{AllByRecursion}
 use Rattle.av_base.specs.Device.{AppendsPrefix}
 use Rattle.av_merge.specs.Merge.{IsMergeOf, Merged}
+use Rattle.av_program.specs.Sets.{IsTrustFor}
+use Rattle.av_sets.specs.Sets.{IsTrusted}
 use Rattle.av_sigset.specs.File.{MayStand}
 use Rattle.av_sigset.specs.Judge.{set_of}
 use Rattle.av_sigset.specs.Set.{NumberedSet}
 use Rattle.av_sigset.specs.Spelling.{spelling}
 use Rattle.av_status.specs.declared.status.Status.{Status}
 use Rattle.av_status.specs.declared.status.Status.TheVariants.{Device}
+use Rattle.av_trust.specs.declared.trust.Trust.{Trust}
 use Rattle.avtool_words.specs.declared.request.Merge.{Merge}
 
--- sets of files: each has signatures, which may be in one file
-abbrev pub AreOfFiles : List NumberedSet → Type 0
-AreOfFiles sets = AllByRecursion (λ s. (0 < length s.signatures) × MayStand s.signatures) sets
+-- sets of files that this trust takes: each has signatures, which may be in one file
+abbrev pub AreOfFiles : Trust → List NumberedSet → Type 0
+AreOfFiles trust sets = AllByRecursion (λ s. IsTrusted trust s × (0 < length s.signatures) × MayStand s.signatures) sets
 
--- the merge of so many sets of files
-abbrev pub IsMergeOfFiles : ℕ → Merged → Type 0
-IsMergeOfFiles count m = (sets : List NumberedSet) × (length sets ≡ count) × AreOfFiles sets × IsMergeOf sets m
+-- the merge of so many sets of such files
+abbrev pub IsMergeOfFiles : Trust → ℕ → Merged → Type 0
+IsMergeOfFiles trust count m = (sets : List NumberedSet) × (length sets ≡ count) × AreOfFiles trust sets × IsMergeOf sets m
+
+-- the merge of as many sets as were named, each of a file that was signed if a key was asked for, or that was not if none was
+pub record IsMergeAsked (asked : Merge) (m : Merged) : Type 0 where
+  pub trust : Trust
+  pub trust_for : IsTrustFor asked.trust trust
+  pub of_files : IsMergeOfFiles trust (length asked.files.items) m
 
 -- the merge under the version that was asked for, or the greatest of its sets
 abbrev pub set_for : Merge → Merged → NumberedSet
 set_for asked m = record { version = unwrap_or asked.version m.version; signatures = m.signatures }
 
--- the text of the merge of as many sets as were named
+-- the text of the merge that is asked for
 pub record IsMergeFor (asked : Merge) (text : List ℕ) : Type 0 where
   pub merged : Merged
-  pub of_files : IsMergeOfFiles (length asked.files.items) merged
+  pub of_files : IsMergeAsked asked merged
   pub spelt : text ≡ spelling (set_for asked merged)
 
 -- it is read as that merge, if its version is one of a file

@@ -4,7 +4,7 @@ ghost use Rattle.av_base.specs.Device.{AppendsPrefix};
 ghost use Rattle.av_sigset.specs.Spelling.{ReadsBack, spelling};
 ghost use Rattle.av_status.specs.Status.{IsDoneOrFault, IsFault};
 ghost use Rattle.av_status.specs.declared.status.Status.TheVariants.{Device, Done};
-ghost use Rattle.avtool.specs.Merge.{IsMergeFile, IsMergeOfFiles, Leaves};
+ghost use Rattle.avtool.specs.Merge.{IsMergeAsked, IsMergeFile, IsMergeOfFiles, Leaves};
 ghost use Rattle.avtool.specs.Placing.{GoesOut};
 
 use crate::placing::put_content;
@@ -61,7 +61,7 @@ fn merged_as<E: Write>(
     asked: &Merge<'_>,
     err: &mut E,
 ) -> Result<Merger, Status>
-    ensures merge { IfOk result (λ m. IsMergeOfFiles (length asked.now.files.items) m) }
+    ensures merge { IfOk result (IsMergeAsked asked.now) }
     ensures fault { IfErr result (λ status. IsFault status) }
 {
     let key = key_asked(rt, alloc, asked.trust, err)?;
@@ -70,7 +70,6 @@ fn merged_as<E: Write>(
 }
 
 // The merge of the sets of these files.
-#[tactic(auto, using(crate::proofs::MergeLemmas::none_yet, crate::proofs::MergeLemmas::one_more))]
 fn merged<E: Write>(
     rt: &HostRuntime,
     alloc: Global,
@@ -78,7 +77,7 @@ fn merged<E: Write>(
     trust: Trust<'_>,
     err: &mut E,
 ) -> Result<Merger, Status>
-    ensures merge { IfOk result (λ m. IsMergeOfFiles (length names.now) m) }
+    ensures merge { IfOk result (IsMergeOfFiles trust.entry (length names.now)) }
     ensures fault { IfErr result (λ status. IsFault status) }
 {
     let mut merger = Merger::new(alloc);

@@ -1,6 +1,7 @@
 //! The set of a signature file that is named. A bad line is told with the file and in words, since there may be several files.
 
-ghost use Rattle.std.specs.Prelude.{◌≡◌, ◌<◌, IfErr, IfOk, Ok, length};
+ghost use Rattle.std.specs.Prelude.{ℕ, ◌≡◌, ◌<◌, IfErr, IfOk, List, Ok, Option, length};
+ghost use Rattle.av_sets.specs.Sets.{IsTextOf, IsTrusted};
 ghost use Rattle.av_sigset.specs.File.{MayStand};
 ghost use Rattle.av_sigset.specs.Judge.{set_of};
 ghost use Rattle.av_status.specs.Status.{IsFault};
@@ -24,6 +25,7 @@ pub fn set_of<E: Write>(
     trust: Trust<'_>,
     err: &mut E,
 ) -> Result<SignatureSet, Status>
+    ensures trusted { IfOk result (IsTrusted trust.entry) }
     ensures some { IfOk result (λ set. 0 < length set.signatures) }
     ensures stand { IfOk result (λ set. MayStand set.signatures) }
     ensures fault { IfErr result (λ status. IsFault status) }
@@ -44,7 +46,8 @@ pub fn text_named<'a, E: Write>(
     buffer: &'a mut [u8],
     err: &mut E,
 ) -> Result<&'a [u8], Status>
-    ensures { IfErr result (λ status. IsFault status) }
+    ensures text { IfOk result (λ text. (content : Option (List ℕ)) × IsTextOf trust.entry content text.now) }
+    ensures fault { IfErr result (λ status. IsFault status) }
 {
     let file = read_file(rt, name, buffer);
     let is_read = file.content.is_some();

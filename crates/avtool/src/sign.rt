@@ -4,7 +4,7 @@ ghost use Rattle.av_base.specs.Device.{AppendsPrefix};
 ghost use Rattle.av_status.specs.Status.{IsDoneOrFault, IsFault};
 ghost use Rattle.av_status.specs.declared.status.Status.TheVariants.{Device, Done};
 ghost use Rattle.avtool.specs.Placing.{GoesOut};
-ghost use Rattle.avtool.specs.Sign.{IsSignedSet, LeavesSigned};
+ghost use Rattle.avtool.specs.Sign.{IsSignedSet, IsSignedText, LeavesSigned};
 
 use crate::placing::put_content;
 use crate::set::{set_in, text_named};
@@ -27,8 +27,8 @@ pub fn sign_named<W: Write, E: Write>(
     out: &mut W,
     err: &mut E,
 ) -> Status
-    ensures done { result ≡ Done → (file : List ℕ) × IsSignedSet file × GoesOut asked.entry.output (W.contents out.old) (W.contents out.new) file }
-    ensures failed { result ≢ Done → LeavesSigned result (W.contents out.old) (W.contents out.new) }
+    ensures done { result ≡ Done → (file : List ℕ) × IsSignedSet asked.entry file × GoesOut asked.entry.output (W.contents out.old) (W.contents out.new) file }
+    ensures failed { result ≢ Done → LeavesSigned asked.entry result (W.contents out.old) (W.contents out.new) }
     ensures ended { IsDoneOrFault result }
 {
     let file = match signed_as(rt, alloc, asked, err) {
@@ -48,7 +48,7 @@ fn signed_as<E: Write>(
     asked: Sign<'_>,
     err: &mut E,
 ) -> Result<Vec<u8>, Status>
-    ensures signed { IfOk result (λ file. IsSignedSet file.items) }
+    ensures signed { IfOk result (λ file. IsSignedSet asked.entry file.items) }
     ensures fault { IfErr result (λ status. IsFault status) }
 {
     let key = key_named(rt, alloc, asked.key, err)?;
@@ -69,7 +69,7 @@ fn signed_set<E: Write>(
     text: &[u8],
     err: &mut E,
 ) -> Result<Vec<u8>, Status>
-    ensures signed { IfOk result (λ file. IsSignedSet file.items) }
+    ensures signed { IfOk result (λ file. IsSignedText text.now file.items) }
     ensures fault { IfErr result (λ status. IsFault status) }
 {
     let _set = set_in(alloc, name, text, err)?;

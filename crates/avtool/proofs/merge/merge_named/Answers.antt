@@ -1,17 +1,17 @@
-use Rattle.std.proofs.Common.{rules, ◌≡◌, ℕ, length, unwrap_or, None, Some, subst}
+use Rattle.std.proofs.Common.{rules, ◌≡◌, ℕ, unwrap_or, None, Some, subst}
 use Rattle.av_base.specs.Device.{AppendsPrefix}
 use Rattle.av_merge.specs.Merge.{Merged}
 use Rattle.av_sigset.specs.Set.{NumberedSet}
 use Rattle.av_sigset.specs.Spelling.{ReadsBack, spelling}
 use Rattle.avtool.proofs.MergeLemmas.{file_of, goes_file, goes_out, leaves_front}
-use Rattle.avtool.specs.Merge.{IsMergeOfFiles, set_for}
+use Rattle.avtool.specs.Merge.{IsMergeAsked, set_for}
 use Rattle.avtool.proofs.merge.merge_named.Goals as goal
 
 pub returns-in-Some-clause-done : goal.returns-in-Some-clause-done
 returns-in-Some-clause-done g c = λ done.
     let asked = c.args.asked.now in
     let m : Merged = c.in-Ok.merger in
-    let of : IsMergeOfFiles (length asked.files.items) m = search rules in
+    let of : IsMergeAsked asked m = c.in-Ok.ensures.merge in
     let same : c.version_for-version.result ≡ unwrap_or asked.version m.version = search rules in
     let back = subst (λ (v : ℕ). ReadsBack (record { version = v; signatures = m.signatures })) same (c.write_file.ensures.reads_back done) in
     let named : asked.output ≡ Some c.in-Some.path = search rules in
@@ -21,7 +21,7 @@ pub returns-clause-done : goal.returns-clause-done
 returns-clause-done g c = λ done.
     let asked = c.args.asked.now in
     let m : Merged = c.in-Ok.merger in
-    let of : IsMergeOfFiles (length asked.files.items) m = search rules in
+    let of : IsMergeAsked asked m = c.in-Ok.ensures.merge in
     let same : c.version_for-version.result ≡ unwrap_or asked.version m.version = search rules in
     let back = subst (λ (v : ℕ). ReadsBack (record { version = v; signatures = m.signatures })) same (c.print.ensures.reads_back done) in
     let none : asked.output ≡ None = search rules in
@@ -33,7 +33,7 @@ pub returns-clause-failed : goal.returns-clause-failed
 returns-clause-failed g c = λ failed.
     let asked = c.args.asked.now in
     let m : Merged = c.in-Ok.merger in
-    let of : IsMergeOfFiles (length asked.files.items) m = search rules in
+    let of : IsMergeAsked asked m = c.in-Ok.ensures.merge in
     let same : c.version_for-version.result ≡ unwrap_or asked.version m.version = search rules in
     let parts = c.print.ensures.failed failed in
     let made : ℕ → NumberedSet = λ v. record { version = v; signatures = m.signatures } in
