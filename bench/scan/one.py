@@ -1,6 +1,6 @@
 #!/usr/bin/env python3
 """Times a scan of one large file: `avscan scan` with 1, 2 and 4 threads, and in the same run `rg -uuu -a -F` for the same strings with as
-many threads, `grep -F`, `yara` and `cat`, where they are installed.
+many threads, `grep -F` and `yara`, where they are installed.
 
 usage: one.py PROGRAM
 
@@ -42,7 +42,6 @@ def seconds(spawn, out, command, fine):
 
 def peers(folder, patterns, file):
     words = put(folder, "words", b"".join(pattern.hex().encode() + b"\n" for pattern in patterns))
-    yield "cat", ["cat", file]
     yield "grep -F", ["grep", "-c", "-F", "-f", words, file]
     if shutil.which("rg"):
         for threads in THREADS:
