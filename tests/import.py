@@ -31,7 +31,7 @@ RULES = [
     ("private rule n { strings: $a = \"a\" condition: $a }", "a private rule"), ("global rule n { condition: true }", "the file has a global rule, which restricts all"),
     ("rule n { strings: $a = \"a\" }", "no condition"), ("rule n { condition: true }", "a condition that is no `or` of strings"),
     ("rule n { strings: $a = \"a\" condition: " + "(" * 100000 + "$a }", "a condition that is no `or` of strings"),
-    ("rule n { strings: $a = \"a\" condition: $b }", "a string that the rule has not"), ("rule n { strings: $a = \"a\" condition: 2 of them }", "more than one string has to be there"),
+    ("rule n { strings: $a = \"a\" condition: $b }", "a string that the rule has not"), ("rule n { condition: any of them }", "a string that the rule has not"), ("rule n { condition: 1 of them }", "a string that the rule has not"), ("rule n { strings: $a = \"a\" condition: 2 of them }", "more than one string has to be there"),
     ("rule n { strings: $a = \"a\" condition: $a at filesize }", "a place that is no number"), *[("rule n { strings: $a = \"a\" condition: $a %s }" % places, FAR) for places in ("at 2MB", "at 1048575", "in (0..1048575)", "in (3..1MB)")],
     ("rule n { strings: $a = \"a\" condition: $a in (5..4) }", "a range of no place"),
     ("rule n { strings: $a = /a/ condition: $a }", "a regular expression"), ("rule n { strings: $a = \"\\q\" condition: $a }", "an escape that YARA has not"),

@@ -367,20 +367,26 @@ fn take_rule(
     }
 }
 
-// What a rule gives.
+// What a rule gives, at least one signature. Of a rule without strings a condition like `any of them` would want none.
 fn judged_rule(
     alloc: Global,
     has_global: bool,
     head: Head<'_>,
     body: &[Token<'_>],
-) -> Result<Vec<Signature>, RuleFault> {
+) -> Result<Vec<Signature>, RuleFault>
+    ensures some { IfOk result (λ given. 0 < length given.items) }
+{
     if head.is_private {
         return Err(RuleFault::Why(Why::Private));
     }
     if has_global {
         return Err(RuleFault::Why(Why::Global));
     }
-    given_of(alloc, head.name, body)
+    let given = given_of(alloc, head.name, body)?;
+    if given.is_empty() {
+        return Err(RuleFault::Why(Why::NoString));
+    }
+    Ok(given)
 }
 
 // Whether a rule of a file is global.
