@@ -645,26 +645,44 @@ def stretches(cases, program):
 
 
 def growth(cases, program):
-    """A large file that grows or shrinks while several threads read it: it has a line as one of some length, or is too large."""
+    """A large file that grows or shrinks while several threads read it: what is found is that of all that it has then, as one thread reads it."""
     with tempfile.TemporaryDirectory() as work:
-        signatures, large = write(os.path.join(work, "a.avsig"), b"avsig 1\nversion 1\na 0102\n"), LargeFile(work)
-        over = threading.Event()
+        signatures, large = write(os.path.join(work, "a.avsig"), b"avsig 1\nversion 1\na 5a5a\n"), LargeFile(work)
+        name, library = os.fsencode(large.path), built(work, "at_pread")
 
-        def change():
-            while not over.is_set():
-                os.truncate(large.path, LARGE + 5000)
-                os.truncate(large.path, LARGE)
-                os.truncate(large.path, LARGE - 5000)
+        def scanned(most, **environment):
+            return run([program, "scan", "-j", "4", "--max-size", str(most), signatures, large.path], env=dict(os.environ, LD_PRELOAD=library, **environment))
 
-        writer = threading.Thread(target=change)
-        writer.start()
-        name = os.fsencode(large.path)
-        lines = ((0, name + b" clean\n", b""), (1, b"", b"avscan: " + name + b": TooLarge\n"))
-        for _ in range(30):
-            got = run([program, "scan", "-j", "4", "--max-size", str(LARGE + 100), signatures, large.path])
-            cases.check("a large file that grows and shrinks", got in lines, f"{got}")
-        over.set()
-        writer.join()
+        infected = b"%s infected 0 a end %d\n"
+        got = scanned(LARGE + 100, APPEND_TO=large.path, APPEND="abcZZ")
+        cases.check("a large file that grows by a signature", got == (0, infected % (name, LARGE + 5), b""), f"{got}")
+        got = scanned(LARGE + 6, APPEND_TO=large.path, APPEND="abc")
+        cases.check("a large file that grows above the limit", got == (1, b"", b"avscan: " + name + b": TooLarge\n"), f"{got}")
+        os.truncate(large.path, LARGE)
+        for end in (LARGE - 10, LARGE // 4 + 1):
+            large.put(b"ZZ", end)
+        got = scanned(LARGE, CUT=large.path, CUT_TO=str(LARGE - 20))
+        cases.check("a large file that shrinks, with a signature that stays", got == (0, infected % (name, LARGE // 4 + 1), b""), f"{got}")
+        os.truncate(large.path, 0)
+        os.truncate(large.path, LARGE)
+        large.put(b"ZZ", LARGE - 10)
+        got = scanned(LARGE, CUT=large.path, CUT_TO=str(LARGE - 20))
+        cases.check("a large file that shrinks by its signature", got == (0, name + b" clean\n", b""), f"{got}")
+
+
+def in_turn(cases, program):
+    """One large file at a time is read by several threads: there are never more than twice as many as were asked for, and the one that ends waits."""
+    with tempfile.TemporaryDirectory() as work:
+        signatures, large = write(os.path.join(work, "a.avsig"), b"avsig 1\nversion 1\na 5a5a\n"), LargeFile(work)
+        environment, most = dict(os.environ, LD_PRELOAD=built(work, "at_pread"), SLOW_MS="3"), 0
+        process = subprocess.Popen([program, "scan", "-j", "8", "--max-size", "64M", signatures, *[large.path] * 16], stdout=subprocess.PIPE, stderr=subprocess.PIPE, env=environment)
+        while process.poll() is None:
+            with contextlib.suppress(OSError, StopIteration), open(f"/proc/{process.pid}/status") as status:
+                most = max(most, int(next(line for line in status if line.startswith("Threads:")).split()[1]))
+            time.sleep(0.005)
+        out, err = process.communicate()
+        cases.check("sixteen large files", (process.returncode, out, err) == (0, (os.fsencode(large.path) + b" clean\n") * 16, b""), f"{process.returncode} {out[:200]} {err[:200]}")
+        cases.check("their threads", 9 < most <= 17, f"{most}")
 
 
 def taken(cases, program):
@@ -914,7 +932,7 @@ def main():
     if len(sys.argv) != 2:
         sys.exit("usage: tests/files.py PROGRAM")
     cases = Cases()
-    for part in (tables, links, named_links, excluded, file_systems, names_alone, names, forged, at_once, swapped, sets, lists, pieces, changes, closed, many, statuses, devices, jobs, stretches, growth, taken, standard_input):
+    for part in (tables, links, named_links, excluded, file_systems, names_alone, names, forged, at_once, swapped, sets, lists, pieces, changes, closed, many, statuses, devices, jobs, stretches, growth, in_turn, taken, standard_input):
         try:
             part(cases, os.path.abspath(sys.argv[1]))
         except Exception as fault:
