@@ -5,6 +5,7 @@
    end the process writes "requests R refused F" to the file that FAIL_REPORT names, also where it ends by _exit, as a
    program with threads does. */
 #define _GNU_SOURCE
+#include <stdatomic.h>
 #include <stdio.h>
 #include <stdlib.h>
 #include <sys/syscall.h>
@@ -16,7 +17,8 @@
 extern void *__libc_malloc(size_t);
 extern void *__libc_realloc(void *, size_t);
 
-static long nth = -1, made = 0, refused = 0;
+static long nth = -1, refused = 0;
+static atomic_long made = 0;
 static int counting = 1;
 static const char *report = NULL;
 
@@ -36,7 +38,7 @@ __attribute__((destructor)) static void end(void) {
     }
     FILE *file = fopen(report, "w");
     if (file != NULL) {
-        fprintf(file, "requests %ld refused %ld\n", made, refused);
+        fprintf(file, "requests %ld refused %ld\n", atomic_load(&made), refused);
         fclose(file);
     }
 }
@@ -48,12 +50,13 @@ void _exit(int status) {
     }
 }
 
+/* Threads ask at once, and one of them alone is the Nth. */
 static int is_refused(size_t size) {
     if (size == COUNT || size == COUNT_NO_MORE) {
         counting = size == COUNT;
         return 0;
     }
-    if (!counting || ++made != nth) {
+    if (!counting || atomic_fetch_add(&made, 1) + 1 != nth) {
         return 0;
     }
     refused++;
