@@ -5,8 +5,8 @@ use Rattle.av_chart.specs.Lanes.{wide}
 use Rattle.av_chart.specs.Mark.{bent_text, dot_text, head_text, line_text, titled_text, words_text}
 use Rattle.av_chart.specs.Place.{y_of}
 use Rattle.av_chart.specs.Spot.{above, below, left_of, right_of, spot, within}
-use Rattle.av_chart.specs.declared.happened.Way.{Way}
-use Rattle.av_chart.specs.declared.happened.Way.TheVariants.{Down, Up}
+use Rattle.av_output.specs.declared.message.Direction.{Direction}
+use Rattle.av_output.specs.declared.message.Direction.TheVariants.{Down, Up}
 use Rattle.av_chart.specs.declared.life.Moment.{Moment}
 use Rattle.av_chart.specs.declared.mark.Side.{Side}
 use Rattle.av_chart.specs.declared.mark.Side.TheVariants.{Left, Right}
@@ -35,7 +35,7 @@ manner_of false true = Again
 manner_of false false = Plain
 
 -- the class of a line: dashes for what comes again, dots for what brings nothing any more
-abbrev pub class_of : Way → Manner → List ℕ
+abbrev pub class_of : Direction → Manner → List ℕ
 class_of Down Plain = codes "d"
 class_of Down Again = codes "d again"
 class_of Down Spent = codes "d spent"
@@ -44,51 +44,51 @@ class_of Up Again = codes "u again"
 class_of Up Spent = codes "u spent"
 
 -- the lane on which a message leaves, and the one on which it arrives
-abbrev pub start_of : Way → ℕ
+abbrev pub start_of : Direction → ℕ
 start_of Down = 712
 start_of Up = 1030
 
-abbrev pub goal_of : Way → ℕ
+abbrev pub goal_of : Direction → ℕ
 goal_of Down = 1030
 goal_of Up = 712
 
 -- on which end an arrow has its head, and the class of the head
-abbrev pub side_of : Way → Side
+abbrev pub side_of : Direction → Side
 side_of Down = Right
 side_of Up = Left
 
-abbrev pub head_of : Way → List ℕ
+abbrev pub head_of : Direction → List ℕ
 head_of Down = codes "hd"
 head_of Up = codes "hu"
 
 -- so far towards the goal of a message, and away from it
-abbrev pub towards : Way → Spot → ℕ → Spot
+abbrev pub towards : Direction → Spot → ℕ → Spot
 towards Down s by = right_of s by
 towards Up s by = left_of s by
 
-abbrev pub back : Way → Spot → ℕ → Spot
+abbrev pub back : Direction → Spot → ℕ → Spot
 back Down s by = left_of s by
 back Up s by = right_of s by
 
 -- where a message leaves its lane: at its moment, so much lower
-abbrev pub leaves_at : Places → Way → Moment → ℕ → Spot
+abbrev pub leaves_at : Places → Direction → Moment → ℕ → Spot
 leaves_at p way sent late = below (spot (start_of way) (y_of p sent)) late
 
 -- where a message arrives: on its goal's lane, on the first line of the step's row
-abbrev pub arrives_at : Places → Way → ℕ → Spot
+abbrev pub arrives_at : Places → Direction → ℕ → Spot
 arrives_at p way step = let first : Moment = record { step = step; line = 0 } in spot (goal_of way) (y_of p first)
 
 -- one arrow from where a message leaves to where it arrives
-unfoldable pub near_text : Way → Manner → Spot → Spot → List ℕ
+unfoldable pub near_text : Direction → Manner → Spot → Spot → List ℕ
 near_text way m from to =
     spelt (bent_text (class_of way m) from (towards way from 24) (back way to 18) to ∷ head_text (head_of way) to (side_of way) ∷ [])
 
 -- the line of a message that never arrives: it has no head, and ends in a cross
-unfoldable pub crossed_text : Way → Spot → Spot → List ℕ
+unfoldable pub crossed_text : Direction → Spot → Spot → List ℕ
 crossed_text way from end = spelt (line_text (class_of way Plain) from end ∷ cross_text end ∷ [])
 
 -- and is clear of its words
-abbrev pub lost_text : Way → List ℕ → Spot → List ℕ
+abbrev pub lost_text : Direction → List ℕ → Spot → List ℕ
 lost_text way words from = crossed_text way from (towards way from (max (within (wide words + 36)) 159))
 
 -- the spot of the port beside another
@@ -96,24 +96,24 @@ abbrev pub at_port : Spot → Spot
 at_port s = spot 871 s.y
 
 -- the line of a message that arrives elsewhere: it ends in a dot at the port
-unfoldable pub cut_text : Way → Spot → List ℕ
+unfoldable pub cut_text : Direction → Spot → List ℕ
 cut_text way from = spelt (line_text (class_of way Plain) from (at_port from) ∷ dot_text (head_of way) (at_port from) ∷ [])
 
 -- the words of a message where it leaves
-abbrev pub look_of_departure : Way → List ℕ
+abbrev pub look_of_departure : Direction → List ℕ
 look_of_departure Down = codes " class=\"td halo\""
 look_of_departure Up = codes " class=\"tu halo\" text-anchor=\"end\""
 
-unfoldable pub leaving_text : Way → Spot → List ℕ → List ℕ → List ℕ
+unfoldable pub leaving_text : Direction → Spot → List ℕ → List ℕ → List ℕ
 leaving_text way from title words = titled_text (above (towards way from 28) 3) (look_of_departure way) title words
 
 -- the look of the words of an arrival
-abbrev pub look_of : Way → List ℕ
+abbrev pub look_of : Direction → List ℕ
 look_of Down = codes " class=\"td halo\" text-anchor=\"end\""
 look_of Up = codes " class=\"tu halo\""
 
 -- an arrival that begins at a dot at the port, with its words
-unfoldable pub arrival_text : Way → Manner → Spot → List ℕ → List ℕ
+unfoldable pub arrival_text : Direction → Manner → Spot → List ℕ → List ℕ
 arrival_text way m to words =
     spelt
     (

@@ -15,7 +15,7 @@ use Rattle.av_chart.specs.Slot.{free_places, slots}
 use Rattle.av_chart.specs.Spot.{spot}
 use Rattle.av_chart.specs.Story.{Post, arrived, asked_by, life, moment, number_id, posted}
 use Rattle.av_chart.specs.Words.{message_label, word_at}
-use Rattle.av_chart.specs.declared.happened.Way.TheVariants.{Down}
+use Rattle.av_output.specs.declared.message.Direction.TheVariants.{Down}
 use Rattle.av_chart.specs.declared.life.End.{End}
 use Rattle.av_chart.specs.declared.life.How.TheVariants.{Aborted, Denied}
 use Rattle.av_chart.specs.declared.picture.messages.Manner.TheVariants.{Plain, Spent}

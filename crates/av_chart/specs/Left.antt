@@ -5,8 +5,8 @@ use Rattle.av_pend.specs.declared.answer.Answer.{Answer}
 use Rattle.av_pend.specs.declared.answer.Answer.TheVariants.{Granted, Unscanned, Denied}
 use Rattle.av_history.specs.World.{WorldState}
 use Rattle.av_history.specs.declared.given.Given.{Given}
-use Rattle.av_history.specs.declared.report.Note.{Note}
-use Rattle.av_history.specs.declared.report.Note.TheVariants.{Filter, Service}
+use Rattle.av_history.specs.declared.report.EventNote.{EventNote}
+use Rattle.av_history.specs.declared.report.EventNote.TheVariants.{Filter, Service}
 use Rattle.av_chart.specs.Arrow.{arrow_text}
 use Rattle.av_chart.specs.Escape.{printed, short}
 use Rattle.av_chart.specs.Lanes.{pill_text, wide}
@@ -114,10 +114,10 @@ clear_of None command = 50
 clear_of (Some mark) command = max 50 (within (wide (filter_label mark (word_at 1 command)) + 20))
 
 -- the note of the filter
-unfoldable pub filter_note : WorldState → Note → Spot → List ℕ
+unfoldable pub filter_note : WorldState → EventNote → Spot → List ℕ
 filter_note w note at = words_text (below at 4) (codes " class=\"tw halo\" text-anchor=\"end\"") (word_at 1 (told_note w note))
 
-abbrev pub note_left : WorldState → Note → Spot → List ℕ
+abbrev pub note_left : WorldState → EventNote → Spot → List ℕ
 note_left w (Filter note) at = filter_note w (Filter note) at
 note_left w (Service note) at = []
 

@@ -4,8 +4,8 @@ use Rattle.std.specs.List.{between}
 use Rattle.av_filter.specs.declared.note.Note.{Note as FilterNote}
 use Rattle.av_filter.specs.declared.note.Note.TheVariants as filter
 use Rattle.av_pend.specs.Pend.{open_of}
-use Rattle.av_service.specs.declared.note.Note.{Note as ServiceNote}
-use Rattle.av_service.specs.declared.note.Note.TheVariants as service
+use Rattle.av_service.specs.declared.note.ServiceNote.{ServiceNote}
+use Rattle.av_service.specs.declared.note.ServiceNote.TheVariants as service
 use Rattle.av_history.specs.World.{WorldState}
 use Rattle.av_history.specs.declared.event.Event.{Event}
 use Rattle.av_history.specs.declared.event.Event.TheVariants as event
@@ -13,8 +13,8 @@ use Rattle.av_history.specs.declared.given.Given.{Given}
 use Rattle.av_history.specs.declared.report.Judged.{Judged}
 use Rattle.av_history.specs.declared.report.Line.{Line}
 use Rattle.av_history.specs.declared.report.Line.TheVariants as line
-use Rattle.av_history.specs.declared.report.Note.{Note}
-use Rattle.av_history.specs.declared.report.Note.TheVariants.{Filter, Service}
+use Rattle.av_history.specs.declared.report.EventNote.{EventNote}
+use Rattle.av_history.specs.declared.report.EventNote.TheVariants.{Filter, Service}
 use Rattle.av_history.specs.declared.report.Report.{Report}
 use Rattle.av_chart.specs.declared.happened.Asks.{Asks}
 use Rattle.av_chart.specs.declared.happened.Asks.TheVariants as asks
@@ -26,7 +26,7 @@ use Rattle.av_chart.specs.declared.happened.ServiceMark.{ServiceMark}
 use Rattle.av_chart.specs.declared.happened.ServiceMark.TheVariants as on_service
 use Rattle.av_chart.specs.declared.happened.VolumeMark.{VolumeMark}
 use Rattle.av_chart.specs.declared.happened.VolumeMark.TheVariants as on_volume
-use Rattle.av_chart.specs.declared.happened.Way.TheVariants.{Down, Up}
+use Rattle.av_output.specs.declared.message.Direction.TheVariants.{Down, Up}
 use Rattle.av_chart.specs.declared.happening.marks.Deed.{Deed}
 use Rattle.av_chart.specs.declared.happening.marks.Deed.TheVariants as deed
 
@@ -67,7 +67,7 @@ said_by_service service.Repeat = said.Repeat
 said_by_service service.Ignored = said.IgnoredByService
 said_by_service service.Orphan = said.Orphan
 
-abbrev pub said_of : Note → Said
+abbrev pub said_of : EventNote → Said
 said_of (Filter note) = said_by_filter note
 said_of (Service note) = said_by_service note
 
@@ -87,17 +87,17 @@ abbrev pub filter_id : FilterNote → ℕ
 filter_id (filter.Submitted open_id) = open_id
 filter_id _ = 0
 
-abbrev pub submitted_id : Note → ℕ
+abbrev pub submitted_id : EventNote → ℕ
 submitted_id (Filter note) = filter_id note
 submitted_id (Service note) = 0
 
 -- the number that an open was given: that of its answer, or the one under which it waits
-abbrev pub asked_id : List Given → Note → ℕ
+abbrev pub asked_id : List Given → EventNote → ℕ
 asked_id [] note = submitted_id note
 asked_id (g ∷ gs) note = open_of g.answer
 
 -- what the opener asks
-abbrev pub asks_of : Deed → List Given → Note → Option Asks
+abbrev pub asks_of : Deed → List Given → EventNote → Option Asks
 asks_of deed.Open given note = Some (asks.Open (asked_id given note))
 asks_of deed.Cleanup given note = Some asks.Cleanup
 asks_of _ given note = None

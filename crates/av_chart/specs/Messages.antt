@@ -15,18 +15,18 @@ use Rattle.av_chart.specs.declared.happened.Happened.{Happened}
 use Rattle.av_chart.specs.declared.happened.Sent.{Sent}
 use Rattle.av_chart.specs.declared.happened.Span.{Span}
 use Rattle.av_chart.specs.declared.happened.Step.{Step}
-use Rattle.av_chart.specs.declared.happened.Way.{Way}
-use Rattle.av_chart.specs.declared.happened.Way.TheVariants.{Down, Up}
+use Rattle.av_output.specs.declared.message.Direction.{Direction}
+use Rattle.av_output.specs.declared.message.Direction.TheVariants.{Down, Up}
 use Rattle.av_chart.specs.declared.picture.Picture.{Picture}
 use Rattle.av_chart.specs.declared.picture.messages.Manner.{Manner}
 use Rattle.av_chart.specs.declared.spot.Spot.{Spot}
 
 -- the messages of a way, as what happened has them, and as the world does
-abbrev pub sent_on : Happened → Way → List Sent
+abbrev pub sent_on : Happened → Direction → List Sent
 sent_on h Down = h.down.items
 sent_on h Up = h.up.items
 
-abbrev pub bodies_on : WorldState → Way → List Letter
+abbrev pub bodies_on : WorldState → Direction → List Letter
 bodies_on w Down = w.down
 bodies_on w Up = w.up
 
@@ -67,55 +67,55 @@ step_late None = 0
 step_late (Some s) = late_of s
 
 -- the spot at which a message leaves
-abbrev pub left_at : Picture → Way → Sent → Spot
+abbrev pub left_at : Picture → Direction → Sent → Spot
 left_at p way s = leaves_at p.places.now way s.at (step_late (slice_get p.happened.now.steps.items s.at.step))
 
 -- the line of a message that leaves, by the arrival that one arrow shows, and how often it arrives
-abbrev pub leaving_line : Picture → Way → List ℕ → Spot → Option ℕ → ℕ → List ℕ
+abbrev pub leaving_line : Picture → Direction → List ℕ → Spot → Option ℕ → ℕ → List ℕ
 leaving_line p way words from (Some at) arrivals = near_text way (manner_at p at false) from (arrives_at p.places.now way at)
 leaving_line p way words from None arrivals = if arrivals == 0 then lost_text way words from else cut_text way from
 
 -- a message that leaves, with its words and its title
-unfoldable pub departure_text : Picture → Way → Sent → List ℕ → List ℕ → List ℕ
+unfoldable pub departure_text : Picture → Direction → Sent → List ℕ → List ℕ → List ℕ
 departure_text p way s words title =
     leaving_line p way words (left_at p way s) (near_arrival p s) (vec_len s.arrivals)
     ++ leaving_text way (left_at p way s) title words
 
 -- an arrival of its own
-unfoldable pub arrival_at : Picture → Way → List ℕ → ℕ → Bool → List ℕ
+unfoldable pub arrival_at : Picture → Direction → List ℕ → ℕ → Bool → List ℕ
 arrival_at p way words at again =
     arrival_text way (manner_at p at again) (arrives_at p.places.now way at) (arrival_words again words)
 
 -- the arrival at k of a message, unless it is not shown, or its arrow stands already
-abbrev pub arrival_shown : Picture → Way → Sent → List ℕ → ℕ → ℕ → List ℕ
+abbrev pub arrival_shown : Picture → Direction → Sent → List ℕ → ℕ → ℕ → List ℕ
 arrival_shown p way s words k at =
     if shown_at p at && (nat_lt 0 k || not (is_some (near_arrival p s))) then arrival_at p way words at (nat_lt 0 k) else []
 
-abbrev pub arrivals_text : Picture → Way → Sent → List ℕ → List ℕ
+abbrev pub arrivals_text : Picture → Direction → Sent → List ℕ → List ℕ
 arrivals_text p way s words = placed (arrival_shown p way s words) 0 s.arrivals.items
 
 -- where a message leaves, if that is shown
-abbrev pub departure_shown : Picture → Way → Sent → List ℕ → List ℕ → List ℕ
+abbrev pub departure_shown : Picture → Direction → Sent → List ℕ → List ℕ → List ℕ
 departure_shown p way s words title = if shown_at p s.at.step then departure_text p way s words title else []
 
 -- a message with its words and its title: where it leaves, and its arrivals
-unfoldable pub sent_text : Picture → Way → Sent → List ℕ → List ℕ → List ℕ
+unfoldable pub sent_text : Picture → Direction → Sent → List ℕ → List ℕ → List ℕ
 sent_text p way s words title = departure_shown p way s words title ++ arrivals_text p way s words
 
 -- the message at a place, where the world has it
-abbrev pub message_text : Picture → Way → Sent → ℕ → Option Letter → List ℕ
+abbrev pub message_text : Picture → Direction → Sent → ℕ → Option Letter → List ℕ
 message_text p way s k None = []
 message_text p way s k (Some m) = sent_text p way s (message_label way (capped (k + 1)) m) (message_title p.world.now way k)
 
 -- the message at a place, where it is shown
-abbrev pub message_shown : Picture → Way → ℕ → Sent → List ℕ
+abbrev pub message_shown : Picture → Direction → ℕ → Sent → List ℕ
 message_shown p way k s = if is_shown p s then message_text p way s k (slice_get (bodies_on p.world.now way) k) else []
 
 -- the messages of one way that a step sent
-abbrev pub message_at : Picture → Way → Span → ℕ → Sent → List ℕ
+abbrev pub message_at : Picture → Direction → Span → ℕ → Sent → List ℕ
 message_at p way span k s = message_shown p way (capped (span.from + k)) s
 
-unfoldable pub step_messages : Picture → Way → Span → List ℕ
+unfoldable pub step_messages : Picture → Direction → Span → List ℕ
 step_messages p way span = placed (message_at p way span) 0 (spanned span (sent_on p.happened.now way))
 
 -- those of both

@@ -4,8 +4,8 @@ use Rattle.std.specs.declared.vec.Vec.{Vec}
 use Rattle.std.specs.declared.alloc.Global.{Global}
 use Rattle.av_base.specs.Part.{spelt}
 use Rattle.av_history.specs.World.{WorldState}
-use Rattle.av_history.specs.declared.report.Note.{Note}
-use Rattle.av_history.specs.declared.report.Note.TheVariants.{Filter, Service}
+use Rattle.av_history.specs.declared.report.EventNote.{EventNote}
+use Rattle.av_history.specs.declared.report.EventNote.TheVariants.{Filter, Service}
 use Rattle.av_chart.specs.Arrow.{arrow_text}
 use Rattle.av_chart.specs.Lanes.{pill_text, wide}
 use Rattle.av_chart.specs.Left.{height_at}
@@ -43,7 +43,7 @@ service_text None y = []
 service_text (Some mark) y = service_pill (service_label mark) y
 
 -- the note of the service
-abbrev pub note_right : WorldState → Note → ℕ → List ℕ
+abbrev pub note_right : WorldState → EventNote → ℕ → List ℕ
 note_right w (Filter note) y = []
 note_right w (Service note) y = told_text (codes " class=\"tw halo\"") (word_at 1 (told_note w (Service note))) y
 

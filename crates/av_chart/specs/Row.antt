@@ -2,9 +2,9 @@
 use Rattle.std.specs.Prelude.{ℕ, ◌+◌, ◌-◌, ◌*◌, ◌||◌, max, Bool, true, false, nat_lt, Option, None, Some, is_some, List, if◌then◌else◌}
 use Rattle.std.specs.List.{between}
 use Rattle.av_filter.specs.declared.note.Note.TheVariants as filter
-use Rattle.av_service.specs.declared.note.Note.TheVariants as service
-use Rattle.av_history.specs.declared.report.Note.{Note}
-use Rattle.av_history.specs.declared.report.Note.TheVariants.{Filter, Service}
+use Rattle.av_service.specs.declared.note.ServiceNote.TheVariants as service
+use Rattle.av_history.specs.declared.report.EventNote.{EventNote}
+use Rattle.av_history.specs.declared.report.EventNote.TheVariants.{Filter, Service}
 use Rattle.av_chart.specs.Number.{capped}
 use Rattle.av_chart.specs.Spot.{within}
 use Rattle.av_chart.specs.declared.happened.Arrival.{Arrival}
@@ -67,7 +67,7 @@ abbrev pub height_of : Step → ℕ
 height_of s = max (max (lines_high (capped (asked_lines s + count s.answers))) 19) (within (lines_high (sent_by s) + late_of s))
 
 -- the note that has this word
-abbrev pub note_of : Said → Note
+abbrev pub note_of : Said → EventNote
 note_of said.Quiet = Filter filter.Quiet
 note_of said.Welcome = Filter filter.Welcome
 note_of said.NoWaiter = Filter filter.NoWaiter

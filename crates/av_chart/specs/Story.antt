@@ -35,8 +35,8 @@ use Rattle.av_chart.specs.declared.happened.Refused.TheVariants as refused
 use Rattle.av_chart.specs.declared.happened.Said.{Said}
 use Rattle.av_chart.specs.declared.happened.Sent.{Sent}
 use Rattle.av_chart.specs.declared.happened.Step.{Step}
-use Rattle.av_chart.specs.declared.happened.Way.{Way}
-use Rattle.av_chart.specs.declared.happened.Way.TheVariants.{Down, Up}
+use Rattle.av_output.specs.declared.message.Direction.{Direction}
+use Rattle.av_output.specs.declared.message.Direction.TheVariants.{Down, Up}
 use Rattle.av_chart.specs.declared.happening.marks.Deed.{Deed}
 use Rattle.av_chart.specs.declared.happening.marks.Deed.TheVariants as deed
 use Rattle.av_chart.specs.declared.life.How.{How}
@@ -144,7 +144,7 @@ delivered_up step _ posts = posts
 abbrev pub is_again : Post → Bool
 is_again p = nat_lt 0 (length p.arrivals)
 
-abbrev pub arrival_of : ℕ → Way → ℕ → Said → Option Post → Option Arrival
+abbrev pub arrival_of : ℕ → Direction → ℕ → Said → Option Post → Option Arrival
 arrival_of step way place note None = None
 arrival_of step way place note (Some p) =
     Some (record {
@@ -155,7 +155,7 @@ arrival_of step way place note (Some p) =
       is_spent = is_spent note;
     })
 
-abbrev pub posts_on : Story → Way → List Post
+abbrev pub posts_on : Story → Direction → List Post
 posts_on s Down = s.down
 posts_on s Up = s.up
 

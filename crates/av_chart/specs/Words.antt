@@ -23,13 +23,13 @@ use Rattle.av_pend.specs.declared.answer.Answer.TheVariants.{Granted, Unscanned,
 use Rattle.av_output.specs.Text.{report_text}
 use Rattle.av_history.specs.World.{WorldState}
 use Rattle.av_history.specs.declared.report.Line.TheVariants.{Silent}
-use Rattle.av_history.specs.declared.report.Note.{Note}
-use Rattle.av_history.specs.declared.report.Note.TheVariants.{Filter}
+use Rattle.av_history.specs.declared.report.EventNote.{EventNote}
+use Rattle.av_history.specs.declared.report.EventNote.TheVariants.{Filter}
 use Rattle.av_history.specs.declared.report.Places.{Places}
 use Rattle.av_chart.specs.Escape.{short}
 use Rattle.av_chart.specs.Number.{capped}
-use Rattle.av_chart.specs.declared.happened.Way.{Way}
-use Rattle.av_chart.specs.declared.happened.Way.TheVariants.{Down, Up}
+use Rattle.av_output.specs.declared.message.Direction.{Direction}
+use Rattle.av_output.specs.declared.message.Direction.TheVariants.{Down, Up}
 
 -- the word of a line at a place, counted from 0; nothing where there are fewer
 abbrev pub word_at : ℕ → List ℕ → List ℕ
@@ -40,12 +40,12 @@ abbrev pub nowhere : Places
 nowhere = record { answers = 0; down = 0; up = 0; works = 0 }
 
 -- what a world tells of what lies between these places and of a note, without the end of its line
-unfoldable pub told_of : WorldState → Places → Places → Note → List ℕ
+unfoldable pub told_of : WorldState → Places → Places → EventNote → List ℕ
 told_of w before after note =
     let text = report_text w (record { line = Silent; before = before; after = after; note = note }) in take (length text - 1) text
 
 -- the word of a note
-abbrev pub told_note : WorldState → Note → List ℕ
+abbrev pub told_note : WorldState → EventNote → List ℕ
 told_note w note = told_of w nowhere nowhere note
 
 -- the line of the work at a place, counted from 0
@@ -53,21 +53,21 @@ abbrev pub told_work : WorldState → ℕ → List ℕ
 told_work w k = told_of w (record nowhere { works = k }) (record nowhere { works = capped (k + 1) }) (Filter filter.Quiet)
 
 -- the line of the message at a place, counted from 0
-abbrev pub told_message : WorldState → Way → ℕ → List ℕ
+abbrev pub told_message : WorldState → Direction → ℕ → List ℕ
 told_message w Down k = told_of w (record nowhere { down = k }) (record nowhere { down = capped (k + 1) }) (Filter filter.Quiet)
 told_message w Up k = told_of w (record nowhere { up = k }) (record nowhere { up = capped (k + 1) }) (Filter filter.Quiet)
 
 -- the word of a way
-abbrev pub way_word : Way → List ℕ
+abbrev pub way_word : Direction → List ℕ
 way_word Down = codes "down "
 way_word Up = codes "up "
 
 -- the way and the number of a message
-unfoldable pub numbered_text : Way → ℕ → List ℕ
+unfoldable pub numbered_text : Direction → ℕ → List ℕ
 numbered_text way number = spelt (way_word way ∷ decimal number ∷ codes " " ∷ [])
 
 -- the whole line of a message, of at most 200 characters behind its number
-unfoldable pub message_title : WorldState → Way → ℕ → List ℕ
+unfoldable pub message_title : WorldState → Direction → ℕ → List ℕ
 message_title w way k = short (capped (length (numbered_text way (capped (k + 1))) + 200)) (told_message w way k)
 
 -- a word and the question that it is about
@@ -110,7 +110,7 @@ port_end One = []
 port_end Two = codes " port 2"
 
 -- the words of a message on its arrow
-unfoldable pub message_label : Way → ℕ → Letter → List ℕ
+unfoldable pub message_label : Direction → ℕ → Letter → List ℕ
 message_label way number m = (numbered_text way number ++ body_text m.body) ++ port_end m.port
 
 -- the words of an answer

@@ -8,8 +8,9 @@ ghost use Rattle.av_chart.specs.Story.{nothing, story_of, with_step};
 use crate::life::{Lives, Moment};
 use av_base::{Port, Verdict};
 use av_filter::Note as FilterNote;
-use av_history::{JudgeFault, Note, StepFault};
-use av_service::Note as ServiceNote;
+use av_history::{EventNote, JudgeFault, StepFault};
+use av_output::Direction;
+use av_service::ServiceNote;
 use std::alloc::{AllocError, Global};
 
 /// How many steps an arrow spans at most; a farther one is drawn in two parts.
@@ -37,15 +38,6 @@ impl Span {
     {
         self.to.saturating_sub(self.from)
     }
-}
-
-/// To whom a message goes.
-#[derive(Clone, Copy)]
-pub enum Way {
-    /// From the filter to the service.
-    Down,
-    /// From the service to the filter.
-    Up,
 }
 
 /// What befell the stream that a command names, on the volume's lane.
@@ -105,21 +97,21 @@ pub enum Said {
 
 impl Said {
     /// The note that has this word.
-    pub fn note(self) -> Note
+    pub fn note(self) -> EventNote
         ensures { result ≡ note_of self }
     {
         match self {
-            Said::Quiet => Note::Filter(FilterNote::Quiet),
-            Said::Welcome => Note::Filter(FilterNote::Welcome),
-            Said::NoWaiter => Note::Filter(FilterNote::NoWaiter),
-            Said::Ignored => Note::Filter(FilterNote::Ignored),
-            Said::NoStream => Note::Filter(FilterNote::NoStream),
-            Said::WrongVolume => Note::Filter(FilterNote::WrongVolume),
-            Said::Connected => Note::Filter(FilterNote::Connected),
-            Said::OldVersion => Note::Filter(FilterNote::OldVersion),
-            Said::Repeat => Note::Service(ServiceNote::Repeat),
-            Said::IgnoredByService => Note::Service(ServiceNote::Ignored),
-            Said::Orphan => Note::Service(ServiceNote::Orphan),
+            Said::Quiet => EventNote::Filter(FilterNote::Quiet),
+            Said::Welcome => EventNote::Filter(FilterNote::Welcome),
+            Said::NoWaiter => EventNote::Filter(FilterNote::NoWaiter),
+            Said::Ignored => EventNote::Filter(FilterNote::Ignored),
+            Said::NoStream => EventNote::Filter(FilterNote::NoStream),
+            Said::WrongVolume => EventNote::Filter(FilterNote::WrongVolume),
+            Said::Connected => EventNote::Filter(FilterNote::Connected),
+            Said::OldVersion => EventNote::Filter(FilterNote::OldVersion),
+            Said::Repeat => EventNote::Service(ServiceNote::Repeat),
+            Said::IgnoredByService => EventNote::Service(ServiceNote::Ignored),
+            Said::Orphan => EventNote::Service(ServiceNote::Orphan),
         }
     }
 }
@@ -134,7 +126,7 @@ pub enum Refused {
 /// The arrival of a message in a step: its place in its list, from 0, and whether it had arrived before.
 #[derive(Clone, Copy)]
 pub struct Arrival {
-    pub way: Way,
+    pub way: Direction,
     pub index: usize,
     pub is_again: bool,
     /// More steps than one arrow spans lie behind it, or it arrived before.

@@ -5,12 +5,12 @@ ghost use Rattle.av_base.specs.Part.{part_text, spelt};
 ghost use Rattle.av_chart.specs.Words.{about_text, answer_label, body_text, message_label, message_title, nowhere, outcome_text, told_message, told_note, port_end, told_of, told_work, verdict_word, way_word};
 
 use crate::escape::{put_parts, shorten};
-use crate::happened::Way;
 use av_base::{MessageId, Part, Port, Verdict};
 use av_filter::Note as FilterNote;
 use av_frame::{Body, Message, NoChunkCause, Outcome};
-use av_history::{Line, Note, Places, Report};
+use av_history::{EventNote, Line, Places, Report};
 use av_json::why;
+use av_output::Direction;
 use av_pend::Answer;
 use av_world::World;
 use std::alloc::{AllocError, Global};
@@ -36,21 +36,27 @@ pub fn told_work(alloc: Global, world: &World, index: u64) -> Result<Vec<u8>, Al
         works: index.saturating_add(1),
         ..nowhere()
     };
-    told(alloc, world, before, after, Note::Filter(FilterNote::Quiet))
+    told(
+        alloc,
+        world,
+        before,
+        after,
+        EventNote::Filter(FilterNote::Quiet),
+    )
 }
 
 /// The line that tells a message of a place, counted from 0.
 pub fn told_message(
     alloc: Global,
     world: &World,
-    way: Way,
+    way: Direction,
     index: u64,
 ) -> Result<Vec<u8>, AllocError>
     ensures { IfOk result (λ text. text.items ≡ told_message world.now way index) }
 {
     let next = index.saturating_add(1);
     let (before, after) = match way {
-        Way::Down => (
+        Direction::Down => (
             Places {
                 down: index,
                 ..nowhere()
@@ -60,7 +66,7 @@ pub fn told_message(
                 ..nowhere()
             },
         ),
-        Way::Up => (
+        Direction::Up => (
             Places {
                 up: index,
                 ..nowhere()
@@ -71,11 +77,17 @@ pub fn told_message(
             },
         ),
     };
-    told(alloc, world, before, after, Note::Filter(FilterNote::Quiet))
+    told(
+        alloc,
+        world,
+        before,
+        after,
+        EventNote::Filter(FilterNote::Quiet),
+    )
 }
 
 /// The word of a note.
-pub fn told_note(alloc: Global, world: &World, note: Note) -> Result<Vec<u8>, AllocError>
+pub fn told_note(alloc: Global, world: &World, note: EventNote) -> Result<Vec<u8>, AllocError>
     ensures { IfOk result (λ text. text.items ≡ told_note world.now note) }
 {
     told(alloc, world, nowhere(), nowhere(), note)
@@ -99,7 +111,7 @@ fn told(
     world: &World,
     before: Places,
     after: Places,
-    note: Note,
+    note: EventNote,
 ) -> Result<Vec<u8>, AllocError>
     ensures { IfOk result (λ text. text.items ≡ told_of world.now before after note) }
 {
@@ -118,12 +130,12 @@ fn told(
 }
 
 /// The word of a way.
-pub fn way_word(way: Way) -> &'static [u8]
+pub fn way_word(way: Direction) -> &'static [u8]
     ensures { result.now ≡ way_word way }
 {
     match way {
-        Way::Down => b"down ".as_slice(),
-        Way::Up => b"up ".as_slice(),
+        Direction::Down => b"down ".as_slice(),
+        Direction::Up => b"up ".as_slice(),
     }
 }
 
@@ -132,7 +144,7 @@ pub fn way_word(way: Way) -> &'static [u8]
 pub fn message_title(
     alloc: Global,
     world: &World,
-    way: Way,
+    way: Direction,
     index: u64,
 ) -> Result<Vec<u8>, AllocError>
     ensures { IfOk result (λ text. text.items ≡ message_title world.now way index) }
@@ -155,7 +167,7 @@ pub fn message_title(
 #[tactic(auto, unfolding(crate::specs::Words::message_label, crate::specs::Words::numbered_text))]
 pub fn message_label(
     alloc: Global,
-    way: Way,
+    way: Direction,
     number: u64,
     message: &Message,
 ) -> Result<Vec<u8>, AllocError>

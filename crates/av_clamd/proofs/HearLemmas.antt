@@ -5,8 +5,8 @@ use Rattle.std.proofs.Math.Seq.{take-add}
 use Rattle.std.proofs.lemmas.List.{append-nil, take-append-drop, length-take-le}
 use Rattle.std.proofs.lemmas.Bool.{cases_lt, le-ltb, lt-ltb}
 use Rattle.av_clamd.specs.declared.door.Sending.{Sending}
-use Rattle.av_clamd.specs.declared.door.Way.{Way}
-use Rattle.av_clamd.specs.declared.door.Way.TheVariants.{Collected, Relayed, Dropped}
+use Rattle.av_clamd.specs.declared.door.Handling.{Handling}
+use Rattle.av_clamd.specs.declared.door.Handling.TheVariants.{Collected, Relayed, Dropped}
 use Rattle.av_clamd.specs.declared.door.Heard.{Heard}
 use Rattle.av_clamd.specs.declared.door.Reading.{Reading}
 use Rattle.av_clamd.specs.declared.door.Reading.TheVariants.{Piece, Size}
@@ -42,12 +42,12 @@ one_less n left some =
           ap (λ t. cond t (Piece (left - 1 - n)) Size) a ∙ ap (λ t. cond t (Piece (left - suc n)) Size) (sym b)
     ]
 
-kept_after : (way : Way) (content xs : List ℕ) (b : ℕ) → content_with way (content_with way content (b ∷ [])) xs ≡ content_with way content (b ∷ xs)
+kept_after : (way : Handling) (content xs : List ℕ) (b : ℕ) → content_with way (content_with way content (b ∷ [])) xs ≡ content_with way content (b ∷ xs)
 kept_after Collected content xs b = append_assoc content (b ∷ []) xs
 kept_after Relayed content xs b = refl
 kept_after Dropped content xs b = refl
 
-told_after : (way : Way) (xs : List ℕ) (b : ℕ) → handed_out way (b ∷ []) ++ handed_out way xs ≡ handed_out way (b ∷ xs)
+told_after : (way : Handling) (xs : List ℕ) (b : ℕ) → handed_out way (b ∷ []) ++ handed_out way xs ≡ handed_out way (b ∷ xs)
 told_after Collected xs b = refl
 told_after Relayed xs b = refl
 told_after Dropped xs b = refl

@@ -9,8 +9,8 @@ use Rattle.std.proofs.lemmas.Bool.Decides.{nat_tests}
 use Rattle.av_clamd.specs.declared.door.Reading.TheVariants.{Command, Size, Piece, Nothing}
 use Rattle.av_clamd.specs.declared.door.Sending.{Sending}
 use Rattle.av_clamd.specs.declared.door.Sending.TheVariants.{Whole, InParts}
-use Rattle.av_clamd.specs.declared.door.Way.{Way}
-use Rattle.av_clamd.specs.declared.door.Way.TheVariants.{Collected, Relayed, Dropped}
+use Rattle.av_clamd.specs.declared.door.Handling.{Handling}
+use Rattle.av_clamd.specs.declared.door.Handling.TheVariants.{Collected, Relayed, Dropped}
 use Rattle.av_clamd.specs.declared.door.TheConstants.{LONGEST, MAX_CONTENT, MOST_KEPT}
 use Rattle.av_clamd.specs.Text.{answered, end_of, is_marked, path_taken, word_of}
 use Rattle.av_clamd.specs.Door.{Opened, Told, answers, by_reading, by_way, content_with, enlarged, finished, goes_in_parts, asks_about, handed_out, heard_of, in_command, in_size, next_number, obeyed, sized, step, told_at_end}
@@ -41,7 +41,7 @@ IsCalm most d = (length d.begun < LONGEST) × (length d.content ≤ most) × Hol
 calm : (most : ℕ) (d : Opened) → KeepsAtMost most d → IsCalm most d
 calm most d little = (little.0, omega (arith, little.1), little.3)
 
-after_coming : (session : Bool) (way : Way) → coming (cond session Command Nothing) way ≡ 0
+after_coming : (session : Bool) (way : Handling) → coming (cond session Command Nothing) way ≡ 0
 after_coming true way = refl
 after_coming false way = refl
 
@@ -74,7 +74,7 @@ command_good most b d is reading =
     (λ t. (still (d.begun ++ b ∷ []) (omega (arith, length-append d.begun (b ∷ []), ltb-true _ _ t)), tt))
     (λ t. ((is.0, omega (arith, is.1), tt, is.2), tt)))
 
-told_small : (most : ℕ) (way : Way) (d : Opened) → length d.content ≤ most → AreSmall most (told_at_end way d)
+told_small : (most : ℕ) (way : Handling) (d : Opened) → length d.content ≤ most → AreSmall most (told_at_end way d)
 told_small most Collected d is = (is, tt)
 told_small most Relayed d is = (tt, tt)
 told_small most Dropped d is = tt
@@ -98,7 +98,7 @@ enlarged_good most sending bound size d is way some =
     let all : coming (Piece size) d.way ≡ size = ap (coming (Piece size)) way in
     ((is.0, omega (arith, bound (length d.content) size is.1 not_parts fits, all), some, is.2), tt)))
 
-by_way_good : (most : ℕ) (sending : Sending) → IsBound most sending → (way : Way) (size : ℕ) (d : Opened) → IsCalm most d → d.way ≡ way → 1 ≤ size → IsGood most (by_way way sending size d)
+by_way_good : (most : ℕ) (sending : Sending) → IsBound most sending → (way : Handling) (size : ℕ) (d : Opened) → IsCalm most d → d.way ≡ way → 1 ≤ size → IsGood most (by_way way sending size d)
 by_way_good most sending bound Collected size d is way some = enlarged_good most sending bound size d is way some
 by_way_good most sending bound Relayed size d is way some =
     let none : coming (Piece size) d.way ≡ 0 = ap (coming (Piece size)) way in
@@ -120,7 +120,7 @@ size_good most sending bound b d is reading =
     (λ t. sized_good most sending bound (from_be_bytes w32 (take 4 (d.begun ++ b ∷ []))) (record d { begun = [] }) (omega arith, is.1, is.2))
 
 -- a byte of a piece takes the place that was kept for it
-piece_good : (most left b : ℕ) (content : List ℕ) (way : Way) → length content + coming (Piece left) way ≤ most → 1 ≤ left → length (content_with way content (b ∷ [])) + coming (cond (nat_lt 1 left) (Piece (left - 1)) Size) way ≤ most
+piece_good : (most left b : ℕ) (content : List ℕ) (way : Handling) → length content + coming (Piece left) way ≤ most → 1 ≤ left → length (content_with way content (b ∷ [])) + coming (cond (nat_lt 1 left) (Piece (left - 1)) Size) way ≤ most
 piece_good most left b content Collected little some =
     let less : coming (cond (nat_lt 1 left) (Piece (left - 1)) Size) Collected ≤ left - 1 = elim (nat_lt 1 left) as (λ t. coming (cond t (Piece (left - 1)) Size) Collected ≤ left - 1) [ true ↦ omega arith | false ↦ omega arith ] in
     omega (arith, little, less, some, length-append content (b ∷ []))
@@ -138,12 +138,12 @@ piece_left left =
       | false ↦ λ e. tt
     ]) refl
 
-still_none : (way : Way) (content bytes : List ℕ) → HoldsNone way content → HoldsNone way (content_with way content bytes)
+still_none : (way : Handling) (content bytes : List ℕ) → HoldsNone way content → HoldsNone way (content_with way content bytes)
 still_none Collected content bytes none = tt
 still_none Relayed content bytes none = none
 still_none Dropped content bytes none = none
 
-out_small : (most b : ℕ) (way : Way) → AreSmall most (handed_out way (b ∷ []))
+out_small : (most b : ℕ) (way : Handling) → AreSmall most (handed_out way (b ∷ []))
 out_small most b Collected = tt
 out_small most b Relayed = (tt, tt)
 out_small most b Dropped = tt

@@ -6,8 +6,8 @@ use Rattle.std.specs.Int.{w32, from_be_bytes}
 use Rattle.std.specs.Str.{bytes_eq}
 use Rattle.av_clamd.specs.declared.door.Reading.TheVariants.{Command, Size, Piece, Nothing}
 use Rattle.av_clamd.specs.declared.door.Sending.{Sending}
-use Rattle.av_clamd.specs.declared.door.Way.{Way}
-use Rattle.av_clamd.specs.declared.door.Way.TheVariants.{Collected, Relayed, Dropped}
+use Rattle.av_clamd.specs.declared.door.Handling.{Handling}
+use Rattle.av_clamd.specs.declared.door.Handling.TheVariants.{Collected, Relayed, Dropped}
 use Rattle.av_clamd.specs.declared.door.TheConstants.{LONGEST, MAX_CONTENT}
 use Rattle.av_clamd.specs.declared.text.Paths.TheVariants.{Refused}
 use Rattle.av_clamd.specs.Text.{answered, end_of, is_marked, path_taken, word_of}
@@ -43,7 +43,7 @@ command_good b d is =
     (obeyed_good (is_marked d.begun) (word_of d.begun) (record d { begun = []; number = next_number d; end = end_of d.begun }) is)
     (either (nat_lt (length d.begun + 1) LONGEST) _ _ (is, tt) (is, tt))
 
-told_none : (way : Way) (d : Opened) → HasNone (told_at_end way d)
+told_none : (way : Handling) (d : Opened) → HasNone (told_at_end way d)
 told_none Collected d = (tt, tt)
 told_none Relayed d = (tt, tt)
 told_none Dropped d = tt
@@ -53,7 +53,7 @@ enlarged_good sending size d is =
     either (goes_in_parts sending (length d.content) size) _ _ (is, (tt, tt))
     (either (nat_lt MAX_CONTENT (length d.content + size)) _ _ (is, (tt, tt)) (is, tt))
 
-by_way_good : (way : Way) (sending : Sending) (size : ℕ) (d : Opened) → d.paths ≡ Refused → IsGood (by_way way sending size d)
+by_way_good : (way : Handling) (sending : Sending) (size : ℕ) (d : Opened) → d.paths ≡ Refused → IsGood (by_way way sending size d)
 by_way_good Collected sending size d is = enlarged_good sending size d is
 by_way_good Relayed sending size d is = (is, tt)
 by_way_good Dropped sending size d is = (is, tt)
@@ -66,7 +66,7 @@ size_good sending b d is =
     either (nat_lt (length d.begun + 1) 4) _ _ (is, tt)
     (sized_good sending (from_be_bytes w32 (take 4 (d.begun ++ b ∷ []))) (record d { begun = [] }) is)
 
-out_none : (b : ℕ) (way : Way) → HasNone (handed_out way (b ∷ []))
+out_none : (b : ℕ) (way : Handling) → HasNone (handed_out way (b ∷ []))
 out_none b Collected = tt
 out_none b Relayed = (tt, tt)
 out_none b Dropped = tt

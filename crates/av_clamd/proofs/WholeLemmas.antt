@@ -9,8 +9,8 @@ use Rattle.std.proofs.lemmas.Bool.{cases_lt, le-ltb}
 use Rattle.std.proofs.lemmas.Bool.Decides.{nat_tests}
 use Rattle.av_clamd.specs.declared.door.Sending.{Sending}
 use Rattle.av_clamd.specs.declared.door.Sending.TheVariants.{Whole, InParts}
-use Rattle.av_clamd.specs.declared.door.Way.{Way}
-use Rattle.av_clamd.specs.declared.door.Way.TheVariants.{Collected, Relayed}
+use Rattle.av_clamd.specs.declared.door.Handling.{Handling}
+use Rattle.av_clamd.specs.declared.door.Handling.TheVariants.{Collected, Relayed}
 use Rattle.av_clamd.specs.declared.door.Reading.TheVariants.{Piece, Size}
 use Rattle.av_clamd.specs.declared.door.TheConstants.{MAX_CONTENT, MOST_KEPT}
 use Rattle.av_clamd.specs.Door.{Opened, Told, Asked, Began, Brought, Ended, by_way, content_with, enlarged, goes_in_parts, handed_out, heard_of, onto, sized, step}
@@ -18,26 +18,26 @@ use Rattle.av_clamd.specs.Laws.{ArePieces, AsksAboutTheWhole, PartsAreTheWhole, 
 use Rattle.av_clamd.proofs.HearLemmas.{cut_anywhere, piece_whole}
 
 -- a door that reads a length, of a content of which this came
-abbrev at_length : List ℕ → Way → Opened → Opened
+abbrev at_length : List ℕ → Handling → Opened → Opened
 at_length content way d = record d { reading = Size; begun = []; content = content; way = way }
 
 -- a door that reads a piece of it
-abbrev at_piece : ℕ → List ℕ → Way → Opened → Opened
+abbrev at_piece : ℕ → List ℕ → Handling → Opened → Opened
 at_piece left content way d = record d { reading = Piece left; begun = []; content = content; way = way }
 
 -- ---- a length
 
-four_read : (sending : Sending) (a b c e : ℕ) (more content : List ℕ) (way : Way) (d : Opened) → heard_of sending (a ∷ b ∷ c ∷ e ∷ more) (at_length content way d) ≡ onto (sized sending (from_be_bytes w32 (a ∷ b ∷ c ∷ e ∷ [])) (at_length content way d)).1 (heard_of sending more (sized sending (from_be_bytes w32 (a ∷ b ∷ c ∷ e ∷ [])) (at_length content way d)).0)
+four_read : (sending : Sending) (a b c e : ℕ) (more content : List ℕ) (way : Handling) (d : Opened) → heard_of sending (a ∷ b ∷ c ∷ e ∷ more) (at_length content way d) ≡ onto (sized sending (from_be_bytes w32 (a ∷ b ∷ c ∷ e ∷ [])) (at_length content way d)).1 (heard_of sending more (sized sending (from_be_bytes w32 (a ∷ b ∷ c ∷ e ∷ [])) (at_length content way d)).0)
 unfolding step
 four_read sending a b c e more content way d = refl
 
-length_read : (sending : Sending) (n : ℕ) (more content : List ℕ) (way : Way) (d : Opened) → n < 2 ^ 32 → heard_of sending (to_be_bytes w32 n ++ more) (at_length content way d) ≡ onto (sized sending n (at_length content way d)).1 (heard_of sending more (sized sending n (at_length content way d)).0)
+length_read : (sending : Sending) (n : ℕ) (more content : List ℕ) (way : Handling) (d : Opened) → n < 2 ^ 32 → heard_of sending (to_be_bytes w32 n ++ more) (at_length content way d) ≡ onto (sized sending n (at_length content way d)).1 (heard_of sending more (sized sending n (at_length content way d)).0)
 length_read sending n more content way d fits =
     four_read sending _ _ _ _ more content way d
     ∙ ap (λ k. onto (sized sending k (at_length content way d)).1 (heard_of sending more (sized sending k (at_length content way d)).0)) (from_be_bytes-to_be_bytes_4 n fits)
 
 -- the length of a piece leads to a turn
-size_read : (sending : Sending) (n : ℕ) (more content : List ℕ) (way : Way) (d : Opened) (turn : Opened × List Told) → 1 ≤ n → n < 2 ^ 32 → by_way way sending n (at_length content way d) ≡ turn → heard_of sending (to_be_bytes w32 n ++ more) (at_length content way d) ≡ onto turn.1 (heard_of sending more turn.0)
+size_read : (sending : Sending) (n : ℕ) (more content : List ℕ) (way : Handling) (d : Opened) (turn : Opened × List Told) → 1 ≤ n → n < 2 ^ 32 → by_way way sending n (at_length content way d) ≡ turn → heard_of sending (to_be_bytes w32 n ++ more) (at_length content way d) ≡ onto turn.1 (heard_of sending more turn.0)
 size_read sending n more content way d turn some fits is =
     let not_none : nat_eq n 0 ≡ false = grind (arith, nat_tests, some) in
     let sizes : sized sending n (at_length content way d) ≡ turn = rw not_none is in
@@ -45,7 +45,7 @@ size_read sending n more content way d turn some fits is =
 
 -- ---- a piece
 
-piece_read : (sending : Sending) (p more content : List ℕ) (way : Way) (d : Opened) → 1 ≤ length p → heard_of sending (p ++ more) (at_piece (length p) content way d) ≡ onto (handed_out way p) (heard_of sending more (at_length (content_with way content p) way d))
+piece_read : (sending : Sending) (p more content : List ℕ) (way : Handling) (d : Opened) → 1 ≤ length p → heard_of sending (p ++ more) (at_piece (length p) content way d) ≡ onto (handed_out way p) (heard_of sending more (at_length (content_with way content p) way d))
 piece_read sending p more content way d some =
     let start = at_piece (length p) content way d in
     let last : nat_lt (length p) (length p) ≡ false = le-ltb _ _ (omega arith) in

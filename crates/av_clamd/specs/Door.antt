@@ -6,8 +6,8 @@ use Rattle.av_clamd.specs.declared.door.Reading.{Reading}
 use Rattle.av_clamd.specs.declared.door.Reading.TheVariants.{Command, Size, Piece, Nothing}
 use Rattle.av_clamd.specs.declared.door.Sending.{Sending}
 use Rattle.av_clamd.specs.declared.door.Sending.TheVariants.{Whole, InParts}
-use Rattle.av_clamd.specs.declared.door.Way.{Way}
-use Rattle.av_clamd.specs.declared.door.Way.TheVariants.{Collected, Relayed, Dropped}
+use Rattle.av_clamd.specs.declared.door.Handling.{Handling}
+use Rattle.av_clamd.specs.declared.door.Handling.TheVariants.{Collected, Relayed, Dropped}
 use Rattle.av_clamd.specs.declared.door.Heard.{Heard}
 use Rattle.av_clamd.specs.declared.door.Heard.TheVariants as heard
 use Rattle.av_clamd.specs.declared.door.TheConstants.{LONGEST, MAX_CONTENT, MOST_KEPT}
@@ -23,7 +23,7 @@ pub record Opened : Type 0 where
   pub reading : Reading
   pub begun : List ℕ
   pub content : List ℕ
-  pub way : Way
+  pub way : Handling
   pub session : Bool
   pub number : ℕ
   pub end : ℕ
@@ -106,7 +106,7 @@ in_command b d =
     else (record d { reading = Nothing }, [])
 
 -- the content is whole: it is asked about, or it ends, or it was too long
-abbrev pub told_at_end : Way → Opened → List Told
+abbrev pub told_at_end : Handling → Opened → List Told
 told_at_end Collected d = Asked d.number d.end d.content ∷ []
 told_at_end Relayed d = Ended ∷ []
 told_at_end Dropped d = []
@@ -130,7 +130,7 @@ enlarged sending size d =
     else (record d { reading = Piece size }, [])
 
 -- a piece of so many bytes follows
-abbrev pub by_way : Way → Sending → ℕ → Opened → Opened × List Told
+abbrev pub by_way : Handling → Sending → ℕ → Opened → Opened × List Told
 by_way Collected sending size d = enlarged sending size d
 by_way Relayed sending size d = (record d { reading = Piece size }, [])
 by_way Dropped sending size d = (record d { reading = Piece size }, [])
@@ -146,13 +146,13 @@ in_size sending b d =
     else sized sending (from_be_bytes w32 (take 4 (d.begun ++ b ∷ []))) (record d { begun = [] })
 
 -- the content with bytes behind it, where it is collected
-abbrev pub content_with : Way → List ℕ → List ℕ → List ℕ
+abbrev pub content_with : Handling → List ℕ → List ℕ → List ℕ
 content_with Collected content bytes = content ++ bytes
 content_with Relayed content bytes = content
 content_with Dropped content bytes = content
 
 -- the bytes one by one, where the content comes in parts
-abbrev pub handed_out : Way → List ℕ → List Told
+abbrev pub handed_out : Handling → List ℕ → List Told
 handed_out Collected bytes = []
 handed_out Relayed bytes = map Brought bytes
 handed_out Dropped bytes = []
@@ -219,13 +219,13 @@ is_piece (Piece left) = true
 is_piece Nothing = false
 
 -- a content comes in parts
-abbrev pub is_relayed : Way → Bool
+abbrev pub is_relayed : Handling → Bool
 is_relayed Collected = false
 is_relayed Relayed = true
 is_relayed Dropped = false
 
 -- how many bytes are to come of a piece, of a content that comes in parts
-abbrev pub relay_left : Reading → Way → ℕ
+abbrev pub relay_left : Reading → Handling → ℕ
 relay_left (Piece left) Relayed = left
 relay_left (Piece left) Collected = 0
 relay_left (Piece left) Dropped = 0

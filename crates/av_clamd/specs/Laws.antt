@@ -5,8 +5,8 @@ use Rattle.av_clamd.specs.declared.door.Reading.{Reading}
 use Rattle.av_clamd.specs.declared.door.Reading.TheVariants.{Command, Size, Piece, Nothing}
 use Rattle.av_clamd.specs.declared.door.Sending.{Sending}
 use Rattle.av_clamd.specs.declared.door.Sending.TheVariants.{Whole, InParts}
-use Rattle.av_clamd.specs.declared.door.Way.{Way}
-use Rattle.av_clamd.specs.declared.door.Way.TheVariants.{Collected, Relayed, Dropped}
+use Rattle.av_clamd.specs.declared.door.Handling.{Handling}
+use Rattle.av_clamd.specs.declared.door.Handling.TheVariants.{Collected, Relayed, Dropped}
 use Rattle.av_clamd.specs.declared.door.TheConstants.{LONGEST, MAX_CONTENT, MOST_KEPT}
 use Rattle.av_clamd.specs.declared.reply.Spoken.{Spoken}
 use Rattle.av_clamd.specs.declared.reply.Spoken.TheVariants.{Clean}
@@ -21,13 +21,13 @@ IsCutAnywhere =
     → heard_of sending (first ++ second) d ≡ onto (heard_of sending first d).1 (heard_of sending second (heard_of sending first d).0)
 
 -- bytes of a content that are still to be kept, of a piece with so many left
-abbrev pub kept_of_left : Way → ℕ → ℕ
+abbrev pub kept_of_left : Handling → ℕ → ℕ
 kept_of_left Collected left = left
 kept_of_left Relayed left = 0
 kept_of_left Dropped left = 0
 
 -- bytes of a piece that are still to be kept
-abbrev pub coming : Reading → Way → ℕ
+abbrev pub coming : Reading → Handling → ℕ
 coming Command way = 0
 coming Size way = 0
 coming (Piece left) way = kept_of_left way left
@@ -41,7 +41,7 @@ HasLeft (Piece left) = 1 ≤ left
 HasLeft Nothing = Unit {0}
 
 -- nothing is kept of a content that comes in parts, or is dropped
-abbrev pub HoldsNone : Way → List ℕ → Type 0
+abbrev pub HoldsNone : Handling → List ℕ → Type 0
 HoldsNone Collected content = Unit {0}
 HoldsNone Relayed content = content ≡ []
 HoldsNone Dropped content = content ≡ []

@@ -1,7 +1,7 @@
 ghost use Rattle.std.specs.Prelude.{◌≡◌, ◌≤◌, ◌+◌, ◌<◌, ◌^◌, false, drop, length, take, IfOk, IfSome, None, OnErr, OnOk, Some};
 ghost use Rattle.std.specs.Option.{option_copied};
 ghost use Rattle.av_clamd.specs.declared.door.Reading.TheVariants.{Nothing, Piece};
-ghost use Rattle.av_clamd.specs.declared.door.Way.TheVariants.{Collected};
+ghost use Rattle.av_clamd.specs.declared.door.Handling.TheVariants.{Collected};
 ghost use Rattle.av_clamd.specs.Text.{answered, goes_on, path_taken};
 ghost use Rattle.av_clamd.specs.Door.{Gives, HasBytes, Steps, after_reply, answers, commanded, enlarged, finished, fresh, fresh_with_paths, goes_in_parts, heard_of, in_command, in_size, is_nothing, is_piece, is_relayed, kept_of, names, obeyed, onto, option_told, pieced, relay_left, says, sized, step};
 
@@ -76,7 +76,7 @@ pub enum Reading {
 
 // What is done with the bytes of a content.
 #[derive(Clone, Copy, Debug, PartialEq, Eq)]
-pub enum Way {
+pub enum Handling {
     /// They are collected.
     Collected,
     /// They are handed out as they come.
@@ -93,7 +93,7 @@ pub struct Door {
     reading: Reading,
     begun: Vec<u8>,
     content: Vec<u8>,
-    way: Way,
+    way: Handling,
     session: bool,
     number: u64,
     end: u8,
@@ -132,7 +132,7 @@ impl Door {
             reading: Reading::Command,
             begun: Vec::new(alloc),
             content: Vec::new(alloc),
-            way: Way::Collected,
+            way: Handling::Collected,
             session: false,
             number: 0,
             end: b'\n',
@@ -186,7 +186,7 @@ impl Door {
     pub fn is_relaying(&self) -> bool
         ensures { result ≡ is_relayed self.now.way }
     {
-        matches!(self.way, Way::Relayed)
+        matches!(self.way, Handling::Relayed)
     }
 
     /// How many bytes are still to come of the piece that has begun, of a content that comes in parts. They are handed out as they come.
@@ -264,7 +264,7 @@ impl Door {
         if word == b"INSTREAM".as_slice() && marked {
             self.reading = Reading::Size;
             self.content.clear();
-            self.way = Way::Collected;
+            self.way = Handling::Collected;
             return Ok(None);
         }
         if word == b"IDSESSION".as_slice() && marked && !self.session {
@@ -347,8 +347,8 @@ impl Door {
             return Ok(self.finished());
         }
         match self.way {
-            Way::Collected => self.enlarged(size, sending),
-            Way::Relayed | Way::Dropped => {
+            Handling::Collected => self.enlarged(size, sending),
+            Handling::Relayed | Handling::Dropped => {
                 self.reading = Reading::Piece(size);
                 Ok(None)
             }
@@ -362,7 +362,7 @@ impl Door {
     {
         if goes_in_parts(sending, self.content.len(), size as usize) {
             self.reading = Reading::Piece(size);
-            self.way = Way::Relayed;
+            self.way = Handling::Relayed;
             return Ok(Some(Heard::Begin {
                 number: self.number,
                 end: self.end,
@@ -371,7 +371,7 @@ impl Door {
         }
         if self.content.len() + size as usize > MAX_CONTENT {
             self.content = Vec::new(self.alloc);
-            self.way = Way::Dropped;
+            self.way = Handling::Dropped;
             return self.say(
                 b"stream: INSTREAM size limit exceeded. ERROR",
                 Reading::Piece(size),
@@ -386,14 +386,14 @@ impl Door {
     {
         self.reading = self.after_reply();
         let content = mem::replace(&mut self.content, Vec::new(self.alloc));
-        match mem::replace(&mut self.way, Way::Collected) {
-            Way::Collected => Some(Heard::Ask {
+        match mem::replace(&mut self.way, Handling::Collected) {
+            Handling::Collected => Some(Heard::Ask {
                 number: self.number,
                 end: self.end,
                 content,
             }),
-            Way::Relayed => Some(Heard::End),
-            Way::Dropped => None,
+            Handling::Relayed => Some(Heard::End),
+            Handling::Dropped => None,
         }
     }
 
@@ -413,12 +413,12 @@ impl Door {
             Reading::Size
         };
         match self.way {
-            Way::Collected => {
+            Handling::Collected => {
                 self.content.extend_from_slice(bytes)?;
                 Ok(None)
             }
-            Way::Relayed => Ok(Some(Heard::More(bytes))),
-            Way::Dropped => Ok(None),
+            Handling::Relayed => Ok(Some(Heard::More(bytes))),
+            Handling::Dropped => Ok(None),
         }
     }
 

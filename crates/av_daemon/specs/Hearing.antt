@@ -10,7 +10,7 @@ use Rattle.av_daemon.specs.Passing.{AreGiven, IsLosing, IsLosingOne}
 use Rattle.av_frame.specs.Message.{Letter}
 use Rattle.av_guard.specs.State.{State}
 use Rattle.av_peers.specs.Service.{SaysFirst, unheard}
-use Rattle.av_peers.specs.declared.service.Service.{Service}
+use Rattle.av_peers.specs.declared.service.ServicePeer.{ServicePeer}
 use Rattle.av_turns.specs.declared.places.Nth.{Nth}
 use Rattle.av_turns.specs.declared.places.Nth.TheVariants.{First, Second}
 
@@ -25,16 +25,16 @@ guest_number First = GUEST
 guest_number Second = OTHER_GUEST
 
 -- what came of a service that is there and was not passed on
-abbrev pub unheard_of : Option Service → List ℕ
+abbrev pub unheard_of : Option ServicePeer → List ℕ
 unheard_of None = []
 unheard_of (Some s) = unheard s
 
 -- what came over a connection and was not passed on
-abbrev pub unheard_at : ℕ → List (ℕ × Service) → List ℕ
+abbrev pub unheard_at : ℕ → List (ℕ × ServicePeer) → List ℕ
 unheard_at number services = unheard_of (lookup (is_at (nat_cmp number)) services)
 
 -- more came over a connection, behind what had come, and nothing was passed on
-abbrev pub MoreIsHeard : ℕ → List (ℕ × Service) → List (ℕ × Service) → Type 0
+abbrev pub MoreIsHeard : ℕ → List (ℕ × ServicePeer) → List (ℕ × ServicePeer) → Type 0
 MoreIsHeard number old new = (bytes : List ℕ) × (unheard_at number new ≡ unheard_at number old ++ bytes)
 
 -- a guard was given messages whose frames these bytes begin with, and then told that a service is lost, or not
@@ -46,7 +46,7 @@ pub record TakesOf (bytes : List ℕ) (g h : State) : Type 0 where
   pub lost : IsLosingOne after h
 
 -- the same of what had come of the service of a port and of what came meanwhile, and then that service is lost, or not
-pub record IsHeard (port : Port) (services : List (ℕ × Service)) (g h : State) : Type 0 where
+pub record IsHeard (port : Port) (services : List (ℕ × ServicePeer)) (g h : State) : Type 0 where
   pub bytes : List ℕ
   pub after : State
   pub taken : TakesOf (unheard_at (number_at port) services ++ bytes) g after

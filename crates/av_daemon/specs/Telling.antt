@@ -4,7 +4,7 @@ use Rattle.av_base.specs.declared.cause.Cause.TheVariants.{Busy}
 use Rattle.av_base.specs.declared.mode.Mode.{Mode}
 use Rattle.av_guard.specs.Asking.{Takes}
 use Rattle.av_guard.specs.State.{State}
-use Rattle.av_guard.specs.declared.given.Given.{Given}
+use Rattle.av_guard.specs.declared.given.GuardOut.{GuardOut}
 use Rattle.av_guard.specs.declared.given.Told.{Told}
 use Rattle.av_large.specs.declared.answer.Told.{Told as LargeAnswered}
 use Rattle.av_peers.specs.Clients.{IsLost, IsSilent, IsTold}
@@ -36,7 +36,7 @@ AreTidings (Some t) mode old new =
 
 -- the guard is asked about a content for a client under its tag, and each answer that it gave is told to the client that it is for
 pub record IsAsked (client tag : ℕ) (content : List ℕ) (guard : State) (old new : List (ℕ × Client)) : Type 0 where
-  pub given : Given
+  pub given : GuardOut
   pub after : State
   pub takes : Takes guard after given client tag content
   pub before : List (ℕ × Client)

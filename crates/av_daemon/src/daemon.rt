@@ -24,12 +24,12 @@ use av_base::{Mode, Port, Version};
 use av_guard::Guard;
 use av_health::Counts;
 use av_large::Large;
-use av_log::Entry;
+use av_log::LogEntry;
 use av_peers::adopted::Adopted;
 use av_peers::belief::Belief;
 use av_peers::client::Client;
 use av_peers::parts::Parts;
-use av_peers::service::Service;
+use av_peers::service::ServicePeer;
 use av_peers::watches::Watches;
 use av_status::Prefixed;
 use av_turns::{Nth, Turns, Waits};
@@ -139,7 +139,7 @@ pub struct Daemon<'a, R: Files> {
     mode: Mode,
     doors: Entrance,
     // The services of both ports, and who waits at their door, by the numbers of their connections.
-    services: BTreeMap<u64, Service>,
+    services: BTreeMap<u64, ServicePeer>,
     clients: BTreeMap<u64, Client>,
     turns: Turns,
     // The second connection of the service, and the contents that are relayed over it, of at most so many bytes by the socket at which
@@ -267,7 +267,7 @@ impl<'a, R: Files + Net + Clock> Daemon<'a, R> {
             .keeping
             .keep(self.rt, self.alloc, guard.floor(), &mut self.log)
         {
-            self.record(&Entry::Unkept(version));
+            self.record(&LogEntry::Unkept(version));
         }
         self.write_lines(now, err);
         Ok(())

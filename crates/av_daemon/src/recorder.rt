@@ -4,7 +4,7 @@ ghost use Rattle.std.specs.Prelude.{◌≡◌};
 ghost use Rattle.av_daemon.specs.Recorder.{judged_answer, judged_of};
 
 use av_guard::Answered;
-use av_log::{Entry, Form, Judged, Queue, fields_of, is_due, put_line, stamp_of};
+use av_log::{Form, Judged, LogEntry, Queue, fields_of, is_due, put_line, stamp_of};
 use av_peers::told::LargeTold;
 use std::alloc::{AllocError, Global};
 use std::fs;
@@ -103,7 +103,7 @@ impl<'a, F: Write + Drop> Recorder<'a, F> {
     }
 
     /// Puts the line of an entry at this time to the lines that wait, here or for standard error.
-    pub fn record(&mut self, entry: &Entry<'_>, millis: u64, error: &mut Queue) {
+    pub fn record(&mut self, entry: &LogEntry<'_>, millis: u64, error: &mut Queue) {
         let is_made = self.make(entry, millis).is_ok();
         if self.logging.file.is_none() {
             put_made(error, self.line.as_slice(), is_made);
@@ -112,7 +112,7 @@ impl<'a, F: Write + Drop> Recorder<'a, F> {
         }
     }
 
-    fn make(&mut self, entry: &Entry<'_>, millis: u64) -> Result<(), AllocError> {
+    fn make(&mut self, entry: &LogEntry<'_>, millis: u64) -> Result<(), AllocError> {
         self.line.clear();
         let fields = fields_of(self.alloc, entry)?;
         let stamp = stamp_of(millis);

@@ -1,6 +1,6 @@
 -- An event as the code keeps it.
 use Rattle.std.specs.Prelude.{◌≡◌, ℕ, List, [], ◌∷◌, Option, None, Some}
-use Rattle.av_desk.specs.declared.given.Given.{Given}
+use Rattle.av_desk.specs.declared.given.GivenWork.{GivenWork}
 use Rattle.av_desk.specs.declared.event.Event.{Event}
 use Rattle.av_desk.specs.declared.event.Event.TheVariants as event
 use Rattle.av_match.specs.Scanning.{ScanState, if_found}
@@ -19,7 +19,7 @@ call_of event.Disconnect = By Disconnects
 call_of (event.Restart latest) = By (Restarts latest)
 
 -- the work that was given out, if one was
-abbrev pub works_given : Option Given → List WorkState
+abbrev pub works_given : Option GivenWork → List WorkState
 works_given None = []
 works_given (Some g) = g.work.value ∷ []
 

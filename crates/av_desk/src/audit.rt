@@ -1,4 +1,4 @@
-use crate::entry::Entry;
+use crate::entry::DeskEntry;
 use av_base::{Limits, Port};
 use av_sigset::Catalogue;
 
@@ -11,5 +11,5 @@ pub struct Audit {
     pub limits: Limits,
     pub catalogue: Catalogue,
     pub opening: usize,
-    pub events: Vec<Entry>,
+    pub events: Vec<DeskEntry>,
 }

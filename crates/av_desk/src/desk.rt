@@ -12,7 +12,7 @@ use crate::setup::Setup;
 use crate::shared::SharedAutomaton;
 use av_base::{Limits, Port, Refusal, Refused};
 use av_frame::Message;
-use av_service::{Done, Note};
+use av_service::{Done, ServiceNote};
 use av_sigset::{Catalogue, SignatureSet};
 use std::alloc::{AllocError, AllocFailed, Global};
 use std::sync::{Condvar, Mutex, MutexGuard, Wait};
@@ -99,7 +99,11 @@ impl Desk {
     }
 
     /// Connects, and greets the filter: AuditFull, NoSignatures, AlreadyConnected.
-    pub fn connect<R: Wait>(&self, rt: &R, alloc: Global) -> Result<Note, Refusal<DeskFault>> {
+    pub fn connect<R: Wait>(
+        &self,
+        rt: &R,
+        alloc: Global,
+    ) -> Result<ServiceNote, Refusal<DeskFault>> {
         let mut inner = self.inner.lock(rt);
         let note = inner.locked.connect(alloc)?;
         self.wake(&mut inner.locked);
@@ -140,7 +144,7 @@ impl Desk {
         rt: &R,
         alloc: Global,
         done: Done,
-    ) -> Result<Note, Refused<Done, DeskFault>>
+    ) -> Result<ServiceNote, Refused<Done, DeskFault>>
         ensures { IfErr result (λ refused. refused.value ≡ done) }
     {
         let mut inner = self.inner.lock(rt);
@@ -155,7 +159,7 @@ impl Desk {
         rt: &R,
         alloc: Global,
         done: Done,
-    ) -> Result<Note, Refused<Done, DeskFault>>
+    ) -> Result<ServiceNote, Refused<Done, DeskFault>>
         ensures { IfErr result (λ refused. refused.value ≡ done) }
     {
         self.inner.lock(rt).locked.finish(alloc, done)
@@ -168,7 +172,7 @@ impl Desk {
         rt: &R,
         alloc: Global,
         set: SignatureSet,
-    ) -> Result<Note, Refused<SignatureSet, DeskFault>>
+    ) -> Result<ServiceNote, Refused<SignatureSet, DeskFault>>
         ensures { IfErr result (λ refused. refused.value ≡ set) }
     {
         let built = SharedAutomaton::build(alloc, &set).ok();
@@ -179,12 +183,20 @@ impl Desk {
     }
 
     /// Learns that the connection is gone: AuditFull. Every job is dropped, and the cache is kept.
-    pub fn disconnect<R: Wait>(&self, rt: &R, alloc: Global) -> Result<Note, Refusal<DeskFault>> {
+    pub fn disconnect<R: Wait>(
+        &self,
+        rt: &R,
+        alloc: Global,
+    ) -> Result<ServiceNote, Refusal<DeskFault>> {
         self.inner.lock(rt).locked.disconnect(alloc)
     }
 
     /// Starts the service anew under the set published last, with an empty cache: AuditFull.
-    pub fn restart<R: Wait>(&self, rt: &R, alloc: Global) -> Result<Note, Refusal<DeskFault>> {
+    pub fn restart<R: Wait>(
+        &self,
+        rt: &R,
+        alloc: Global,
+    ) -> Result<ServiceNote, Refusal<DeskFault>> {
         self.inner.lock(rt).locked.restart(alloc)
     }
 

@@ -5,22 +5,22 @@ ghost use Rattle.av_desk.specs.Book.{given};
 ghost use Rattle.av_desk.specs.Entry.{IsLentAs, call_of};
 
 use crate::event::Event;
-use crate::given::Given;
+use crate::given::GivenWork;
 use av_base::{Lease, Version};
 use av_frame::Message;
-use av_service::{ContentScan, Note, ServiceOut, Work};
+use av_service::{ContentScan, ServiceNote, ServiceOut, Work};
 use std::marker::Model;
 
 /// One event of an audit, with what it gave out.
 #[derive(Drop)]
-pub struct Entry {
+pub struct DeskEntry {
     event: Event,
     messages: Vec<Message>,
-    given: Option<Given>,
-    note: Note,
+    given: Option<GivenWork>,
+    note: ServiceNote,
 }
 
-impl Model for Entry {
+impl Model for DeskEntry {
     ghost use Rattle.av_desk.specs.Entry.{call_of, works_given};
     ghost use Rattle.av_service.specs.Audit.{ServiceEntry};
 
@@ -34,7 +34,7 @@ impl Model for Entry {
     } };
 }
 
-impl Entry {
+impl DeskEntry {
     /// What happened.
     pub fn event(&self) -> &Event
         ensures { call_of result.now ≡ self.now.call }
@@ -70,7 +70,7 @@ impl Entry {
     }
 
     /// Its note.
-    pub fn note(&self) -> Note
+    pub fn note(&self) -> ServiceNote
         ensures { result ≡ self.now.note }
     {
         self.note
@@ -78,7 +78,11 @@ impl Entry {
 }
 
 /// Keeps an event with what the service gave out, of which the work and the note go on. Takes no memory.
-pub(crate) fn keep(entries: &mut Vec<Entry>, event: Event, out: ServiceOut) -> (Option<Work>, Note)
+pub(crate) fn keep(
+    entries: &mut Vec<DeskEntry>,
+    event: Event,
+    out: ServiceOut,
+) -> (Option<Work>, ServiceNote)
     requires { vec_len entries.old < vec_capacity entries.old }
     ensures entries { entries.new.items ≡ entries.old.items ++ given (call_of event) out ∷ [] }
     ensures work { result.0 ≡ out.work }
@@ -89,8 +93,8 @@ pub(crate) fn keep(entries: &mut Vec<Entry>, event: Event, out: ServiceOut) -> (
         work,
         note,
     } = out;
-    let given = Given::of(&work);
-    entries.push_reserved(Entry {
+    let given = GivenWork::of(&work);
+    entries.push_reserved(DeskEntry {
         event,
         messages,
         given,
@@ -100,7 +104,11 @@ pub(crate) fn keep(entries: &mut Vec<Entry>, event: Event, out: ServiceOut) -> (
 }
 
 /// The same of an event that gives out no work.
-pub(crate) fn keep_silent(entries: &mut Vec<Entry>, event: Event, out: ServiceOut) -> Note
+pub(crate) fn keep_silent(
+    entries: &mut Vec<DeskEntry>,
+    event: Event,
+    out: ServiceOut,
+) -> ServiceNote
     requires room { vec_len entries.old < vec_capacity entries.old }
     requires silent { out.work ≡ None }
     ensures entries { entries.new.items ≡ entries.old.items ++ given (call_of event) out ∷ [] }

@@ -7,7 +7,7 @@ use std::snapshot::Snapshot;
 /// What an audit keeps of a work that was given out, but for its bytes, which are those of the message that came. Clauses see the
 /// whole work.
 #[derive(Drop)]
-pub struct Given {
+pub struct GivenWork {
     lease: Lease,
     version: Version,
     scan: ContentScan,
@@ -17,16 +17,16 @@ pub struct Given {
     ghost same_scan: { scan ≡ work.value.scan },
 }
 
-impl Given {
+impl GivenWork {
     ghost use Rattle.std.specs.Option.{option_to_list};
     ghost use Rattle.av_desk.specs.Entry.{works_given};
 
     /// What is kept of a work, or of none.
-    pub fn of(work: &Option<Work>) -> Option<Given>
+    pub fn of(work: &Option<Work>) -> Option<GivenWork>
         ensures { works_given result ≡ option_to_list work.now }
     {
         match work {
-            Some(work) => Some(Given {
+            Some(work) => Some(GivenWork {
                 lease: work.lease(),
                 version: work.version(),
                 scan: work.scan(),

@@ -4,7 +4,7 @@ ghost use Rattle.av_match.specs.Match.{if_hit, verdict};
 ghost use Rattle.av_match.specs.Scanning.{IsScan, fitting, if_found, run};
 
 use crate::shared::SharedAutomaton;
-use av_service::{Done, Note, Work, WorkParcel};
+use av_service::{Done, ServiceNote, Work, WorkParcel};
 use std::marker::Model;
 
 /// A work that was lent, with the automaton of its version. It must be spent, by `run`, `discard` or `pack`.
@@ -112,7 +112,7 @@ impl LentParcel {
 /// What a message came to: a work that the service gave out, or none, and its note.
 pub struct Taken {
     pub lent: Option<Lent>,
-    pub note: Note,
+    pub note: ServiceNote,
 }
 
 // A work that was given out, with the automaton of its version.

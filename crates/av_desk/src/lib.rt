@@ -25,7 +25,7 @@ mod tests;
 
 pub use audit::Audit;
 pub use desk::Desk;
-pub use entry::Entry;
+pub use entry::DeskEntry;
 pub use event::Event;
 pub use fault::DeskFault;
 pub use lent::{Lent, LentParcel, Taken};

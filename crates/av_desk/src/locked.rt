@@ -10,7 +10,7 @@ ghost use Rattle.av_service.specs.Audit.{IsCatalogue, IsServiceAudit};
 ghost use Rattle.av_sigset.specs.Publication.{publication_of};
 
 use crate::audit::Audit;
-use crate::entry::Entry;
+use crate::entry::DeskEntry;
 use crate::shared::SharedAutomaton;
 use av_base::{Limits, Port};
 use av_service::Service;
@@ -31,7 +31,7 @@ pub struct Locked {
     service: Service,
     // Of the set published last, under which alone works are lent.
     automaton: Option<SharedAutomaton>,
-    events: Vec<Entry>,
+    events: Vec<DeskEntry>,
     // Of how many events the messages were taken out.
     sent: usize,
 }
@@ -102,7 +102,7 @@ impl Locked {
     }
 
     /// The events so far, the oldest first.
-    pub fn events(&self) -> &[Entry]
+    pub fn events(&self) -> &[DeskEntry]
         ensures { result.now ≡ self.now.events }
     {
         self.events.as_slice()

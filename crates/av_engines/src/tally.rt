@@ -9,7 +9,7 @@ use std::alloc::{AllocError, Global};
 /// The answers that a filter gave so far, and how many of them are to opens behind a number; whether those opens may be submitted
 /// before a message comes, and whether they were.
 #[derive(Drop)]
-pub struct Tally {
+pub struct AnswerTally {
     pub answers: Vec<Answer>,
     pub first: u64,
     pub answered: usize,
@@ -18,15 +18,15 @@ pub struct Tally {
     ghost counted: { answered ≡ later first answers.items },
 }
 
-impl Tally {
+impl AnswerTally {
     /// No answer. It takes no memory.
-    pub fn new(alloc: Global, first: u64, at_once: bool) -> Tally
+    pub fn new(alloc: Global, first: u64, at_once: bool) -> AnswerTally
         ensures answers { result.answers.items ≡ [] }
         ensures first { result.first ≡ first }
         ensures at_once { result.at_once ≡ at_once }
         ensures submitted { result.submitted ≡ false }
     {
-        Tally {
+        AnswerTally {
             answers: Vec::new(alloc),
             first,
             answered: 0,

@@ -14,7 +14,7 @@ ghost use Rattle.av_store.specs.Store.{greatest};
 
 use crate::exchange::Exchange;
 use crate::outgoing::Outgoing;
-use crate::tally::Tally;
+use crate::tally::AnswerTally;
 use av_base::recorded::{RecordedRead, RecordedWrite};
 use av_base::{Port, Refusal, StreamId, Version};
 use av_filter::{Mounted, Out};
@@ -32,7 +32,7 @@ pub struct Watched {
 
 impl Watched {
     // The end of an engine, with what its tally has.
-    fn of(end: End, tally: Tally) -> Watched
+    fn of(end: End, tally: AnswerTally) -> Watched
         ensures end { result.end ≡ end }
         ensures answers { result.answers.items ≡ tally.answers.items }
     {
@@ -65,7 +65,7 @@ pub fn serve_filter<R: RecordedRead, W: RecordedWrite>(
     ensures read { IsOfReads result.end (R.has_failed reader.new) turns (R.reads reader.old) (R.reads reader.new) }
     ensures written { IsOfWriter result.end (W.has_failed writer.new) }
 {
-    let tally = Tally::new(alloc, mounted.volume().opens(), false);
+    let tally = AnswerTally::new(alloc, mounted.volume().opens(), false);
     match Exchange::new(alloc, turns) {
         Ok(mut exchange) => {
             let line = &mut exchange;
@@ -96,7 +96,7 @@ pub fn serve_further<R: RecordedRead, W: RecordedWrite>(
     ensures read { IsOfReads result.end (R.has_failed reader.new) exchange.old.incoming.turns (R.reads reader.old) (R.reads reader.new) }
     ensures written { IsOfWriter result.end (W.has_failed writer.new) }
 {
-    let tally = Tally::new(alloc, mounted.volume().opens(), true);
+    let tally = AnswerTally::new(alloc, mounted.volume().opens(), true);
     serve(alloc, mounted, opens, tally, exchange, reader, writer)
 }
 
@@ -105,7 +105,7 @@ fn serve<R: RecordedRead, W: RecordedWrite>(
     alloc: Global,
     mounted: &mut Mounted,
     opens: &[StreamId],
-    mut tally: Tally,
+    mut tally: AnswerTally,
     exchange: &mut Exchange,
     reader: &mut R,
     writer: &mut W,
@@ -131,7 +131,7 @@ fn watch<R: RecordedRead, W: RecordedWrite>(
     alloc: Global,
     mounted: &mut Mounted,
     opens: &[StreamId],
-    tally: &mut Tally,
+    tally: &mut AnswerTally,
     exchange: &mut Exchange,
     reader: &mut R,
     writer: &mut W,
@@ -174,7 +174,7 @@ fn begin(
     alloc: Global,
     mounted: &mut Mounted,
     opens: &[StreamId],
-    tally: &mut Tally,
+    tally: &mut AnswerTally,
     outgoing: &mut Outgoing,
 ) -> Result<(), AllocError>
     requires left { mounted.old.volume.opens + length opens.now ≤ greatest }
@@ -199,7 +199,7 @@ fn hear(
     alloc: Global,
     mounted: &mut Mounted,
     opens: &[StreamId],
-    tally: &mut Tally,
+    tally: &mut AnswerTally,
     outgoing: &mut Outgoing,
     message: &Message,
 ) -> Result<(), AllocError>
@@ -228,7 +228,7 @@ fn join(
     alloc: Global,
     mounted: &mut Mounted,
     opens: &[StreamId],
-    tally: &mut Tally,
+    tally: &mut AnswerTally,
     outgoing: &mut Outgoing,
 ) -> Result<(), AllocError>
     requires left { tally.old.submitted ≡ false → mounted.old.volume.opens + length opens.now ≤ greatest }
@@ -254,7 +254,7 @@ fn submit_all(
     alloc: Global,
     mounted: &mut Mounted,
     opens: &[StreamId],
-    tally: &mut Tally,
+    tally: &mut AnswerTally,
     outgoing: &mut Outgoing,
 ) -> Result<(), AllocError>
     requires left { mounted.old.volume.opens + length opens.now ≤ greatest }
@@ -273,7 +273,7 @@ fn submit_all(
 }
 
 // Disconnects the filter, where its engine did not end with Done or Memory. The end; Memory, where it was refused to that.
-fn leave(alloc: Global, mounted: &mut Mounted, tally: &mut Tally, end: End) -> End
+fn leave(alloc: Global, mounted: &mut Mounted, tally: &mut AnswerTally, end: End) -> End
     ensures leaves { Leaves end result mounted.old.table mounted.old.volume tally.old.answers.items mounted.new.table
         tally.new.answers.items }
     ensures still { mounted.new.volume ≡ mounted.old.volume }
@@ -289,7 +289,11 @@ fn leave(alloc: Global, mounted: &mut Mounted, tally: &mut Tally, end: End) -> E
 
 // Disconnects the filter, behind room for its answers.
 #[tactic(auto, using(crate::proofs::EventLemmas::few_disconnected), unfolding(av_filter::specs::Conduct::filter_step))]
-fn disconnect(alloc: Global, mounted: &mut Mounted, tally: &mut Tally) -> Result<(), AllocError>
+fn disconnect(
+    alloc: Global,
+    mounted: &mut Mounted,
+    tally: &mut AnswerTally,
+) -> Result<(), AllocError>
     ensures ok { OnOk result
         (IsAt (happened (unled mounted.old.table mounted.old.volume tally.old.answers.items) (Disconnects One)) mounted.new.table
         mounted.old.volume tally.new.answers.items) }
@@ -306,7 +310,7 @@ fn disconnect(alloc: Global, mounted: &mut Mounted, tally: &mut Tally) -> Result
 fn receive(
     alloc: Global,
     mounted: &mut Mounted,
-    tally: &mut Tally,
+    tally: &mut AnswerTally,
     outgoing: &mut Outgoing,
     message: &Message,
 ) -> Result<(), AllocError>
@@ -338,7 +342,7 @@ fn tell(alloc: Global, mounted: &mut Mounted, message: &Message) -> Result<Out, 
 fn submit(
     alloc: Global,
     mounted: &mut Mounted,
-    tally: &mut Tally,
+    tally: &mut AnswerTally,
     outgoing: &mut Outgoing,
     stream: StreamId,
 ) -> Result<(), AllocError>
@@ -373,7 +377,7 @@ fn open(alloc: Global, mounted: &mut Mounted, stream: StreamId) -> Result<Out, A
 }
 
 // Adds the answers of an event, for which there is room, and puts its messages.
-fn give(tally: &mut Tally, outgoing: &mut Outgoing, out: Out) -> Result<(), AllocError>
+fn give(tally: &mut AnswerTally, outgoing: &mut Outgoing, out: Out) -> Result<(), AllocError>
     requires { vec_len tally.old.answers + vec_len out.answers ≤ vec_capacity tally.old.answers }
     ensures answers { tally.new.answers.items ≡ tally.old.answers.items ++ out.answers.items }
     ensures messages { OnOk result (outgoing.new ≡ outgoing.old ++ flat_map frame out.messages.items) }

@@ -1,4 +1,4 @@
-use crate::entry::Entry;
+use crate::entry::GateEntry;
 use av_base::{Limits, Mode};
 use av_store::Volume;
 
@@ -9,5 +9,5 @@ pub struct Audit {
     pub volume: Volume,
     pub mode: Mode,
     pub limits: Limits,
-    pub events: Vec<Entry>,
+    pub events: Vec<GateEntry>,
 }

@@ -3,7 +3,7 @@ ghost use Rattle.std.specs.Prelude.{◌≡◌, ◌<◌, ◌+◌, ◌==◌, ℕ, 
 ghost use Rattle.std.specs.List.{All, count_by};
 ghost use Rattle.av_gate.specs.Claims.{AreCallsOf, InOrder, Matches, PlacesRise, Rises, Stands, digit, times};
 
-use crate::entry::Entry;
+use crate::entry::GateEntry;
 use crate::locked::Locked;
 use crate::same::is_called;
 use crate::seat::{Seat, SeatCall};
@@ -11,13 +11,13 @@ use av_ends::Receipt;
 use av_store::Volume;
 
 /// Whether the seats' calls are the events, each once and in each seat's order, their names read in the opening volume.
-pub(crate) fn are_calls_of(seats: &[Seat], start: &Volume, events: &[Entry]) -> bool
+pub(crate) fn are_calls_of(seats: &[Seat], start: &Volume, events: &[GateEntry]) -> bool
     ensures { IsTrue result → AreCallsOf seats.now start.now events.now }
 {
     all_rise(seats, start, events) && each_once(seats, events.len())
 }
 
-fn all_rise(seats: &[Seat], start: &Volume, events: &[Entry]) -> bool
+fn all_rise(seats: &[Seat], start: &Volume, events: &[GateEntry]) -> bool
     ensures { IsTrue result → All (Rises start.now events.now) seats.now }
 {
     for seat in seats {
@@ -28,7 +28,7 @@ fn all_rise(seats: &[Seat], start: &Volume, events: &[Entry]) -> bool
     true
 }
 
-fn rises(seat: &Seat, start: &Volume, events: &[Entry]) -> bool
+fn rises(seat: &Seat, start: &Volume, events: &[GateEntry]) -> bool
     ensures { IsTrue result → Rises start.now events.now seat.now }
 {
     let calls = seat.calls.as_slice();
@@ -45,7 +45,7 @@ fn rises(seat: &Seat, start: &Volume, events: &[Entry]) -> bool
     true
 }
 
-fn matches(start: &Volume, events: &[Entry], call: &SeatCall) -> bool
+fn matches(start: &Volume, events: &[GateEntry], call: &SeatCall) -> bool
     ensures { IsTrue result → Matches start.now events.now call.now }
 {
     match events.get(call.place) {

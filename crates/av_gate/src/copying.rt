@@ -3,7 +3,7 @@ ghost use Rattle.std.specs.List.{count_by};
 ghost use Rattle.av_gate.specs.Book.{messages_of};
 ghost use Rattle.av_gate.specs.PortCounts.{counts_of, is_at, letters_at};
 
-use crate::entry::Entry;
+use crate::entry::GateEntry;
 use crate::port_counts::PortCounts;
 use av_base::Port;
 use av_frame::Message;
@@ -12,7 +12,7 @@ use std::alloc::{AllocError, Global};
 /// The messages of a port that these events sent, in their order.
 pub(crate) fn messages_of(
     alloc: Global,
-    entries: &[Entry],
+    entries: &[GateEntry],
     port: Port,
 ) -> Result<Vec<Message>, AllocError>
     ensures { IfOk result (λ ms. ms.items ≡ letters_at port (messages_of entries.now)) }
@@ -37,7 +37,7 @@ fn add_copies(messages: &mut Vec<Message>, more: &[Message], port: Port) -> Resu
 }
 
 /// How many events there are before the first that sent a message of a port.
-pub(crate) fn quiet_ones(entries: &[Entry], port: Port) -> usize
+pub(crate) fn quiet_ones(entries: &[GateEntry], port: Port) -> usize
     ensures within { result ≤ length entries.now }
     ensures stopped { result < length entries.now → letters_at port (messages_of entries.now) ≢ [] }
     ensures waiting { letters_at port (messages_of (drop result entries.now)) ≡ letters_at port (messages_of entries.now) }

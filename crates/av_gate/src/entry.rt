@@ -9,12 +9,12 @@ use std::marker::Model;
 
 /// One event of an audit, with all that the filter gave out.
 #[derive(Debug, Drop)]
-pub struct Entry {
+pub struct GateEntry {
     event: Event,
     out: Out,
 }
 
-impl Model for Entry {
+impl Model for GateEntry {
     ghost use Rattle.av_filter.specs.Audit.{FilterEntry};
     ghost use Rattle.av_gate.specs.Calls.{event_of};
 
@@ -28,8 +28,8 @@ impl Model for Entry {
     } };
 }
 
-impl Entry {
-    pub(crate) fn new(event: Event, out: Out) -> Entry
+impl GateEntry {
+    pub(crate) fn new(event: Event, out: Out) -> GateEntry
         ensures { result ≡ record {
           event = event_of event;
           answers = out.answers.items;
@@ -37,7 +37,7 @@ impl Entry {
           note = out.note;
         } }
     {
-        Entry { event, out }
+        GateEntry { event, out }
     }
 
     /// What happened.

@@ -24,7 +24,7 @@ mod tests;
 pub use audit::Audit;
 pub use call::{Call, Event, NamedCall};
 pub use closing::{CloseFault, Unclosed};
-pub use entry::Entry;
+pub use entry::GateEntry;
 pub use fault::GateFault;
 pub use gate::Gate;
 pub use locked::Locked;

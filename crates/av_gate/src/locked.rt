@@ -17,7 +17,7 @@ use crate::answer_place::AnswerPlace;
 use crate::audit::Audit;
 use crate::call::Event;
 use crate::copying::{count_each, messages_of, quiet_ones};
-use crate::entry::Entry;
+use crate::entry::GateEntry;
 use crate::fault::GateFault;
 use crate::happening::happen;
 use crate::naming::stream_of;
@@ -41,7 +41,7 @@ pub struct Locked {
     mode: Mode,
     limits: Limits,
     mounted: Mounted,
-    events: Vec<Entry>,
+    events: Vec<GateEntry>,
     // Of how many events the messages of each port were taken out.
     sent: PortCounts,
     // The other ends of the tickets whose opens wait, by their opens' numbers.
@@ -251,7 +251,7 @@ impl Locked {
             settled.place,
             out.answers.as_slice(),
         );
-        self.events.push_reserved(Entry::new(event, out));
+        self.events.push_reserved(GateEntry::new(event, out));
         Ok(settled)
     }
 
@@ -314,7 +314,7 @@ impl Locked {
     }
 
     /// The events so far, in their order.
-    pub fn events(&self) -> &[Entry]
+    pub fn events(&self) -> &[GateEntry]
         ensures { result.now ≡ self.now.events }
     {
         self.events.as_slice()

@@ -33,7 +33,7 @@ use Rattle.av_guard.specs.State.{Gives, State, Turn, happens, rests}
 use Rattle.av_guard.specs.Telling.{is_here}
 use Rattle.av_guard.specs.Ask.{Ask}
 use Rattle.av_guard.specs.declared.fault.AskFault.TheVariants.{OpensSpent}
-use Rattle.av_guard.specs.declared.given.Given.{Given}
+use Rattle.av_guard.specs.declared.given.GuardOut.{GuardOut}
 use Rattle.av_guard.specs.declared.given.Told.{Told}
 use Rattle.av_store.specs.Files.{Remove}
 use Rattle.av_store.specs.Store.{Store, greatest}
@@ -79,7 +79,7 @@ module _ (client tag : ℕ) (t0 : Table) (v0 : Store) (asks : List Ask) (told : 
   abbrev Counts : State → State → List Told → ℕ → Type 0
   Counts old new ts more = Adds client tag old new ts more
 
-  gives : (old new : State) (given : Given) (turn : Turn) (more : ℕ) → Gives given new turn → Counts old turn.state turn.told more → Counts old new (given.told.items ++ []) more
+  gives : (old new : State) (given : GuardOut) (turn : Turn) (more : ℕ) → Gives given new turn → Counts old turn.state turn.told more → Counts old new (given.told.items ++ []) more
   gives old new given turn more g a = record {
     sum = omega (arith, a.sum, told-append client tag given.told.items [], ap (told_of client tag) g.told, ap (open_asks client tag) g.state);
     here = subst (IsIn client tag) (sym g.state) a.here;
@@ -106,16 +106,16 @@ module _ (client tag : ℕ) (t0 : Table) (v0 : Store) (asks : List Ask) (told : 
       go Missing place is_there = absurd (no_place g bytes none place)
 
   module _ (old : State) (s : Story t0 v0 asks told sent history old) (h : IsIn client tag old) where
-    taken : (new : State) (given : Given) (c t : ℕ) (bytes : List ℕ) → refusal_of old c bytes ≡ None → Takes old new given c t bytes → Counts old new (given.told.items ++ []) (one_if client tag c t + 0)
+    taken : (new : State) (given : GuardOut) (c t : ℕ) (bytes : List ℕ) → refusal_of old c bytes ≡ None → Takes old new given c t bytes → Counts old new (given.told.items ++ []) (one_if client tag c t + 0)
     taken new given c t bytes none (there, g) =
         let done = gives old new given (asked old c t bytes (place_of old bytes)) (one_if client tag c t) g (asked_counts old c t bytes s (asked_now old c bytes none) there (client_here old c bytes none) h) in
         record { sum = omega (arith, done.sum); here = done.here }
 
-    makes_room : (new : State) (given : Given) → MakesRoom old new given → Counts old new (given.told.items ++ []) 0
+    makes_room : (new : State) (given : GuardOut) → MakesRoom old new given → Counts old new (given.told.items ++ []) 0
     makes_room new given (LetGo stream crowded free ok g) = gives old new given (happens old (Changes (Remove stream))) 0 g (happened client tag old (Changes (Remove stream)) h)
     makes_room new given (Ordered crowded nothing is) = gives old new given (rests new) 0 (record { told = nothing.told; messages = nothing.messages; state = refl }) (same old new is h)
 
-    heard : (new : State) (given : Given) (e : FilterEvent) → Gives given new (happens old e) → Counts old new (given.told.items ++ []) 0
+    heard : (new : State) (given : GuardOut) (e : FilterEvent) → Gives given new (happens old e) → Counts old new (given.told.items ++ []) 0
     heard new given e g = gives old new given (happens old e) 0 g (happened client tag old e h)
 
     step_counts : (call : Call) (new : State) → Does call old new → Stays client (call ∷ []) → Counts old new (flat_map (λ g. g.told.items) (given_by call)) (asks_of client tag (taken_by call))

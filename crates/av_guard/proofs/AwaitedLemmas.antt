@@ -27,7 +27,7 @@ use Rattle.av_guard.specs.State.{Gives, State}
 use Rattle.av_guard.specs.Telling.{Waiters, told_by}
 use Rattle.av_guard.specs.Waiting.{ArePaired, IsAwaited}
 use Rattle.av_guard.specs.declared.class.Class.TheVariants.{Asked, Known, New}
-use Rattle.av_guard.specs.declared.given.Given.{Given}
+use Rattle.av_guard.specs.declared.given.GuardOut.{GuardOut}
 use Rattle.av_guard.specs.declared.waiter.Waiter.{Waiter}
 use Rattle.av_store.specs.Rows.{stream_at}
 use Rattle.av_store.specs.declared.stream.Stream.{Stream}
@@ -128,7 +128,7 @@ turned : (b : Bool) → not b ≡ false → b ≡ true
 turned true is = refl
 turned false bad = absurd cc
 
-joins_told : (g new : State) (s client tag : ℕ) (given : Given) (x : Stream) (q : Question) → stream_at s g.volume.streams ≡ Some x → current (context_of g.table.contexts s) g.table.floor ≡ None → question_of s g.table.questions ≡ Some q → has_room g.table ≡ true → Gives given new (opens g s client tag) → GivesNothing given
+joins_told : (g new : State) (s client tag : ℕ) (given : GuardOut) (x : Stream) (q : Question) → stream_at s g.volume.streams ≡ Some x → current (context_of g.table.contexts s) g.table.floor ≡ None → question_of s g.table.questions ≡ Some q → has_room g.table ≡ true → Gives given new (opens g s client tag) → GivesNothing given
 unfolding filter_step told_by
 joins_told g new s client tag given x q there unjudged runs room gives =
     let step : filter_step g.table g.volume (Opens s 0) ≡ pends (raised 0 g.table) (taken g.volume) s 0 q.id [] =
@@ -140,7 +140,7 @@ joins_told g new s client tag given x q there unjudged runs room gives =
     }
 
 -- an ask of a content that was asked about, and that is not refused, waits
-pub asked_waits : (old new : State) (client tag : ℕ) (c : List ℕ) (given : Given) → IsCoherent old.table → ArePaired old.table.pended old.waiting → is_busy_with old (class_of old c) ≡ false → Takes old new given client tag c → class_of old c ≡ Asked → GivesNothing given
+pub asked_waits : (old new : State) (client tag : ℕ) (c : List ℕ) (given : GuardOut) → IsCoherent old.table → ArePaired old.table.pended old.waiting → is_busy_with old (class_of old c) ≡ false → Takes old new given client tag c → class_of old c ≡ Asked → GivesNothing given
 asked_waits old new client tag c given coherent p free takes is =
     let a = asked_at old (place_of old c) is in
     let x = stream_there (stream_at a.stream old.volume.streams) c (opens_its_bytes old c a.stream a.held) in

@@ -29,7 +29,7 @@ use Rattle.av_guard.specs.Written.{AreWritten}
 use Rattle.av_guard.specs.Ask.{Ask}
 use Rattle.av_guard.specs.declared.fault.AskFault.{AskFault}
 use Rattle.av_guard.specs.declared.fault.AskFault.TheVariants.{Busy, NoClient, TooLarge}
-use Rattle.av_guard.specs.declared.given.Given.{Given}
+use Rattle.av_guard.specs.declared.given.GuardOut.{GuardOut}
 use Rattle.av_guard.specs.declared.given.Told.{Told}
 use Rattle.av_guard.specs.declared.settings.Settings.{Settings}
 use Rattle.av_store.proofs.SeenLemmas.{follows}
@@ -63,14 +63,14 @@ module _ (t0 : Table) (v0 : Store) (asks : List Ask) (told : List Told) (sent : 
   idle_some : (g : State) → (h : List FilterEntry) × Story t0 v0 asks told sent h g → Left g [] []
   idle_some g s = idle s.0 g s.1
 
-  gives : (given : Given) (new : State) (turn : Turn) → Gives given new turn → Left turn.state turn.told turn.messages → Left new (given.told.items ++ []) (given.messages.items ++ [])
+  gives : (given : GuardOut) (new : State) (turn : Turn) → Gives given new turn → Left turn.state turn.told turn.messages → Left new (given.told.items ++ []) (given.messages.items ++ [])
   gives given new turn g s = (
     s.0,
     subst (λ ts. Story t0 v0 asks (told ++ ts) (sent ++ (given.messages.items ++ [])) s.0 new) (sym (append-nil given.told.items ∙ g.told))
         (subst (λ ms. Story t0 v0 asks (told ++ turn.told) (sent ++ ms) s.0 new) (sym (append-nil given.messages.items ∙ g.messages)) (subst (Story t0 v0 asks (told ++ turn.told) (sent ++ turn.messages) s.0) (sym g.state) s.1)),
   )
 
-  nothing : (given : Given) (new : State) → GivesNothing given → Left new [] [] → Left new (given.told.items ++ []) (given.messages.items ++ [])
+  nothing : (given : GuardOut) (new : State) → GivesNothing given → Left new [] [] → Left new (given.told.items ++ []) (given.messages.items ++ [])
   nothing given new g s = gives given new (rests new) (record { told = g.told; messages = g.messages; state = refl }) s
 
   module _ (history : List FilterEntry) (old : State) (s : Story t0 v0 asks told sent history old) where
@@ -82,12 +82,12 @@ module _ (t0 : Table) (v0 : Store) (asks : List Ask) (told : List Told) (sent : 
     other clients last = record { past = s.past; stands = s.stands; written = s.written; paired = s.paired; waiting = s.waiting; founded = s.founded }
 
     -- a call that is an event of the filter
-    heard : (new : State) (given : Given) (e : FilterEvent) → Story t0 v0 asks (told ++ (happens old e).told) (sent ++ (happens old e).messages) (history ++ entry_of old.table old.volume e ∷ []) (happens old e).state → Gives given new (happens old e)
+    heard : (new : State) (given : GuardOut) (e : FilterEvent) → Story t0 v0 asks (told ++ (happens old e).told) (sent ++ (happens old e).messages) (history ++ entry_of old.table old.volume e ∷ []) (happens old e).state → Gives given new (happens old e)
         → Left new (given.told.items ++ []) (given.messages.items ++ [])
     heard new given e after g = gives given new (happens old e) g (history ++ entry_of old.table old.volume e ∷ [], after)
 
     -- an ask that was taken
-    taken : (new : State) (given : Given) (client tag : ℕ) (c : List ℕ) → Among (record { client = client; tag = tag; content = c }) asks → refusal_of old client c ≡ None → Takes old new given client tag c → Left new (given.told.items ++ []) (given.messages.items ++ [])
+    taken : (new : State) (given : GuardOut) (client tag : ℕ) (c : List ℕ) → Among (record { client = client; tag = tag; content = c }) asks → refusal_of old client c ≡ None → Takes old new given client tag c → Left new (given.told.items ++ []) (given.messages.items ++ [])
     taken new given client tag c among none (there, g) =
         gives given new (asked old client tag c (place_of old c)) g
         (asked_story t0 v0 asks told sent history old (record { client = client; tag = tag; content = c }) s among (asked_now old client c none) there)
@@ -100,7 +100,7 @@ module _ (t0 : Table) (v0 : Store) (asks : List Ask) (told : List Told) (sent : 
         → Story t0 v0 asks (told ++ (happens old (Changes (Remove stream))).told) (sent ++ (happens old (Changes (Remove stream))).messages) (history ++ entry_of old.table old.volume (Changes (Remove stream)) ∷ []) (happens old (Changes (Remove stream))).state
     let_go stream ok = quiet_story t0 v0 asks told sent history old (Changes (Remove stream)) s refl tt ok (written_removed old.key old.table old.volume _ stream refl s.written)
 
-    makes_room : (new : State) (given : Given) → MakesRoom old new given → Left new (given.told.items ++ []) (given.messages.items ++ [])
+    makes_room : (new : State) (given : GuardOut) → MakesRoom old new given → Left new (given.told.items ++ []) (given.messages.items ++ [])
     makes_room new given (LetGo stream crowded free ok g) = heard new given (Changes (Remove stream)) (let_go stream ok) g
     makes_room new given (Ordered crowded none is) = nothing given new none (same new is)
 

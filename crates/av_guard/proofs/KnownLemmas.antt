@@ -29,7 +29,7 @@ use Rattle.av_guard.specs.declared.answered.Answered.{Answered}
 use Rattle.av_guard.specs.declared.answered.Answered.TheVariants as told
 use Rattle.av_guard.specs.declared.class.Class.TheVariants.{Asked, Known, New}
 use Rattle.av_guard.specs.declared.fault.AskFault.TheVariants.{Busy, NoClient, TooLarge}
-use Rattle.av_guard.specs.declared.given.Given.{Given}
+use Rattle.av_guard.specs.declared.given.GuardOut.{GuardOut}
 use Rattle.av_guard.specs.declared.given.Told.{Told}
 use Rattle.av_guard.specs.declared.place.Place.{Place}
 use Rattle.av_guard.specs.declared.place.Place.TheVariants.{Free, Kept, Nowhere}
@@ -87,7 +87,7 @@ open_judged (Infected i e) generation version p = refl
 abbrev one_told : ℕ → ℕ → Answered → List Told
 one_told client tag k = record { client = client; tag = tag; answer = k } ∷ []
 
-opens_told : (g new : State) (s client tag : ℕ) (given : Given) (x : Stream) (r : Verdict) → at g.waiting (g.volume.opens + 1) ≡ None → is_here g.clients client ≡ true → stream_at s g.volume.streams ≡ Some x → current (context_of g.table.contexts s) g.table.floor ≡ Some r → Gives given new (opens g s client tag)
+opens_told : (g new : State) (s client tag : ℕ) (given : GuardOut) (x : Stream) (r : Verdict) → at g.waiting (g.volume.opens + 1) ≡ None → is_here g.clients client ≡ true → stream_at s g.volume.streams ≡ Some x → current (context_of g.table.contexts s) g.table.floor ≡ Some r → Gives given new (opens g s client tag)
     → IsTold given client tag g.table.floor
 unfolding filter_step told_by
 opens_told g new s client tag given x r away here there known gives =
@@ -138,7 +138,7 @@ known_at g (Held s) is = go (has_verdict g.table s) (is_awaited g.waiting s) ref
 known_at g (Unused name) bad = absurd cc
 known_at g Missing bad = absurd cc
 
-pub known_told : (old new : State) (client tag : ℕ) (c : List ℕ) (given : Given) → Fits old.table old.volume → ArePaired old.table.pended old.waiting → is_here old.clients client ≡ true → Takes old new given client tag c → class_of old c ≡ Known → IsTold given client tag old.table.floor
+pub known_told : (old new : State) (client tag : ℕ) (c : List ℕ) (given : GuardOut) → Fits old.table old.volume → ArePaired old.table.pended old.waiting → is_here old.clients client ≡ true → Takes old new given client tag c → class_of old c ≡ Known → IsTold given client tag old.table.floor
 known_told old new client tag c given fits paired here takes known =
     let k = known_at old (place_of old c) known in
     let x = stream_there (stream_at k.stream old.volume.streams) c (opens_its_bytes old c k.stream k.held) in

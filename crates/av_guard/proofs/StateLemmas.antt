@@ -21,7 +21,7 @@ use Rattle.av_guard.specs.State.{Gives, State, happens}
 use Rattle.av_guard.specs.Telling.{Waiters}
 use Rattle.av_guard.specs.declared.fault.AskFault.{AskFault}
 use Rattle.av_guard.specs.declared.fault.AskFault.TheVariants.{Full, OpensSpent}
-use Rattle.av_guard.specs.declared.given.Given.{Given}
+use Rattle.av_guard.specs.declared.given.GuardOut.{GuardOut}
 use Rattle.av_store.specs.Files.{Remove}
 use Rattle.av_store.specs.Rows.{stream_at, without}
 use Rattle.av_store.specs.Seen.{change_of, kept_or}
@@ -67,7 +67,7 @@ left_over opens left is some = go (opens == greatest) refl
 fault_at : (g : State) (c : List ℕ) (spot : Spot) → (g.volume.opens == greatest) ≡ false → place_of g c ≡ spot → ask_fault g c ≡ place_fault g spot
 fault_at g c spot left is = ap (λ b. if b then Some OpensSpent else place_fault g (place_of g c)) left ∙ ap (λ p. place_fault g p) is
 
-pub asked_new : (old new : State) (client tag : ℕ) (name c : List ℕ) (r : Result Given (Refusal AskFault)) → (old.volume.opens == greatest) ≡ false → place_of old c ≡ Unused name → AsksNew old new client tag name c r → AskedNow old new client tag c r
+pub asked_new : (old new : State) (client tag : ℕ) (name c : List ℕ) (r : Result GuardOut (Refusal AskFault)) → (old.volume.opens == greatest) ≡ false → place_of old c ≡ Unused name → AsksNew old new client tag name c r → AskedNow old new client tag c r
 asked_new old new client tag name c (Ok given) left is (there, gives) = (
   fault_at old c (Unused name) left is ∙ ap (λ o. if is_some o then Some Full else None) there.0,
   subst (IsThere old c) (sym is) there,
@@ -80,7 +80,7 @@ asked_new old new client tag name c (Err NoMemory) left is (Never creates (kept_
 asked_new old new client tag name c (Err NoMemory) left is (Stays there stays) = refused_so.Kept name is there stays
 
 -- a content that may go was let go, or nothing happened
-pub let_go_room : (old same new : State) (s : ℕ) → same ≡ old → is_crowded old ≡ true → times s (map (λ (e : ℕ × Waiter). e.1.stream) old.waiting) ≡ 0 → (r : Result (Option Given) AllocError) → LetsGo same new s r → RoomOf old new r
+pub let_go_room : (old same new : State) (s : ℕ) → same ≡ old → is_crowded old ≡ true → times s (map (λ (e : ℕ × Waiter). e.1.stream) old.waiting) ≡ 0 → (r : Result (Option GuardOut) AllocError) → LetsGo same new s r → RoomOf old new r
 let_go_room old same new s is crowded idle (Ok (Some given)) lets =
     let there : (filter_refusal old.table old.volume (Changes (Remove s)) ≡ None) × Gives given new (happens old (Changes (Remove s))) =
     subst (λ g. (filter_refusal g.table g.volume (Changes (Remove s)) ≡ None) × Gives given new (happens g (Changes (Remove s)))) is lets in

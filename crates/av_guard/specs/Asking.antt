@@ -9,7 +9,7 @@ use Rattle.av_filter.specs.Storing.{stored, stream_with}
 use Rattle.av_filter_table.specs.Table.{question_of}
 use Rattle.av_guard.specs.declared.fault.AskFault.{AskFault}
 use Rattle.av_guard.specs.declared.fault.AskFault.TheVariants.{Busy, Full, NoClient, OpensSpent, TooLarge}
-use Rattle.av_guard.specs.declared.given.Given.{Given}
+use Rattle.av_guard.specs.declared.given.GuardOut.{GuardOut}
 use Rattle.av_guard.specs.Place.{Spot, Held, Missing, Unused, place_from}
 use Rattle.av_guard.specs.Class.{class_at, is_busy_with}
 use Rattle.av_guard.specs.declared.class.Class.{Class}
@@ -97,7 +97,7 @@ pub data IsRefused (old new : State) (c : List ℕ) : Type 0 where
       → IsRefused old new c
 
 -- a content was asked about
-abbrev pub AskedNow : State → State → ℕ → ℕ → List ℕ → Result Given (Refusal AskFault) → Type 0
+abbrev pub AskedNow : State → State → ℕ → ℕ → List ℕ → Result GuardOut (Refusal AskFault) → Type 0
 AskedNow old new client tag c (Ok given) =
     (ask_fault old c ≡ None) × IsThere old c (place_of old c) × Gives given new (asked old client tag c (place_of old c))
 AskedNow old new client tag c (Err (Fault f)) = (ask_fault old c ≡ Some f) × (new ≡ old)
@@ -112,12 +112,12 @@ refusal_of g client c =
     else ask_fault g c))
 
 -- nothing is given out
-pub record GivesNothing (given : Given) : Type 0 where
+pub record GivesNothing (given : GuardOut) : Type 0 where
   pub told : given.told.items ≡ []
   pub messages : given.messages.items ≡ []
 
 -- an ask that is not refused is asked in that call
-abbrev pub Takes : State → State → Given → ℕ → ℕ → List ℕ → Type 0
+abbrev pub Takes : State → State → GuardOut → ℕ → ℕ → List ℕ → Type 0
 Takes old new given client tag c = IsThere old c (place_of old c) × Gives given new (asked old client tag c (place_of old c))
 
 -- an ask that is refused

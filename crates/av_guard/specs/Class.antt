@@ -9,7 +9,7 @@ use Rattle.av_guard.specs.declared.answered.Answered.{Answered}
 use Rattle.av_guard.specs.declared.answered.Answered.TheVariants as told
 use Rattle.av_guard.specs.declared.class.Class.{Class}
 use Rattle.av_guard.specs.declared.class.Class.TheVariants.{Asked, Known, New}
-use Rattle.av_guard.specs.declared.given.Given.{Given}
+use Rattle.av_guard.specs.declared.given.GuardOut.{GuardOut}
 use Rattle.av_guard.specs.declared.place.Place.{Place}
 use Rattle.av_guard.specs.declared.place.Place.TheVariants.{Free, Kept, Nowhere}
 
@@ -57,7 +57,7 @@ IsVerdictUnder floor (told.Infected version signature end_at) = version ≡ floo
 IsVerdictUnder floor _ = ⊥
 
 -- the ask itself is told a verdict under this version, and nobody else is told anything, and the service is sent nothing
-pub record IsTold (given : Given) (client tag floor : ℕ) : Type 0 where
+pub record IsTold (given : GuardOut) (client tag floor : ℕ) : Type 0 where
   pub answer : Answered
   pub told : given.told.items ≡ record { client = client; tag = tag; answer = answer } ∷ []
   pub verdict : IsVerdictUnder floor answer

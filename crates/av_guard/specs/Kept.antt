@@ -6,7 +6,7 @@ use Rattle.av_base.specs.declared.refusal.Refusal.TheVariants.{Fault, NoMemory}
 use Rattle.av_filter.specs.Storing.{stream_with}
 use Rattle.av_guard.specs.Asking.{IsThere, kept, opens, spent}
 use Rattle.av_guard.specs.Place.{Unused}
-use Rattle.av_guard.specs.declared.given.Given.{Given}
+use Rattle.av_guard.specs.declared.given.GuardOut.{GuardOut}
 use Rattle.av_guard.specs.State.{Gives, State}
 use Rattle.av_guard.specs.declared.fault.AskFault.{AskFault}
 use Rattle.av_guard.specs.declared.fault.AskFault.TheVariants.{Full}
@@ -38,7 +38,7 @@ pub data IsLeft (old new : State) (name c : List ℕ) : Type 0 where
   Stays : IsThere old c (Unused name) → new ≡ kept old name c → IsLeft old new name c
 
 -- it is kept and opened, or the volume refuses a stream more, or memory is refused
-abbrev pub AsksNew : State → State → ℕ → ℕ → List ℕ → List ℕ → Result Given (Refusal AskFault) → Type 0
+abbrev pub AsksNew : State → State → ℕ → ℕ → List ℕ → List ℕ → Result GuardOut (Refusal AskFault) → Type 0
 AsksNew old new client tag name c (Ok given) =
     IsThere old c (Unused name) × Gives given new (opens (kept old name c) (old.volume.last + 1) client tag)
 AsksNew old new client tag name c (Err (Fault f)) = (f ≡ Full) × (is_some (result_err (create_of old.volume name)) ≡ true) × (new ≡ old)

@@ -18,7 +18,7 @@ use Rattle.av_guard.specs.declared.answered.Answered.{Answered}
 use Rattle.av_guard.specs.declared.answered.Answered.TheVariants as told
 use Rattle.av_guard.specs.Ask.{Ask}
 use Rattle.av_guard.specs.declared.fault.AskFault.{AskFault}
-use Rattle.av_guard.specs.declared.given.Given.{Given}
+use Rattle.av_guard.specs.declared.given.GuardOut.{GuardOut}
 use Rattle.av_guard.specs.declared.given.Told.{Told}
 use Rattle.av_guard.specs.declared.settings.Settings.{Settings}
 use Rattle.av_pend.specs.declared.answer.Answer.TheVariants.{Granted, Unscanned}
@@ -28,11 +28,11 @@ use Rattle.av_store.specs.History.{StreamHistory, content, histories_after}
 pub data Call : Type 0 where
   Client : (number : Option ℕ) → Call
   ClientLost : (client : ℕ) → Call
-  Asks : (client tag : ℕ) (content : List ℕ) (result : Result Given (Refusal AskFault)) → Call
-  MakeRoom : (result : Result (Option Given) AllocError) → Call
-  Message : (message : Letter) (result : Result Given AllocError) → Call
-  ServiceLost : (port : Port) (result : Result Given AllocError) → Call
-  TimeUp : (seq : ℕ) (result : Result Given AllocError) → Call
+  Asks : (client tag : ℕ) (content : List ℕ) (result : Result GuardOut (Refusal AskFault)) → Call
+  MakeRoom : (result : Result (Option GuardOut) AllocError) → Call
+  Message : (message : Letter) (result : Result GuardOut AllocError) → Call
+  ServiceLost : (port : Port) (result : Result GuardOut AllocError) → Call
+  TimeUp : (seq : ℕ) (result : Result GuardOut AllocError) → Call
 
 -- what the contract of the call says of the guard before and after
 abbrev pub Does : Call → State → State → Type 0
@@ -51,7 +51,7 @@ Lead [] old new = new ≡ old
 Lead (c ∷ cs) old new = (next : State) × Does c old next × Lead cs next new
 
 -- what a call gave out
-abbrev pub given_by : Call → List Given
+abbrev pub given_by : Call → List GuardOut
 given_by (Asks client tag c (Ok given)) = given ∷ []
 given_by (MakeRoom (Ok (Some given))) = given ∷ []
 given_by (Message m (Ok given)) = given ∷ []

@@ -8,7 +8,7 @@ use Rattle.av_filter.specs.Rows.{without}
 use Rattle.av_filter_table.specs.Ports.{least_port, without_port}
 use Rattle.av_filter_table.specs.Table.{Table, on_port}
 use Rattle.av_frame.specs.Message.{Letter}
-use Rattle.av_guard.specs.declared.given.Given.{Given}
+use Rattle.av_guard.specs.declared.given.GuardOut.{GuardOut}
 use Rattle.av_guard.specs.declared.given.Told.{Told}
 use Rattle.av_guard.specs.Telling.{Waiters, left_by, told_by}
 use Rattle.av_store.specs.Store.{Store}
@@ -54,13 +54,13 @@ LosesService t v port =
     (λ other. filter_step t v (Disconnects port) ≡ moves (without t port) v (on_port port t.questions))
 
 -- what was given and left is the turn's
-pub record Gives (given : Given) (new : State) (turn : Turn) : Type 0 where
+pub record Gives (given : GuardOut) (new : State) (turn : Turn) : Type 0 where
   pub told : given.told.items ≡ turn.told
   pub messages : given.messages.items ≡ turn.messages
   pub state : new ≡ turn.state
 
 -- a call that memory alone refuses, and that changes nothing then
-abbrev pub Turns : {E : Type 0} → State → State → Result Given E → Turn → Type 0
+abbrev pub Turns : {E : Type 0} → State → State → Result GuardOut E → Turn → Type 0
 Turns old new (Ok given) turn = Gives given new turn
 Turns old new (Err e) turn = new ≡ old
 

@@ -15,17 +15,17 @@ pub struct Told {
 /// What an event gives out: answers in the order in which they came about, and messages for the service in the order in which
 /// they are to be sent.
 #[derive(Debug, Drop)]
-pub struct Given {
+pub struct GuardOut {
     pub told: Vec<Told>,
     pub messages: Vec<Message>,
 }
 
-impl Given {
+impl GuardOut {
     // Nothing. It takes no memory.
-    pub(crate) fn nothing(alloc: Global) -> Given
+    pub(crate) fn nothing(alloc: Global) -> GuardOut
         ensures { GivesNothing result }
     {
-        Given {
+        GuardOut {
             told: Vec::new(alloc),
             messages: Vec::new(alloc),
         }

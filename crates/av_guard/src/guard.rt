@@ -22,7 +22,7 @@ use crate::beginning::{BOOTS, volume_before};
 use crate::class::Class;
 use crate::events::{disconnect, open, receive, remove, room_for_answers, time_out};
 use crate::fault::{AskFault, SettingsFault};
-use crate::given::Given;
+use crate::given::GuardOut;
 use crate::place::{Place, place_of as find_place};
 use crate::settings::Settings;
 use crate::settling::{enter, leave, settle};
@@ -142,7 +142,7 @@ impl Guard {
         client: u64,
         tag: u64,
         content: Vec<u8>,
-    ) -> Result<Given, Refused<Vec<u8>, AskFault>>
+    ) -> Result<GuardOut, Refused<Vec<u8>, AskFault>>
         ensures ok { IfOk result (λ given. (refusal_of self.old client content.items ≡ None)
             × Takes self.old self.new given client tag content.items) }
         ensures known { IfOk result
@@ -182,7 +182,7 @@ impl Guard {
     /// One step of making room: of more contents than are to be kept one is dropped that nobody waits for, the least lately
     /// asked for first. None when there is nothing to drop. Call it until then after each other event. It costs a
     /// logarithm of the count of contents.
-    pub fn make_room(&mut self, alloc: Global) -> Result<Option<Given>, AllocError>
+    pub fn make_room(&mut self, alloc: Global) -> Result<Option<GuardOut>, AllocError>
         ensures { RoomOf self.old self.new result }
     {
         if !self.is_crowded() {
@@ -190,7 +190,7 @@ impl Guard {
         }
         match self.next_to_go() {
             Oldest::Idle(stream) => self.let_go(alloc, stream),
-            Oldest::Later => Ok(Some(Given::nothing(alloc))),
+            Oldest::Later => Ok(Some(GuardOut::nothing(alloc))),
             Oldest::Nothing => Ok(None),
         }
     }
@@ -255,7 +255,7 @@ impl Guard {
 
     /// A message of the service of a port, which it may connect. It costs a logarithm for each answer, and the bytes of the content
     /// that it reads.
-    pub fn message(&mut self, alloc: Global, message: &Message) -> Result<Given, AllocError>
+    pub fn message(&mut self, alloc: Global, message: &Message) -> Result<GuardOut, AllocError>
         ensures event { Turns self.old self.new result (happens self.old (Receives message.now)) }
     {
         let told = room_for_answers(alloc, self.mounted.filter())?;
@@ -275,7 +275,7 @@ impl Guard {
     /// again eight times is answered by the mode. Without another one every question ends, and every open is answered by the mode. It costs a
     /// logarithm for each.
     #[tactic(auto, using(crate::proofs::ServingLemmas::loses_service))]
-    pub fn service_lost(&mut self, alloc: Global, port: Port) -> Result<Given, AllocError>
+    pub fn service_lost(&mut self, alloc: Global, port: Port) -> Result<GuardOut, AllocError>
         ensures event { Turns self.old self.new result (happens self.old (Disconnects port)) }
         ensures other { LosesService self.old.table self.old.volume port }
     {
@@ -294,7 +294,7 @@ impl Guard {
 
     /// The time of the question of this number is up: its opens are answered by the mode, and the service is told to let it
     /// be. It costs a logarithm for each answer.
-    pub fn time_up(&mut self, alloc: Global, seq: u64) -> Result<Given, AllocError>
+    pub fn time_up(&mut self, alloc: Global, seq: u64) -> Result<GuardOut, AllocError>
         ensures event { Turns self.old self.new result (happens self.old (TimesOut seq)) }
     {
         let told = room_for_answers(alloc, self.mounted.filter())?;
@@ -347,7 +347,7 @@ impl Guard {
         stream: StreamId,
         client: u64,
         tag: u64,
-    ) -> Result<Given, AllocError>
+    ) -> Result<GuardOut, AllocError>
         requires left { self.old.volume.opens < greatest }
         ensures { Turns self.old self.new result (opens self.old stream client tag) }
     {
@@ -393,7 +393,7 @@ impl Guard {
         tag: u64,
         name: &[u8],
         content: &[u8],
-    ) -> Result<Given, Refusal<AskFault>>
+    ) -> Result<GuardOut, Refusal<AskFault>>
         requires small { length content.now < 2 ^ 63 }
         requires left { self.old.volume.opens < greatest }
         requires place { place_of self.old content.now ≡ Unused name.now }
@@ -417,7 +417,7 @@ impl Guard {
         tag: u64,
         content: &[u8],
         place: Place,
-    ) -> Result<Given, Refusal<AskFault>>
+    ) -> Result<GuardOut, Refusal<AskFault>>
         requires small { length content.now < 2 ^ 63 }
         requires place { IsPlace place (place_of self.old content.now) }
         ensures { AskedNow self.old self.new client tag content.now result }
@@ -496,7 +496,7 @@ impl Guard {
     }
 
     // A content is let go that nobody waits for.
-    fn let_go(&mut self, alloc: Global, stream: StreamId) -> Result<Option<Given>, AllocError>
+    fn let_go(&mut self, alloc: Global, stream: StreamId) -> Result<Option<GuardOut>, AllocError>
         requires idle { times stream (map (λ e. e.1.stream) self.old.waiting) ≡ 0 }
         ensures { LetsGo self.old self.new stream result }
     {
@@ -528,7 +528,7 @@ impl Guard {
 }
 
 // A refused ask, with its content.
-fn refuse(content: Vec<u8>, why: Refusal<AskFault>) -> Result<Given, Refused<Vec<u8>, AskFault>>
+fn refuse(content: Vec<u8>, why: Refusal<AskFault>) -> Result<GuardOut, Refused<Vec<u8>, AskFault>>
     ensures back { IfErr result (λ e. (e.value.items ≡ content.items) × (e.why ≡ why)) }
     ensures refused { IsErr result }
 {

@@ -29,6 +29,6 @@ pub mod waiter;
 pub use answered::Answered;
 pub use class::Class;
 pub use fault::{AskFault, SettingsFault};
-pub use given::{Given, Told};
+pub use given::{GuardOut, Told};
 pub use guard::Guard;
 pub use settings::Settings;

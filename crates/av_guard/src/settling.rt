@@ -6,7 +6,7 @@ ghost use Rattle.av_context.specs.Contexts.{at, with, without};
 ghost use Rattle.av_pend.specs.Pend.{open_of};
 
 use crate::answered::Answered;
-use crate::given::{Given, Told};
+use crate::given::{GuardOut, Told};
 use crate::shelf::Shelf;
 use crate::waiter::Waiter;
 use av_filter::{Filter, Out};
@@ -23,7 +23,7 @@ pub(crate) fn settle(
     shelf: &mut Shelf,
     told: Vec<Told>,
     out: Out,
-) -> Given
+) -> GuardOut
     requires counted { AreCounted shelf.old.waits waiting.old.entries }
     requires room { vec_len told + length out.answers.items ≤ vec_capacity told }
     ensures told { result.told.items ≡ told.items ++ told_by clients.now.keys filter.now waiting.old.entries out.answers.items }
@@ -41,7 +41,7 @@ pub(crate) fn settle(
     'answers: for answer in answers.as_slice() {
         tell(filter, clients, waiting, shelf, &mut told, answer);
     }
-    Given { told, messages }
+    GuardOut { told, messages }
 }
 
 // An answer is told to the one who waits for it, where the client is still there.

@@ -31,8 +31,8 @@ use Rattle.av_service.specs.Scanning.{awaits, lends}
 use Rattle.av_service.specs.declared.fault.ConnectFault.TheVariants.{NoSignatures, AlreadyConnected}
 use Rattle.av_service.specs.declared.job.Job.{Job}
 use Rattle.av_service.specs.declared.job.Loan.{Loan}
-use Rattle.av_service.specs.declared.note.Note.{Note}
-use Rattle.av_service.specs.declared.note.Note.TheVariants.{Quiet, Repeat, Ignored, Orphan}
+use Rattle.av_service.specs.declared.note.ServiceNote.{ServiceNote}
+use Rattle.av_service.specs.declared.note.ServiceNote.TheVariants.{Quiet, Repeat, Ignored, Orphan}
 use Rattle.av_service.specs.Work.{WorkState}
 use Rattle.av_sigset.specs.Publication.{Publication, latest_as, published_as}
 use Rattle.av_sigset.specs.declared.signature.Pattern.{Pattern}
@@ -133,7 +133,7 @@ module _ (p : Past) (down : List Letter) (works : List WorkState) (d : Desk) (f 
   same : DeskFits p down (works ++ []) d
   same = subst (λ ws. DeskFits p down ws d) (sym (append-nil works)) f
 
-  saying : (n : Note) → Told p down works (says d n)
+  saying : (n : ServiceNote) → Told p down works (says d n)
   saying n = record { fits = same; up = tt }
 
   -- the set of the present version, of a service that is connected
@@ -394,7 +394,7 @@ pub message_told : (p : Past) (down : List Letter) (works : List WorkState) (d :
 message_told p down works d f solid m h = message_row_told p down works d f solid (row_of d (Receives m)) h
 
 -- with no job
-jobless : (p : Past) (down : List Letter) (works : List WorkState) (d : Desk) → DeskFits p down works d → (version : ℕ) (cache : List Entry) → Each (IsRightEntry p) cache → ((version ≡ 0 → ⊥) → (set : List Pattern) × (published_as p.sets version ≡ Some set)) → (n : Note) → Told p down works (says (record d { version = version; connected = false; jobs = []; cache = cache }) n)
+jobless : (p : Past) (down : List Letter) (works : List WorkState) (d : Desk) → DeskFits p down works d → (version : ℕ) (cache : List Entry) → Each (IsRightEntry p) cache → ((version ≡ 0 → ⊥) → (set : List Pattern) × (published_as p.sets version ≡ Some set)) → (n : ServiceNote) → Told p down works (says (record d { version = version; connected = false; jobs = []; cache = cache }) n)
 jobless p down works d f version cache h published n = record {
   fits = subst (λ ws. DeskFits p down ws (record d { version = version; connected = false; jobs = []; cache = cache })) (sym (append-nil works))
       record { jobs = tt; cache = h; published = published; versioned = λ e. absurd (true≢false (sym e)); idle = λ e. refl; leases = f.leases };

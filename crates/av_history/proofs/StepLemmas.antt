@@ -10,7 +10,7 @@ use Rattle.av_service.specs.Conduct.{ServiceEvent, connect_refusal, service_step
 use Rattle.av_service.specs.Conduct as service_events
 use Rattle.av_service.specs.declared.fault.ConnectFault.{ConnectFault}
 use Rattle.av_service.specs.Work.{WorkState}
-use Rattle.av_service.specs.declared.note.Note.TheVariants.{Quiet}
+use Rattle.av_service.specs.declared.note.ServiceNote.TheVariants.{Quiet}
 use Rattle.av_sigset.specs.Catalogue.{latest, may_publish}
 use Rattle.av_sigset.specs.Made.{set_made}
 use Rattle.av_sigset.specs.Publication.{publication_of}
@@ -29,7 +29,7 @@ use Rattle.av_history.specs.declared.event.Event.{Event}
 use Rattle.av_history.specs.declared.event.Event.TheVariants.{Publish, Create, Write, Cut, Remove, Open, Cleanup, Down, Up, Run, Timeout, Connect, DisconnectFilter, DisconnectService, RestartFilter, RestartService}
 use Rattle.av_history.specs.declared.report.Line.{Line}
 use Rattle.av_history.specs.declared.report.Line.TheVariants.{Created, Removed, Booted, Silent, Published}
-use Rattle.av_history.specs.declared.report.Note.TheVariants as note
+use Rattle.av_history.specs.declared.report.EventNote.TheVariants as note
 use Rattle.av_history.specs.declared.report.Report.{Report}
 
 abbrev pub after_filter : WorldState → Event → FilterEvent → WorldState

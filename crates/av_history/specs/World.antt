@@ -22,7 +22,7 @@ use Rattle.av_service.specs.Desk.{Desk, just_started}
 use Rattle.av_service.specs.Response.{Response}
 use Rattle.av_service.specs.declared.fault.ConnectFault.{ConnectFault}
 use Rattle.av_service.specs.Work.{WorkState}
-use Rattle.av_service.specs.declared.note.Note.TheVariants.{Quiet}
+use Rattle.av_service.specs.declared.note.ServiceNote.TheVariants.{Quiet}
 use Rattle.av_sigset.specs.Catalogue.{latest, may_publish}
 use Rattle.av_sigset.specs.Made.{set_made}
 use Rattle.av_sigset.specs.Publication.{Publication, publication_of, published_as}
@@ -41,8 +41,8 @@ use Rattle.av_history.specs.declared.fault.StepFault.TheVariants as fault
 use Rattle.av_history.specs.declared.given.Given.{Given}
 use Rattle.av_history.specs.declared.report.Line.{Line}
 use Rattle.av_history.specs.declared.report.Line.TheVariants.{Silent, Published, Created, Changed, Removed, Booted}
-use Rattle.av_history.specs.declared.report.Note.{Note}
-use Rattle.av_history.specs.declared.report.Note.TheVariants as note
+use Rattle.av_history.specs.declared.report.EventNote.{EventNote}
+use Rattle.av_history.specs.declared.report.EventNote.TheVariants as note
 use Rattle.av_history.specs.declared.report.Places.{Places}
 use Rattle.av_history.specs.declared.report.Report.{Report}
 use Rattle.av_base.specs.Refused.{unless, IsRefusal}
@@ -96,7 +96,7 @@ abbrev pub places_of : WorldState → Places
 places_of w = record { answers = length w.answers; down = length w.down; up = length w.up; works = length w.works }
 
 -- the report of a step from w to w'
-abbrev pub report_of : WorldState → WorldState → Line → Note → Report
+abbrev pub report_of : WorldState → WorldState → Line → EventNote → Report
 report_of w w' line note = record { line = line; before = places_of w; after = places_of w'; note = note }
 
 -- a stream's new generation and length are told

@@ -19,4 +19,4 @@ pub use event::Event;
 pub use fault::{JudgeFault, StepFault};
 pub use given::Given;
 pub use pattern::Patterns;
-pub use report::{Judged, Line, Note, Places, Report};
+pub use report::{EventNote, Judged, Line, Places, Report};

@@ -3,9 +3,9 @@
 ghost use Rattle.std.specs.Prelude.{◌≡◌, ◌≢◌};
 ghost use Rattle.av_frame.specs.declared.end.End.TheVariants.{Done};
 ghost use Rattle.av_gate.specs.Seats.{IsSeatOf};
-ghost use Rattle.av_host.specs.declared.carrying.Way.TheVariants.{Into};
+ghost use Rattle.av_host.specs.declared.carrying.LoopDirection.TheVariants.{Into};
 
-use crate::wire::{Line, Wire};
+use crate::wire::{PortWire, Wire};
 use av_base::recorded::Recorded;
 use av_desk::Desk;
 use av_engines::End;
@@ -22,7 +22,7 @@ const ROOM: usize = 10 * 1_048_576;
 
 /// Which way a loop carries messages: into the gate, or out of it.
 #[derive(Clone, Copy)]
-pub enum Way {
+pub enum LoopDirection {
     Into,
     Out,
 }
@@ -31,8 +31,8 @@ pub enum Way {
 pub fn carry<R: Wait>(
     rt: &R,
     alloc: Global,
-    way: Way,
-    line: Line<'_>,
+    way: LoopDirection,
+    line: PortWire<'_>,
     gate: &Gate,
     seat: Seat,
 ) -> (Seat, End)
@@ -40,8 +40,8 @@ pub fn carry<R: Wait>(
     ensures { way ≡ Into → result.1 ≢ Done }
 {
     match way {
-        Way::Into => into_gate(rt, alloc, line, gate, seat),
-        Way::Out => out_of_gate(rt, alloc, line, gate, seat),
+        LoopDirection::Into => into_gate(rt, alloc, line, gate, seat),
+        LoopDirection::Out => out_of_gate(rt, alloc, line, gate, seat),
     }
 }
 
@@ -58,7 +58,7 @@ fn make_room(alloc: Global) {
 fn into_gate<R: Wait>(
     rt: &R,
     alloc: Global,
-    line: Line<'_>,
+    line: PortWire<'_>,
     gate: &Gate,
     mut seat: Seat,
 ) -> (Seat, End)
@@ -92,7 +92,7 @@ fn into_gate<R: Wait>(
 fn out_of_gate<R: Wait>(
     rt: &R,
     alloc: Global,
-    line: Line<'_>,
+    line: PortWire<'_>,
     gate: &Gate,
     mut seat: Seat,
 ) -> (Seat, End)

@@ -8,13 +8,13 @@ ghost use Rattle.av_host.specs.Ends.{EndsAlone, EndsBeside};
 ghost use Rattle.av_pool.specs.Pool.{AreEndsOf};
 ghost use Rattle.av_status.specs.Status.{IsFault, status_of_end};
 
-use crate::carrying::{Way, back_to_desk, carry, into_desk};
+use crate::carrying::{LoopDirection, back_to_desk, carry, into_desk};
 use crate::ends::{PortEnds, end_of_both, with_lack};
 use crate::host::{Host, Hosting};
 use crate::opener::{Brought, Openings, Part, open_files};
-use crate::service::{Service, Services};
+use crate::service::{HostedService, Services};
 use crate::staffed::{Staffed, start_pools};
-use crate::wire::{BreakOff, Line, Wire};
+use crate::wire::{BreakOff, PortWire, Wire};
 use av_desk::Desk;
 use av_engines::End;
 use av_gate::{Gate, Seat};
@@ -125,7 +125,7 @@ fn conclude<R: Threads + Wait>(
 
 // A service whose side a thread does. It gives back the ends of the pool, and the gravest end of a loop.
 struct Serving<'a> {
-    service: &'a Service,
+    service: &'a HostedService,
     pool: Pool,
     thread: Result<PromisedHandle<(Giver, Taker, End), EndsOf>, (Giver, Taker, End)>,
     ghost running: { ForOk thread (λ h. h.promise.0.value ≡ pool) },
@@ -292,10 +292,26 @@ fn open_all<R: Threads + Wait + Sync, C: Clock, E: Write>(
         {
             let first = Some(openings.wires.first());
             let spare = openings.wires.spare();
-            let into = start_loop(scope, rt, alloc, Way::Into, first, gate, reader);
-            let into_spare = start_loop(scope, rt, alloc, Way::Into, spare, gate, spare_reader);
-            let out = start_loop(scope, rt, alloc, Way::Out, first, gate, writer);
-            let out_of_spare = start_loop(scope, rt, alloc, Way::Out, spare, gate, spare_writer);
+            let into = start_loop(scope, rt, alloc, LoopDirection::Into, first, gate, reader);
+            let into_spare = start_loop(
+                scope,
+                rt,
+                alloc,
+                LoopDirection::Into,
+                spare,
+                gate,
+                spare_reader,
+            );
+            let out = start_loop(scope, rt, alloc, LoopDirection::Out, first, gate, writer);
+            let out_of_spare = start_loop(
+                scope,
+                rt,
+                alloc,
+                LoopDirection::Out,
+                spare,
+                gate,
+                spare_writer,
+            );
             let brought = open_in_threads(scope, rt, alloc, gate, seat, openings, err);
             gate.stop(rt);
             let first = ends_at(rt, into, out);
@@ -333,8 +349,8 @@ fn start_loop<'s, S, R: Threads + Wait + Sync>(
     scope: &'s Scope<'s, S>,
     rt: &'s R,
     alloc: Global,
-    way: Way,
-    line: Option<Line<'s>>,
+    way: LoopDirection,
+    line: Option<PortWire<'s>>,
     gate: &'s Gate,
     seat: Seat,
 ) -> Result<JoinHandle<(Seat, End)>, (Seat, End)>

@@ -17,7 +17,7 @@ use crate::crew::{Met, PortSeats, meet};
 use crate::desks::Desks;
 use crate::lines::{are_denied_right, are_of_their_files};
 use crate::opener::{Brought, Group, Openings};
-use crate::service::{Service, Services};
+use crate::service::{HostedService, Services};
 use crate::signatures::Signatures;
 use crate::threads::threads_for;
 use av_base::{Limits, Mode};
@@ -415,8 +415,8 @@ fn open_at<'a, R: Hosting, C: Clock, E: Write>(
 }
 
 // The desk of a service.
-fn desk_in(service: Service) -> Desk {
-    let Service { desk, wire: _ } = service;
+fn desk_in(service: HostedService) -> Desk {
+    let HostedService { desk, wire: _ } = service;
     desk
 }
 

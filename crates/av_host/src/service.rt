@@ -10,18 +10,18 @@ use std::net::Net;
 
 /// What belongs to one scanning service: its desk, and its end of its connection to the gate.
 #[derive(Drop)]
-pub struct Service {
+pub struct HostedService {
     pub desk: Desk,
     pub wire: Wire,
 }
 
-impl Service {
+impl HostedService {
     // A service over a new connection, and the gate's end of that.
-    fn connect<R: Net>(rt: &R, alloc: Global, desk: Desk) -> Result<(Wire, Service), End>
+    fn connect<R: Net>(rt: &R, alloc: Global, desk: Desk) -> Result<(Wire, HostedService), End>
         ensures { IfErr result (λ end. IsFault (status_of_end end)) }
     {
         let (gate_wire, wire) = Wire::pair(rt, alloc)?;
-        Ok((gate_wire, Service { desk, wire }))
+        Ok((gate_wire, HostedService { desk, wire }))
     }
 }
 
@@ -29,8 +29,8 @@ impl Service {
 /// connections.
 #[derive(Drop)]
 pub struct Services {
-    pub first: Service,
-    pub spare: Option<Service>,
+    pub first: HostedService,
+    pub spare: Option<HostedService>,
     pub wires: GateWires,
 }
 
@@ -42,11 +42,11 @@ impl Services {
         ensures failed { IfErr result (λ end. IsFault (status_of_end end)) }
     {
         let Desks { first, spare } = desks;
-        let (first_wire, first) = Service::connect(rt, alloc, first)?;
+        let (first_wire, first) = HostedService::connect(rt, alloc, first)?;
         let (spare_wire, spare) = match spare {
             None => (None, None),
             Some(desk) => {
-                let (wire, service) = Service::connect(rt, alloc, desk)?;
+                let (wire, service) = HostedService::connect(rt, alloc, desk)?;
                 (Some(wire), Some(service))
             }
         };

@@ -3,7 +3,7 @@ ghost use Rattle.av_pool.specs.Pool.{AreEndsOf};
 ghost use Rattle.av_status.specs.Status.{IsFault, status_of_end};
 
 use crate::host::Hosting;
-use crate::service::{Service, Services};
+use crate::service::{HostedService, Services};
 use av_base::Refusal;
 use av_engines::End;
 use av_pool::{Giver, Pool, Taker};
@@ -13,7 +13,7 @@ use std::thread::Threads;
 
 /// A service, and the pool of workers that scan for it with its two ends. It must be spent, by `stop`.
 pub struct Staffed<'a> {
-    pub service: &'a Service,
+    pub service: &'a HostedService,
     pub pool: Pool,
     pub giver: Giver,
     pub taker: Taker,
@@ -25,7 +25,7 @@ impl<'a> Staffed<'a> {
     pub fn start<R: Hosting>(
         rt: &R,
         alloc: Global,
-        service: &'a Service,
+        service: &'a HostedService,
         workers: usize,
     ) -> Result<Staffed<'a>, End>
         ensures workers { IfOk result (λ staffed. staffed.pool.workers ≡ workers) }

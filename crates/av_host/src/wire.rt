@@ -117,10 +117,10 @@ pub struct GateWires {
 
 impl GateWires {
     /// The connection at the first port.
-    pub fn first(&self) -> Line<'_>
+    pub fn first(&self) -> PortWire<'_>
         ensures { result.port ≡ One }
     {
-        Line {
+        PortWire {
             wires: self,
             wire: &self.first,
             port: Port::One,
@@ -128,13 +128,13 @@ impl GateWires {
     }
 
     /// The spare's connection, where there is one.
-    pub fn spare(&self) -> Option<Line<'_>>
+    pub fn spare(&self) -> Option<PortWire<'_>>
         ensures port { IfSome result (λ line. line.port ≡ Two) }
         ensures spare { IsSome result ↔ IsSome self.now.spare }
     {
         match &self.spare {
             None => None,
-            Some(wire) => Some(Line {
+            Some(wire) => Some(PortWire {
                 wires: self,
                 wire,
                 port: Port::Two,
@@ -183,13 +183,13 @@ impl BreakOff for GateWires {
 
 /// One of the gate's connections, among all.
 #[derive(Clone, Copy)]
-pub struct Line<'a> {
+pub struct PortWire<'a> {
     pub wires: &'a GateWires,
     pub wire: &'a Wire,
     pub port: Port,
 }
 
-impl Line<'_> {
+impl PortWire<'_> {
     // Whether the service was welcome or is lost.
     fn has_come<R: Wait>(&self, rt: &R, gate: &Gate) -> bool {
         self.wire.is_over() || gate.connected(rt, self.port)

@@ -11,8 +11,8 @@ use Rattle.av_large.specs.declared.answer.Told.{Told}
 use Rattle.av_large.specs.declared.content.Content.{Content}
 use Rattle.av_large.specs.declared.content.Ending.{Ending}
 use Rattle.av_large.specs.declared.content.Ending.TheVariants.{Whole, GivenUp}
-use Rattle.av_large.specs.declared.content.Service.{Service}
-use Rattle.av_large.specs.declared.content.Service.TheVariants.{Connected, Away}
+use Rattle.av_large.specs.declared.content.ServicePresence.{ServicePresence}
+use Rattle.av_large.specs.declared.content.ServicePresence.TheVariants.{Connected, Away}
 use Rattle.av_large.specs.declared.fault.BeginFault.{BeginFault}
 use Rattle.av_large.specs.declared.fault.Unwelcome.{Unwelcome}
 use Rattle.av_large.specs.declared.fault.BeginFault.TheVariants.{NumbersSpent, Within}
@@ -77,7 +77,7 @@ begun_none : (g : State) (r : Result Step BeginFault) (is_quiet : (step : Step) 
 begun_none g (Ok step) is_quiet = is_quiet step refl
 begun_none g (Err why) is_quiet = tt
 
-refused_none : (service : Service) (takes : Bool) (answer : Answer) → not_taken service takes ≡ Some answer → GrantsNone answer
+refused_none : (service : ServicePresence) (takes : Bool) (answer : Answer) → not_taken service takes ≡ Some answer → GrantsNone answer
 refused_none Away takes answer is = let same : Unjudged NotConnected ≡ answer = cc in subst GrantsNone same tt
 refused_none Connected false answer is = let same : Lacks NoParts ≡ answer = cc in subst GrantsNone same tt
 refused_none Connected true answer is = absurd cc

@@ -14,8 +14,8 @@ use Rattle.av_large.specs.declared.answer.Told.{Told}
 use Rattle.av_large.specs.declared.content.Content.{Content}
 use Rattle.av_large.specs.declared.content.Ending.{Ending}
 use Rattle.av_large.specs.declared.content.Ending.TheVariants.{Whole, GivenUp}
-use Rattle.av_large.specs.declared.content.Service.{Service}
-use Rattle.av_large.specs.declared.content.Service.TheVariants.{Connected, Away}
+use Rattle.av_large.specs.declared.content.ServicePresence.{ServicePresence}
+use Rattle.av_large.specs.declared.content.ServicePresence.TheVariants.{Connected, Away}
 use Rattle.av_large.specs.declared.fault.BeginFault.{BeginFault}
 use Rattle.av_large.specs.declared.fault.BeginFault.TheVariants.{NumbersSpent, Within}
 use Rattle.av_large.specs.declared.fault.Unwelcome.{Unwelcome}
@@ -42,7 +42,7 @@ lost g = record { state = record g { takes = false; held = [] }; told = all_lost
 -- ---- what clients send
 
 -- why a content can't be sent on, if it can't
-abbrev pub not_taken : Service → Bool → Option Answer
+abbrev pub not_taken : ServicePresence → Bool → Option Answer
 not_taken Away takes = Some (Unjudged NotConnected)
 not_taken Connected false = Some (Lacks NoParts)
 not_taken Connected true = None
@@ -62,7 +62,7 @@ begins g c None =
     if g.last == 2 ^ 64 - 1 then Err NumbersSpent else Ok (record { state = opened g c; told = []; orders = Begins (g.last + 1) ∷ [] })
 
 -- a client begins a content of at most so many bytes
-abbrev pub begun_by : State → Service → ℕ → ℕ → ℕ → Result Step BeginFault
+abbrev pub begun_by : State → ServicePresence → ℕ → ℕ → ℕ → Result Step BeginFault
 begun_by g service client tag most =
     if is_some (at g.current client) then Err Within else begins g (empty client tag most) (not_taken service g.takes)
 

@@ -4,7 +4,7 @@ use Rattle.av_large.specs.Calls.{Turn, begun_by, brought_by, ended_by, greeted_w
 use Rattle.av_large.specs.State.{State, Step, quiet}
 use Rattle.av_large.specs.declared.answer.Told.{Told}
 use Rattle.av_large.specs.declared.content.Ending.{Ending}
-use Rattle.av_large.specs.declared.content.Service.{Service}
+use Rattle.av_large.specs.declared.content.ServicePresence.{ServicePresence}
 use Rattle.av_large.specs.declared.fault.BeginFault.{BeginFault}
 use Rattle.av_large.specs.declared.fault.Unwelcome.{Unwelcome}
 use Rattle.av_parts.specs.Orders.{Order}
@@ -13,7 +13,7 @@ use Rattle.av_parts.specs.declared.word.Word.{Word}
 -- an event: a call with what it was given
 pub data Event : Type 0 where
   Greets : (floor version : ℕ) → Event
-  Begin : (service : Service) (client tag most : ℕ) → Event
+  Begin : (service : ServicePresence) (client tag most : ℕ) → Event
   Bring : (client : ℕ) (some : List ℕ) → Event
   End : (client : ℕ) (ending : Ending) → Event
   Hears : (floor : ℕ) (word : Word) → Event

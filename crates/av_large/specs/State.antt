@@ -1,7 +1,7 @@
 -- What a guard knows of contents that come in parts.
 use Rattle.std.specs.Prelude.{ℕ, ◌≡◌, ◌==◌, Bool, false, not, List, [], ◌∷◌, filter, map, option_to_list}
 use Rattle.av_large.specs.declared.answer.Answer.{Answer}
-use Rattle.av_large.specs.declared.answer.Given.{Given}
+use Rattle.av_large.specs.declared.answer.LargeOut.{LargeOut}
 use Rattle.av_large.specs.declared.answer.Told.{Told}
 use Rattle.av_large.specs.declared.content.Content.{Content}
 use Rattle.av_parts.specs.Judge.{without}
@@ -53,6 +53,6 @@ abbrev pub numbers_of : List (ℕ × Content) → List ℕ
 numbers_of held = map (λ e. e.0) held
 
 -- an event gave this out, and left this state
-abbrev pub Gives : Step → State → Given → Type 0
+abbrev pub Gives : Step → State → LargeOut → Type 0
 Gives step new given =
     (new ≡ step.state) × (option_to_list given.told ≡ step.told) × (map order_of (option_to_list given.order) ≡ step.orders)

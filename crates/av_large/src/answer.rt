@@ -77,17 +77,17 @@ pub enum Begun {
 
 /// What an event about one content gives out: an answer to tell, and an order to send.
 #[derive(Clone, Copy, Debug, PartialEq, Eq)]
-pub struct Given<'a> {
+pub struct LargeOut<'a> {
     pub told: Option<Told>,
     pub order: Option<Order<'a>>,
 }
 
 // Nothing.
-pub(crate) fn nothing<'a>() -> Given<'a>
+pub(crate) fn nothing<'a>() -> LargeOut<'a>
     ensures told { result.told ≡ None }
     ensures order { result.order ≡ None }
 {
-    Given {
+    LargeOut {
         told: None,
         order: None,
     }

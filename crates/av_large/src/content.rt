@@ -45,24 +45,24 @@ impl Content {
 
 /// Whether the first connection of a scanning service is there.
 #[derive(Clone, Copy, Debug, PartialEq, Eq)]
-pub enum Service {
+pub enum ServicePresence {
     Connected,
     Away,
 }
 
-impl Service {
+impl ServicePresence {
     // Why a content can't be sent on, if it can't. `takes`: the service takes parts.
     pub(crate) fn lacks(self, takes: bool) -> Option<Answer>
         ensures { result ≡ not_taken self takes }
     {
         match self {
-            Service::Away => Some(Answer::Unjudged {
+            ServicePresence::Away => Some(Answer::Unjudged {
                 cause: Cause::NotConnected,
             }),
-            Service::Connected if !takes => Some(Answer::Lacks {
+            ServicePresence::Connected if !takes => Some(Answer::Lacks {
                 cause: LargeCause::NoParts,
             }),
-            Service::Connected => None,
+            ServicePresence::Connected => None,
         }
     }
 }

@@ -8,8 +8,8 @@ ghost use Rattle.av_parts.specs.Orders.{Drops, order_of};
 ghost use Rattle.av_parts.specs.Spelling.{IsSpelled};
 ghost use Rattle.av_parts.specs.declared.sizes.TheConstants.{MAX_PART};
 
-use crate::answer::{Answer, Begun, Given, Told, nothing, number_in};
-use crate::content::{Content, Ending, Service};
+use crate::answer::{Answer, Begun, LargeOut, Told, nothing, number_in};
+use crate::content::{Content, Ending, ServicePresence};
 use crate::fault::{BeginFault, Unwelcome};
 use crate::held::{Held, drop_all, lose_all};
 use av_asks::LargeCause;
@@ -100,7 +100,7 @@ impl Large {
     /// it is told at once, if no service can judge it. Of the calls about one content only this one requests memory.
     pub fn begin(
         &mut self,
-        service: Service,
+        service: ServicePresence,
         client: u64,
         tag: u64,
         most: u64,
@@ -151,7 +151,7 @@ impl Large {
     }
 
     /// A client sends some of the content that it is within, at most 1,048,576 bytes at once. They go on as they lie in the piece.
-    pub fn bring<'a>(&mut self, client: u64, some: &'a [u8]) -> Given<'a>
+    pub fn bring<'a>(&mut self, client: u64, some: &'a [u8]) -> LargeOut<'a>
         ensures gives { Gives (brought_by self.old client some.now) self.new result }
         ensures spelled { length some.now ≤ MAX_PART → IfSome result.order (λ o. IsSpelled (order_of o)) }
     {
@@ -165,7 +165,7 @@ impl Large {
     }
 
     // Some of a content comes.
-    fn grow<'a>(&mut self, number: u64, some: &'a [u8]) -> Given<'a>
+    fn grow<'a>(&mut self, number: u64, some: &'a [u8]) -> LargeOut<'a>
         requires { 1 ≤ length some.now }
         ensures gives { Gives (grows self.old number some.now (at self.old.held number)) self.new result }
         ensures spelled { length some.now ≤ MAX_PART → IfSome result.order (λ o. IsSpelled (order_of o)) }
@@ -176,7 +176,7 @@ impl Large {
         match content.count.checked_add(some.len() as u64) {
             Some(count) if count <= content.most => {
                 self.held.set(number, Content { count, ..content });
-                Given {
+                LargeOut {
                     told: None,
                     order: Some(Order::Part { number, some }),
                 }
@@ -192,18 +192,18 @@ impl Large {
     }
 
     // A content is answered, and the service is to drop it.
-    fn give_up<'a>(&mut self, number: u64, content: Content, answer: Answer) -> Given<'a>
+    fn give_up<'a>(&mut self, number: u64, content: Content, answer: Answer) -> LargeOut<'a>
         ensures { Gives (answers self.old number content answer (Drops number ∷ [])) self.new result }
     {
         self.held.remove(number);
-        Given {
+        LargeOut {
             told: Some(content.tell(answer)),
             order: Some(Order::Drop { number }),
         }
     }
 
     /// A client ends the content that it is within, and may begin the next.
-    pub fn end<'a>(&mut self, client: u64, ending: Ending) -> Given<'a>
+    pub fn end<'a>(&mut self, client: u64, ending: Ending) -> LargeOut<'a>
         ensures { Gives (ended_by self.old client ending) self.new result }
     {
         let Some(number) = self.current.remove(&client) else {
@@ -213,7 +213,7 @@ impl Large {
     }
 
     // A content is whole, or given up.
-    fn finish<'a>(&mut self, number: u64, ending: Ending) -> Given<'a>
+    fn finish<'a>(&mut self, number: u64, ending: Ending) -> LargeOut<'a>
         ensures { Gives (ends self.old number ending (at self.old.held number)) self.new result }
     {
         let Some(content) = self.held.get(number) else {
@@ -230,7 +230,7 @@ impl Large {
                 ..content
             },
         );
-        Given {
+        LargeOut {
             told: None,
             order: Some(Order::End {
                 number,
@@ -240,7 +240,7 @@ impl Large {
     }
 
     /// A client that is within a content sent nothing for too long.
-    pub fn late<'a>(&mut self, client: u64) -> Given<'a>
+    pub fn late<'a>(&mut self, client: u64) -> LargeOut<'a>
         ensures { Gives (late self.old client) self.new result }
     {
         let Some(number) = self.current.get(&client).copied() else {

@@ -21,7 +21,7 @@ pub mod laws;
 #[cfg(test)]
 mod tests;
 
-pub use answer::{Answer, Begun, Given, Told};
-pub use content::{Content, Ending, Service};
+pub use answer::{Answer, Begun, LargeOut, Told};
+pub use content::{Content, Ending, ServicePresence};
 pub use fault::{BeginFault, Unwelcome};
 pub use large::Large;

@@ -1,6 +1,6 @@
 use Rattle.std.proofs.Common.{ℕ, zero, suc, ◌≡◌, ◌+◌, ◌++◌, ◌==◌, false, List, [], ◌∷◌, drop, take, refl, ap, sym, ◌∙◌, append_assoc, Some, slice_get, add-one}
 use Rattle.av_log.specs.Notes.{note_of, others_of}
-use Rattle.av_log.specs.declared.notes.Note.{Note}
+use Rattle.av_log.specs.declared.notes.AskNote.{AskNote}
 
 -- what is left after a list's front is one element and others: then the front with it, and the others
 drop_suc : {A : Type 0} (k : ℕ) (xs : List A) (x : A) (ys : List A) → drop k xs ≡ x ∷ ys → drop (suc k) xs ≡ ys
@@ -28,7 +28,7 @@ get_next (suc k) [] x ys e = cc
 get_next (suc k) (z ∷ xs) x ys e = get_next k xs x ys e
 
 -- a note of another tag is passed over
-pub one_more : (tag k : ℕ) (all rest : List Note) (n : Note) (below : List Note) → (n.tag == tag) ≡ false → rest ≡ n ∷ below → drop k all ≡ rest
+pub one_more : (tag k : ℕ) (all rest : List AskNote) (n : AskNote) (below : List AskNote) → (n.tag == tag) ≡ false → rest ≡ n ∷ below → drop k all ≡ rest
     → note_of tag rest ≡ note_of tag all → take k all ++ others_of tag rest ≡ others_of tag all
     → (note_of tag below ≡ note_of tag all) × (take (k + 1) all ++ others_of tag below ≡ others_of tag all)
 one_more tag k all rest n below other split left note others =

@@ -11,13 +11,13 @@ use Rattle.av_base.specs.declared.cause.Cause.TheVariants as cause
 use Rattle.av_json.specs.Cause.{why_of}
 use Rattle.av_log.specs.Words.{Item, Word, Number, Bytes}
 use Rattle.av_log.specs.declared.entry.Asked.{Asked}
-use Rattle.av_log.specs.declared.entry.Entry.{Entry}
-use Rattle.av_log.specs.declared.entry.Entry.TheVariants as entry
+use Rattle.av_log.specs.declared.entry.LogEntry.{LogEntry}
+use Rattle.av_log.specs.declared.entry.LogEntry.TheVariants as entry
 use Rattle.av_log.specs.declared.entry.Judged.{Judged}
 use Rattle.av_log.specs.declared.entry.Judged.TheVariants.{Granted, Infected, Denied, Unscanned, LargeDenied, LargeUnscanned}
 use Rattle.av_log.specs.declared.entry.Told.{Told}
-use Rattle.av_log.specs.declared.entry.Way.{Way}
-use Rattle.av_log.specs.declared.entry.Way.TheVariants.{Opens, Clamd}
+use Rattle.av_log.specs.declared.entry.AskSocket.{AskSocket}
+use Rattle.av_log.specs.declared.entry.AskSocket.TheVariants.{Opens, Clamd}
 
 -- a cause, by its number and in words
 abbrev pub cause_items : Cause → List Item
@@ -57,12 +57,12 @@ judged_items (LargeDenied c) name = large_items (codes "denied") c
 judged_items (LargeUnscanned c) name = large_items (codes "unscanned") c
 
 -- at which socket it was asked
-abbrev pub way_of : Way → List ℕ
+abbrev pub way_of : AskSocket → List ℕ
 way_of Opens = codes "opens"
 way_of Clamd = codes "clamd"
 
 -- by whom
-abbrev pub asker_items : Way → ℕ → ℕ → List Item
+abbrev pub asker_items : AskSocket → ℕ → ℕ → List Item
 asker_items way client tag = Word (codes "socket") (way_of way) ∷ Number (codes "client") client ∷ Number (codes "tag") tag ∷ []
 
 -- the client's name for a content
@@ -90,7 +90,7 @@ abbrev pub at_port : List ℕ → Port → List Item
 at_port how port = happened (codes "service") how ++ Number (codes "port") (port_number port) ∷ []
 
 -- the items of a line
-abbrev pub items_of : Entry → List Item
+abbrev pub items_of : LogEntry → List Item
 items_of (entry.Told t) = Word (codes "event") (codes "answer") ∷ told_items t
 items_of (entry.Connected port version) = versioned (codes "service") (codes "connected") version ++ Number (codes "port") (port_number port) ∷ []
 items_of (entry.Lost port) = at_port (codes "lost") port

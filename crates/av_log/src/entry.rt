@@ -44,7 +44,7 @@ pub enum Judged {
 
 /// At which socket an ask came.
 #[derive(Clone, Copy)]
-pub enum Way {
+pub enum AskSocket {
     Opens,
     Clamd,
 }
@@ -64,7 +64,7 @@ pub struct Told<'a> {
     pub judged: Judged,
     /// The name of the signature, where the guard is told names.
     pub name: Option<&'a [u8]>,
-    pub way: Way,
+    pub way: AskSocket,
     /// The guard's number of the client.
     pub client: u64,
     /// The client's own number of the ask.
@@ -75,7 +75,7 @@ pub struct Told<'a> {
 
 /// What has a line.
 #[derive(Clone, Copy)]
-pub enum Entry<'a> {
+pub enum LogEntry<'a> {
     Told(Told<'a>),
     /// A service with a set of this version is there, at this port.
     Connected { port: Port, version: Version },
@@ -115,7 +115,7 @@ pub fn is_logged(has_grants: bool, judged: Judged) -> bool
 }
 
 /// The fields of a line, behind its time.
-pub fn fields_of<'a>(alloc: Global, entry: &Entry<'a>) -> Result<Vec<Field<'a>>, AllocError>
+pub fn fields_of<'a>(alloc: Global, entry: &LogEntry<'a>) -> Result<Vec<Field<'a>>, AllocError>
     ensures { IfOk result (λ fields. map item_of fields.items ≡ items_of entry.now) }
 {
     let mut fields = Vec::with_capacity(alloc, 16)?;
@@ -123,43 +123,43 @@ pub fn fields_of<'a>(alloc: Global, entry: &Entry<'a>) -> Result<Vec<Field<'a>>,
     Ok(fields)
 }
 
-fn put_entry<'a>(fields: &mut Vec<Field<'a>>, entry: &Entry<'a>) -> Result<(), AllocError>
+fn put_entry<'a>(fields: &mut Vec<Field<'a>>, entry: &LogEntry<'a>) -> Result<(), AllocError>
     ensures { OnOk result (map item_of fields.new.items ≡ map item_of fields.old.items ++ items_of entry.now) }
 {
     match entry {
-        Entry::Told(told) => {
+        LogEntry::Told(told) => {
             put_word(fields, "event", "answer")?;
             put_told(fields, told)
         }
-        Entry::Connected { port, version } => {
+        LogEntry::Connected { port, version } => {
             put_version(fields, "service", "connected", *version)?;
             put_port(fields, *port)
         }
-        Entry::Lost(port) => put_at_port(fields, "lost", *port),
-        Entry::Newer { port, version } => {
+        LogEntry::Lost(port) => put_at_port(fields, "lost", *port),
+        LogEntry::Newer { port, version } => {
             put_version(fields, "service", "newer", *version)?;
             put_port(fields, *port)
         }
-        Entry::Older { version, least } => {
+        LogEntry::Older { version, least } => {
             put_version(fields, "service", "refused", *version)?;
             put_number(fields, "least", least.get())
         }
-        Entry::Above { version, most } => {
+        LogEntry::Above { version, most } => {
             put_version(fields, "service", "refused", *version)?;
             put_number(fields, "most", most.get())
         }
-        Entry::Silent => put_event(fields, "service", "silent"),
-        Entry::Stuck(port) => put_at_port(fields, "stuck", *port),
-        Entry::Quiet(port) => put_at_port(fields, "quiet", *port),
-        Entry::PartsConnected(version) => put_version(fields, "parts", "connected", *version),
-        Entry::PartsLost => put_event(fields, "parts", "lost"),
-        Entry::PartsOlder { version, least } => {
+        LogEntry::Silent => put_event(fields, "service", "silent"),
+        LogEntry::Stuck(port) => put_at_port(fields, "stuck", *port),
+        LogEntry::Quiet(port) => put_at_port(fields, "quiet", *port),
+        LogEntry::PartsConnected(version) => put_version(fields, "parts", "connected", *version),
+        LogEntry::PartsLost => put_event(fields, "parts", "lost"),
+        LogEntry::PartsOlder { version, least } => {
             put_version(fields, "parts", "refused", *version)?;
             put_number(fields, "least", least.get())
         }
-        Entry::Unkept(version) => put_version(fields, "state", "unwritten", *version),
-        Entry::Crowded => put_event(fields, "client", "closed"),
-        Entry::Dropped(lines) => {
+        LogEntry::Unkept(version) => put_version(fields, "state", "unwritten", *version),
+        LogEntry::Crowded => put_event(fields, "client", "closed"),
+        LogEntry::Dropped(lines) => {
             put_event(fields, "log", "dropped")?;
             put_number(fields, "lines", *lines)
         }
@@ -282,7 +282,12 @@ fn put_name<'a>(fields: &mut Vec<Field<'a>>, name: Option<&'a [u8]>) -> Result<(
     }
 }
 
-fn put_asker(fields: &mut Vec<Field<'_>>, way: Way, client: u64, tag: u64) -> Result<(), AllocError>
+fn put_asker(
+    fields: &mut Vec<Field<'_>>,
+    way: AskSocket,
+    client: u64,
+    tag: u64,
+) -> Result<(), AllocError>
     ensures { OnOk result (map item_of fields.new.items ≡ map item_of fields.old.items ++ asker_items way client tag) }
 {
     put_word(fields, "socket", way_of(way))?;
@@ -290,12 +295,12 @@ fn put_asker(fields: &mut Vec<Field<'_>>, way: Way, client: u64, tag: u64) -> Re
     put_number(fields, "tag", tag)
 }
 
-fn way_of(way: Way) -> &'static str
+fn way_of(way: AskSocket) -> &'static str
     ensures { result.now ≡ way_of way }
 {
     match way {
-        Way::Opens => "opens",
-        Way::Clamd => "clamd",
+        AskSocket::Opens => "opens",
+        AskSocket::Clamd => "clamd",
     }
 }
 

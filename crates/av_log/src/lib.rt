@@ -19,10 +19,10 @@ pub mod stamp;
 #[cfg(test)]
 mod tests;
 
-pub use entry::{Asked, Entry, Judged, Told, Way, fields_of, is_logged};
+pub use entry::{AskSocket, Asked, Judged, LogEntry, Told, fields_of, is_logged};
 pub use field::Field;
 pub use line::{Form, put_line};
-pub use notes::{Note, Notes};
+pub use notes::{AskNote, Notes};
 pub use pace::is_due;
 pub use queue::Queue;
 pub use stamp::stamp_of;

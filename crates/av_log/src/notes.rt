@@ -12,7 +12,7 @@ const MOST: usize = 512;
 
 /// What an ask was about.
 #[derive(Drop)]
-pub struct Note {
+pub struct AskNote {
     /// The client's number of the ask.
     pub tag: u64,
     /// How many bytes the content has.
@@ -24,14 +24,14 @@ pub struct Note {
 /// The notes of one client, in the order of its asks.
 #[derive(Drop)]
 pub struct Notes {
-    notes: Vec<Note>,
+    notes: Vec<AskNote>,
 }
 
 impl Model for Notes {
     ghost use Rattle.std.specs.Prelude.{◌≤◌, List, vec_len};
-    ghost use Rattle.av_log.specs.declared.notes.Note.{Note};
+    ghost use Rattle.av_log.specs.declared.notes.AskNote.{AskNote};
 
-    ghost Value = { List Note };
+    ghost Value = { List AskNote };
 
     ghost view = { λ n. n.notes.items };
 
@@ -49,7 +49,7 @@ impl Notes {
     }
 
     /// One more. Where there are 512, or memory is refused, it is handed back.
-    pub fn put(&mut self, note: Note) -> Result<(), Note>
+    pub fn put(&mut self, note: AskNote) -> Result<(), AskNote>
         ensures ok { OnOk result (self.new ≡ self.old ++ note ∷ []) }
         ensures err { IfErr result (λ n. (n ≡ note) × (self.new ≡ self.old)) }
         ensures bounded { length self.new ≤ 512 }
@@ -65,7 +65,7 @@ impl Notes {
 
     /// The first note of a tag leaves: the client is answered. Where it asked under one tag more than once, its asks are told in the order
     /// in which they came.
-    pub fn take(&mut self, tag: u64) -> Option<Note>
+    pub fn take(&mut self, tag: u64) -> Option<AskNote>
         ensures taken { result ≡ note_of tag self.old }
         ensures others { self.new ≡ others_of tag self.old }
     {
@@ -76,7 +76,7 @@ impl Notes {
 
 // Where the first note of a tag is.
 #[tactic(auto, using(crate::proofs::NotesLemmas::drop_next, crate::proofs::NotesLemmas::take_next, crate::proofs::NotesLemmas::get_next))]
-fn place_of(notes: &[Note], tag: u64) -> Option<usize>
+fn place_of(notes: &[AskNote], tag: u64) -> Option<usize>
     ensures none { IfNone result ((note_of tag notes.now ≡ None) × (others_of tag notes.now ≡ notes.now)) }
     ensures within { IfSome result (λ i. i < length notes.now) }
     ensures note { IfSome result (λ i. slice_get notes.now i ≡ note_of tag notes.now) }

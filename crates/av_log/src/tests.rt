@@ -1,4 +1,4 @@
-use crate::entry::{Asked, Entry, Judged, Told, Way, fields_of};
+use crate::entry::{AskSocket, Asked, Judged, LogEntry, Told, fields_of};
 use crate::line::{Form, put_line};
 use crate::queue::Queue;
 use crate::stamp::stamp_of;
@@ -25,7 +25,7 @@ fn a_time_is_told_as_its_date(rt: HostRuntime) -> Result<(), Fail> {
 }
 
 // The line of an entry at the first moment.
-fn line(alloc: Global, form: Form, entry: &Entry<'_>) -> Result<Vec<u8>, AllocError> {
+fn line(alloc: Global, form: Form, entry: &LogEntry<'_>) -> Result<Vec<u8>, AllocError> {
     let mut out = Vec::new(alloc);
     let fields = fields_of(alloc, entry)?;
     put_line(alloc, &mut out, form, &stamp_of(0), fields.as_slice())?;
@@ -39,7 +39,7 @@ fn a_label_is_told_in_quotes(rt: HostRuntime) -> Result<(), Fail> {
             cause: Cause::NotConnected,
         },
         name: None,
-        way: Way::Opens,
+        way: AskSocket::Opens,
         client: 3,
         tag: 5,
         asked: Some(Asked {
@@ -47,8 +47,8 @@ fn a_label_is_told_in_quotes(rt: HostRuntime) -> Result<(), Fail> {
             label: Some(b"a \"\\\n\x7f\xff~".as_slice()),
         }),
     };
-    let words = line(rt.alloc(), Form::Words, &Entry::Told(told))?;
-    let object = line(rt.alloc(), Form::Json, &Entry::Told(told))?;
+    let words = line(rt.alloc(), Form::Words, &LogEntry::Told(told))?;
+    let object = line(rt.alloc(), Form::Json, &LogEntry::Told(told))?;
     assert!(&rt;
         words.as_slice()
             == b"time=1970-01-01T00:00:00.000Z event=answer answer=denied cause=3 why=\"not connected\" socket=opens client=3 tag=5 bytes=68 label=\"a \\x22\\x5c\\x0a\\x7f\\xff~\"\n".as_slice()
@@ -78,7 +78,7 @@ fn a_line_without_room_is_counted_and_told_once(rt: HostRuntime) -> Result<(), F
 
 #[test]
 fn a_version_has_its_event(rt: HostRuntime) -> Result<(), Fail> {
-    let entry = Entry::Older {
+    let entry = LogEntry::Older {
         version: Version::new(3),
         least: Version::new(7),
     };
@@ -95,22 +95,28 @@ fn a_service_has_lines_that_name_its_port(rt: HostRuntime) -> Result<(), Fail> {
     let version = Version::new(7);
     for (entry, text) in [
         (
-            Entry::Connected {
+            LogEntry::Connected {
                 port: Port::One,
                 version,
             },
             b"state=connected version=7 port=1\n".as_slice(),
         ),
-        (Entry::Lost(Port::Two), b"state=lost port=2\n".as_slice()),
+        (LogEntry::Lost(Port::Two), b"state=lost port=2\n".as_slice()),
         (
-            Entry::Newer {
+            LogEntry::Newer {
                 port: Port::Two,
                 version,
             },
             b"state=newer version=7 port=2\n".as_slice(),
         ),
-        (Entry::Stuck(Port::One), b"state=stuck port=1\n".as_slice()),
-        (Entry::Quiet(Port::Two), b"state=quiet port=2\n".as_slice()),
+        (
+            LogEntry::Stuck(Port::One),
+            b"state=stuck port=1\n".as_slice(),
+        ),
+        (
+            LogEntry::Quiet(Port::Two),
+            b"state=quiet port=2\n".as_slice(),
+        ),
     ] {
         let begun = b"time=1970-01-01T00:00:00.000Z event=service ".as_slice();
         let wanted = [begun, text].concat(rt.alloc())?;
@@ -143,12 +149,12 @@ fn contents_in_parts_have_causes_of_their_own(rt: HostRuntime) -> Result<(), Fai
             let told = Told {
                 judged,
                 name: None,
-                way: Way::Clamd,
+                way: AskSocket::Clamd,
                 client: 1,
                 tag: 2,
                 asked: None,
             };
-            let words = line(rt.alloc(), Form::Words, &Entry::Told(told))?;
+            let words = line(rt.alloc(), Form::Words, &LogEntry::Told(told))?;
             let begun = b"time=1970-01-01T00:00:00.000Z event=answer answer=";
             let wanted = [begun, answer, b" ", text, b" socket=clamd client=1 tag=2\n"].concat(
                 rt.alloc(),
@@ -165,15 +171,15 @@ fn a_second_connection_has_lines(rt: HostRuntime) -> Result<(), Fail> {
     let least = Version::new(9);
     for (entry, text) in [
         (
-            Entry::PartsConnected(version),
+            LogEntry::PartsConnected(version),
             b"time=1970-01-01T00:00:00.000Z event=parts state=connected version=7\n".as_slice(),
         ),
         (
-            Entry::PartsLost,
+            LogEntry::PartsLost,
             b"time=1970-01-01T00:00:00.000Z event=parts state=lost\n".as_slice(),
         ),
         (
-            Entry::PartsOlder { version, least },
+            LogEntry::PartsOlder { version, least },
             b"time=1970-01-01T00:00:00.000Z event=parts state=refused version=7 least=9\n".as_slice(),
         ),
     ] {

@@ -61,7 +61,7 @@ fn leap(tables: &Tables<'_>, piece: &[u8], from: usize) -> usize
 
 /// What a leap goes by: the rarest byte of the one pattern, its two rarest ones, or windows.
 #[derive(Clone, Copy)]
-enum Way {
+enum LeapKind {
     Byte,
     Pair,
     Windows,
@@ -69,7 +69,7 @@ enum Way {
 
 // One leap.
 #[inline(always)]
-fn leap_by(tables: &Tables<'_>, way: Way, piece: &[u8], from: usize) -> usize
+fn leap_by(tables: &Tables<'_>, way: LeapKind, piece: &[u8], from: usize) -> usize
     requires wide { 2 ≤ tables.now.window }
     requires small { length piece.now ≤ 2 ^ 32 }
     requires from { from + tables.now.window ≤ length piece.now }
@@ -78,8 +78,8 @@ fn leap_by(tables: &Tables<'_>, way: Way, piece: &[u8], from: usize) -> usize
     ensures on { from ≤ result }
 {
     match (way, &tables.rare) {
-        (Way::Byte, Some(rare)) => next_by_byte(rare, piece, from),
-        (Way::Pair, Some(rare)) => next_by_pair(rare, piece, from),
+        (LeapKind::Byte, Some(rare)) => next_by_byte(rare, piece, from),
+        (LeapKind::Pair, Some(rare)) => next_by_pair(rare, piece, from),
         _ => leap(tables, piece, from),
     }
 }
@@ -87,7 +87,7 @@ fn leap_by(tables: &Tables<'_>, way: Way, piece: &[u8], from: usize) -> usize
 // A place up to which leaps go from a place on, with a few steps between them, as long as that is quick. Each way has a
 // loop of its own.
 #[inline(always)]
-fn leaped_by(tables: &Tables<'_>, way: Way, piece: &[u8], from: usize) -> Result<usize, Stop>
+fn leaped_by(tables: &Tables<'_>, way: LeapKind, piece: &[u8], from: usize) -> Result<usize, Stop>
     requires wide { 2 ≤ tables.now.window }
     requires small { length piece.now ≤ 2 ^ 32 }
     requires from { from ≤ length piece.now }
@@ -95,8 +95,8 @@ fn leaped_by(tables: &Tables<'_>, way: Way, piece: &[u8], from: usize) -> Result
     ensures within { IfOk result (λ p. p ≤ length piece.now) }
 {
     let (price, steps) = match way {
-        Way::Windows => (LEAST_LEAP, 8 * tables.window),
-        Way::Byte | Way::Pair => (LEAST_SEARCH, 1),
+        LeapKind::Windows => (LEAST_LEAP, 8 * tables.window),
+        LeapKind::Byte | LeapKind::Pair => (LEAST_SEARCH, 1),
     };
     let mut place = from;
     let mut spare = price / 2;
@@ -126,9 +126,9 @@ pub fn leaped(tables: &Tables<'_>, piece: &[u8]) -> Result<usize, Stop>
     ensures within { IfOk result (λ p. p ≤ length piece.now) }
 {
     if tables.rare.is_none() {
-        return leaped_by(tables, Way::Windows, piece, 0);
+        return leaped_by(tables, LeapKind::Windows, piece, 0);
     }
-    let by_byte = leaped_by(tables, Way::Byte, piece, 0)?;
-    let by_pair = leaped_by(tables, Way::Pair, piece, by_byte)?;
-    leaped_by(tables, Way::Windows, piece, by_pair)
+    let by_byte = leaped_by(tables, LeapKind::Byte, piece, 0)?;
+    let by_pair = leaped_by(tables, LeapKind::Pair, piece, by_byte)?;
+    leaped_by(tables, LeapKind::Windows, piece, by_pair)
 }

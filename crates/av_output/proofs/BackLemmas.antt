@@ -19,12 +19,12 @@ use Rattle.av_pend.specs.declared.answer.Answer.TheVariants.{Granted, Unscanned,
 use Rattle.av_service.specs.Work.{WorkState}
 use Rattle.av_output.specs.Back.{JudgementTellsText, ObjectsTellText, behind, text_back}
 use Rattle.av_history.specs.declared.given.Given.{Given}
-use Rattle.av_output.specs.declared.message.Way.{Way}
-use Rattle.av_output.specs.declared.message.Way.TheVariants.{Down, Up}
+use Rattle.av_output.specs.declared.message.Direction.{Direction}
+use Rattle.av_output.specs.declared.message.Direction.TheVariants.{Down, Up}
 use Rattle.av_history.specs.declared.report.Line.{Line}
 use Rattle.av_history.specs.declared.report.Line.TheVariants.{Silent, Published, Created, Changed, Removed, Booted}
-use Rattle.av_history.specs.declared.report.Note.{Note}
-use Rattle.av_history.specs.declared.report.Note.TheVariants.{Filter, Service}
+use Rattle.av_history.specs.declared.report.EventNote.{EventNote}
+use Rattle.av_history.specs.declared.report.EventNote.TheVariants.{Filter, Service}
 use Rattle.av_history.specs.declared.report.Report.{Report}
 use Rattle.av_output.specs.Objects.{opens_tokens, report_tokens, sent_tokens}
 use Rattle.av_output.specs.Objects.Answers.{answer_tokens, answers_tokens, given_tokens, pended_tokens, submitted_tokens}
@@ -62,7 +62,7 @@ unfolding object_tokens text_tokens number_tokens
 tells_word None ts = refl
 tells_word (Some word) ts = refl
 
-pub tells_note : (note : Note) → Tells (note_tokens note) (note_text note)
+pub tells_note : (note : EventNote) → Tells (note_tokens note) (note_text note)
 tells_note note = tells_word (note_word note)
 
 pub tells_answer : (answer : Answer) → Tells (answer_tokens answer) (answer_text answer)
@@ -91,11 +91,11 @@ tells_submitted filter.WrongVolume answers = tells_nothing
 tells_submitted filter.Connected answers = tells_nothing
 tells_submitted filter.OldVersion answers = tells_nothing
 
-pub tells_pended : (note : Note) (answers : List Given) → Tells (pended_tokens note answers) (pended_text note answers)
+pub tells_pended : (note : EventNote) (answers : List Given) → Tells (pended_tokens note answers) (pended_text note answers)
 tells_pended (Filter note) answers = tells_submitted note answers
 tells_pended (Service note) answers = tells_nothing
 
-tells_body : (way : Way) (place : ℕ) (port : Port) (body : Body) → Tells (body_tokens way place port body) (body_text way place port body)
+tells_body : (way : Direction) (place : ℕ) (port : Port) (body : Body) → Tells (body_tokens way place port body) (body_text way place port body)
 unfolding object_tokens text_tokens number_tokens digits
 tells_body Down place One (Scan id stream generation size) ts = refl
 tells_body Down place One (Chunk id offset bytes) ts = refl
@@ -138,7 +138,7 @@ tells_body Up place Two (Reply id (Judged version (Infected index end_at))) ts =
 tells_body Up place Two (Reply id (Failed cause)) ts = refl
 tells_body Up place Two (Updated version) ts = refl
 
-pub tells_message : (way : Way) (place : ℕ) (message : Letter) → Tells (message_tokens way place message) (message_text way place message)
+pub tells_message : (way : Direction) (place : ℕ) (message : Letter) → Tells (message_tokens way place message) (message_text way place message)
 tells_message way place m = tells_body way place m.port m.body
 
 tells_lent : (place : ℕ) (port : Port) (work : WorkState) → Tells (lent_tokens place port work) (lent_text place port work)

@@ -10,7 +10,7 @@ use Rattle.av_base.specs.declared.port.Port.{Port}
 use Rattle.av_frame.specs.Message.{Letter}
 use Rattle.av_service.specs.Work.{WorkState}
 use Rattle.av_history.specs.declared.given.Given.{Given}
-use Rattle.av_output.specs.declared.message.Way.TheVariants.{Down, Up}
+use Rattle.av_output.specs.declared.message.Direction.TheVariants.{Down, Up}
 use Rattle.av_history.specs.declared.report.Report.{Report}
 use Rattle.av_output.specs.Text.Answers.{answers_text, pended_text}
 use Rattle.av_output.specs.Text.Lines.{line_text}

@@ -7,7 +7,7 @@ use av_base::parts::write_parts;
 use av_base::{Cause, Generation, OpenId, Part, StreamId, Version, WriteFault};
 use av_filter::note::Note as FilterNote;
 use av_history::given::Given;
-use av_history::report::Note;
+use av_history::report::EventNote;
 use av_pend::Answer;
 use std::io::Write;
 
@@ -113,15 +113,15 @@ fn print_denied<W: Write>(open_id: OpenId, cause: Cause, writer: &mut W) -> Resu
 
 /// Writes that the open of a note waits, where the note has one and these answers have none for it.
 pub fn print_pended<W: Write>(
-    note: Note,
+    note: EventNote,
     answers: &[Given],
     writer: &mut W,
 ) -> Result<(), WriteFault>
     ensures { Writes result (W.contents writer.old) (W.contents writer.new) (pended_text note answers.now) }
 {
     match note {
-        Note::Filter(note) => print_submitted(note, answers, writer),
-        Note::Service(_) => Ok(()),
+        EventNote::Filter(note) => print_submitted(note, answers, writer),
+        EventNote::Service(_) => Ok(()),
     }
 }
 

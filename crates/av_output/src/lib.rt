@@ -19,3 +19,5 @@ pub mod refusal;
 pub mod report;
 mod told;
 mod work;
+
+pub use message::Direction;

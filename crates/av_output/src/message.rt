@@ -15,18 +15,20 @@ use std::io::Write;
 
 /// The list in which a message stands: those to the service, or those to the filter.
 #[derive(Clone, Copy)]
-pub enum Way {
+pub enum Direction {
+    /// From the filter to the service.
     Down,
+    /// From the service to the filter.
     Up,
 }
 
-impl Way {
+impl Direction {
     fn word(self) -> &'static [u8]
         ensures { result.now ≡ way_word self }
     {
         match self {
-            Way::Down => b"down ".as_slice(),
-            Way::Up => b"up ".as_slice(),
+            Direction::Down => b"down ".as_slice(),
+            Direction::Up => b"up ".as_slice(),
         }
     }
 }
@@ -43,7 +45,7 @@ pub fn line_end(port: Port) -> &'static [u8]
 
 /// Writes the lines of messages from one place of their list up to another, both counted from 0.
 pub fn print_messages<W: Write>(
-    way: Way,
+    way: Direction,
     messages: &[Message],
     from: u64,
     to: u64,
@@ -60,7 +62,7 @@ pub fn print_messages<W: Write>(
 }
 
 fn print_message<W: Write>(
-    way: Way,
+    way: Direction,
     number: u64,
     message: &Message,
     writer: &mut W,

@@ -6,12 +6,12 @@ ghost use Rattle.av_output.specs.Text.Notes.{filter_word, note_text, note_word, 
 use av_base::parts::write_parts;
 use av_base::{Part, WriteFault};
 use av_filter::note::Note as FilterNote;
-use av_history::report::Note;
-use av_service::note::Note as ServiceNote;
+use av_history::report::EventNote;
+use av_service::note::ServiceNote;
 use std::io::Write;
 
 /// Writes the line of a note, if it has one.
-pub fn print_note<W: Write>(note: Note, writer: &mut W) -> Result<(), WriteFault>
+pub fn print_note<W: Write>(note: EventNote, writer: &mut W) -> Result<(), WriteFault>
     ensures { Writes result (W.contents writer.old) (W.contents writer.new) (note_text note) }
 {
     let Some(word) = note_word(note) else {
@@ -28,12 +28,12 @@ pub fn print_note<W: Write>(note: Note, writer: &mut W) -> Result<(), WriteFault
 }
 
 /// The word of a note that is told.
-pub fn note_word(note: Note) -> Option<&'static str>
+pub fn note_word(note: EventNote) -> Option<&'static str>
     ensures { option_copied result ≡ note_word note }
 {
     match note {
-        Note::Filter(note) => filter_word(note),
-        Note::Service(note) => service_word(note),
+        EventNote::Filter(note) => filter_word(note),
+        EventNote::Service(note) => service_word(note),
     }
 }
 

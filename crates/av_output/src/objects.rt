@@ -9,7 +9,7 @@ mod message;
 mod note;
 mod work;
 
-use crate::message::Way;
+use crate::message::Direction;
 use crate::objects::answer::{put_answers, put_pended};
 use crate::objects::line::put_line;
 use crate::objects::message::put_messages;
@@ -63,7 +63,7 @@ fn put_sent(
     ensures { Puts result line.old line.new (sent_tokens report.now down.now up.now works.now) }
 {
     let Report { before, after, .. } = *report;
-    put_messages(alloc, Way::Down, down, before.down, after.down, line)?;
-    put_messages(alloc, Way::Up, up, before.up, after.up, line)?;
+    put_messages(alloc, Direction::Down, down, before.down, after.down, line)?;
+    put_messages(alloc, Direction::Up, up, before.up, after.up, line)?;
     put_works(alloc, works, before.works, after.works, line)
 }

@@ -3,7 +3,7 @@ ghost use Rattle.av_output.specs.Text.{opens_text, sent_text, told_text};
 
 use crate::answer::{print_answers, print_pended};
 use crate::line::print_line;
-use crate::message::{Way, print_messages};
+use crate::message::{Direction, print_messages};
 use crate::note::print_note;
 use crate::part::part;
 use crate::work::print_works;
@@ -55,7 +55,7 @@ fn print_sent<W: Write>(
     ensures { Writes result (W.contents writer.old) (W.contents writer.new) (sent_text report.now down.now up.now works.now) }
 {
     let Report { before, after, .. } = *report;
-    print_messages(Way::Down, down, before.down, after.down, writer)?;
-    print_messages(Way::Up, up, before.up, after.up, writer)?;
+    print_messages(Direction::Down, down, before.down, after.down, writer)?;
+    print_messages(Direction::Up, up, before.up, after.up, writer)?;
     print_works(works, before.works, after.works, writer)
 }

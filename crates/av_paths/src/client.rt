@@ -5,7 +5,7 @@ ghost use Rattle.av_clamd.specs.Text.{reply_of};
 
 use crate::files::{Named, answer_path};
 use crate::judging::answer_of;
-use crate::line::{Line, Lost, PIECE};
+use crate::line::{ClientConnection, Lost, PIECE};
 use crate::opening::{Opens, Place};
 use crate::streamed::Streamed;
 use crate::verdict::spoken_of_stream;
@@ -41,7 +41,7 @@ enum Wish {
 /// Serves a client until it is done, or is to be left.
 pub(crate) fn serve_client<R: Opens>(place: &Place<'_, R>, stream: UnixStream) {
     let wait = Duration::from_secs(place.asked.wait);
-    let Ok(mut line) = Line::new(place.system, place.alloc, stream, wait) else {
+    let Ok(mut line) = ClientConnection::new(place.system, place.alloc, stream, wait) else {
         return;
     };
     let mut door = Door::with_paths(place.alloc);
@@ -55,7 +55,7 @@ pub(crate) fn serve_client<R: Opens>(place: &Place<'_, R>, stream: UnixStream) {
 
 fn serve<R: Opens>(
     place: &Place<'_, R>,
-    line: &mut Line<'_, R>,
+    line: &mut ClientConnection<'_, R>,
     door: &mut Door,
 ) -> Result<(), Lost> {
     'wishes: for _ in 0..u64::MAX {
@@ -71,7 +71,10 @@ fn serve<R: Opens>(
 }
 
 // What the client asks for next. What has begun of it is whole within the wait. None where it asks for nothing more.
-fn next_wish<R: Opens>(line: &mut Line<'_, R>, door: &mut Door) -> Result<Option<Wish>, Lost> {
+fn next_wish<R: Opens>(
+    line: &mut ClientConnection<'_, R>,
+    door: &mut Door,
+) -> Result<Option<Wish>, Lost> {
     let mut until = line.until()?;
     'pieces: for _ in 0..u64::MAX {
         if door.is_done() {
@@ -124,7 +127,7 @@ fn wish_of(heard: Heard<'_>) -> Result<Wish, Lost> {
 
 fn fulfil<R: Opens>(
     place: &Place<'_, R>,
-    line: &mut Line<'_, R>,
+    line: &mut ClientConnection<'_, R>,
     door: &mut Door,
     wish: Wish,
 ) -> Result<(), Lost> {
@@ -183,7 +186,7 @@ fn ask_small<R: Opens>(place: &Place<'_, R>, content: &[u8]) -> Result<Reply, As
 // Asks about a content that comes in parts. Whether it came to its end.
 fn ask_stream<R: Opens>(
     place: &Place<'_, R>,
-    line: &mut Line<'_, R>,
+    line: &mut ClientConnection<'_, R>,
     door: &mut Door,
     first: Vec<u8>,
 ) -> (Result<Reply, AskingFault>, bool) {
@@ -201,7 +204,7 @@ fn ask_stream<R: Opens>(
 // Reads what follows of a content that has its answer already, as long as one wait.
 fn pass_over<R: Opens>(
     place: &Place<'_, R>,
-    line: &mut Line<'_, R>,
+    line: &mut ClientConnection<'_, R>,
     door: &mut Door,
 ) -> Result<(), Lost> {
     let mut buffer = vec![in place.alloc; 0u8; PIECE]?;
@@ -227,7 +230,7 @@ fn is_before<R: Opens>(place: &Place<'_, R>, moment: Duration) -> bool {
 
 fn say_stream<R: Opens>(
     place: &Place<'_, R>,
-    line: &Line<'_, R>,
+    line: &ClientConnection<'_, R>,
     command: (u64, u8),
     spoken: &Spoken<'_>,
 ) -> Result<(), Lost> {

@@ -14,7 +14,7 @@ const LEAST: u64 = 1;
 
 /// A client's connection.
 #[derive(Drop)]
-pub(crate) struct Line<'a, C> {
+pub(crate) struct ClientConnection<'a, C> {
     clock: &'a C,
     stream: UnixStream,
     wait: Duration,
@@ -41,18 +41,18 @@ impl From<AllocError> for Lost {
     }
 }
 
-impl<'a, C: Clock> Line<'a, C> {
+impl<'a, C: Clock> ClientConnection<'a, C> {
     /// Over a connection that was just made.
     pub(crate) fn new(
         clock: &'a C,
         alloc: Global,
         stream: UnixStream,
         wait: Duration,
-    ) -> Result<Line<'a, C>, Lost> {
+    ) -> Result<ClientConnection<'a, C>, Lost> {
         if stream.set_nonblocking(false).is_err() {
             return Err(Lost::Gone);
         }
-        Ok(Line {
+        Ok(ClientConnection {
             clock,
             stream,
             wait,
@@ -145,7 +145,7 @@ impl<'a, C: Clock> Line<'a, C> {
     }
 }
 
-impl<'a, C: Clock> Write for Line<'a, C> {
+impl<'a, C: Clock> Write for ClientConnection<'a, C> {
     fn write(&mut self, buf: &[u8]) -> io::Result<usize> {
         match self.say(buf) {
             Ok(()) => Ok(buf.len()),

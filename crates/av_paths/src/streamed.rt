@@ -2,7 +2,7 @@
 
 ghost use Rattle.std.specs.Prelude.{◌≤◌, length};
 
-use crate::line::{Line, Lost};
+use crate::line::{ClientConnection, Lost};
 use av_clamd::{Door, Heard, Sending};
 use std::io;
 use std::io::{ErrorKind, Read};
@@ -11,7 +11,7 @@ use std::time::{Clock, Duration};
 /// A content that has begun. Each read fills its buffer or comes to the content's end, within the line's wait.
 #[derive(Drop)]
 pub(crate) struct Streamed<'a, 'b, C> {
-    line: &'b mut Line<'a, C>,
+    line: &'b mut ClientConnection<'a, C>,
     door: &'b mut Door,
     // What came of it before it was known to come in parts, and how many of these bytes were given.
     first: Vec<u8>,
@@ -22,7 +22,7 @@ pub(crate) struct Streamed<'a, 'b, C> {
 impl<'a, 'b, C: Clock> Streamed<'a, 'b, C> {
     /// A content of which this came first.
     pub(crate) fn new(
-        line: &'b mut Line<'a, C>,
+        line: &'b mut ClientConnection<'a, C>,
         door: &'b mut Door,
         first: Vec<u8>,
     ) -> Streamed<'a, 'b, C> {
@@ -50,7 +50,7 @@ struct Came {
 
 // Takes some bytes of a content from a line. They are none where it was a length that came, or the end.
 fn take_some<C: Clock>(
-    line: &mut Line<'_, C>,
+    line: &mut ClientConnection<'_, C>,
     door: &mut Door,
     buf: &mut [u8],
     until: Duration,

@@ -43,12 +43,12 @@ use Rattle.av_peers.specs.declared.client.Thing.TheVariants as thing
 use Rattle.av_peers.specs.declared.client.Client.{Client}
 use Rattle.av_peers.specs.declared.client.Speech.{Speech}
 use Rattle.av_peers.specs.declared.client.Speech.TheVariants.{Opens, Clamd}
-use Rattle.av_peers.specs.declared.line.Line.{Line}
+use Rattle.av_peers.specs.declared.line.Connection.{Connection}
 use Rattle.av_peers.specs.declared.told.LargeTold.{LargeTold}
 use Rattle.av_peers.specs.declared.told.LargeTold.TheVariants as told
 
 -- one that came, and speaks so
-abbrev pub came : Line → Speech → Vec ℕ Global → Client
+abbrev pub came : Connection → Speech → Vec ℕ Global → Client
 came line speech kept =
     record {
       line = line;

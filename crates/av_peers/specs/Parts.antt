@@ -10,11 +10,11 @@ use Rattle.av_parts.specs.declared.word.Word.{Word}
 use Rattle.av_parts.specs.declared.word.Word.TheVariants as word
 use Rattle.av_peers.specs.Line.{unsent}
 use Rattle.av_peers.specs.Service.{first_since}
-use Rattle.av_peers.specs.declared.line.Line.{Line}
+use Rattle.av_peers.specs.declared.line.Connection.{Connection}
 use Rattle.av_peers.specs.declared.parts.Parts.{Parts}
 
 -- one that came at this moment, and is waited for to greet
-abbrev pub came : Line → Duration → Parts
+abbrev pub came : Connection → Duration → Parts
 came line now = record { line = line; reader = fresh; since = Some now; version = None; is_sending = false }
 
 -- 262,144 bytes wait to go out, or more: no client within a content is read

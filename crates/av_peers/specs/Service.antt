@@ -11,14 +11,14 @@ use Rattle.av_frame.specs.declared.message.Body.{Body}
 use Rattle.av_frame.specs.declared.message.Body.TheVariants.{Scan, Chunk, NoChunk, Abort, Hello, Read, Reply, Updated}
 use Rattle.av_arrival.specs.Place.{start}
 use Rattle.av_peers.specs.Line.{unsent}
-use Rattle.av_peers.specs.declared.line.Line.{Line}
+use Rattle.av_peers.specs.declared.line.Connection.{Connection}
 use Rattle.av_peers.specs.declared.service.Claim.{Claim}
 use Rattle.av_peers.specs.declared.service.Claim.TheVariants.{Greeting, Newer}
 use Rattle.av_peers.specs.declared.service.Gone.{Gone}
-use Rattle.av_peers.specs.declared.service.Service.{Service}
+use Rattle.av_peers.specs.declared.service.ServicePeer.{ServicePeer}
 
 -- one that came at this moment, and is waited for to greet
-abbrev pub came : Line → Duration → Service
+abbrev pub came : Connection → Duration → ServicePeer
 came line now =
     record {
       line = line;
@@ -31,7 +31,7 @@ came line now =
     }
 
 -- it may be read on: fewer than 2,097,152 bytes wait for it
-abbrev pub goes_on : Service → Bool
+abbrev pub goes_on : ServicePeer → Bool
 goes_on s = s.line.may_read && nat_lt (length (unsent s.line)) 2_097_152
 
 -- the earlier of two moments
@@ -45,7 +45,7 @@ first_since (Some a) None = Some a
 first_since None other = other
 
 -- since when it is waited for: to take what it is sent, or to send a frame
-abbrev pub waited_since : Service → Option Duration
+abbrev pub waited_since : ServicePeer → Option Duration
 waited_since s = first_since s.line.since s.arriving.since
 
 -- nothing more can be taken off: a fault was met, or there is one in front, or memory was refused for the message whose frame is
@@ -64,15 +64,15 @@ kept_frame None = []
 kept_frame (Some m) = frame m
 
 -- what came of a service and was not passed on: its greeting, and what is in its feed
-abbrev pub unheard : Service → List ℕ
+abbrev pub unheard : ServicePeer → List ℕ
 unheard s = kept_frame s.greeting ++ s.feed.rest
 
 -- more came, behind what had come, and nothing was passed on
-abbrev pub HearsMore : Service → Service → Type 0
+abbrev pub HearsMore : ServicePeer → ServicePeer → Type 0
 HearsMore old new = (bytes : List ℕ) × (unheard new ≡ unheard old ++ bytes)
 
 -- a greeting came now, at this port, and is kept; or none did
-abbrev pub IsGreetedAt : Service → Service → Option Port → Type 0
+abbrev pub IsGreetedAt : ServicePeer → ServicePeer → Option Port → Type 0
 IsGreetedAt old new None = new.greeting ≡ old.greeting
 IsGreetedAt old new (Some port) = (old.greeting ≡ None) × ((m : Letter) × (new.greeting ≡ Some m) × (port ≡ m.port))
 
@@ -81,7 +81,7 @@ abbrev pub SaysFirst : List Letter → List ℕ → Type 0
 SaysFirst messages bytes = (more : List ℕ) × (bytes ≡ flat_map frame messages ++ more)
 
 -- these messages were taken off, and no whole frame is left
-abbrev pub LeavesOff : Service → Service → List Letter → Type 0
+abbrev pub LeavesOff : ServicePeer → ServicePeer → List Letter → Type 0
 LeavesOff old new messages = (unheard old ≡ flat_map frame messages ++ unheard new) × (front_of new.feed.rest ≡ Ok None)
 
 -- what is said of the version of a set: a greeting and news of a newer set name it
@@ -101,5 +101,5 @@ named (Greeting version) = version
 named (Newer version) = version
 
 -- the version that it named last is below the floor
-abbrev pub is_outdated : ℕ → Service → Bool
+abbrev pub is_outdated : ℕ → ServicePeer → Bool
 is_outdated floor s = nat_lt s.version floor

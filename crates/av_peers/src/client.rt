@@ -3,7 +3,7 @@ ghost use Rattle.av_clamd.specs.Door.{fresh};
 ghost use Rattle.av_peers.specs.Client.{Hears, IsWords, SaysNext, SaysOne, begun_left, came, ending_of, farewell, is_of_clamd, is_over, kind_of, late_text, learned, left_of, newer_text, of_tag, open_answer_of, open_text, part_left, silent, spoken_answer, spoken_cause, spoken_of, tag_of, thing_of, told_text};
 ghost use Rattle.av_peers.specs.declared.client.Speech.TheVariants.{Opens, Clamd};
 
-use crate::line::{Came, Line};
+use crate::line::{Came, Connection};
 use crate::told::{LargeTold, WRITTEN};
 use av_arrival::{TurnedAway, put_refusal};
 use av_asks::{
@@ -22,7 +22,7 @@ use std::mem;
 /// One client.
 #[derive(Drop)]
 pub struct Client {
-    pub line: Line,
+    pub line: Connection,
     speech: Speech,
     // What came of a client of clamd and was not heard yet.
     kept: Vec<u8>,
@@ -112,7 +112,7 @@ impl From<AllocError> for Lost {
 
 impl Client {
     /// One that came by the socket for opens.
-    pub fn of_opens(alloc: Global, line: Line) -> Client
+    pub fn of_opens(alloc: Global, line: Connection) -> Client
         ensures came { result ≡ came line (Opens silent) result.kept }
         ensures kept { result.kept.items ≡ [] }
     {
@@ -120,14 +120,14 @@ impl Client {
     }
 
     /// One that came by the socket for clients of clamd.
-    pub fn of_clamd(alloc: Global, line: Line) -> Client
+    pub fn of_clamd(alloc: Global, line: Connection) -> Client
         ensures came { result ≡ came line (Clamd fresh) result.kept }
         ensures kept { result.kept.items ≡ [] }
     {
         Client::new(alloc, line, Speech::Clamd(Door::new(alloc)))
     }
 
-    fn new(alloc: Global, line: Line, speech: Speech) -> Client
+    fn new(alloc: Global, line: Connection, speech: Speech) -> Client
         ensures came { result ≡ came line speech result.kept }
         ensures kept { result.kept.items ≡ [] }
     {

@@ -20,7 +20,7 @@ pub const LEAST: usize = 4_096;
 
 /// One end of a connection, of which no call waits: what is to go out is kept until the other side takes it.
 #[derive(Drop)]
-pub struct Line {
+pub struct Connection {
     alloc: Global,
     stream: UnixStream,
     /// The bytes that wait to go out, to put more behind them.
@@ -47,14 +47,14 @@ pub enum Came {
     End,
 }
 
-impl Line {
+impl Connection {
     /// Over a connection that does not block, whose other side is to take so many bytes in the time for which it is waited.
-    pub fn new(alloc: Global, stream: UnixStream, least: usize) -> Line
+    pub fn new(alloc: Global, stream: UnixStream, least: usize) -> Connection
         ensures empty { unsent result ≡ [] }
         ensures taken { (result.since ≡ None) × (result.taken ≡ 0) × (result.least ≡ least) }
         ensures open { (result.may_read ≡ true) × (result.is_closed ≡ false) }
     {
-        Line {
+        Connection {
             alloc,
             stream,
             waiting: Vec::new(alloc),

@@ -3,7 +3,7 @@ ghost use Rattle.av_peers.specs.Line.{unsent};
 ghost use Rattle.av_peers.specs.Parts.{HearsWord, came, greeting_since, is_full, is_spent, named, waited_since, word_number, yields};
 ghost use Rattle.av_peers.specs.Service.{earlier};
 
-use crate::line::{Came, Line};
+use crate::line::{Came, Connection};
 use av_base::Version;
 use av_parts::{Said, Word, WordReader};
 use std::time::Duration;
@@ -20,7 +20,7 @@ const MOST_WAITING: usize = 1_048_576;
 /// The second connection of the scanning service: contents go there in parts, and verdicts come.
 #[derive(Drop)]
 pub struct Parts {
-    pub line: Line,
+    pub line: Connection,
     reader: WordReader,
     // Since when it is waited for to greet.
     since: Option<Duration>,
@@ -36,7 +36,7 @@ pub struct Broken;
 
 impl Parts {
     /// One that came just now.
-    pub fn new(line: Line, now: Duration) -> Parts
+    pub fn new(line: Connection, now: Duration) -> Parts
         ensures { result ≡ came line now }
     {
         Parts {

@@ -3,7 +3,7 @@ ghost use Rattle.av_peers.specs.Service.{GivesMessage, HearsMore, IsGreetedAt, L
 ghost use Rattle.av_arrival.specs.Place.{passed_at};
 
 use crate::asked::Asked;
-use crate::line::{Came, Line};
+use crate::line::{Came, Connection};
 use av_arrival::Arriving;
 use av_base::{Port, Version};
 use av_frame::{Body, Feed, Message};
@@ -15,8 +15,8 @@ const MOST_WAITING: usize = 2_097_152;
 
 /// A scanning service's connection.
 #[derive(Drop)]
-pub struct Service {
-    pub line: Line,
+pub struct ServicePeer {
+    pub line: Connection,
     feed: Feed,
     arriving: Arriving,
     /// The version of the set that it named last, 0 before.
@@ -42,12 +42,12 @@ pub struct Whole {
     pub is_gone: bool,
 }
 
-impl Service {
+impl ServicePeer {
     /// One that came just now.
-    pub fn new(alloc: Global, line: Line, now: Duration) -> Service
+    pub fn new(alloc: Global, line: Connection, now: Duration) -> ServicePeer
         ensures { result ≡ came line now }
     {
-        Service {
+        ServicePeer {
             line,
             feed: Feed::new(alloc),
             arriving: Arriving::since(now),

@@ -5,9 +5,9 @@ use Rattle.av_pool.specs.Channel.{IsLike}
 use Rattle.av_pool.specs.declared.crew.Sent.{Sent}
 use Rattle.av_pool.specs.declared.item.DoneItem.{DoneItem}
 use Rattle.av_pool.specs.declared.item.WorkItem.{WorkItem}
-use Rattle.av_pool.specs.declared.tally.Tally.{Tally}
+use Rattle.av_pool.specs.declared.tally.PassTally.{PassTally}
 
 -- the worker promised for the channels of these passes
-abbrev pub IsHandleOf : {T : Type 0} → Pass WorkItem (Tally WorkItem) → Pass DoneItem (Tally DoneItem) → PromisedHandle T Sent
+abbrev pub IsHandleOf : {T : Type 0} → Pass WorkItem (PassTally WorkItem) → Pass DoneItem (PassTally DoneItem) → PromisedHandle T Sent
     → Type 0
 IsHandleOf mine theirs h = IsLike mine h.promise.work.value × IsLike theirs h.promise.done.value

@@ -12,7 +12,7 @@ use Rattle.av_pool.specs.declared.fault.StartFault.{StartFault}
 use Rattle.av_pool.specs.declared.fault.StartFault.TheVariants.{WorkersRange, NoThread}
 use Rattle.av_pool.specs.declared.item.DoneItem.{DoneItem}
 use Rattle.av_pool.specs.declared.item.WorkItem.{WorkItem}
-use Rattle.av_pool.specs.declared.tally.Tally.{Tally}
+use Rattle.av_pool.specs.declared.tally.PassTally.{PassTally}
 use Rattle.av_service.specs.Work.{DoneState}
 
 -- the channel that a giver gives into, all that it gave, in order, and how many marks it sent
@@ -28,11 +28,11 @@ pub record TakerState : Type 0 where
   pub marks : ℕ
 
 -- the same read off their passes
-abbrev pub giver_state : Pass WorkItem (Tally WorkItem) → GiverState
+abbrev pub giver_state : Pass WorkItem (PassTally WorkItem) → GiverState
 giver_state p = record { channel = channel_of p; given = lents_of (view p).put; marks = marks_of (view p).put }
 
 -- what a taker has taken
-abbrev pub taker_state : Pass DoneItem (Tally DoneItem) → TakerState
+abbrev pub taker_state : Pass DoneItem (PassTally DoneItem) → TakerState
 taker_state p = record { channel = channel_of p; taken = dones_of (view p).taken; marks = idles_of (view p).taken }
 
 -- both channels of a pool, and how many workers it has

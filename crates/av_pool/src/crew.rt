@@ -13,7 +13,7 @@ use crate::item::{
 };
 use crate::pace::Pace;
 use crate::taker::Taker;
-use crate::tally::{Cut, EachAsOften, Tally};
+use crate::tally::{Cut, EachAsOften, PassTally};
 use crate::worker::{send, work};
 use av_base::Refusal;
 use crossbeam_channel::bounded_with;
@@ -97,13 +97,13 @@ impl Crew {
     {
         let (works_in, works_out, mut work_pass) = bounded_with::<
             WorkItem,
-            Tally<WorkItem>,
+            PassTally<WorkItem>,
             EachAsOften,
             Global,
         >(alloc, HELD)?;
         let (dones_in, dones_out, mut done_pass) = bounded_with::<
             DoneItem,
-            Tally<DoneItem>,
+            PassTally<DoneItem>,
             EachAsOften,
             Global,
         >(alloc, HELD)?;

@@ -1,5 +1,5 @@
 use crate::ran::Ran;
-use crate::tally::{EachAsOften, Tally};
+use crate::tally::{EachAsOften, PassTally};
 use av_desk::LentParcel;
 use crossbeam_channel::{Pass, RuledReceiver, RuledSender};
 
@@ -19,14 +19,14 @@ pub enum DoneItem {
     End,
 }
 
-pub type WorkPass = Pass<WorkItem, Tally<WorkItem>>;
+pub type WorkPass = Pass<WorkItem, PassTally<WorkItem>>;
 
-pub type WorkSender = RuledSender<WorkItem, Tally<WorkItem>, EachAsOften>;
+pub type WorkSender = RuledSender<WorkItem, PassTally<WorkItem>, EachAsOften>;
 
-pub type WorkReceiver = RuledReceiver<WorkItem, Tally<WorkItem>, EachAsOften>;
+pub type WorkReceiver = RuledReceiver<WorkItem, PassTally<WorkItem>, EachAsOften>;
 
-pub type DonePass = Pass<DoneItem, Tally<DoneItem>>;
+pub type DonePass = Pass<DoneItem, PassTally<DoneItem>>;
 
-pub type DoneSender = RuledSender<DoneItem, Tally<DoneItem>, EachAsOften>;
+pub type DoneSender = RuledSender<DoneItem, PassTally<DoneItem>, EachAsOften>;
 
-pub type DoneReceiver = RuledReceiver<DoneItem, Tally<DoneItem>, EachAsOften>;
+pub type DoneReceiver = RuledReceiver<DoneItem, PassTally<DoneItem>, EachAsOften>;

@@ -3,7 +3,7 @@ use crossbeam_channel::protocol::{Lesson, Outcome, Protocol};
 use std::collections::LinkedList;
 
 /// What a pass has put and taken, and its parts of the right to know the whole. Clauses alone see it: no value of it is made.
-pub struct Tally<T> {
+pub struct PassTally<T> {
     pub parts: u64,
     pub put: LinkedList<T>,
     pub taken: LinkedList<T>,
@@ -12,7 +12,7 @@ pub struct Tally<T> {
 /// The rule of a channel: each item comes out as often as it went in. The first pass has all 1024 parts.
 pub struct EachAsOften;
 
-impl<T> Protocol<T, Tally<T>> for EachAsOften {
+impl<T> Protocol<T, PassTally<T>> for EachAsOften {
     ghost use Rattle.std.specs.Prelude.{[]};
     ghost use Rattle.av_pool.specs.Tally.{tally, Balanced};
 
@@ -24,7 +24,7 @@ impl<T> Protocol<T, Tally<T>> for EachAsOften {
 /// A new pass has one part of the old one's, and the old one takes it in again.
 pub struct Cut;
 
-impl<T> Split<Tally<T>> for Cut {
+impl<T> Split<PassTally<T>> for Cut {
     ghost use Rattle.std.specs.Prelude.{[], ◌-◌};
     ghost use Rattle.av_pool.specs.Tally.{tally};
 
@@ -33,7 +33,7 @@ impl<T> Split<Tally<T>> for Cut {
     ghost right = { λ v. tally 1 [] [] };
 }
 
-impl<T> Join<Tally<T>> for Cut {
+impl<T> Join<PassTally<T>> for Cut {
     ghost use Rattle.std.specs.Prelude.{[], ◌+◌, ◌++◌};
     ghost use Rattle.av_pool.specs.Tally.{tally};
 
@@ -45,14 +45,14 @@ impl<T> Join<Tally<T>> for Cut {
 /// An item is put.
 pub struct Put;
 
-impl<T> Outcome<T, Tally<T>> for Put {
+impl<T> Outcome<T, PassTally<T>> for Put {
     ghost use Rattle.std.specs.Prelude.{◌≡◌, [], ◌∷◌, ◌++◌};
     ghost use Rattle.av_pool.specs.Tally.{tally};
 
     ghost then = { λ v x w. w ≡ tally v.parts (v.put ++ x ∷ []) v.taken };
 }
 
-impl<T> Lesson<T, Tally<T>> for Put {
+impl<T> Lesson<T, PassTally<T>> for Put {
     ghost use Rattle.av_pool.specs.Tally.{Knows};
 
     ghost fact = { Knows };
@@ -61,14 +61,14 @@ impl<T> Lesson<T, Tally<T>> for Put {
 /// An item is taken.
 pub struct Took;
 
-impl<T> Outcome<T, Tally<T>> for Took {
+impl<T> Outcome<T, PassTally<T>> for Took {
     ghost use Rattle.std.specs.Prelude.{◌≡◌, [], ◌∷◌, ◌++◌};
     ghost use Rattle.av_pool.specs.Tally.{tally};
 
     ghost then = { λ v x w. w ≡ tally v.parts v.put (v.taken ++ x ∷ []) };
 }
 
-impl<T> Lesson<T, Tally<T>> for Took {
+impl<T> Lesson<T, PassTally<T>> for Took {
     ghost use Rattle.av_pool.specs.Tally.{Knows};
 
     ghost fact = { Knows };

@@ -7,7 +7,7 @@ ghost use Rattle.av_pool.specs.Worker.{HasSent};
 use crate::item::{DoneItem, DonePass, DoneSender, WorkItem, WorkPass, WorkReceiver};
 use crate::pace::Pace;
 use crate::ran::Ran;
-use crate::tally::{EachAsOften, Put, Tally, Took};
+use crate::tally::{EachAsOften, PassTally, Put, Took};
 use crossbeam_channel::{Pass, RuledReceiver, RuledSender};
 use std::sync::Wait;
 use std::thread;
@@ -15,8 +15,8 @@ use std::thread;
 /// Sends, and waits for as long as it can't.
 pub(crate) fn send<T: Drop, R: Wait>(
     rt: &R,
-    sender: &RuledSender<T, Tally<T>, EachAsOften>,
-    pass: &mut Pass<T, Tally<T>>,
+    sender: &RuledSender<T, PassTally<T>, EachAsOften>,
+    pass: &mut Pass<T, PassTally<T>>,
     item: T,
 )
     requires channel { IsSeatAt (sends_on sender.now) pass.old }
@@ -38,8 +38,8 @@ pub(crate) fn send<T: Drop, R: Wait>(
 /// Receives, and waits for as long as it can't.
 pub(crate) fn receive<T: Drop, R: Wait>(
     rt: &R,
-    receiver: &RuledReceiver<T, Tally<T>, EachAsOften>,
-    pass: &mut Pass<T, Tally<T>>,
+    receiver: &RuledReceiver<T, PassTally<T>, EachAsOften>,
+    pass: &mut Pass<T, PassTally<T>>,
 ) -> T
     requires channel { IsSeatAt (receives_on receiver.now) pass.old }
     requires part { 0 < (view pass.old).parts }

@@ -10,7 +10,7 @@ use crate::judging::{Means, judge};
 use crate::opening::Opening;
 use crate::scanning::Scanning;
 use crate::stretches::{Hands, ReadAnywhere, Turn};
-use crate::told::Entry;
+use crate::told::ScanEntry;
 use crate::truth::{Judged, Truth};
 use av_files::{MAX_FILE, Scanners};
 use crossbeam_channel::{Receiver, Sender, TryRecvError, bounded};
@@ -36,7 +36,7 @@ const RESERVE: usize = 2 * ROOM * 4_096;
 #[derive(Drop)]
 pub(crate) struct Work {
     pub(crate) place: u64,
-    pub(crate) entry: Entry,
+    pub(crate) entry: ScanEntry,
 }
 
 /// What became of it.

@@ -5,7 +5,7 @@ ghost use Rattle.av_scan.specs.Told.{path_of};
 ghost use Rattle.av_scan.specs.declared.feed.Folders.TheVariants.{Refused};
 
 use crate::opening::Origin;
-use crate::told::Entry;
+use crate::told::ScanEntry;
 use av_files::{Bounds, Met, Walk};
 use std::alloc::{AllocError, Global};
 use std::fs;
@@ -83,7 +83,7 @@ impl<'a, R: Files> Feed<'a, R> {
     }
 
     /// What comes next, nothing at the end.
-    pub fn next(&mut self) -> Result<Option<Entry>, AllocError>
+    pub fn next(&mut self) -> Result<Option<ScanEntry>, AllocError>
         ensures { IsNext self.old self.new result }
     {
         match self.folders {
@@ -95,11 +95,11 @@ impl<'a, R: Files> Feed<'a, R> {
 
 impl<'a, R: Files> Names<'a, R> {
     // The next file where folders stand for files.
-    fn next_entered(&mut self) -> Result<Option<Entry>, AllocError> {
+    fn next_entered(&mut self) -> Result<Option<ScanEntry>, AllocError> {
         'names: for _ in 0..u64::MAX {
             if let Some(met) = self.next_met()? {
                 let origin = Origin::Met;
-                return Ok(Some(Entry { met, origin }));
+                return Ok(Some(ScanEntry { met, origin }));
             }
             let Some(name) = self.names.get(self.next) else {
                 return Ok(None);
@@ -147,7 +147,7 @@ impl<'a, R: Files> Names<'a, R> {
     }
 
     // The next file of the names alone.
-    fn next_named(&mut self) -> Result<Option<Entry>, AllocError>
+    fn next_named(&mut self) -> Result<Option<ScanEntry>, AllocError>
         ensures { IsNext (left_of Refused self.old.next self.old.names.now) (left_of Refused self.new.next self.new.names.now) result }
     {
         let Some(name) = self.names.get(self.next) else {
@@ -160,18 +160,18 @@ impl<'a, R: Files> Names<'a, R> {
 }
 
 // A file that was named.
-fn named(alloc: Global, name: &[u8]) -> Result<Entry, AllocError>
+fn named(alloc: Global, name: &[u8]) -> Result<ScanEntry, AllocError>
     ensures { IfOk result (λ entry. path_of entry.met ≡ name.now) }
 {
     let origin = Origin::Named;
     match str::from_utf8(name) {
         Ok(name) => {
             let met = Met::File(String::from_str(alloc, name)?);
-            Ok(Entry { met, origin })
+            Ok(ScanEntry { met, origin })
         }
         Err(_) => {
             let met = Met::NotText(name.to_vec(alloc)?);
-            Ok(Entry { met, origin })
+            Ok(ScanEntry { met, origin })
         }
     }
 }

@@ -10,7 +10,7 @@ use crate::matches::matches_in;
 use crate::opening::{Opening, Origin};
 use crate::scanning::Matches;
 use crate::stretches::{Hands, ReadAnywhere, found_at_once};
-use crate::told::{Entry, Told};
+use crate::told::{ScanEntry, Told};
 use crate::truth::{Judged, Truth};
 use av_base::ReadFault;
 use av_base::device::read_into;
@@ -39,7 +39,7 @@ pub struct Means<'a, O> {
 pub fn judge<T: Truth, F: ReadAnywhere + Drop + Sync, O: Opening<F>, R: Threads + Sync>(
     rt: &R,
     means: Means<'_, O>,
-    entry: Entry,
+    entry: ScanEntry,
     buffer: &mut [u8],
 ) -> Judged<T>
     requires room { 0 < length buffer.old }
@@ -47,7 +47,7 @@ pub fn judge<T: Truth, F: ReadAnywhere + Drop + Sync, O: Opening<F>, R: Threads 
     ensures name { name_of result.told ≡ path_of entry.met }
     ensures buffer { length buffer.new ≡ length buffer.old }
 {
-    let Entry { met, origin } = entry;
+    let ScanEntry { met, origin } = entry;
     match met {
         Met::File(name) => match found_under::<F, O, R>(rt, means, name.as_str(), origin, buffer) {
             Ok(Found { findings, seen }) => Judged::new(Told::Scanned {
@@ -57,21 +57,21 @@ pub fn judge<T: Truth, F: ReadAnywhere + Drop + Sync, O: Opening<F>, R: Threads 
             }),
             Err(status) => {
                 let met = Met::File(name);
-                missed(Entry { met, origin }, status)
+                missed(ScanEntry { met, origin }, status)
             }
         },
         Met::Unreadable(name) => {
             let met = Met::Unreadable(name);
-            missed(Entry { met, origin }, Status::Device)
+            missed(ScanEntry { met, origin }, Status::Device)
         }
         Met::NotText(name) => {
             let met = Met::NotText(name);
-            missed(Entry { met, origin }, Status::Refused)
+            missed(ScanEntry { met, origin }, Status::Refused)
         }
     }
 }
 
-fn missed<T: Truth>(entry: Entry, status: Status) -> Judged<T>
+fn missed<T: Truth>(entry: ScanEntry, status: Status) -> Judged<T>
     ensures { name_of result.told ≡ path_of entry.met }
 {
     Judged::new(Told::Missed { entry, status })

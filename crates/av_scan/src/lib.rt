@@ -32,4 +32,4 @@ pub use on::scan_on;
 pub use opening::{Opening, Origin};
 pub use scanning::{MAX_JOBS, Matches, Scanning, jobs_of};
 pub use stretches::ReadAnywhere;
-pub use told::{Entry, Told, Unscanned};
+pub use told::{ScanEntry, Told, Unscanned};

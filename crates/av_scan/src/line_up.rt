@@ -9,7 +9,7 @@ use crate::crew::{Crew, Done, ROOM, Work};
 use crate::judging::{Means, judge};
 use crate::opening::Opening;
 use crate::stretches::ReadAnywhere;
-use crate::told::{Entry, name_of, path_of};
+use crate::told::{ScanEntry, name_of, path_of};
 use crate::truth::{Judged, Truth};
 use av_files::Met;
 use crossbeam_channel::Receiver;
@@ -22,7 +22,7 @@ use std::thread::Threads;
 // A file whose turn has not come, and whether a thread scans it.
 #[derive(Drop)]
 struct Place {
-    entry: Entry,
+    entry: ScanEntry,
     is_sent: bool,
 }
 
@@ -79,7 +79,7 @@ impl<T: Truth> LineUp<T> {
     }
 
     /// A file comes. Where it has no memory it has no place.
-    pub(crate) fn give<R: Wait>(&mut self, rt: &R, entry: Entry) -> Result<(), AllocError>
+    pub(crate) fn give<R: Wait>(&mut self, rt: &R, entry: ScanEntry) -> Result<(), AllocError>
         ensures { MatchResult result (λ _. self.new ≡ self.old ++ path_of entry.met ∷ []) (λ _. self.new ≡ self.old) }
     {
         let place = self.arrivals.add()?;
@@ -130,7 +130,13 @@ impl<T: Truth> LineUp<T> {
 }
 
 // Gives a file to the threads that scan. Says whether it is with them.
-fn send<R: Wait>(rt: &R, alloc: Global, crew: &Option<Crew>, place: u64, entry: &Entry) -> bool {
+fn send<R: Wait>(
+    rt: &R,
+    alloc: Global,
+    crew: &Option<Crew>,
+    place: u64,
+    entry: &ScanEntry,
+) -> bool {
     let Some(crew) = crew else {
         return false;
     };
@@ -140,7 +146,7 @@ fn send<R: Wait>(rt: &R, alloc: Global, crew: &Option<Crew>, place: u64, entry: 
     let Ok(name) = String::from_str(alloc, path.as_str()) else {
         return false;
     };
-    let entry = Entry {
+    let entry = ScanEntry {
         met: Met::File(name),
         origin: entry.origin,
     };
@@ -151,7 +157,7 @@ fn send<R: Wait>(rt: &R, alloc: Global, crew: &Option<Crew>, place: u64, entry: 
 fn fitting<T: Truth, F: ReadAnywhere + Drop + Sync, O: Opening<F>, R: Threads + Sync>(
     rt: &R,
     means: Means<'_, O>,
-    entry: Entry,
+    entry: ScanEntry,
     arrived: Option<Judged<T>>,
     buffer: &mut [u8],
 ) -> Judged<T>

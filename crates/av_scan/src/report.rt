@@ -11,7 +11,7 @@ ghost use Rattle.av_scan.specs.Told.{judged_of, name_of, status_of};
 ghost use Rattle.av_status.specs.Status.{IsFault};
 
 use crate::opening::{Opening, Origin};
-use crate::told::{Entry, Told, Unscanned, path_of, unscanned_of};
+use crate::told::{ScanEntry, Told, Unscanned, path_of, unscanned_of};
 use av_base::Part;
 use av_base::parts::write_parts;
 use av_files::{
@@ -264,7 +264,7 @@ fn put_unscanned(
 #[tactic(auto, using(crate::proofs::LineLemmas::is_fault))]
 pub(crate) fn say_unscanned<F, O: Opening<F>, E: Write>(
     files: &O,
-    entry: &Entry,
+    entry: &ScanEntry,
     unscanned: Unscanned,
     err: &mut E,
 ) -> Status

@@ -9,7 +9,7 @@ use av_status::Status;
 
 /// What a scan comes to: a file, or an entry of a folder that is passed over.
 #[derive(Drop)]
-pub struct Entry {
+pub struct ScanEntry {
     pub met: Met,
     pub origin: Origin,
 }
@@ -25,7 +25,7 @@ pub enum Told {
     },
     /// A file or an entry that has none, and the status of the fault for which it has none.
     Missed {
-        entry: Entry,
+        entry: ScanEntry,
         status: Status,
     },
 }

@@ -15,7 +15,7 @@ use Rattle.av_match.specs.Scanning.{begin}
 use Rattle.av_pend.specs.declared.answer.Answer.{Answer}
 use Rattle.av_pend.specs.declared.answer.Answer.TheVariants.{Denied, Granted}
 use Rattle.av_service.specs.Work.{WorkState}
-use Rattle.av_service.specs.declared.note.Note.TheVariants as service_note
+use Rattle.av_service.specs.declared.note.ServiceNote.TheVariants as service_note
 use Rattle.av_filter.specs.Conduct.{FilterEvent}
 use Rattle.av_filter.specs.Conduct as filter
 use Rattle.av_frame.specs.Message.{Letter, via}

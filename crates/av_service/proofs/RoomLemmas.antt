@@ -7,7 +7,7 @@ use Rattle.av_service.specs.Conduct.{service_step}
 use Rattle.av_service.specs.Desk.{afresh}
 use Rattle.av_service.specs.Response.{read_message, says, sends}
 use Rattle.av_service.specs.Room.{RoomFits}
-use Rattle.av_service.specs.declared.note.Note.TheVariants.{Quiet}
+use Rattle.av_service.specs.declared.note.ServiceNote.TheVariants.{Quiet}
 
 pub room_fits : RoomFits
 unfolding service_step

@@ -7,7 +7,7 @@ use Rattle.av_service.specs.Conduct as service
 use Rattle.av_service.specs.Desk.{Desk}
 use Rattle.av_service.specs.Response.{Response}
 use Rattle.av_service.specs.Work.{WorkState}
-use Rattle.av_service.specs.declared.note.Note.{Note}
+use Rattle.av_service.specs.declared.note.ServiceNote.{ServiceNote}
 use Rattle.av_sigset.specs.Publication.{Publication, latest_as}
 use Rattle.av_sigset.specs.declared.signature.Pattern.{Pattern}
 
@@ -41,7 +41,7 @@ pub record ServiceEntry : Type 0 where
   pub call : Call
   pub messages : List Letter
   pub works : List WorkState
-  pub note : Note
+  pub note : ServiceNote
 
 -- an entry has what the response gives out
 pub record IsResponse (x : ServiceEntry) (r : Response) : Type 0 where

@@ -19,7 +19,7 @@ use Rattle.av_service.specs.Lending.{closes}
 use Rattle.av_service.specs.Response.{Response, read_message, says, sends}
 use Rattle.av_service.specs.Scanning.{awaits, lends, most_leases}
 use Rattle.av_service.specs.declared.job.Job.{Job}
-use Rattle.av_service.specs.declared.note.Note.TheVariants.{Quiet, Repeat, Ignored, Orphan}
+use Rattle.av_service.specs.declared.note.ServiceNote.TheVariants.{Quiet, Repeat, Ignored, Orphan}
 
 -- a message of this port is heard: the service is connected, and the port its own
 abbrev pub Hears : Desk → Port → Type 0

@@ -6,8 +6,8 @@ ghost use Rattle.av_gate.specs.Calls.{event_of};
 ghost use Rattle.av_shared.specs.Apart.{are_apart, hears_nothing, one_by_one, takes_nothing};
 ghost use Rattle.av_shared.specs.History.{AreOneHistory, events_of};
 
-use av_desk::{Entry as DeskEntry, Event as DeskEvent};
-use av_gate::{Entry as GateEntry, Event as GateEvent};
+use av_desk::{DeskEntry, Event as DeskEvent};
+use av_gate::{Event as GateEvent, GateEntry};
 
 /// Whether nothing came over between them: no message to any, and no work back to a desk. Then the gate's events, behind them
 /// the desk's, and behind them the spare's, are one history of all. It takes no memory, and a look at each event.

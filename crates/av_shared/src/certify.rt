@@ -8,7 +8,7 @@ ghost use Rattle.av_history.specs.Audits.{SideEntry};
 use crate::laws::headline_of_audits;
 use crate::merge::{Sides, are_merged};
 use av_base::Port;
-use av_desk::{Audit as DeskAudit, Entry as DeskEntry};
+use av_desk::{Audit as DeskAudit, DeskEntry};
 use av_gate::Audit as GateAudit;
 
 /// Whether the events of all are one history. Then the headline holds of this very run. If it is false, there is no such history.

@@ -5,9 +5,9 @@ ghost use Rattle.av_shared.specs.Merged.{AreAllTaken, AreMerged, AreStuck, AreTa
 
 use crate::sent::{Look, Place, START, was_sent};
 use av_base::Port;
-use av_desk::{Entry as DeskEntry, Event as DeskEvent};
+use av_desk::{DeskEntry, Event as DeskEvent};
 use av_frame::Message;
-use av_gate::{Entry as GateEntry, Event as GateEvent};
+use av_gate::{Event as GateEvent, GateEntry};
 
 /// The events of a gate, and of the desk at each of its ports.
 #[derive(Clone, Copy)]

@@ -3,9 +3,9 @@ ghost use Rattle.std.specs.List.{flat_map};
 ghost use Rattle.av_base.specs.Among.{Among};
 ghost use Rattle.av_frame.specs.Message.{Letter};
 
-use av_desk::Entry as DeskEntry;
+use av_desk::DeskEntry;
 use av_frame::Message;
-use av_gate::Entry as GateEntry;
+use av_gate::GateEntry;
 
 /// An event that sends messages.
 pub(crate) trait Sends {

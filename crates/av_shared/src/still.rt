@@ -8,8 +8,8 @@ ghost use Rattle.av_shared.specs.Still.{AreStill, changes_nothing, publishes_not
 ghost use Rattle.av_sigset.specs.Publication.{publication_of};
 ghost use Rattle.av_sigset.specs.Set.{patterns_of};
 
-use av_desk::{Audit as DeskAudit, Entry as DeskEntry, Event as DeskEvent};
-use av_gate::{Audit as GateAudit, Entry as GateEntry, Event as GateEvent};
+use av_desk::{Audit as DeskAudit, DeskEntry, Event as DeskEvent};
+use av_gate::{Audit as GateAudit, Event as GateEvent, GateEntry};
 use av_sigset::{Catalogue, Pattern, SignatureSet};
 
 /// Whether no stream changed and nothing was published. It takes no memory, and a look at each event.

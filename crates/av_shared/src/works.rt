@@ -13,7 +13,7 @@ ghost use Rattle.av_history.specs.Audits.{IsOfWorks};
 
 use crate::looking::Looking;
 use av_base::Lease;
-use av_desk::{Audit as DeskAudit, Entry as DeskEntry, Event as DeskEvent};
+use av_desk::{Audit as DeskAudit, DeskEntry, Event as DeskEvent};
 use av_frame::Body;
 use av_match::Automaton;
 use av_service::ContentScan;

@@ -39,13 +39,13 @@ const MANY: usize = 65_536;
 /// Both directions of a connection.
 #[derive(Drop)]
 pub struct Duplex<'a, C> {
-    line: Line<'a, C>,
+    line: TimedStream<'a, C>,
     inside: RefCell<Inside>,
 }
 
 // The connection and the time that a wait may take.
 #[derive(Drop)]
-struct Line<'a, C> {
+struct TimedStream<'a, C> {
     clock: &'a C,
     stream: UnixStream,
     wait: Duration,
@@ -78,7 +78,7 @@ impl<'a, C: Clock> Duplex<'a, C> {
         stream.set_write_timeout(Some(Duration::from_millis(PAUSE)))?;
         let since = clock.monotonic()?;
         Ok(Duplex {
-            line: Line {
+            line: TimedStream {
                 clock,
                 stream,
                 wait,
@@ -148,7 +148,7 @@ impl<'a, C: Clock> Duplex<'a, C> {
 }
 
 impl Inside {
-    fn await_first<C: Clock>(&mut self, line: &Line<'_, C>) -> io::Result<bool> {
+    fn await_first<C: Clock>(&mut self, line: &TimedStream<'_, C>) -> io::Result<bool> {
         let mut piece = [0u8; PIECE];
         let count = self.hear(line, &mut piece)?;
         self.kept.extend_from_slice(&piece[..count])?;
@@ -156,7 +156,7 @@ impl Inside {
     }
 
     // What was kept, or else what comes once all that waits has gone out.
-    fn read<C: Clock>(&mut self, line: &Line<'_, C>, buf: &mut [u8]) -> io::Result<usize>
+    fn read<C: Clock>(&mut self, line: &TimedStream<'_, C>, buf: &mut [u8]) -> io::Result<usize>
         ensures { IfOk result (λ count. count ≤ length buf.new) }
     {
         let count = self.give(buf);
@@ -188,7 +188,7 @@ impl Inside {
 
     // One read. A frame that has begun is waited for since its first byte, else the next one from now on, or without an end where
     // there is a moment to wake at.
-    fn hear<C: Clock>(&mut self, line: &Line<'_, C>, buf: &mut [u8]) -> io::Result<usize>
+    fn hear<C: Clock>(&mut self, line: &TimedStream<'_, C>, buf: &mut [u8]) -> io::Result<usize>
         ensures { IfOk result (λ count. count ≤ length buf.new) }
     {
         if let Some(count) = self.look(line, buf)? {
@@ -218,7 +218,11 @@ impl Inside {
     }
 
     // One read without sleeping, where something comes within some looks.
-    fn look<C: Clock>(&mut self, line: &Line<'_, C>, buf: &mut [u8]) -> io::Result<Option<usize>>
+    fn look<C: Clock>(
+        &mut self,
+        line: &TimedStream<'_, C>,
+        buf: &mut [u8],
+    ) -> io::Result<Option<usize>>
         ensures { IfOk result (λ heard. IfSome heard (λ count. count ≤ length buf.new)) }
     {
         line.stream.set_nonblocking(true)?;
@@ -228,7 +232,7 @@ impl Inside {
     }
 
     // The moment at which the wait for a frame is over, where it ever is.
-    fn over<C: Clock>(&self, line: &Line<'_, C>) -> io::Result<Option<Duration>> {
+    fn over<C: Clock>(&self, line: &TimedStream<'_, C>) -> io::Result<Option<Duration>> {
         let since = match self.arriving.begun() {
             Some(since) => since,
             None if self.wake.is_some() => return Ok(None),
@@ -238,7 +242,7 @@ impl Inside {
     }
 
     // Goes on over bytes that came.
-    fn pass<C: Clock>(&mut self, line: &Line<'_, C>, bytes: &[u8]) -> io::Result<()> {
+    fn pass<C: Clock>(&mut self, line: &TimedStream<'_, C>, bytes: &[u8]) -> io::Result<()> {
         let now = line.clock.monotonic()?;
         self.front.pass(bytes);
         self.arriving.pass(bytes, now);
@@ -246,7 +250,7 @@ impl Inside {
     }
 
     // Puts bytes behind those that wait to go out, which do once they are many.
-    fn put<C: Clock>(&mut self, line: &Line<'_, C>, bytes: &[u8]) -> io::Result<()> {
+    fn put<C: Clock>(&mut self, line: &TimedStream<'_, C>, bytes: &[u8]) -> io::Result<()> {
         self.waiting.extend_from_slice(bytes)?;
         if self.waiting.len() < MANY {
             return Ok(());
@@ -255,7 +259,7 @@ impl Inside {
     }
 
     // Sends what waits to go out, as a whole within the wait. Where that fails it is gone.
-    fn send<C: Clock>(&mut self, line: &Line<'_, C>) -> io::Result<()> {
+    fn send<C: Clock>(&mut self, line: &TimedStream<'_, C>) -> io::Result<()> {
         if self.waiting.is_empty() {
             return Ok(());
         }
@@ -264,7 +268,7 @@ impl Inside {
         sent
     }
 
-    fn send_all<C: Clock>(&mut self, line: &Line<'_, C>) -> io::Result<()> {
+    fn send_all<C: Clock>(&mut self, line: &TimedStream<'_, C>) -> io::Result<()> {
         let since = line.clock.monotonic()?;
         let mut sent = 0usize;
         'writes: for _ in 0..u64::MAX {
@@ -286,7 +290,7 @@ impl Inside {
     }
 
     // Keeps what has come, as far as it can be had without waiting.
-    fn read_ahead<C: Clock>(&mut self, line: &Line<'_, C>) -> io::Result<()> {
+    fn read_ahead<C: Clock>(&mut self, line: &TimedStream<'_, C>) -> io::Result<()> {
         if self.given > 0 {
             let rest = self.kept.len().saturating_sub(self.given);
             self.kept.rotate_left(self.given.min(self.kept.len()));
@@ -299,7 +303,7 @@ impl Inside {
         kept
     }
 
-    fn keep<C: Clock>(&mut self, line: &Line<'_, C>) -> io::Result<()> {
+    fn keep<C: Clock>(&mut self, line: &TimedStream<'_, C>) -> io::Result<()> {
         let mut piece = [0u8; PIECE];
         'pieces: for _ in 0..PIECES {
             if self.kept.len() >= MOST_KEPT {
@@ -320,7 +324,7 @@ impl Inside {
     }
 }
 
-impl<'a, C: Clock> Line<'a, C> {
+impl<'a, C: Clock> TimedStream<'a, C> {
     // How much is left of a wait that began then, where any is.
     fn left_since(&self, since: Duration) -> io::Result<Option<Duration>> {
         let gone = self.clock.monotonic()?.saturating_sub(since);

@@ -25,7 +25,7 @@ const OPENS: usize = MAX_JOBS as usize;
 
 // The filter's line to the one service that may join it.
 #[derive(Drop)]
-pub(crate) struct Line<'a, R> {
+pub(crate) struct FilterConnection<'a, R> {
     rt: &'a R,
     alloc: Global,
     meeting: Meeting<'a>,
@@ -39,15 +39,15 @@ pub(crate) struct Line<'a, R> {
     ghost idle: { end ≡ Done → exchange.outgoing ≡ [] },
 }
 
-impl<'a, R: Files + Net + Clock> Line<'a, R> {
+impl<'a, R: Files + Net + Clock> FilterConnection<'a, R> {
     // At this socket, of these rights, which is not made before the service is waited for.
     pub(crate) fn new(
         rt: &'a R,
         alloc: Global,
         meeting: Meeting<'a>,
         mode: u32,
-    ) -> Result<Line<'a, R>, AllocError> {
-        Ok(Line {
+    ) -> Result<FilterConnection<'a, R>, AllocError> {
+        Ok(FilterConnection {
             rt,
             alloc,
             meeting,

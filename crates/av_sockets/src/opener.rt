@@ -4,7 +4,7 @@ ghost use Rattle.av_sockets.specs.Run.{AddsRead, Leads, LeadsLate, LeadsOn, firs
 ghost use Rattle.av_status.specs.Status.{IsFault};
 
 use crate::group::Group;
-use crate::line::Line;
+use crate::line::FilterConnection;
 use crate::mount::{add, mount_empty, open, remove};
 use crate::sockets::Meeting;
 use av_base::{Refusal, StreamId};
@@ -25,7 +25,7 @@ use std::time::Clock;
 pub(crate) struct Opener<'a, R> {
     pub alloc: Global,
     mount: Mounted,
-    line: Line<'a, R>,
+    line: FilterConnection<'a, R>,
     pub group: Group<'a>,
 }
 
@@ -40,7 +40,7 @@ impl<'a, R: Files + Net + Clock> Opener<'a, R> {
         ensures first { IfOk result (λ o. o.mount ≡ first) }
         ensures empty { IfOk result (λ o. o.group.names.items ≡ []) }
     {
-        let line = Line::new(rt, alloc, meeting, mode)?;
+        let line = FilterConnection::new(rt, alloc, meeting, mode)?;
         Ok(Opener {
             alloc,
             mount: mount_empty(alloc)?,

@@ -7,7 +7,7 @@ use Rattle.std.specs.List.{list_any}
 use Rattle.std.specs.Map.{lookup}
 use Rattle.std.specs.Set.{remove_key}
 use Rattle.av_turns.specs.Clients.{is_once}
-use Rattle.av_turns.specs.declared.queue.Ask.{Ask}
+use Rattle.av_turns.specs.declared.queue.QueuedAsk.{QueuedAsk}
 use Rattle.av_turns.specs.declared.line.First.{First}
 use Rattle.av_turns.specs.declared.line.Found.{Found}
 use Rattle.av_turns.specs.declared.line.Found.TheVariants.{Front, Later, Nobody}
@@ -18,7 +18,7 @@ pub record Asked : Type 0 where
   pub first : ℕ
   pub content : List ℕ
 
-abbrev pub asked_of : Ask → Asked
+abbrev pub asked_of : QueuedAsk → Asked
 asked_of a = record { tag = a.tag; first = a.first; content = a.content.items }
 
 -- no ask

@@ -3,7 +3,7 @@ ghost use Rattle.std.specs.Option.{option_map};
 ghost use Rattle.av_turns.specs.Line.{asked_of, Drops, EachIsInLine, Forgets, IsBare, IsFirst, IsNobodyInLine, Looks, Pulls, queue_at, queue_of, Same, SameAsks, Sets, Stands, Takes};
 
 use crate::clients::take_out;
-use crate::queue::{Ask, Queue};
+use crate::queue::{Queue, QueuedAsk};
 use std::alloc::Global;
 use std::collections::{BTreeMap, VecDeque};
 use std::marker::Model;
@@ -11,7 +11,7 @@ use std::marker::Model;
 /// The asks that wait, client by client: of the client in front one is taken, and it is behind the others. A client whose last
 /// ask was taken leaves once it is in front again.
 #[derive(Drop)]
-pub struct Line {
+pub struct WaitingLine {
     asks: BTreeMap<u64, Queue>,
     order: VecDeque<u64>,
 }
@@ -51,7 +51,7 @@ pub struct First {
     pub next: Option<u64>,
 }
 
-impl Model for Line {
+impl Model for WaitingLine {
     ghost use Rattle.av_turns.specs.Line.{Lined, IsOrdered};
 
     ghost Value = { Lined };
@@ -61,19 +61,19 @@ impl Model for Line {
     ghost invariant = { λ l. IsOrdered l.asks.entries l.order.items };
 }
 
-impl Line {
+impl WaitingLine {
     /// Nobody waits.
-    pub fn new(alloc: Global) -> Line
+    pub fn new(alloc: Global) -> WaitingLine
         ensures { result ≡ record { asks = []; order = [] } }
     {
-        Line {
+        WaitingLine {
             asks: BTreeMap::new(alloc),
             order: VecDeque::new(alloc),
         }
     }
 
     /// An ask is in line. It is passed back where memory is refused.
-    pub fn stand(&mut self, alloc: Global, client: u64, ask: Ask) -> Result<(), Ask>
+    pub fn stand(&mut self, alloc: Global, client: u64, ask: QueuedAsk) -> Result<(), QueuedAsk>
         ensures ok { OnOk result (Stands self.old self.new client (asked_of ask)) }
         ensures err { IfErr result (λ a. (asked_of a ≡ asked_of ask) × Same self.old self.new) }
     {
@@ -119,7 +119,7 @@ impl Line {
             return None;
         };
         self.order.rotate_left(1);
-        let Ask {
+        let QueuedAsk {
             tag,
             first,
             content,
@@ -151,7 +151,7 @@ impl Line {
         ensures some { IfSome result (λ s. (s.client ≡ client) × Pulls self.old self.new client (record { tag = s.tag; first = s.first; content = s.content.items })) }
         ensures none { IfNone result (Same self.old self.new × (queue_of self.old.asks client ≡ [])) }
     {
-        let Ask {
+        let QueuedAsk {
             tag,
             first,
             content,
@@ -165,7 +165,7 @@ impl Line {
     }
 
     /// The last ask of a client, which was put in line just now, is passed back.
-    pub fn take_back(&mut self, client: u64) -> Option<Ask>
+    pub fn take_back(&mut self, client: u64) -> Option<QueuedAsk>
         ensures some { IfSome result (λ a. queue_of self.old.asks client ≡ queue_of self.new.asks client ++ asked_of a ∷ []) }
         ensures none { IfNone result (queue_of self.old.asks client ≡ []) }
         ensures others { (q : ℕ) → nat_eq q client ≡ false → queue_of self.new.asks q ≡ queue_of self.old.asks q }
@@ -190,7 +190,7 @@ impl Line {
 }
 
 // One more ask of a client that is there.
-fn push_to(asks: &mut BTreeMap<u64, Queue>, client: u64, ask: Ask) -> Result<(), Ask>
+fn push_to(asks: &mut BTreeMap<u64, Queue>, client: u64, ask: QueuedAsk) -> Result<(), QueuedAsk>
     requires { is_some (queue_at asks.old.entries client) ≡ true }
     ensures ok { OnOk result (Sets asks.old.entries asks.new.entries client (queue_of asks.old.entries client ++ asked_of ask ∷ [])) }
     ensures err { IfErr result (λ a. (asked_of a ≡ asked_of ask) × SameAsks asks.old.entries asks.new.entries) }
@@ -203,7 +203,12 @@ fn push_to(asks: &mut BTreeMap<u64, Queue>, client: u64, ask: Ask) -> Result<(),
 }
 
 // The first ask of a client that was not there.
-fn begin(asks: &mut BTreeMap<u64, Queue>, alloc: Global, client: u64, ask: Ask) -> Result<(), Ask>
+fn begin(
+    asks: &mut BTreeMap<u64, Queue>,
+    alloc: Global,
+    client: u64,
+    ask: QueuedAsk,
+) -> Result<(), QueuedAsk>
     requires { queue_at asks.old.entries client ≡ None }
     ensures ok { OnOk result (Sets asks.old.entries asks.new.entries client (asked_of ask ∷ [])) }
     ensures err { IfErr result (λ a. (asked_of a ≡ asked_of ask) × SameAsks asks.old.entries asks.new.entries) }
@@ -225,7 +230,7 @@ fn begin(asks: &mut BTreeMap<u64, Queue>, alloc: Global, client: u64, ask: Ask) 
 }
 
 // The first ask of a client leaves.
-fn pop_from(asks: &mut BTreeMap<u64, Queue>, client: u64) -> Option<Ask>
+fn pop_from(asks: &mut BTreeMap<u64, Queue>, client: u64) -> Option<QueuedAsk>
     ensures some { IfSome result (λ a. (queue_of asks.old.entries client ≡ asked_of a ∷ queue_of asks.new.entries client)) }
     ensures none { IfNone result ((queue_of asks.old.entries client ≡ []) × SameAsks asks.old.entries asks.new.entries) }
     ensures others { (q : ℕ) → nat_eq q client ≡ false → queue_of asks.new.entries q ≡ queue_of asks.old.entries q }
@@ -236,7 +241,7 @@ fn pop_from(asks: &mut BTreeMap<u64, Queue>, client: u64) -> Option<Ask>
 }
 
 // The last ask of a client leaves.
-fn pop_last_from(asks: &mut BTreeMap<u64, Queue>, client: u64) -> Option<Ask>
+fn pop_last_from(asks: &mut BTreeMap<u64, Queue>, client: u64) -> Option<QueuedAsk>
     ensures some { IfSome result (λ a. (queue_of asks.old.entries client ≡ queue_of asks.new.entries client ++ asked_of a ∷ [])) }
     ensures none { IfNone result (queue_of asks.old.entries client ≡ []) }
     ensures others { (q : ℕ) → nat_eq q client ≡ false → queue_of asks.new.entries q ≡ queue_of asks.old.entries q }

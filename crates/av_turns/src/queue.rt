@@ -8,7 +8,7 @@ use std::marker::Model;
 
 /// An ask that waits until it may be asked.
 #[derive(Drop)]
-pub struct Ask {
+pub struct QueuedAsk {
     /// Its client's word for it.
     pub tag: u64,
     /// When its first byte came.
@@ -20,7 +20,7 @@ pub struct Ask {
 /// The asks of one client, in their order.
 #[derive(Drop)]
 pub struct Queue {
-    asks: VecDeque<Ask>,
+    asks: VecDeque<QueuedAsk>,
 }
 
 impl Model for Queue {
@@ -50,7 +50,7 @@ impl Queue {
     }
 
     /// One more, which is passed back where memory is refused.
-    pub fn push(&mut self, ask: Ask) -> Result<(), Ask>
+    pub fn push(&mut self, ask: QueuedAsk) -> Result<(), QueuedAsk>
         ensures ok { OnOk result (self.new ≡ self.old ++ asked_of ask ∷ []) }
         ensures err { IfErr result (λ a. (a ≡ ask) × (self.new ≡ self.old)) }
     {
@@ -61,7 +61,7 @@ impl Queue {
     }
 
     /// The first leaves.
-    pub fn pop(&mut self) -> Option<Ask>
+    pub fn pop(&mut self) -> Option<QueuedAsk>
         ensures some { IfSome result (λ a. self.old ≡ asked_of a ∷ self.new) }
         ensures none { IfNone result ((self.old ≡ []) × (self.new ≡ [])) }
     {
@@ -69,7 +69,7 @@ impl Queue {
     }
 
     /// The last leaves.
-    pub fn pop_last(&mut self) -> Option<Ask>
+    pub fn pop_last(&mut self) -> Option<QueuedAsk>
         ensures some { IfSome result (λ a. self.old ≡ self.new ++ asked_of a ∷ []) }
         ensures none { IfNone result ((self.old ≡ []) × (self.new ≡ [])) }
     {

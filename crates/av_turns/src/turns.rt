@@ -15,7 +15,7 @@ use crate::budget::Budget;
 use crate::client::{Client, Kind, Left};
 use crate::clients::{Clients, Granted, Look};
 use crate::limits::{KNOWNS, LEAST_TURN, PIECE, ROUND, ROUND_KNOWNS};
-use crate::line::Line;
+use crate::line::WaitingLine;
 use crate::places::{Arrived, Nth, Places};
 use crate::questions::Questions;
 use std::alloc::{AllocError, Global};
@@ -30,8 +30,8 @@ pub struct Turns {
     most_clients: u64,
     wait: u64,
     clients: Clients,
-    smalls: Line,
-    larges: Line,
+    smalls: WaitingLine,
+    larges: WaitingLine,
     // How many small asks left the line behind the last large one.
     passed: u64,
     // Clients that came with one ask while they had none in line. Some of them may have none any more.
@@ -157,8 +157,8 @@ impl Turns {
             most_clients,
             wait,
             clients: Clients::new(alloc, wait),
-            smalls: Line::new(alloc),
-            larges: Line::new(alloc),
+            smalls: WaitingLine::new(alloc),
+            larges: WaitingLine::new(alloc),
             passed: 0,
             ahead: VecDeque::new(alloc),
             may_jump: true,

@@ -34,7 +34,7 @@ use Rattle.av_service.specs.Response.{Response, read_message, says, sends}
 use Rattle.av_service.specs.Scanning.{awaits, chunk_found, most_leases, receives, scan_cached, scan_found}
 use Rattle.av_service.specs.declared.job.Job.{Job}
 use Rattle.av_service.specs.declared.job.Loan.{Loan}
-use Rattle.av_service.specs.declared.note.Note.TheVariants.{Quiet, Ignored}
+use Rattle.av_service.specs.declared.note.ServiceNote.TheVariants.{Quiet, Ignored}
 use Rattle.av_service.specs.Work.{WorkState}
 use Rattle.av_sigset.specs.Publication.{Publication, publication_of, published_as}
 use Rattle.av_sigset.specs.declared.signature.Pattern.{Pattern}

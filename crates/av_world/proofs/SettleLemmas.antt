@@ -34,7 +34,7 @@ use Rattle.av_match.specs.Scanning.{AreSolid, ScanState, scanner}
 use Rattle.av_service.specs.Conduct.{service_step}
 use Rattle.av_service.specs.Conduct as service_events
 use Rattle.av_service.specs.declared.job.Job.{Job}
-use Rattle.av_service.specs.declared.note.Note.TheVariants.{Quiet}
+use Rattle.av_service.specs.declared.note.ServiceNote.TheVariants.{Quiet}
 use Rattle.av_service.specs.Work.{WorkState}
 use Rattle.av_service.specs.Desk.{Desk, advanced, without_job, with_job}
 use Rattle.av_service.specs.Lending.{closes, finished}

@@ -23,7 +23,7 @@ use Rattle.av_world.specs.Stage.{at_history}
 use Rattle.av_history.specs.World.{WorldState, at_port, back_at, desk_of, done, lent_at, or_none, places_of, responded, service_outcome, work_at, work_event}
 use Rattle.av_history.specs.declared.event.Event.{Event}
 use Rattle.av_history.specs.declared.report.Line.TheVariants.{Silent}
-use Rattle.av_history.specs.declared.report.Note.TheVariants as note
+use Rattle.av_history.specs.declared.report.EventNote.TheVariants as note
 use Rattle.av_history.specs.declared.report.Report.{Report}
 
 -- the automaton that was built of the set of a version is of that version

@@ -22,7 +22,7 @@ use Rattle.av_frame.specs.declared.outcome.Outcome.TheVariants.{Judged, Failed}
 use Rattle.av_pend.specs.declared.answer.Answer.{Answer}
 use Rattle.av_pend.specs.declared.answer.Answer.TheVariants.{Granted, Unscanned, Denied}
 use Rattle.av_service.specs.Audit as audit
-use Rattle.av_service.specs.declared.note.Note.TheVariants as service_note
+use Rattle.av_service.specs.declared.note.ServiceNote.TheVariants as service_note
 use Rattle.av_sigset.specs.Publication.{Publication}
 use Rattle.av_sigset.specs.Set.{widest}
 use Rattle.av_sigset.specs.declared.signature.Pattern.{Pattern}
@@ -45,8 +45,8 @@ use Rattle.av_history.specs.declared.event.Event.{Event}
 use Rattle.av_history.specs.declared.event.Event.TheVariants.{Publish, Create, Write, Remove, Open, Cleanup, Down, Up, Run, Timeout, Connect, DisconnectFilter, DisconnectService, RestartFilter, RestartService}
 use Rattle.av_history.specs.declared.fault.StepFault.{StepFault}
 use Rattle.av_history.specs.declared.fault.StepFault.TheVariants.{NoSuchName, NoSuchWork, NoSuchFrame}
-use Rattle.av_history.specs.declared.report.Note.{Note}
-use Rattle.av_history.specs.declared.report.Note.TheVariants.{Filter, Service}
+use Rattle.av_history.specs.declared.report.EventNote.{EventNote}
+use Rattle.av_history.specs.declared.report.EventNote.TheVariants.{Filter, Service}
 
 -- a note of either side
 pub data Word : Type 0 where
@@ -54,7 +54,7 @@ pub data Word : Type 0 where
   Submitted : (open_id : ℕ) → Word
 
 -- the word of a note
-abbrev pub word_of : Note → Word
+abbrev pub word_of : EventNote → Word
 word_of (Filter filter_note.Quiet) = Quiet
 word_of (Filter (filter_note.Submitted n)) = Submitted n
 word_of (Filter filter_note.Welcome) = Welcome

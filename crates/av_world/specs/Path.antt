@@ -15,7 +15,7 @@ use Rattle.av_service.specs.Conduct as service_events
 use Rattle.av_service.specs.Desk.{Desk, job_at}
 use Rattle.av_service.specs.Response.{Response, says}
 use Rattle.av_service.specs.Scanning.{most_leases}
-use Rattle.av_service.specs.declared.note.Note.TheVariants.{Quiet}
+use Rattle.av_service.specs.declared.note.ServiceNote.TheVariants.{Quiet}
 use Rattle.av_service.specs.Work.{WorkState}
 use Rattle.av_sigset.specs.Publication.{Publication, publication_of, published_as}
 use Rattle.av_sigset.specs.declared.signature.Pattern.{Pattern}

@@ -14,8 +14,8 @@ use Rattle.av_world.specs.Stage.{at_history}
 use Rattle.av_history.specs.World.{WorldState, desk_of, lent_at, service_event}
 use Rattle.av_history.specs.declared.event.Event.{Event}
 use Rattle.av_history.specs.declared.report.Line.TheVariants.{Silent}
-use Rattle.av_history.specs.declared.report.Note.{Note}
-use Rattle.av_history.specs.declared.report.Note.TheVariants as note
+use Rattle.av_history.specs.declared.report.EventNote.{EventNote}
+use Rattle.av_history.specs.declared.report.EventNote.TheVariants as note
 use Rattle.av_history.specs.declared.report.Report.{Report}
 use Rattle.av_world.specs.declared.world.serving.ServiceCall.{ServiceCall}
 use Rattle.av_world.specs.declared.world.serving.ServiceCall.TheVariants as call
@@ -50,7 +50,7 @@ abbrev pub Works : Type 0
 Works = List (Option (Port × WorkState))
 
 -- the event of the service of a port has happened, and what it gave out stands behind what was there; or nothing has changed
-abbrev pub Served : Port → Desk → List Letter → Works → Desk → List Letter → Works → ServiceEvent → Option Note → Type 0
+abbrev pub Served : Port → Desk → List Letter → Works → Desk → List Letter → Works → ServiceEvent → Option EventNote → Type 0
 Served port d up works d' up' works' s None = (d' ≡ d) × (up' ≡ up) × (works' ≡ works)
 Served port d up works d' up' works' s (Some n) =
     (service_refusal d s ≡ None) × (d' ≡ (service_step d s).desk) × (up' ≡ up ++ (service_step d s).messages)

@@ -14,6 +14,6 @@ pub mod laws;
 pub mod world;
 
 pub use av_history::{
-    Event, Given, JudgeFault, Judged, Line, Note, Patterns, Places, Report, StepFault,
+    Event, EventNote, Given, JudgeFault, Judged, Line, Patterns, Places, Report, StepFault,
 };
 pub use world::World;

@@ -10,14 +10,15 @@ ghost use Rattle.av_chart.specs.Marks.{submitted_id};
 ghost use Rattle.av_chart.specs.Row.{asked_lines, is_noted, spanned};
 ghost use Rattle.av_chart.specs.Story.{answered, asked, how_answered, how_replied, how_worked, in_turn, jobs_over, lent, message_drops, moment, name_in, number_id, opened, questions_over, reply_ends, run_ends, worked};
 
-use crate::happened::{Step, Way};
+use crate::happened::Step;
 use crate::happening::marks::{Deed, id_of, submitted_id};
 use crate::happening::posts::{member_of, moment};
 use crate::happening::span_of;
 use crate::life::{Bar, End, How, Lives, Moment};
 use av_base::{MessageId, Port, Verdict};
 use av_frame::{Body, Message, Outcome};
-use av_history::{Given, Note, Report};
+use av_history::{EventNote, Given, Report};
+use av_output::Direction;
 use av_pend::Answer;
 use av_world::World;
 use std::alloc::AllocError;
@@ -29,7 +30,7 @@ pub fn take_opens<'a>(
     at: u64,
     name: &'a [u8],
     given: &[Given],
-    note: Note,
+    note: EventNote,
 ) -> Result<(), AllocError>
     ensures { OnOk result (lives_of opens.new ≡ opened at name.now (submitted_id note) given.now
         (in_turn (answered at) (asked_lines step.now) given.now (lives_of opens.old))) }
@@ -200,7 +201,7 @@ fn end_questions(questions: &mut Lives<'_>, world: &World, step: &Step, at: u64,
 {
     match deed {
         Deed::Deliver {
-            way: Way::Up,
+            way: Direction::Up,
             place,
         } => {
             if !step.is_noted() {
@@ -327,7 +328,7 @@ fn end_jobs(jobs: &mut Lives<'_>, world: &World, step: &Step, at: u64, deed: Dee
 {
     match deed {
         Deed::Deliver {
-            way: Way::Down,
+            way: Direction::Down,
             place,
         } => {
             if !step.is_noted() {

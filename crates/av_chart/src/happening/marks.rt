@@ -4,12 +4,13 @@ ghost use Rattle.std.specs.Prelude.{◌≡◌};
 ghost use Rattle.av_pend.specs.Pend.{open_of};
 ghost use Rattle.av_chart.specs.Marks.{asked_id, asks_of, deed_of, filter_deed, filter_id, filter_mark, is_spent, judged_mark, lent_of, ran_of, said_by_filter, said_by_service, said_of, service_deed, service_mark, submitted_id, volume_mark};
 
-use crate::happened::{Asks, FilterMark, Said, ServiceMark, VolumeMark, Way};
+use crate::happened::{Asks, FilterMark, Said, ServiceMark, VolumeMark};
 use av_base::Port;
 use av_filter::Note as FilterNote;
-use av_history::{Event, Given, Judged, Line, Note, Report};
+use av_history::{Event, EventNote, Given, Judged, Line, Report};
+use av_output::Direction;
 use av_pend::Answer;
-use av_service::Note as ServiceNote;
+use av_service::ServiceNote;
 
 /// What a picture has to know of an event besides what its report tells.
 #[derive(Clone, Copy)]
@@ -18,7 +19,7 @@ pub enum Deed {
     Open,
     Cleanup,
     Timeout,
-    Deliver { way: Way, place: u64 },
+    Deliver { way: Direction, place: u64 },
     Run { place: u64 },
     DisconnectFilter { port: Port },
     DisconnectService { port: Port },
@@ -35,11 +36,11 @@ pub fn deed_of(event: &Event) -> Deed
         Event::Cleanup { .. } => Deed::Cleanup,
         Event::Timeout { .. } => Deed::Timeout,
         Event::Down { place } => Deed::Deliver {
-            way: Way::Down,
+            way: Direction::Down,
             place: *place,
         },
         Event::Up { place } => Deed::Deliver {
-            way: Way::Up,
+            way: Direction::Up,
             place: *place,
         },
         Event::Run { place } => Deed::Run { place: *place },
@@ -52,12 +53,12 @@ pub fn deed_of(event: &Event) -> Deed
 }
 
 /// The word of a note.
-pub fn said_of(note: Note) -> Said
+pub fn said_of(note: EventNote) -> Said
     ensures { result ≡ said_of note }
 {
     match note {
-        Note::Filter(filter) => said_by_filter(filter),
-        Note::Service(service) => said_by_service(service),
+        EventNote::Filter(filter) => said_by_filter(filter),
+        EventNote::Service(service) => said_by_service(service),
     }
 }
 
@@ -104,7 +105,7 @@ pub fn is_spent(note: Said) -> bool
 }
 
 /// What the opener asks.
-pub fn asks_of(deed: Deed, given: &[Given], note: Note) -> Option<Asks>
+pub fn asks_of(deed: Deed, given: &[Given], note: EventNote) -> Option<Asks>
     ensures { result ≡ asks_of deed given.now note }
 {
     match deed {
@@ -117,7 +118,7 @@ pub fn asks_of(deed: Deed, given: &[Given], note: Note) -> Option<Asks>
 }
 
 // The number that an open was given.
-fn asked_id(given: &[Given], note: Note) -> u64
+fn asked_id(given: &[Given], note: EventNote) -> u64
     ensures { result ≡ asked_id given.now note }
 {
     match given {
@@ -127,12 +128,12 @@ fn asked_id(given: &[Given], note: Note) -> u64
 }
 
 /// The number under which an open was taken, or 0.
-pub fn submitted_id(note: Note) -> u64
+pub fn submitted_id(note: EventNote) -> u64
     ensures { result ≡ submitted_id note }
 {
     match note {
-        Note::Filter(note) => filter_id(note),
-        Note::Service(_) => 0,
+        EventNote::Filter(note) => filter_id(note),
+        EventNote::Service(_) => 0,
     }
 }
 

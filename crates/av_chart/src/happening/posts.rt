@@ -6,9 +6,10 @@ ghost use Rattle.av_history.specs.World.{member};
 ghost use Rattle.av_chart.specs.Row.{count};
 ghost use Rattle.av_chart.specs.Story.{arrival_in, arrival_of, arrived, delivered_down, delivered_up, is_again, moment, posted, posts_of, story_of};
 
-use crate::happened::{Arrival, Happened, REACH, Said, Sent, Way};
+use crate::happened::{Arrival, Happened, REACH, Said, Sent};
 use crate::happening::marks::{Deed, is_spent};
 use crate::life::Moment;
+use av_output::Direction;
 use std::alloc::{AllocError, Global};
 
 /// A line of a step's row, counted from 0.
@@ -38,13 +39,13 @@ pub fn arrival_in(happened: &Happened<'_>, deed: Deed, note: Said) -> Option<Arr
     };
     let at = happened.steps.len() as u64;
     match way {
-        Way::Down => arrival_of(&happened.down, at, way, place, note),
-        Way::Up => arrival_of(&happened.up, at, way, place, note),
+        Direction::Down => arrival_of(&happened.down, at, way, place, note),
+        Direction::Up => arrival_of(&happened.up, at, way, place, note),
     }
 }
 
 // How the message at a place arrives in a step.
-fn arrival_of(sent: &[Sent], at: u64, way: Way, place: u64, note: Said) -> Option<Arrival>
+fn arrival_of(sent: &[Sent], at: u64, way: Direction, place: u64, note: Said) -> Option<Arrival>
     ensures { result ≡ arrival_of at way place note (member (posts_of sent.now) place) }
 {
     let sent = member_of(sent, place)?;
@@ -93,7 +94,7 @@ fn deliver_down(sent: &mut Vec<Sent>, deed: Deed, at: u64) -> Result<(), AllocEr
 {
     match deed {
         Deed::Deliver {
-            way: Way::Down,
+            way: Direction::Down,
             place,
         } => arrive_at(sent, place, at),
         _ => Ok(()),
@@ -106,7 +107,7 @@ fn deliver_up(sent: &mut Vec<Sent>, deed: Deed, at: u64) -> Result<(), AllocErro
 {
     match deed {
         Deed::Deliver {
-            way: Way::Up,
+            way: Direction::Up,
             place,
         } => arrive_at(sent, place, at),
         _ => Ok(()),

@@ -15,7 +15,7 @@ use crate::life::Moment;
 use crate::mark::{Mark, Side, put_mark};
 use crate::spot::Spot;
 use av_base::Part;
-use av_history::{Given, Note};
+use av_history::{EventNote, Given};
 use av_pend::Answer;
 use std::alloc::{AllocError, Global};
 
@@ -298,12 +298,12 @@ fn put_noted(
     }
     let clear = clear_of(alloc, step.filter, command)?;
     match step.note.note() {
-        Note::Service(_) => Ok(()),
-        Note::Filter(note) => put_note(
+        EventNote::Service(_) => Ok(()),
+        EventNote::Filter(note) => put_note(
             alloc,
             page,
             picture,
-            Note::Filter(note),
+            EventNote::Filter(note),
             Spot { x: FILTER, y }.left_of(clear),
         ),
     }
@@ -314,7 +314,7 @@ fn put_note(
     alloc: Global,
     page: &mut Vec<u8>,
     picture: &Picture<'_, '_>,
-    note: Note,
+    note: EventNote,
     at: Spot,
 ) -> Result<(), AllocError>
     ensures { OnOk result (page.new.items ≡ page.old.items ++ filter_note picture.now.world.now note at) }

@@ -11,85 +11,86 @@ ghost use Rattle.av_chart.specs.Place.{shows};
 
 use super::lanes::{put_cross, wide};
 use super::{FILTER, PORT, Picture, SERVICE};
-use crate::happened::{Happened, REACH, Sent, Span, Step, Way};
+use crate::happened::{Happened, REACH, Sent, Span, Step};
 use crate::happening::span_of;
 use crate::label::{message_label, message_title};
 use crate::life::Moment;
 use crate::mark::{Mark, Side, put_mark, put_marks};
 use crate::place::Places;
 use crate::spot::Spot;
+use av_output::Direction;
 use std::alloc::{AllocError, Global};
 
 // The lane on which the messages of a way leave.
-fn start(way: Way) -> u32
+fn start(way: Direction) -> u32
     ensures { result ≡ start_of way }
 {
     match way {
-        Way::Down => FILTER,
-        Way::Up => SERVICE,
+        Direction::Down => FILTER,
+        Direction::Up => SERVICE,
     }
 }
 
 // The lane on which they arrive.
-fn goal(way: Way) -> u32
+fn goal(way: Direction) -> u32
     ensures { result ≡ goal_of way }
 {
     match way {
-        Way::Down => SERVICE,
-        Way::Up => FILTER,
+        Direction::Down => SERVICE,
+        Direction::Up => FILTER,
     }
 }
 
-fn side(way: Way) -> Side
+fn side(way: Direction) -> Side
     ensures { result ≡ side_of way }
 {
     match way {
-        Way::Down => Side::Right,
-        Way::Up => Side::Left,
+        Direction::Down => Side::Right,
+        Direction::Up => Side::Left,
     }
 }
 
 // The class of the heads of their arrows.
-fn head(way: Way) -> &'static [u8]
+fn head(way: Direction) -> &'static [u8]
     ensures { result.now ≡ head_of way }
 {
     match way {
-        Way::Down => b"hd".as_slice(),
-        Way::Up => b"hu".as_slice(),
+        Direction::Down => b"hd".as_slice(),
+        Direction::Up => b"hu".as_slice(),
     }
 }
 
 // The class of a line, by what the arrival brings.
-fn class(way: Way, manner: Manner) -> &'static [u8]
+fn class(way: Direction, manner: Manner) -> &'static [u8]
     ensures { result.now ≡ class_of way manner }
 {
     match (way, manner) {
-        (Way::Down, Manner::Plain) => b"d".as_slice(),
-        (Way::Down, Manner::Again) => b"d again".as_slice(),
-        (Way::Down, Manner::Spent) => b"d spent".as_slice(),
-        (Way::Up, Manner::Plain) => b"u".as_slice(),
-        (Way::Up, Manner::Again) => b"u again".as_slice(),
-        (Way::Up, Manner::Spent) => b"u spent".as_slice(),
+        (Direction::Down, Manner::Plain) => b"d".as_slice(),
+        (Direction::Down, Manner::Again) => b"d again".as_slice(),
+        (Direction::Down, Manner::Spent) => b"d spent".as_slice(),
+        (Direction::Up, Manner::Plain) => b"u".as_slice(),
+        (Direction::Up, Manner::Again) => b"u again".as_slice(),
+        (Direction::Up, Manner::Spent) => b"u spent".as_slice(),
     }
 }
 
 // So far from a spot towards the goal.
-fn towards(way: Way, spot: Spot, by: u32) -> Spot
+fn towards(way: Direction, spot: Spot, by: u32) -> Spot
     ensures { result ≡ towards way spot by }
 {
     match way {
-        Way::Down => spot.right_of(by),
-        Way::Up => spot.left_of(by),
+        Direction::Down => spot.right_of(by),
+        Direction::Up => spot.left_of(by),
     }
 }
 
 // So far from a spot away from the goal.
-fn back(way: Way, spot: Spot, by: u32) -> Spot
+fn back(way: Direction, spot: Spot, by: u32) -> Spot
     ensures { result ≡ back way spot by }
 {
     match way {
-        Way::Down => spot.left_of(by),
-        Way::Up => spot.right_of(by),
+        Direction::Down => spot.left_of(by),
+        Direction::Up => spot.right_of(by),
     }
 }
 
@@ -104,7 +105,7 @@ pub enum Manner {
 // A message that is drawn, with its words.
 #[derive(Clone, Copy)]
 struct Shown<'m> {
-    way: Way,
+    way: Direction,
     sent: &'m Sent,
     words: &'m [u8],
     title: &'m [u8],
@@ -146,17 +147,17 @@ fn put_by_step(
 ) -> Result<(), AllocError>
     ensures { OnOk result (page.new.items ≡ page.old.items ++ sent_by_step picture.now step.now) }
 {
-    put_sent(alloc, page, picture, Way::Down, step.down)?;
-    put_sent(alloc, page, picture, Way::Up, step.up)
+    put_sent(alloc, page, picture, Direction::Down, step.down)?;
+    put_sent(alloc, page, picture, Direction::Up, step.up)
 }
 
 // The messages of a way.
-fn sent_on<'h>(happened: &'h Happened<'_>, way: Way) -> &'h [Sent]
+fn sent_on<'h>(happened: &'h Happened<'_>, way: Direction) -> &'h [Sent]
     ensures { result.now ≡ sent_on happened.now way }
 {
     match way {
-        Way::Down => happened.down.as_slice(),
-        Way::Up => happened.up.as_slice(),
+        Direction::Down => happened.down.as_slice(),
+        Direction::Up => happened.up.as_slice(),
     }
 }
 
@@ -166,7 +167,7 @@ fn put_sent(
     alloc: Global,
     page: &mut Vec<u8>,
     picture: &Picture<'_, '_>,
-    way: Way,
+    way: Direction,
     span: Span,
 ) -> Result<(), AllocError>
     ensures { OnOk result (page.new.items ≡ page.old.items ++ step_messages picture.now way span) }
@@ -179,7 +180,7 @@ fn put_each(
     alloc: Global,
     page: &mut Vec<u8>,
     picture: &Picture<'_, '_>,
-    way: Way,
+    way: Direction,
     span: Span,
     messages: &[Sent],
 ) -> Result<(), AllocError>
@@ -204,7 +205,7 @@ fn put_if_shown(
     alloc: Global,
     page: &mut Vec<u8>,
     picture: &Picture<'_, '_>,
-    way: Way,
+    way: Direction,
     index: u64,
     sent: &Sent,
 ) -> Result<(), AllocError>
@@ -239,7 +240,7 @@ fn put_message(
     alloc: Global,
     page: &mut Vec<u8>,
     picture: &Picture<'_, '_>,
-    way: Way,
+    way: Direction,
     index: u64,
     sent: &Sent,
 ) -> Result<(), AllocError>
@@ -247,8 +248,8 @@ fn put_message(
         (page.new.items ≡ page.old.items ++ message_text picture.now way sent.now index (slice_get (bodies_on picture.now.world.now way) index)) }
 {
     let all = match way {
-        Way::Down => picture.world.down(),
-        Way::Up => picture.world.up(),
+        Direction::Down => picture.world.down(),
+        Direction::Up => picture.world.up(),
     };
     let Some(message) = all.get(index as usize) else {
         return Ok(());
@@ -397,7 +398,7 @@ fn late(picture: &Picture<'_, '_>, sent: &Sent) -> u32
 }
 
 // Where a message leaves its lane, so much lower than its line.
-fn departure(places: &Places, way: Way, sent: Moment, late: u32) -> Spot
+fn departure(places: &Places, way: Direction, sent: Moment, late: u32) -> Spot
     ensures { result ≡ leaves_at places.now way sent late }
 {
     Spot {
@@ -408,7 +409,7 @@ fn departure(places: &Places, way: Way, sent: Moment, late: u32) -> Spot
 }
 
 // Where a message arrives in a step.
-fn arrival(places: &Places, way: Way, at: u64) -> Spot
+fn arrival(places: &Places, way: Direction, at: u64) -> Spot
     ensures { result ≡ arrives_at places.now way at }
 {
     Spot {
@@ -464,7 +465,7 @@ fn put_leaving_line(
 #[tactic(auto, unfolding(crate::specs::Arrow::leaving_text))]
 fn put_leaving_words(
     page: &mut Vec<u8>,
-    way: Way,
+    way: Direction,
     from: Spot,
     title: &[u8],
     words: &[u8],
@@ -487,7 +488,7 @@ fn put_leaving_words(
 fn put_near(
     page: &mut Vec<u8>,
     places: &Places,
-    way: Way,
+    way: Direction,
     manner: Manner,
     from: Spot,
     at: u64,
@@ -515,7 +516,7 @@ fn put_near(
 }
 
 // Puts the line of a message that never arrives: it ends in a cross, clear of its words.
-fn put_lost(page: &mut Vec<u8>, way: Way, words: &[u8], from: Spot) -> Result<(), AllocError>
+fn put_lost(page: &mut Vec<u8>, way: Direction, words: &[u8], from: Spot) -> Result<(), AllocError>
     ensures { OnOk result (page.new.items ≡ page.old.items ++ lost_text way words.now from) }
 {
     let reach = wide(words).saturating_add(36).max(SERVICE - PORT);
@@ -524,7 +525,7 @@ fn put_lost(page: &mut Vec<u8>, way: Way, words: &[u8], from: Spot) -> Result<()
 
 // Puts a line that ends in a cross.
 #[tactic(auto, using(crate::proofs::PutLemmas::put_two), unfolding(crate::specs::Arrow::crossed_text))]
-fn put_crossed(page: &mut Vec<u8>, way: Way, from: Spot, end: Spot) -> Result<(), AllocError>
+fn put_crossed(page: &mut Vec<u8>, way: Direction, from: Spot, end: Spot) -> Result<(), AllocError>
     ensures { OnOk result (page.new.items ≡ page.old.items ++ crossed_text way from end) }
 {
     put_mark(
@@ -540,7 +541,7 @@ fn put_crossed(page: &mut Vec<u8>, way: Way, from: Spot, end: Spot) -> Result<()
 
 // Puts the line of a message that arrives elsewhere: it ends in a dot at the port.
 #[tactic(auto, unfolding(crate::specs::Arrow::cut_text))]
-fn put_cut(page: &mut Vec<u8>, way: Way, from: Spot) -> Result<(), AllocError>
+fn put_cut(page: &mut Vec<u8>, way: Direction, from: Spot) -> Result<(), AllocError>
     ensures { OnOk result (page.new.items ≡ page.old.items ++ cut_text way from) }
 {
     let to = Spot { x: PORT, y: from.y };
@@ -596,7 +597,7 @@ fn arrival_words(alloc: Global, is_again: bool, words: &[u8]) -> Result<Vec<u8>,
 fn put_arrow_from_port(
     page: &mut Vec<u8>,
     places: &Places,
-    way: Way,
+    way: Direction,
     manner: Manner,
     at: u64,
     words: &[u8],
@@ -632,20 +633,20 @@ fn put_arrow_from_port(
 }
 
 // The look of a message's words where it leaves, and where it arrives.
-fn look_of_departure(way: Way) -> &'static [u8]
+fn look_of_departure(way: Direction) -> &'static [u8]
     ensures { result.now ≡ look_of_departure way }
 {
     match way {
-        Way::Down => b" class=\"td halo\"".as_slice(),
-        Way::Up => b" class=\"tu halo\" text-anchor=\"end\"".as_slice(),
+        Direction::Down => b" class=\"td halo\"".as_slice(),
+        Direction::Up => b" class=\"tu halo\" text-anchor=\"end\"".as_slice(),
     }
 }
 
-fn look_of_arrival(way: Way) -> &'static [u8]
+fn look_of_arrival(way: Direction) -> &'static [u8]
     ensures { result.now ≡ look_of way }
 {
     match way {
-        Way::Down => b" class=\"td halo\" text-anchor=\"end\"".as_slice(),
-        Way::Up => b" class=\"tu halo\"".as_slice(),
+        Direction::Down => b" class=\"td halo\" text-anchor=\"end\"".as_slice(),
+        Direction::Up => b" class=\"tu halo\"".as_slice(),
     }
 }

@@ -14,7 +14,7 @@ use crate::life::{Bar, Moment};
 use crate::mark::{Mark, Side, put_mark};
 use crate::spot::Spot;
 use av_base::Part;
-use av_history::Note;
+use av_history::EventNote;
 use std::alloc::{AllocError, Global};
 
 /// Where the service's notes and works are told.
@@ -77,10 +77,10 @@ fn put_noted(
     if !step.is_noted() {
         return Ok(());
     }
-    let Note::Service(note) = step.note.note() else {
+    let EventNote::Service(note) = step.note.note() else {
         return Ok(());
     };
-    let line = told_note(alloc, picture.world, Note::Service(note))?;
+    let line = told_note(alloc, picture.world, EventNote::Service(note))?;
     put_told(page, b" class=\"tw halo\"", word(&line, 1), y)
 }
 

@@ -8,9 +8,9 @@ ghost use Rattle.av_daemon.specs.Passing.{KeepsFilter};
 use super::{AT_ONCE, Daemon, FIRST, Stop, millis};
 use crate::door::Door;
 use av_guard::Guard;
-use av_log::Entry;
+use av_log::LogEntry;
 use av_peers::client::{Client, Place};
-use av_peers::line::{LEAST, Line};
+use av_peers::line::{Connection, LEAST};
 use av_turns::Admitted;
 use mio::net::UnixStream;
 use std::fs::Files;
@@ -36,14 +36,14 @@ impl<'a, R: Files + Net + Clock> Daemon<'a, R> {
             let Some(stream) = self.doors.opens.next() else {
                 break;
             };
-            let client = Client::of_opens(self.alloc, Line::new(self.alloc, stream, LEAST));
+            let client = Client::of_opens(self.alloc, Connection::new(self.alloc, stream, LEAST));
             self.admit(guard, client, now)?;
         }
         'clamd: for _ in 0..AT_ONCE {
             let Some(stream) = next_of(&mut self.doors.clamd) else {
                 break;
             };
-            let client = Client::of_clamd(self.alloc, Line::new(self.alloc, stream, LEAST));
+            let client = Client::of_clamd(self.alloc, Connection::new(self.alloc, stream, LEAST));
             self.admit(guard, client, now)?;
         }
         'looks: for _ in 0..AT_ONCE {
@@ -63,7 +63,7 @@ impl<'a, R: Files + Net + Clock> Daemon<'a, R> {
         match self.turns.accepted(number, client.kind(), millis(now))? {
             Admitted::Admit => {}
             Admitted::Instead(idle) => {
-                self.happened(&Entry::Crowded);
+                self.happened(&LogEntry::Crowded);
                 self.remove(guard, idle)?;
             }
             Admitted::Away => {

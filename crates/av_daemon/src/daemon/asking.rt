@@ -11,7 +11,7 @@ use super::{ASKS, Daemon, FIRST, RELAYED, Stop, TURNS, millis};
 use av_base::{ByteList, Cause, Refusal};
 use av_clamd::Sending;
 use av_guard::{AskFault, Class, Guard};
-use av_log::Note;
+use av_log::AskNote;
 use av_peers::client::{Lost, Thing};
 use av_peers::told::{LargeTold, unjudged};
 use av_turns as turns;
@@ -275,7 +275,7 @@ impl<'a, R: Files + Net + Clock> Daemon<'a, R> {
             return;
         }
         if let Some(who) = self.clients.get_mut(&client.saturating_add(FIRST)) {
-            let _ = who.notes.put(Note { tag, bytes, label });
+            let _ = who.notes.put(AskNote { tag, bytes, label });
         }
     }
 

@@ -6,8 +6,8 @@ ghost use Rattle.av_daemon.specs.Hearing.{MoreIsHeard, guest_number};
 use super::{Daemon, GUESTS, Stop, connection_of, guest_connection, millis, place_of};
 use av_arrival::{TurnedAway, put_refusal};
 use av_base::Port;
-use av_peers::line::{LEAST, Line};
-use av_peers::service::{Gone, Service};
+use av_peers::line::{Connection, LEAST};
+use av_peers::service::{Gone, ServicePeer};
 use av_turns::{Arrived, Nth};
 use mio::net::UnixStream;
 use std::fs::Files;
@@ -17,7 +17,7 @@ use std::time::{Clock, Duration};
 impl<'a, R: Files + Net + Clock> Daemon<'a, R> {
     // One that may be a scanning service: it is waited for to greet, or turned away where two wait already.
     pub(super) fn accept_service(&mut self, stream: UnixStream, now: Duration) -> Result<(), Stop> {
-        let mut line = Line::new(self.alloc, stream, LEAST);
+        let mut line = Connection::new(self.alloc, stream, LEAST);
         let Some(guest) = self.turns.service_came(millis(now)) else {
             put_refusal(&mut line.waiting, TurnedAway::Full)?;
             let _ = line.send(now);
@@ -27,7 +27,7 @@ impl<'a, R: Files + Net + Clock> Daemon<'a, R> {
         let is_told = line
             .register(self.doors.poll.registry(), connection)
             .is_ok();
-        let service = Service::new(self.alloc, line, now);
+        let service = ServicePeer::new(self.alloc, line, now);
         if !is_told || self.services.insert(connection, service).is_err() {
             self.turns.guest_lost(guest);
             return Ok(());

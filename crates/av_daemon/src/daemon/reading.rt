@@ -9,7 +9,7 @@ use av_arrival::{TurnedAway, put_refusal};
 use av_base::Port;
 use av_frame::{Body, Message};
 use av_guard::Guard;
-use av_log::Entry;
+use av_log::LogEntry;
 use av_peers::service::{Claim, Whole, claim_of};
 use std::collections::BTreeMap;
 use std::fs::Files;
@@ -160,12 +160,12 @@ impl<'a, R: Files + Net + Clock> Daemon<'a, R> {
                 if !was_connected {
                     self.greeted = Some(self.greeted.unwrap_or(now));
                     let version = *version;
-                    self.happened(&Entry::Connected { port, version });
+                    self.happened(&LogEntry::Connected { port, version });
                 }
             }
             Claim::Newer(version) => {
                 let version = *version;
-                self.happened(&Entry::Newer { port, version });
+                self.happened(&LogEntry::Newer { port, version });
             }
         }
     }
@@ -244,7 +244,7 @@ impl<'a, R: Files + Net + Clock> Daemon<'a, R> {
         }
         let successor = self.turns.service_lost(place_of(port));
         if guard.connected(port) {
-            self.happened(&Entry::Lost(port));
+            self.happened(&LogEntry::Lost(port));
             let given = guard.service_lost(self.alloc, port)?;
             self.settle_moved(guard, given, &firsts, now)?;
         }
@@ -265,16 +265,16 @@ impl<'a, R: Files + Net + Clock> Daemon<'a, R> {
 }
 
 // Why a service was turned away, for the log.
-fn refused(claim: &Claim, why: &TurnedAway) -> Option<Entry<'static>> {
+fn refused(claim: &Claim, why: &TurnedAway) -> Option<LogEntry<'static>> {
     let version = match claim {
         Claim::Greeting(version) | Claim::Newer(version) => *version,
     };
     match why {
-        TurnedAway::Older(least) => Some(Entry::Older {
+        TurnedAway::Older(least) => Some(LogEntry::Older {
             version,
             least: *least,
         }),
-        TurnedAway::Above(most) => Some(Entry::Above {
+        TurnedAway::Above(most) => Some(LogEntry::Above {
             version,
             most: *most,
         }),

@@ -8,7 +8,7 @@ use crate::log::send_lines;
 use crate::names::Names;
 use crate::recorder::judged_of;
 use av_base::{Part, Port, Version};
-use av_log::{Asked, Entry, Note, Told, Way, is_logged};
+use av_log::{AskNote, AskSocket, Asked, LogEntry, Told, is_logged};
 use av_peers::told::LargeTold;
 use av_status::faults::{say, text};
 use std::alloc::Global;
@@ -22,7 +22,7 @@ const ENDS: u64 = 256;
 
 impl<'a, R: Files + Net + Clock> Daemon<'a, R> {
     // Something happened: standard error says so, unless it is the log, and the log does.
-    pub(super) fn happened(&mut self, entry: &Entry<'_>) {
+    pub(super) fn happened(&mut self, entry: &LogEntry<'_>) {
         let is_on_error = match &self.recorder {
             Some(recorder) => recorder.is_on_error(),
             None => false,
@@ -34,7 +34,7 @@ impl<'a, R: Files + Net + Clock> Daemon<'a, R> {
     }
 
     // The log has a line of an entry, where there is a log.
-    pub(super) fn record(&mut self, entry: &Entry<'_>) {
+    pub(super) fn record(&mut self, entry: &LogEntry<'_>) {
         let time = match self.rt.since_1970() {
             Ok(time) => millis(time),
             Err(_) => 0,
@@ -45,7 +45,7 @@ impl<'a, R: Files + Net + Clock> Daemon<'a, R> {
     }
 
     // The log has a line of an answer, where there is a log and it has lines of such answers.
-    pub(super) fn record_told(&mut self, reply: Reply, way: Way, note: Option<Note>)
+    pub(super) fn record_told(&mut self, reply: Reply, way: AskSocket, note: Option<AskNote>)
         ensures { self.new.clients ≡ self.old.clients }
     {
         let judged = judged_of(reply.told);
@@ -61,14 +61,14 @@ impl<'a, R: Files + Net + Clock> Daemon<'a, R> {
             Err(_) => 0,
         };
         look(&mut self.names, self.rt, self.alloc, reply.told);
-        let entry = Entry::Told(Told {
+        let entry = LogEntry::Told(Told {
             judged,
             name: name_in(&self.names, reply.told),
             way,
             client: reply.client,
             tag: match way {
-                Way::Opens => reply.tag,
-                Way::Clamd => reply.tag / ENDS,
+                AskSocket::Opens => reply.tag,
+                AskSocket::Clamd => reply.tag / ENDS,
             },
             asked: match &note {
                 Some(note) => Some(Asked {
@@ -100,7 +100,7 @@ impl<'a, R: Files + Net + Clock> Daemon<'a, R> {
         };
         if lost > 0 {
             self.counts.dropped(lost);
-            self.record(&Entry::Dropped(lost));
+            self.record(&LogEntry::Dropped(lost));
         }
         self.goes_on = self.goes_on || self.log.writer.may_send();
     }
@@ -108,7 +108,7 @@ impl<'a, R: Files + Net + Clock> Daemon<'a, R> {
     // Lines for standard error were dropped.
     fn tell_dropped(&mut self, dropped: u64) {
         match &self.recorder {
-            Some(recorder) if recorder.is_on_error() => self.record(&Entry::Dropped(dropped)),
+            Some(recorder) if recorder.is_on_error() => self.record(&LogEntry::Dropped(dropped)),
             _ => {
                 let _ = write!(self.log, "{dropped} lines were dropped\n");
             }
@@ -138,28 +138,29 @@ pub(super) fn name_in<'n>(names: &'n Names<'_>, told: LargeTold) -> Option<&'n [
 }
 
 // Says in words what happened. An answer and a newer set are for the log alone.
-fn say_entry<E: Write>(err: &mut E, entry: &Entry<'_>) {
+fn say_entry<E: Write>(err: &mut E, entry: &LogEntry<'_>) {
     match entry {
-        Entry::Told(_) | Entry::Newer { .. } | Entry::Unkept(_) | Entry::Dropped(_) => {}
-        Entry::Connected { port, version } => say_connected(err, *port, *version),
-        Entry::Lost(port) => say(err, &[text(name_of(*port)), text(" lost")]),
-        Entry::Older { version, least } => {
+        LogEntry::Told(_) | LogEntry::Newer { .. } | LogEntry::Unkept(_) | LogEntry::Dropped(_) =>
+            {}
+        LogEntry::Connected { port, version } => say_connected(err, *port, *version),
+        LogEntry::Lost(port) => say(err, &[text(name_of(*port)), text(" lost")]),
+        LogEntry::Older { version, least } => {
             say_refused(err, *version, " is older than ", *least);
         }
-        Entry::Above { version, most } => say_refused(err, *version, " is above ", *most),
-        Entry::Silent => say(err, &[text("the service did not greet")]),
-        Entry::Stuck(port) => {
+        LogEntry::Above { version, most } => say_refused(err, *version, " is above ", *most),
+        LogEntry::Silent => say(err, &[text("the service did not greet")]),
+        LogEntry::Stuck(port) => {
             let why = text(" answered none of 8 questions in a row");
             say(err, &[text("the "), text(name_of(*port)), why]);
         }
-        Entry::Quiet(port) => {
+        LogEntry::Quiet(port) => {
             let why = text(" answered no question for half of --wait");
             say(err, &[text("the "), text(name_of(*port)), why]);
         }
-        Entry::PartsConnected(_) => say(err, &[text("parts connected")]),
-        Entry::PartsLost => say(err, &[text("parts lost")]),
-        Entry::PartsOlder { version, least } => say_parts_older(err, *version, *least),
-        Entry::Crowded => say(
+        LogEntry::PartsConnected(_) => say(err, &[text("parts connected")]),
+        LogEntry::PartsLost => say(err, &[text("parts lost")]),
+        LogEntry::PartsOlder { version, least } => say_parts_older(err, *version, *least),
+        LogEntry::Crowded => say(
             err,
             &[text("the longest idle client was closed: all places are taken")],
         ),

@@ -14,11 +14,11 @@ use super::{Daemon, FIRST, RELAYED, RELAYING, Stop, millis};
 use av_arrival::TurnedAway;
 use av_base::{ByteList, Refusal, Version};
 use av_guard::Guard;
-use av_large::{Begun, Ending, Given, Service, Told};
-use av_log::Entry;
+use av_large::{Begun, Ending, LargeOut, ServicePresence, Told};
+use av_log::LogEntry;
 use av_parts::{Order, Said, Word, put_order};
 use av_peers::client::{Open, Place};
-use av_peers::line::Line;
+use av_peers::line::Connection;
 use av_peers::parts::{self, Parts, word_number};
 use av_peers::service::Claim;
 use av_peers::told::large_told;
@@ -49,7 +49,7 @@ struct Event {
     goes_on: bool,
 }
 
-fn event_of(client: u64, number: u64, given: &Given<'_>) -> Event {
+fn event_of(client: u64, number: u64, given: &LargeOut<'_>) -> Event {
     Event {
         client,
         number,
@@ -96,9 +96,9 @@ impl<'a, R: Files + Net + Clock> Daemon<'a, R> {
         now: Duration,
     ) -> Result<(), Broken> {
         let service = if self.has_service(guard) {
-            Service::Connected
+            ServicePresence::Connected
         } else {
-            Service::Away
+            ServicePresence::Away
         };
         let most = self.most_of(client);
         match self.large.begin(service, client, tag, most) {
@@ -389,7 +389,7 @@ impl<'a, R: Files + Net + Clock> Daemon<'a, R> {
             }
             self.lose_parts(guard, now)?;
         }
-        let mut line = Line::new(self.alloc, stream, parts::LEAST);
+        let mut line = Connection::new(self.alloc, stream, parts::LEAST);
         if line.register(self.doors.poll.registry(), RELAYING).is_ok() {
             self.parts = Some(Parts::new(line, now));
             self.goes_on = true;
@@ -471,12 +471,12 @@ impl<'a, R: Files + Net + Clock> Daemon<'a, R> {
         let floor = guard.floor();
         let refused = self.belief.refusal(&Claim::Greeting(version), floor);
         let entry = match &refused {
-            None => Entry::PartsConnected(version),
-            Some(TurnedAway::Above(most)) => Entry::Above {
+            None => LogEntry::PartsConnected(version),
+            Some(TurnedAway::Above(most)) => LogEntry::Above {
                 version,
                 most: *most,
             },
-            Some(TurnedAway::Older(least)) => Entry::PartsOlder {
+            Some(TurnedAway::Older(least)) => LogEntry::PartsOlder {
                 version,
                 least: *least,
             },
@@ -524,7 +524,7 @@ impl<'a, R: Files + Net + Clock> Daemon<'a, R> {
         }
         self.parts = None;
         if self.large.takes_parts() {
-            self.happened(&Entry::PartsLost);
+            self.happened(&LogEntry::PartsLost);
         }
         let mut told = Vec::new(self.alloc);
         self.large.lose(&mut told)?;

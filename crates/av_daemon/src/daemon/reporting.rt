@@ -5,7 +5,7 @@ use crate::process::memory;
 use av_base::Version;
 use av_guard::Guard;
 use av_health::{Report, report_bytes};
-use av_peers::line::{LEAST, Line};
+use av_peers::line::{Connection, LEAST};
 use mio::net::UnixStream;
 use std::fs::Files;
 use std::net::Net;
@@ -17,7 +17,7 @@ impl<'a, R: Files + Net + Clock> Daemon<'a, R> {
         let Ok(bytes) = report_bytes(self.alloc, &self.report(guard, now)) else {
             return;
         };
-        let mut line = Line::new(self.alloc, stream, LEAST);
+        let mut line = Connection::new(self.alloc, stream, LEAST);
         if line.waiting.extend_from_slice(bytes.as_slice()).is_ok() {
             let _ = line.send(now);
         }

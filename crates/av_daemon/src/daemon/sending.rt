@@ -11,7 +11,7 @@ use super::{
 };
 use av_base::{Cause, Port};
 use av_guard::Guard;
-use av_log::Entry;
+use av_log::LogEntry;
 use av_peers::told::{LargeTold, unjudged};
 use av_turns::{Late, Why};
 use std::fs::Files;
@@ -81,7 +81,7 @@ impl<'a, R: Files + Net + Clock> Daemon<'a, R> {
                 Late::Question(seq) => self.end_question(guard, seq, now)?,
                 Late::Service(place) => self.end_service(guard, port_of(place), now)?,
                 Late::Guest(guest) => {
-                    self.happened(&Entry::Silent);
+                    self.happened(&LogEntry::Silent);
                     self.lose_guest(guest);
                 }
                 Late::Deny { client, tag } => {
@@ -125,7 +125,7 @@ impl<'a, R: Files + Net + Clock> Daemon<'a, R> {
             return self.lose_service(guard, port, now);
         }
         if guard.connected(port.other()) && is_late(quiet, now, self.patience) {
-            self.happened(&Entry::Quiet(port));
+            self.happened(&LogEntry::Quiet(port));
             return self.lose_service(guard, port, now);
         }
         Ok(())
@@ -135,7 +135,7 @@ impl<'a, R: Files + Net + Clock> Daemon<'a, R> {
     fn end_service(&mut self, guard: &mut Guard, port: Port, now: Duration) -> Result<(), Stop>
         ensures { OnOk result (IsLosing port guard.old guard.new) }
     {
-        self.happened(&Entry::Stuck(port));
+        self.happened(&LogEntry::Stuck(port));
         self.lose_service(guard, port, now)
     }
 

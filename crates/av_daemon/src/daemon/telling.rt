@@ -12,8 +12,8 @@ use crate::names::Names;
 use crate::recorder::judged_of;
 use av_frame::encode::encode_into;
 use av_frame::{Body, Message};
-use av_guard::{Given, Guard, Told};
-use av_log::{Note, Way};
+use av_guard::{Guard, GuardOut, Told};
+use av_log::{AskNote, AskSocket};
 use av_peers::asked::Question;
 use av_peers::client::{Client, Lost};
 use av_peers::told::LargeTold;
@@ -24,7 +24,12 @@ use std::time::{Clock, Duration};
 
 impl<'a, R: Files + Net + Clock> Daemon<'a, R> {
     // Hands on what an event gave. A question that it asks is about what began to come at the moment `first`.
-    pub(super) fn settle(&mut self, guard: &mut Guard, given: Given, first: u64) -> Result<(), Stop>
+    pub(super) fn settle(
+        &mut self,
+        guard: &mut Guard,
+        given: GuardOut,
+        first: u64,
+    ) -> Result<(), Stop>
         ensures guard { OnOk result (KeepsFilter guard.old guard.new) }
         ensures told { OnOk result (AreTold given.told.items self.old.clients.entries self.new.clients.entries) }
     {
@@ -59,7 +64,7 @@ impl<'a, R: Files + Net + Clock> Daemon<'a, R> {
     pub(super) fn settle_moved(
         &mut self,
         guard: &mut Guard,
-        given: Given,
+        given: GuardOut,
         firsts: &BTreeMap<u64, u64>,
         now: Duration,
     ) -> Result<(), Stop>
@@ -138,17 +143,17 @@ impl<'a, R: Files + Net + Clock> Daemon<'a, R> {
     }
 
     // What a client asked about under a tag, where that was kept.
-    fn take_note(&mut self, connection: u64, tag: u64) -> Option<Note>
+    fn take_note(&mut self, connection: u64, tag: u64) -> Option<AskNote>
         ensures { IsSilent self.old.clients.entries self.new.clients.entries }
     {
         self.clients.get_mut(&connection)?.notes.take(tag)
     }
 
     // At which socket a client came.
-    fn way_of(&self, connection: u64) -> Way {
+    fn way_of(&self, connection: u64) -> AskSocket {
         match self.clients.get(&connection) {
-            Some(client) if client.is_of_clamd() => Way::Clamd,
-            _ => Way::Opens,
+            Some(client) if client.is_of_clamd() => AskSocket::Clamd,
+            _ => AskSocket::Opens,
         }
     }
 

@@ -12,13 +12,13 @@ use crate::entry::keep_silent;
 use crate::event::Event;
 use crate::fault::DeskFault;
 use av_base::{Refusal, Version};
-use av_service::{ConnectFault, Note, Service, ServiceOut};
+use av_service::{ConnectFault, Service, ServiceNote, ServiceOut};
 use av_sigset::Catalogue;
 use std::alloc::Global;
 
 impl Locked {
     /// Connects, and greets the filter.
-    pub fn connect(&mut self, alloc: Global) -> Result<Note, Refusal<DeskFault>>
+    pub fn connect(&mut self, alloc: Global) -> Result<ServiceNote, Refusal<DeskFault>>
         ensures event { Adds self.old self.new (By Connects)
             (fault_of self.old (of_connect (connect_refusal (state_of self.old)))) result }
         ensures note { IfOk result (λ n. n ≡ (respond (state_of self.old) (By Connects)).note) }
@@ -34,7 +34,7 @@ impl Locked {
     }
 
     /// Learns that the connection is gone: every job is dropped, and the cache is kept.
-    pub fn disconnect(&mut self, alloc: Global) -> Result<Note, Refusal<DeskFault>>
+    pub fn disconnect(&mut self, alloc: Global) -> Result<ServiceNote, Refusal<DeskFault>>
         ensures event { Adds self.old self.new (By Disconnects) (fault_of self.old None) result }
         ensures note { IfOk result (λ n. n ≡ (respond (state_of self.old) (By Disconnects)).note) }
     {
@@ -48,7 +48,7 @@ impl Locked {
 
     /// Starts the service anew, with an empty cache, under the set published last. Leases go on, so that work of before
     /// comes back as an orphan.
-    pub fn restart(&mut self, alloc: Global) -> Result<Note, Refusal<DeskFault>>
+    pub fn restart(&mut self, alloc: Global) -> Result<ServiceNote, Refusal<DeskFault>>
         ensures event { Adds self.old self.new (By (Restarts (latest_as self.old.sets))) (fault_of self.old None) result }
         ensures note { IfOk result (λ n. n ≡ (respond (state_of self.old) (By (Restarts (latest_as self.old.sets)))).note) }
     {

@@ -2,7 +2,7 @@ ghost use Rattle.std.specs.Prelude.{◌≡◌, ◌≢◌, ◌≤◌, ◌<◌, If
 ghost use Rattle.av_desk.specs.Book.{messages_of, waiting_of};
 
 use super::Locked;
-use crate::entry::Entry;
+use crate::entry::DeskEntry;
 use av_frame::Message;
 use std::alloc::{AllocError, Global};
 
@@ -30,7 +30,7 @@ impl Locked {
 }
 
 // How many events there are before the first that sent a message.
-fn quiet_ones(entries: &[Entry]) -> usize
+fn quiet_ones(entries: &[DeskEntry]) -> usize
     ensures within { result ≤ length entries.now }
     ensures stopped { result < length entries.now → messages_of entries.now ≢ [] }
     ensures waiting { messages_of (drop result entries.now) ≡ messages_of entries.now }
@@ -46,7 +46,7 @@ fn quiet_ones(entries: &[Entry]) -> usize
 }
 
 // The messages of these events.
-fn all_messages(alloc: Global, entries: &[Entry]) -> Result<Vec<Message>, AllocError>
+fn all_messages(alloc: Global, entries: &[DeskEntry]) -> Result<Vec<Message>, AllocError>
     ensures { IfOk result (λ v. v.items ≡ messages_of entries.now) }
 {
     let mut messages = Vec::new(alloc);

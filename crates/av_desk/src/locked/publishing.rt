@@ -15,7 +15,7 @@ use crate::event::Event;
 use crate::fault::{DeskFault, no_memory};
 use crate::shared::SharedAutomaton;
 use av_base::{Refusal, Refused, Version};
-use av_service::{Note, Service, ServiceOut};
+use av_service::{Service, ServiceNote, ServiceOut};
 use av_sigset::{CatalogueFault, SignatureSet};
 use std::alloc::Global;
 use std::snapshot::Snapshot;
@@ -28,7 +28,7 @@ impl Locked {
         alloc: Global,
         set: SignatureSet,
         built: Option<SharedAutomaton>,
-    ) -> Result<Note, Refused<SignatureSet, DeskFault>>
+    ) -> Result<ServiceNote, Refused<SignatureSet, DeskFault>>
         requires { IfSome built (λ a. a ≡ compiled (publication_of set)) }
         ensures event { AddsOrReturns self.old self.new (Publishes set.version (patterns_of set.signatures))
             (fault_of self.old (publish_fault self.old.sets set.version)) set result }

@@ -15,7 +15,7 @@ use crate::lent::{Taken, lent_of};
 use crate::shared::SharedAutomaton;
 use av_base::Refused;
 use av_frame::Message;
-use av_service::{Done, Note, Service, ServiceOut};
+use av_service::{Done, Service, ServiceNote, ServiceOut};
 use std::alloc::{AllocError, AllocFailed, Global};
 
 impl Locked {
@@ -49,7 +49,11 @@ impl Locked {
     }
 
     /// Takes back a work that was run. A refusal hands it back.
-    pub fn finish(&mut self, alloc: Global, done: Done) -> Result<Note, Refused<Done, DeskFault>>
+    pub fn finish(
+        &mut self,
+        alloc: Global,
+        done: Done,
+    ) -> Result<ServiceNote, Refused<Done, DeskFault>>
         ensures event { AddsOrReturns self.old self.new (By (Finishes done.lease done.scan (if_found done.scan)))
             (fault_of self.old None) done result }
         ensures note { IfOk result (λ n. n ≡ (respond (state_of self.old)

@@ -8,7 +8,7 @@ use av_base::{
 };
 use av_fakes::{may_refuse, refuse_no_more};
 use av_frame::{Body, Message};
-use av_service::{Done, Note};
+use av_service::{Done, ServiceNote};
 use av_sigset::{Catalogue, SignatureSet};
 use std::alloc::{AllocError, AllocFailed, Global};
 use std::sync::Wait;
@@ -92,7 +92,7 @@ pub fn chunk(alloc: Global, seq: u64, offset: u64, bytes: &[u8]) -> Result<Messa
     message_of(Port::One, body)
 }
 
-pub fn connect<R: Wait>(rt: &R, alloc: Global, desk: &Desk) -> Result<Note, Fail> {
+pub fn connect<R: Wait>(rt: &R, alloc: Global, desk: &Desk) -> Result<ServiceNote, Fail> {
     may_refuse(alloc);
     let first = desk.connect(rt, alloc);
     refuse_no_more(alloc);
@@ -102,7 +102,7 @@ pub fn connect<R: Wait>(rt: &R, alloc: Global, desk: &Desk) -> Result<Note, Fail
     }
 }
 
-pub fn disconnect<R: Wait>(rt: &R, alloc: Global, desk: &Desk) -> Result<Note, Fail> {
+pub fn disconnect<R: Wait>(rt: &R, alloc: Global, desk: &Desk) -> Result<ServiceNote, Fail> {
     may_refuse(alloc);
     let first = desk.disconnect(rt, alloc);
     refuse_no_more(alloc);
@@ -112,7 +112,7 @@ pub fn disconnect<R: Wait>(rt: &R, alloc: Global, desk: &Desk) -> Result<Note, F
     }
 }
 
-pub fn restart<R: Wait>(rt: &R, alloc: Global, desk: &Desk) -> Result<Note, Fail> {
+pub fn restart<R: Wait>(rt: &R, alloc: Global, desk: &Desk) -> Result<ServiceNote, Fail> {
     may_refuse(alloc);
     let first = desk.restart(rt, alloc);
     refuse_no_more(alloc);
@@ -127,7 +127,7 @@ pub fn publish<R: Wait>(
     alloc: Global,
     desk: &Desk,
     set: SignatureSet,
-) -> Result<Note, Fail> {
+) -> Result<ServiceNote, Fail> {
     may_refuse(alloc);
     let first = desk.publish(rt, alloc, set);
     refuse_no_more(alloc);
@@ -169,7 +169,12 @@ fn handed_back<T: Drop>(refused: Refused<T, DeskFault>) -> Result<T, Fail> {
     }
 }
 
-pub fn finish<R: Wait>(rt: &R, alloc: Global, desk: &Desk, done: Done) -> Result<Note, Fail> {
+pub fn finish<R: Wait>(
+    rt: &R,
+    alloc: Global,
+    desk: &Desk,
+    done: Done,
+) -> Result<ServiceNote, Fail> {
     may_refuse(alloc);
     let first = desk.finish(rt, alloc, done);
     refuse_no_more(alloc);
@@ -191,7 +196,12 @@ pub fn finish<R: Wait>(rt: &R, alloc: Global, desk: &Desk, done: Done) -> Result
 }
 
 // A message that lends no work.
-pub fn quiet<R: Wait>(rt: &R, alloc: Global, desk: &Desk, it: Message) -> Result<Note, Fail> {
+pub fn quiet<R: Wait>(
+    rt: &R,
+    alloc: Global,
+    desk: &Desk,
+    it: Message,
+) -> Result<ServiceNote, Fail> {
     let Taken { lent, note } = message(rt, alloc, desk, it)?;
     match lent {
         None => Ok(note),

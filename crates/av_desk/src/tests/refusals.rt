@@ -4,7 +4,7 @@ use crate::tests::said::{Said, told};
 use crate::{Desk, DeskFault, Taken};
 use av_base::{Lease, LimitField, Limits, Refusal, Refused, Version};
 use av_frame::Message;
-use av_service::{Done, Note};
+use av_service::{Done, ServiceNote};
 use av_sigset::{Catalogue, SignatureSet};
 use std::alloc::{AllocError, Global};
 use std::process::Abort;
@@ -103,7 +103,7 @@ fn connections<R: Wait + Abort>(rt: &R, alloc: Global) -> Result<(), Fail> {
     let unknown = Err(Refusal::Fault(DeskFault::NoSignatures));
     assert_eq!(rt; desk.connect(rt, alloc), unknown);
     calls::publish(rt, alloc, &desk, calls::set(alloc, 1, b"XX")?)?;
-    assert_eq!(rt; desk.connect(rt, alloc), Ok(Note::Quiet));
+    assert_eq!(rt; desk.connect(rt, alloc), Ok(ServiceNote::Quiet));
     let again = Err(Refusal::Fault(DeskFault::AlreadyConnected));
     assert_eq!(rt; desk.connect(rt, alloc), again);
     calls::quiet(rt, alloc, &desk, calls::scan(1, 2)?)?;

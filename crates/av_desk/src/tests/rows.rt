@@ -3,7 +3,7 @@ use crate::tests::calls;
 use crate::tests::said::{Asked, Row, Said, rows};
 use crate::{Desk, Lent};
 use av_base::{Limits, Port, Verdict};
-use av_service::Note;
+use av_service::ServiceNote;
 use std::alloc::Global;
 use std::process::Abort;
 use std::sync::Wait;
@@ -42,7 +42,7 @@ pub fn published_amidst<R: Wait>(rt: &R, alloc: Global, desk: &Desk) -> Result<(
     calls::quiet(rt, alloc, desk, calls::scan(1, 3)?)?;
     let old = calls::lending(rt, alloc, desk, calls::chunk(alloc, 1, 0, b"ABC")?)?;
     let orphan = published_before(rt, alloc, desk, old)?;
-    if orphan != Note::Orphan {
+    if orphan != ServiceNote::Orphan {
         return Err(Fail::new("no orphan"));
     }
     let lent = calls::lending(rt, alloc, desk, calls::chunk(alloc, 1, 0, b"ABC")?)?;
@@ -53,7 +53,12 @@ pub fn published_amidst<R: Wait>(rt: &R, alloc: Global, desk: &Desk) -> Result<(
 }
 
 // A set is published, and then a work comes back.
-fn published_before<R: Wait>(rt: &R, alloc: Global, desk: &Desk, lent: Lent) -> Result<Note, Fail> {
+fn published_before<R: Wait>(
+    rt: &R,
+    alloc: Global,
+    desk: &Desk,
+    lent: Lent,
+) -> Result<ServiceNote, Fail> {
     let published = match calls::set(alloc, 2, b"AB") {
         Ok(set) => calls::publish(rt, alloc, desk, set),
         Err(fail) => Err(fail),
@@ -77,25 +82,25 @@ pub const PUBLISHED_AMIDST: [Said; 5] = [
 ];
 
 pub const ITS_AUDIT: [Row; 9] = [
-    (Asked::Connect, 1, None, Note::Quiet),
-    (Asked::Receive(Said::Scan(1)), 1, None, Note::Quiet),
+    (Asked::Connect, 1, None, ServiceNote::Quiet),
+    (Asked::Receive(Said::Scan(1)), 1, None, ServiceNote::Quiet),
     (
         Asked::Receive(Said::Chunk(1, 0, 3)),
         0,
         Some(1),
-        Note::Quiet,
+        ServiceNote::Quiet,
     ),
-    (Asked::Publish(2), 2, None, Note::Quiet),
-    (Asked::Finish(1, None), 0, None, Note::Orphan),
+    (Asked::Publish(2), 2, None, ServiceNote::Quiet),
+    (Asked::Finish(1, None), 0, None, ServiceNote::Orphan),
     (
         Asked::Receive(Said::Chunk(1, 0, 3)),
         0,
         Some(2),
-        Note::Quiet,
+        ServiceNote::Quiet,
     ),
-    (Asked::Finish(2, Some(HIT)), 1, None, Note::Quiet),
-    (Asked::Restart(2), 0, None, Note::Quiet),
-    (Asked::Disconnect, 0, None, Note::Quiet),
+    (Asked::Finish(2, Some(HIT)), 1, None, ServiceNote::Quiet),
+    (Asked::Restart(2), 0, None, ServiceNote::Quiet),
+    (Asked::Disconnect, 0, None, ServiceNote::Quiet),
 ];
 
 fn check<R: Wait + Abort>(rt: &R, alloc: Global) -> Result<(), Fail> {
@@ -144,7 +149,10 @@ fn check_second_port<R: Wait + Abort>(rt: &R, alloc: Global) -> Result<(), Fail>
     calls::connect(rt, alloc, &desk)?;
     let at_one = calls::quiet(rt, alloc, &desk, calls::scan(1, 3)?)?;
     let at_two = calls::quiet(rt, alloc, &desk, calls::scan_at(Port::Two, 1, 3)?)?;
-    assert_eq!(rt; (at_one, at_two), (Note::Ignored, Note::Quiet));
+    assert_eq!(rt;
+        (at_one, at_two),
+        (ServiceNote::Ignored, ServiceNote::Quiet)
+    );
     let sent = desk.take_outgoing(rt, alloc)?;
     let ports: Vec<Port> = sent.iter().map(|message| message.port()).collect(alloc)?;
     assert_eq!(rt; ports.as_slice(), [Port::Two, Port::Two].as_slice());

@@ -1,8 +1,8 @@
 // What a desk sent, and what its audit says that it was asked, as plain data.
-use crate::{Audit, Entry, Event};
+use crate::{Audit, DeskEntry, Event};
 use av_base::{Lease, Verdict};
 use av_frame::{Body, Message, Outcome};
-use av_service::Note;
+use av_service::ServiceNote;
 use std::alloc::{AllocError, Global};
 
 // A message, by the number of its question where it has one.
@@ -30,7 +30,7 @@ pub enum Asked {
 }
 
 // An event with the count of its messages, the lease of the work that it gave out, and its note.
-pub type Row = (Asked, usize, Option<u64>, Note);
+pub type Row = (Asked, usize, Option<u64>, ServiceNote);
 
 pub fn told(message: &Message) -> Said {
     match message.body() {
@@ -62,7 +62,7 @@ fn call_of(event: &Event) -> Asked {
     }
 }
 
-fn row_of(entry: &Entry) -> Row {
+fn row_of(entry: &DeskEntry) -> Row {
     let lease = entry.lease().map(|lease: Lease| lease.get());
     (
         call_of(entry.event()),

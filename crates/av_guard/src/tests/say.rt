@@ -1,6 +1,6 @@
 ghost use Rattle.std.specs.Prelude.{◌≤◌};
 
-use crate::{Answered, Given};
+use crate::{Answered, GuardOut};
 use av_base::{MessageId, Port, Verdict, Version};
 use av_frame::{Body, Message, Outcome};
 use std::fmt::Write;
@@ -65,7 +65,7 @@ pub(crate) fn reply_of(boot: u64, seq: u64, version: u64, infected: bool) -> Mes
 }
 
 /// Adds what was given out.
-pub(crate) fn given_is(said: &mut String, given: &Given) -> Result<(), Fail> {
+pub(crate) fn given_is(said: &mut String, given: &GuardOut) -> Result<(), Fail> {
     for told in given.told.as_slice() {
         write!(said, "{}.{}=", told.client, told.tag)?;
         match told.answer {

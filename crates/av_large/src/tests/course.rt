@@ -1,5 +1,5 @@
-use crate::answer::{Answer, Begun, Given, Told};
-use crate::content::{Ending, Service};
+use crate::answer::{Answer, Begun, LargeOut, Told};
+use crate::content::{Ending, ServicePresence};
 use crate::large::Large;
 use crate::tests::refused::begins;
 use crate::tests::rows::ROWS;
@@ -14,7 +14,7 @@ pub enum Event<'a> {
     // With this version, at the floor before it.
     Greets(u64, u64),
     // A client, a tag, and the most bytes.
-    Begins(Service, u64, u64, u64),
+    Begins(ServicePresence, u64, u64, u64),
     Brings(u64, &'a str),
     Ends(u64, Ending),
     // The floor, and the word's fields in order.
@@ -56,7 +56,7 @@ fn the_readers_tell_the_state(rt: HostRuntime) -> Result<(), Fail> {
     let mut large = Large::new(rt.alloc());
     assert!(rt; !large.takes_parts() && large.len() == 0 && !large.is_within(5));
     large.greet(Version::new(9), Version::new(9))?;
-    begins(&mut large, Service::Connected, 5, 1)?;
+    begins(&mut large, ServicePresence::Connected, 5, 1)?;
     assert!(rt; large.takes_parts() && large.len() == 1 && large.is_within(5) && !large.owes(1));
     let _ = large.end(5, Ending::Whole);
     assert!(rt; large.len() == 1 && !large.is_within(5) && large.owes(1) && !large.owes(2));
@@ -112,7 +112,7 @@ fn says(alloc: Global, large: &mut Large, event: Event<'_>) -> Result<String, Fa
         _ => return Ok(String::new(alloc)),
     };
     match large.hear(Version::new(floor), word) {
-        Ok(told) => words_of(alloc, &Given { told, order: None }),
+        Ok(told) => words_of(alloc, &LargeOut { told, order: None }),
         Err(why) => Ok(format!(in alloc; "{why}")?),
     }
 }
@@ -140,7 +140,7 @@ fn lost(alloc: Global, large: &mut Large) -> Result<String, Fail> {
 }
 
 // What an event about one content gives out, in words.
-fn words_of(alloc: Global, given: &Given<'_>) -> Result<String, Fail> {
+fn words_of(alloc: Global, given: &LargeOut<'_>) -> Result<String, Fail> {
     let mut out = String::new(alloc);
     if let Some(told) = given.told {
         out.push_str(told_words(alloc, &told)?.as_str())?;

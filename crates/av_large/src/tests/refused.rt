@@ -1,5 +1,5 @@
 use crate::answer::{Answer, Begun, Told};
-use crate::content::{Ending, Service};
+use crate::content::{Ending, ServicePresence};
 use crate::fault::BeginFault;
 use crate::large::Large;
 use av_base::{Cause, Refusal, Version};
@@ -11,17 +11,17 @@ use std::test::Fail;
 fn with_three(alloc: Global) -> Result<Large, Fail> {
     let mut large = Large::new(alloc);
     large.greet(Version::new(9), Version::new(9))?;
-    begins(&mut large, Service::Connected, 5, 1)?;
+    begins(&mut large, ServicePresence::Connected, 5, 1)?;
     let _ = large.end(5, Ending::Whole);
-    begins(&mut large, Service::Connected, 6, 1)?;
-    begins(&mut large, Service::Connected, 5, 2)?;
+    begins(&mut large, ServicePresence::Connected, 6, 1)?;
+    begins(&mut large, ServicePresence::Connected, 5, 2)?;
     Ok(large)
 }
 
 // The number of a content that begins, 0 if it is told at once.
 pub fn begins(
     large: &mut Large,
-    service: Service,
+    service: ServicePresence,
     client: u64,
     tag: u64,
 ) -> Result<u64, Refusal<BeginFault>> {
@@ -36,11 +36,11 @@ pub fn begins(
 fn refused_or_not_a_content_begins(rt: HostRuntime) -> Result<(), Fail> {
     let mut large = with_three(rt.alloc())?;
     may_refuse(rt.alloc());
-    let first = begins(&mut large, Service::Connected, 7, 1);
+    let first = begins(&mut large, ServicePresence::Connected, 7, 1);
     refuse_no_more(rt.alloc());
     if first.is_err() {
         assert!(rt; first == Err(Refusal::NoMemory) && large.len() == 3 && !large.is_within(7));
-        begins(&mut large, Service::Connected, 7, 1)?;
+        begins(&mut large, ServicePresence::Connected, 7, 1)?;
     }
     assert!(rt; large.len() == 4 && large.is_within(7));
     let _ = large.end(7, Ending::Whole);
@@ -52,11 +52,11 @@ fn refused_or_not_a_content_begins(rt: HostRuntime) -> Result<(), Fail> {
 fn refused_or_not_a_content_is_told_at_once(rt: HostRuntime) -> Result<(), Fail> {
     let mut large = Large::new(rt.alloc());
     may_refuse(rt.alloc());
-    let first = begins(&mut large, Service::Away, 7, 1);
+    let first = begins(&mut large, ServicePresence::Away, 7, 1);
     refuse_no_more(rt.alloc());
     if first.is_err() {
         assert!(rt; first == Err(Refusal::NoMemory) && !large.is_within(7));
-        begins(&mut large, Service::Away, 7, 1)?;
+        begins(&mut large, ServicePresence::Away, 7, 1)?;
     }
     assert!(rt; large.len() == 0 && large.is_within(7));
     Ok(())

@@ -8,8 +8,8 @@ use Rattle.av_filter.specs.declared.note.Note.TheVariants.{Submitted}
 use Rattle.av_pend.specs.declared.answer.Answer.{Answer}
 use Rattle.av_pend.specs.declared.answer.Answer.TheVariants.{Granted, Unscanned, Denied}
 use Rattle.av_history.specs.declared.given.Given.{Given}
-use Rattle.av_history.specs.declared.report.Note.{Note}
-use Rattle.av_history.specs.declared.report.Note.TheVariants.{Filter, Service}
+use Rattle.av_history.specs.declared.report.EventNote.{EventNote}
+use Rattle.av_history.specs.declared.report.EventNote.TheVariants.{Filter, Service}
 use Rattle.av_output.specs.Objects.Lines.{is}
 use Rattle.av_output.specs.Text.Answers.{is_answered}
 
@@ -42,6 +42,6 @@ submitted_tokens (Submitted open_id) answers =
 submitted_tokens _ answers = []
 
 -- the object of an open that was submitted and waits
-abbrev pub pended_tokens : Note → List Given → List Token
+abbrev pub pended_tokens : EventNote → List Given → List Token
 pended_tokens (Filter note) answers = submitted_tokens note answers
 pended_tokens (Service note) answers = []

@@ -7,7 +7,7 @@ use Rattle.av_base.specs.declared.verdict.Verdict.TheVariants.{Clean, Infected}
 use Rattle.av_history.specs.declared.report.Judged.{Judged}
 use Rattle.av_history.specs.declared.report.Line.{Line}
 use Rattle.av_history.specs.declared.report.Line.TheVariants.{Silent, Published, Created, Changed, Removed, Booted}
-use Rattle.av_history.specs.declared.report.Note.{Note}
+use Rattle.av_history.specs.declared.report.EventNote.{EventNote}
 use Rattle.av_output.specs.Text.Notes.{note_word}
 
 -- what kind of thing an object tells
@@ -49,5 +49,5 @@ noted_tokens None = []
 noted_tokens (Some word) = object_tokens (is (codes "note") ∷ text_tokens (codes "note") word ∷ [])
 
 -- the object of a note
-abbrev pub note_tokens : Note → List Token
+abbrev pub note_tokens : EventNote → List Token
 note_tokens note = noted_tokens (note_word note)

@@ -8,14 +8,14 @@ use Rattle.av_frame.specs.Message.{Letter}
 use Rattle.av_frame.specs.declared.message.Body.{Body}
 use Rattle.av_json.specs.Member.{joined, number_tokens, object_tokens, text_tokens}
 use Rattle.av_service.specs.Work.{WorkState}
-use Rattle.av_output.specs.declared.message.Way.{Way}
-use Rattle.av_output.specs.declared.message.Way.TheVariants.{Down, Up}
+use Rattle.av_output.specs.declared.message.Direction.{Direction}
+use Rattle.av_output.specs.declared.message.Direction.TheVariants.{Down, Up}
 use Rattle.av_output.specs.declared.told.Field.{Field as HeldField}
 use Rattle.av_output.specs.Objects.Lines.{is}
 use Rattle.av_output.specs.Told.{Field, Id, Number, Bytes, Plain, Word, Told, each, held_field, of_kind, told_of, work_fields}
 
 -- the name of a message's place
-abbrev pub way_name : Way → List ℕ
+abbrev pub way_name : Direction → List ℕ
 way_name Down = codes "down"
 way_name Up = codes "up"
 
@@ -42,11 +42,11 @@ told_tokens list place t port =
     object_tokens (is t.kind ∷ number_tokens list place ∷ each field_members t.fields (port_members port))
 
 -- the object of a message of these fields at a port, by its way and place
-abbrev pub body_tokens : Way → ℕ → Port → Body → List Token
+abbrev pub body_tokens : Direction → ℕ → Port → Body → List Token
 body_tokens way place port body = told_tokens (way_name way) place (told_of body) port
 
 -- the object of a message
-abbrev pub message_tokens : Way → ℕ → Letter → List Token
+abbrev pub message_tokens : Direction → ℕ → Letter → List Token
 message_tokens way place m = body_tokens way place m.port m.body
 
 -- the object of work that the service of a port lent

@@ -9,8 +9,8 @@ use Rattle.av_pend.specs.Pend.{open_of}
 use Rattle.av_pend.specs.declared.answer.Answer.{Answer}
 use Rattle.av_pend.specs.declared.answer.Answer.TheVariants.{Granted, Unscanned, Denied}
 use Rattle.av_history.specs.declared.given.Given.{Given}
-use Rattle.av_history.specs.declared.report.Note.{Note}
-use Rattle.av_history.specs.declared.report.Note.TheVariants.{Filter, Service}
+use Rattle.av_history.specs.declared.report.EventNote.{EventNote}
+use Rattle.av_history.specs.declared.report.EventNote.TheVariants.{Filter, Service}
 
 -- what the open of a number is told
 abbrev pub answer_parts : Answer → List (List ℕ)
@@ -48,6 +48,6 @@ submitted_text (Submitted open_id) answers =
 submitted_text _ answers = []
 
 -- the line of an open that was submitted and waits
-abbrev pub pended_text : Note → List Given → List ℕ
+abbrev pub pended_text : EventNote → List Given → List ℕ
 pended_text (Filter note) answers = submitted_text note answers
 pended_text (Service note) answers = []

@@ -7,8 +7,8 @@ use Rattle.av_base.specs.declared.port.Port.TheVariants.{One, Two}
 use Rattle.av_frame.specs.Message.{Letter}
 use Rattle.av_frame.specs.declared.message.Body.{Body}
 use Rattle.av_service.specs.Work.{WorkState}
-use Rattle.av_output.specs.declared.message.Way.{Way}
-use Rattle.av_output.specs.declared.message.Way.TheVariants.{Down, Up}
+use Rattle.av_output.specs.declared.message.Direction.{Direction}
+use Rattle.av_output.specs.declared.message.Direction.TheVariants.{Down, Up}
 use Rattle.av_output.specs.declared.told.Field.{Field as HeldField}
 use Rattle.av_output.specs.Told.{Field, Id, Number, Bytes, Plain, Word, Told, each, held_field, of_kind, told_of, work_fields}
 
@@ -18,7 +18,7 @@ line_end One = codes "\n"
 line_end Two = codes " port 2\n"
 
 -- the word of the list in which a message stands
-abbrev pub way_word : Way → List ℕ
+abbrev pub way_word : Direction → List ℕ
 way_word Down = codes "down "
 way_word Up = codes "up "
 
@@ -39,11 +39,11 @@ abbrev pub told_text : List ℕ → ℕ → Told → List ℕ → List ℕ
 told_text list place t end = spelt (list ∷ decimal place ∷ codes " " ∷ t.kind ∷ each field_parts t.fields (end ∷ []))
 
 -- the line of a message of these fields at a port, by its way and place
-abbrev pub body_text : Way → ℕ → Port → Body → List ℕ
+abbrev pub body_text : Direction → ℕ → Port → Body → List ℕ
 body_text way place port body = told_text (way_word way) place (told_of body) (line_end port)
 
 -- the line of a message
-abbrev pub message_text : Way → ℕ → Letter → List ℕ
+abbrev pub message_text : Direction → ℕ → Letter → List ℕ
 message_text way place m = body_text way place m.port m.body
 
 -- what is told of all that stands in a list from a place on, each with its place

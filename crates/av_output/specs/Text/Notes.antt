@@ -3,10 +3,10 @@ use Rattle.std.specs.Prelude.{ℕ, List, [], ◌∷◌, Option, None, Some, code
 use Rattle.av_base.specs.Part.{spelt}
 use Rattle.av_filter.specs.declared.note.Note.{Note as FilterNote}
 use Rattle.av_filter.specs.declared.note.Note.TheVariants as filter
-use Rattle.av_service.specs.declared.note.Note.{Note as ServiceNote}
-use Rattle.av_service.specs.declared.note.Note.TheVariants as service
-use Rattle.av_history.specs.declared.report.Note.{Note}
-use Rattle.av_history.specs.declared.report.Note.TheVariants.{Filter, Service}
+use Rattle.av_service.specs.declared.note.ServiceNote.{ServiceNote}
+use Rattle.av_service.specs.declared.note.ServiceNote.TheVariants as service
+use Rattle.av_history.specs.declared.report.EventNote.{EventNote}
+use Rattle.av_history.specs.declared.report.EventNote.TheVariants.{Filter, Service}
 
 -- the word of a note of the filter, where it has one: that an open waits is told by its own line
 abbrev pub filter_word : FilterNote → Option (List ℕ)
@@ -28,7 +28,7 @@ service_word service.Ignored = Some (codes "Ignored")
 service_word service.Orphan = Some (codes "Orphan")
 
 -- the word of a note that is printed
-abbrev pub note_word : Note → Option (List ℕ)
+abbrev pub note_word : EventNote → Option (List ℕ)
 note_word (Filter note) = filter_word note
 note_word (Service note) = service_word note
 
@@ -38,5 +38,5 @@ noted None = []
 noted (Some word) = spelt (codes "note " ∷ word ∷ codes "\n" ∷ [])
 
 -- the line of a note
-abbrev pub note_text : Note → List ℕ
+abbrev pub note_text : EventNote → List ℕ
 note_text note = noted (note_word note)

@@ -6,7 +6,7 @@ use crate::answer::is_answered;
 use av_base::{Cause, Generation, OpenId, StreamId, Version};
 use av_filter::note::Note as FilterNote;
 use av_history::given::Given;
-use av_history::report::Note;
+use av_history::report::EventNote;
 use av_json::{Member, put_object, why};
 use av_pend::Answer;
 use json::Writer;
@@ -103,12 +103,12 @@ fn put_denied(open_id: OpenId, cause: Cause, line: &mut Writer) -> Result<(), Al
 }
 
 /// Puts that the open of a note waits, where the note has one and these answers have none for it.
-pub fn put_pended(note: Note, answers: &[Given], line: &mut Writer) -> Result<(), AllocError>
+pub fn put_pended(note: EventNote, answers: &[Given], line: &mut Writer) -> Result<(), AllocError>
     ensures { Puts result line.old line.new (pended_tokens note answers.now) }
 {
     match note {
-        Note::Filter(note) => put_submitted(note, answers, line),
-        Note::Service(_) => Ok(()),
+        EventNote::Filter(note) => put_submitted(note, answers, line),
+        EventNote::Service(_) => Ok(()),
     }
 }
 

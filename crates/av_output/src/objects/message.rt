@@ -5,7 +5,7 @@ ghost use Rattle.av_output.specs.Objects.Messages.{field_tokens, message_tokens,
 ghost use Rattle.av_output.specs.Text.Messages.{placed};
 ghost use Rattle.av_output.specs.Told.{held};
 
-use crate::message::Way;
+use crate::message::Direction;
 use crate::part::part;
 use crate::told::{Field, Told, told_of};
 use av_base::Port;
@@ -14,14 +14,14 @@ use av_json::{Member, put_members};
 use json::Writer;
 use std::alloc::{AllocError, Global};
 
-impl Way {
+impl Direction {
     // The member that says it.
     fn name(self) -> &'static str
         ensures { result.now ≡ way_name self }
     {
         match self {
-            Way::Down => "down",
-            Way::Up => "up",
+            Direction::Down => "down",
+            Direction::Up => "up",
         }
     }
 }
@@ -30,7 +30,7 @@ impl Way {
 /// take memory besides the line's.
 pub fn put_messages(
     alloc: Global,
-    way: Way,
+    way: Direction,
     messages: &[Message],
     from: u64,
     to: u64,
@@ -47,7 +47,7 @@ pub fn put_messages(
 
 fn put_message(
     alloc: Global,
-    way: Way,
+    way: Direction,
     number: u64,
     message: &Message,
     line: &mut Writer,

@@ -1,5 +1,5 @@
 // What a service gives out, and what its readers answer, as text.
-use crate::note::Note;
+use crate::note::ServiceNote;
 use crate::out::ServiceOut;
 use crate::service::Service;
 use crate::work::Work;
@@ -34,10 +34,10 @@ pub fn told(alloc: Global, out: ServiceOut, works: &mut VecDeque<Work>) -> Resul
     }
     text.push_str(lent.as_str())?;
     text.push_str(match note {
-        Note::Quiet => "",
-        Note::Repeat => "note Repeat",
-        Note::Ignored => "note Ignored",
-        Note::Orphan => "note Orphan",
+        ServiceNote::Quiet => "",
+        ServiceNote::Repeat => "note Repeat",
+        ServiceNote::Ignored => "note Ignored",
+        ServiceNote::Orphan => "note Orphan",
     })?;
     Ok(text)
 }

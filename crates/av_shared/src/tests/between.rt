@@ -8,7 +8,7 @@ use av_ends::Ticket;
 use av_filter::Note as FilterNote;
 use av_frame::{Feed, Message};
 use av_gate::{Gate, Seat};
-use av_history::{Given, Line, Note, Places, Report};
+use av_history::{EventNote, Given, Line, Places, Report};
 use av_output::report::print_report;
 use av_service::Done;
 use av_sigset::SignatureSet;
@@ -131,26 +131,26 @@ impl Between {
         desks: Desks<'_>,
         seat: &mut Seat,
         step: Step<'_>,
-    ) -> Result<Note, Fail>
+    ) -> Result<EventNote, Fail>
         requires { IsSeatOf gate.now seat.old }
         ensures { IsSeatOf gate.now seat.new }
     {
         let note = match step {
-            Step::Write(name, offset, bytes) => Note::Filter(gate.write(
+            Step::Write(name, offset, bytes) => EventNote::Filter(gate.write(
                 rt, alloc, seat, name, offset, bytes,
             )?),
             Step::Open(name) => {
                 let ticket = gate.open(rt, alloc, seat, name)?;
                 let open_id = ticket.open_id();
                 self.tickets.push(ticket)?;
-                Note::Filter(FilterNote::Submitted { open_id })
+                EventNote::Filter(FilterNote::Submitted { open_id })
             }
             Step::Up(number) => {
                 let message = carried(alloc, &mut self.to_gate, self.up.as_slice(), number)?;
-                Note::Filter(gate.message(rt, alloc, seat, &message)?)
+                EventNote::Filter(gate.message(rt, alloc, seat, &message)?)
             }
-            Step::Disconnect(port) => Note::Filter(gate.disconnect(rt, alloc, seat, port)?),
-            Step::Connect(port) => Note::Service(desks.at(port)?.connect(rt, alloc)?),
+            Step::Disconnect(port) => EventNote::Filter(gate.disconnect(rt, alloc, seat, port)?),
+            Step::Connect(port) => EventNote::Service(desks.at(port)?.connect(rt, alloc)?),
             Step::Down(number) => {
                 let message = carried(alloc, &mut self.to_desk, self.down.as_slice(), number)?;
                 let desk = desks.at(message.port())?;
@@ -173,7 +173,7 @@ impl Between {
         alloc: Global,
         desk: &Desk,
         message: Message,
-    ) -> Result<Note, Fail> {
+    ) -> Result<EventNote, Fail> {
         let Ok(taken) = desk.message(rt, alloc, message) else {
             return Err(Fail::new("a message was refused"));
         };
@@ -181,7 +181,7 @@ impl Between {
         if let Some(lent) = lent {
             discard(mem::replace(&mut self.lent, Some(lent)));
         }
-        Ok(Note::Service(note))
+        Ok(EventNote::Service(note))
     }
 
     // The work that is out, once it was run. It is of this lease.
@@ -267,9 +267,9 @@ fn carried(
     }
 }
 
-fn finish<R: Wait>(rt: &R, alloc: Global, desk: &Desk, done: Done) -> Result<Note, Fail> {
+fn finish<R: Wait>(rt: &R, alloc: Global, desk: &Desk, done: Done) -> Result<EventNote, Fail> {
     match desk.finish(rt, alloc, done) {
-        Ok(note) => Ok(Note::Service(note)),
+        Ok(note) => Ok(EventNote::Service(note)),
         Err(refused) => {
             refused.value.discard();
             Err(Fail::new("a work was not taken back"))
@@ -283,10 +283,10 @@ fn publish<R: Wait>(
     desk: &Desk,
     version: u64,
     pattern: &[u8],
-) -> Result<Note, Fail> {
+) -> Result<EventNote, Fail> {
     let set = SignatureSet::from_patterns(alloc, Version::new(version), &[pattern])?;
     match desk.publish(rt, alloc, set) {
-        Ok(note) => Ok(Note::Service(note)),
+        Ok(note) => Ok(EventNote::Service(note)),
         Err(_) => Err(Fail::new("a set was refused")),
     }
 }

@@ -4,7 +4,7 @@ ghost use Rattle.av_turns.specs.Turns.{IsGiven, IsHeldUp, IsInTurn, IsKept, IsNo
 
 use super::Turns;
 use crate::limits::SMALLS;
-use crate::line::{First, Found, Line, Standing};
+use crate::line::{First, Found, Standing, WaitingLine};
 use crate::questions::Questions;
 use std::alloc::AllocError;
 
@@ -131,7 +131,7 @@ impl Turns {
 }
 
 // The ask in front, where the questions that run leave room for it. Clients without an ask leave the order.
-fn front_of(line: &mut Line, questions: &Questions) -> Option<First>
+fn front_of(line: &mut WaitingLine, questions: &Questions) -> Option<First>
     ensures skips { Skips line.old line.new }
     ensures some { IfSome result (λ first. IsInFront line.new first) }
     ensures none { IfNone result (IsHeldUp questions.now line.new) }
@@ -145,7 +145,7 @@ fn front_of(line: &mut Line, questions: &Questions) -> Option<First>
 }
 
 // The ask in front.
-fn skip_bare(line: &mut Line) -> Option<First>
+fn skip_bare(line: &mut WaitingLine) -> Option<First>
     ensures skips { Skips line.old line.new }
     ensures some { IfSome result (λ first. IsInFront line.new first) }
     ensures none { IfNone result (IsNobodyInLine line.new) }

@@ -7,7 +7,7 @@ ghost use Rattle.av_turns.specs.Turns.{IsBack, IsNew, IsUnchanged, Parses, Parse
 use super::{Parsed, Thing, Turns};
 use crate::budget::Budget;
 use crate::client::reply;
-use crate::queue::Ask;
+use crate::queue::QueuedAsk;
 
 impl Turns {
     /// A thing was parsed of the client whose turn it is. It is passed back where memory is refused, the turn is over, or the
@@ -71,7 +71,7 @@ impl Turns {
             return Err(Thing::New { tag, content });
         };
         let first = counts.first.unwrap_or(now);
-        let ask = Ask {
+        let ask = QueuedAsk {
             tag,
             first,
             content,
@@ -102,7 +102,7 @@ impl Turns {
     }
 
     // A small ask of a client is in line.
-    fn stand_small(&mut self, client: u64, ask: Ask) -> Result<(), Ask>
+    fn stand_small(&mut self, client: u64, ask: QueuedAsk) -> Result<(), QueuedAsk>
         ensures ok { OnOk result (IfSome (at self.old.clients.clients client) (λ c. WaitsSmall self.old self.new client c (asked_of ask))) }
         ensures err { IfErr result (λ back. (asked_of back ≡ asked_of ask) × IsUnchanged self.old self.new) }
     {
@@ -139,7 +139,7 @@ impl Turns {
     }
 
     // A large ask of a client is in line.
-    fn stand_large(&mut self, client: u64, ask: Ask) -> Result<(), Ask>
+    fn stand_large(&mut self, client: u64, ask: QueuedAsk) -> Result<(), QueuedAsk>
         ensures ok { OnOk result (IfSome (at self.old.clients.clients client) (λ c. WaitsLarge self.old self.new client c (asked_of ask))) }
         ensures err { IfErr result (λ back. (asked_of back ≡ asked_of ask) × IsUnchanged self.old self.new) }
     {
@@ -166,10 +166,10 @@ impl Turns {
 }
 
 // An ask as the thing that was parsed.
-fn thing_of(ask: Ask) -> Thing
+fn thing_of(ask: QueuedAsk) -> Thing
     ensures { result ≡ Thing.New ask.tag ask.content }
 {
-    let Ask {
+    let QueuedAsk {
         tag,
         first: _,
         content,

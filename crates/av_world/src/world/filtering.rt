@@ -12,7 +12,7 @@ use av_base::{Generation, StreamId};
 use av_filter::{Filter, FilterCall, Mounted, Out};
 use av_history::event::Event;
 use av_history::given::Given;
-use av_history::report::{Line, Note, Report};
+use av_history::report::{EventNote, Line, Report};
 use av_pend::Answer;
 use av_store::Volume;
 use std::alloc::Global;
@@ -76,7 +76,7 @@ impl Stage {
             line: line(self.mounted.volume(), call),
             before,
             after: self.places(),
-            note: Note::Filter(out.note),
+            note: EventNote::Filter(out.note),
         })
     }
 }

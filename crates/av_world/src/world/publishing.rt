@@ -13,8 +13,8 @@ use super::stage::Stage;
 use av_base::Version;
 use av_frame::Message;
 use av_history::pattern::Patterns;
-use av_history::report::{Line, Note, Report};
-use av_service::note::Note as ServiceNote;
+use av_history::report::{EventNote, Line, Report};
+use av_service::note::ServiceNote;
 use av_service::{Service, ServiceOut};
 use av_sigset::SignatureSet;
 use std::alloc::Global;
@@ -82,7 +82,7 @@ impl Stage {
             line,
             before,
             after: self.places(),
-            note: Note::Service(ServiceNote::Quiet),
+            note: EventNote::Service(ServiceNote::Quiet),
         })
     }
 }

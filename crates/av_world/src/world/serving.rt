@@ -4,12 +4,12 @@ ghost use Rattle.std.specs.Vec.{vec_capacity};
 ghost use Rattle.av_world.specs.Serving.{IsSmallResponse, Served, Serves, TakesServed, event_called};
 ghost use Rattle.av_history.specs.World.{lent_at};
 ghost use Rattle.av_history.specs.declared.event.Event.{Event};
-ghost use Rattle.av_history.specs.declared.report.Note.TheVariants as note;
+ghost use Rattle.av_history.specs.declared.report.EventNote.TheVariants as note;
 
 use super::stage::Stage;
 use av_base::Port;
 use av_frame::Message;
-use av_history::report::{Line, Note, Report};
+use av_history::report::{EventNote, Line, Report};
 use av_service::{Service, ServiceOut, Work};
 use av_sigset::Catalogue;
 use std::alloc::Global;
@@ -61,7 +61,7 @@ pub(super) fn record(
     works: &mut Vec<Option<(Port, Work)>>,
     port: Port,
     out: ServiceOut,
-) -> Note
+) -> EventNote
     requires up { vec_len up.old + length out.messages.items ≤ vec_capacity up.old }
     requires works { vec_len works.old + 1 ≤ vec_capacity works.old }
     ensures up { up.new.items ≡ up.old.items ++ out.messages.items }
@@ -78,7 +78,7 @@ pub(super) fn record(
         Some(work) => works.push_reserved(Some((port, work))),
         None => {}
     }
-    Note::Service(note)
+    EventNote::Service(note)
 }
 
 // Lets the service of a port do what it is asked, and puts what it gives out behind what was given before. None where that
@@ -91,7 +91,7 @@ fn serve(
     alloc: Global,
     port: Port,
     call: &ServiceCall<'_>,
-) -> Option<Note>
+) -> Option<EventNote>
     ensures { Served port service.old.desk up.old.items works.old.items service.new.desk up.new.items works.new.items
         (event_called catalogue.now.sets call.now) result }
 {

@@ -8,7 +8,7 @@ use Rattle.av_pool.proofs.Sending.{fits_more, gave_work, given_more}
 use Rattle.av_pool.specs.Items.{lents_of}
 use Rattle.av_pool.specs.declared.item.WorkItem.{WorkItem}
 use Rattle.av_pool.specs.declared.item.WorkItem.TheVariants.{Parcel}
-use Rattle.av_pool.specs.declared.tally.Tally.{Tally}
+use Rattle.av_pool.specs.declared.tally.PassTally.{PassTally}
 use Rattle.av_pool.specs.Channel.{channel_of}
 use Rattle.av_pool.proofs.giver.Giver.give.Goals as goal
 
@@ -28,7 +28,7 @@ invariant_of-self g c =
     let more : lents_of (view q).put ≡ lents_of (view p).put ++ l ∷ [] = given_more (view p) (view q) (Parcel l) c.send.ensures.put in
     let fits : FitsItsWork l = subst FitsItsWork (sym c.pack.ensures.same) c.pack.ensures.fits in (
       c.send.ensures.channel,
-      ap (λ (z : Tally WorkItem). z.parts) c.send.ensures.put ∙ c.self.invariant.1,
-      ap (λ (z : Tally WorkItem). z.taken) c.send.ensures.put ∙ c.self.invariant.2,
+      ap (λ (z : PassTally WorkItem). z.parts) c.send.ensures.put ∙ c.self.invariant.1,
+      ap (λ (z : PassTally WorkItem). z.taken) c.send.ensures.put ∙ c.self.invariant.2,
       subst (Each FitsItsWork) (sym more) (fits_more (lents_of (view p).put) l c.self.invariant.3 fits),
     )

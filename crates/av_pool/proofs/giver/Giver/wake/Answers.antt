@@ -9,7 +9,7 @@ use Rattle.av_pool.proofs.Sending.{gave_mark, given_more}
 use Rattle.av_pool.specs.Items.{lents_of}
 use Rattle.av_pool.specs.declared.item.WorkItem.{WorkItem}
 use Rattle.av_pool.specs.declared.item.WorkItem.TheVariants.{Mark}
-use Rattle.av_pool.specs.declared.tally.Tally.{Tally}
+use Rattle.av_pool.specs.declared.tally.PassTally.{PassTally}
 use Rattle.av_pool.specs.Channel.{channel_of}
 use Rattle.av_pool.proofs.giver.Giver.wake.Goals as goal
 
@@ -26,7 +26,7 @@ invariant_of-self g c =
     let q = c.send.new.pass in
     let more : lents_of (view q).put ≡ lents_of (view p).put = given_more (view p) (view q) Mark c.send.ensures.put ∙ append-nil (lents_of (view p).put) in (
       c.send.ensures.channel,
-      ap (λ (z : Tally WorkItem). z.parts) c.send.ensures.put ∙ c.self.invariant.1,
-      ap (λ (z : Tally WorkItem). z.taken) c.send.ensures.put ∙ c.self.invariant.2,
+      ap (λ (z : PassTally WorkItem). z.parts) c.send.ensures.put ∙ c.self.invariant.1,
+      ap (λ (z : PassTally WorkItem). z.taken) c.send.ensures.put ∙ c.self.invariant.2,
       subst (Each FitsItsWork) (sym more) c.self.invariant.3,
     )

@@ -4,7 +4,7 @@ use Rattle.crossbeam_channel.specs.Claims.{view}
 use Rattle.av_pool.specs.Items.{lents_of}
 use Rattle.av_pool.specs.declared.item.WorkItem.{WorkItem}
 use Rattle.av_pool.specs.declared.item.WorkItem.TheVariants.{End}
-use Rattle.av_pool.specs.declared.tally.Tally.{Tally}
+use Rattle.av_pool.specs.declared.tally.PassTally.{PassTally}
 use Rattle.av_pool.proofs.Moves.{pushes, learns}
 use Rattle.av_pool.proofs.Sending.{given_more}
 use Rattle.av_pool.proofs.rest.Rest.try_end.Goals as goal
@@ -17,5 +17,5 @@ pub returns-clause-put : goal.returns-clause-put
 returns-clause-put g c =
     elim c.match-try_send_as.branch [
       | in-Ok w ↦ given_more (view c.args.self.now.work_pass) _ End w.in-Ok.ensures.rule ∙ append-nil _
-      | in-Err w ↦ ap (λ (v : Tally WorkItem). lents_of v.put) w.in-Err.ensures.rule.1
+      | in-Err w ↦ ap (λ (v : PassTally WorkItem). lents_of v.put) w.in-Err.ensures.rule.1
     ]

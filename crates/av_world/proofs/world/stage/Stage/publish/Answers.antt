@@ -1,7 +1,7 @@
 use Rattle.std.proofs.Common.{rules, ◌≡◌, ◌∷◌, ◌++◌, ◌≤◌, ◌∙◌, length, map, Ok, sym, subst}
 use Rattle.av_base.specs.declared.port.Port.TheVariants.{One, Two}
 use Rattle.av_service.specs.Conduct.{Publishes, service_step}
-use Rattle.av_service.specs.declared.note.Note.TheVariants.{Quiet}
+use Rattle.av_service.specs.declared.note.ServiceNote.TheVariants.{Quiet}
 use Rattle.av_sigset.specs.Catalogue.{latest, may_publish}
 use Rattle.av_sigset.specs.Made.{set_made}
 use Rattle.av_sigset.specs.declared.signature.Pattern.{Pattern}
@@ -10,7 +10,7 @@ use Rattle.av_world.proofs.WorkLemmas.{first_of}
 use Rattle.av_world.specs.Stage.{at_history}
 use Rattle.av_history.specs.World.{WorldState, places_of, published}
 use Rattle.av_history.specs.declared.report.Line.TheVariants.{Published}
-use Rattle.av_history.specs.declared.report.Note.TheVariants as note
+use Rattle.av_history.specs.declared.report.EventNote.TheVariants as note
 use Rattle.av_world.proofs.world.stage.Stage.publish.Goals as goal
 
 pub tell-requires-clause-newer : goal.tell-requires-clause-newer

@@ -2,7 +2,7 @@ use Rattle.std.proofs.Common.{arith, ap, ◌≡◌, ◌∷◌, ◌∙◌, [], dr
 use Rattle.std.proofs.lemmas.Grind.{common_steps}
 use Rattle.av_turns.specs.Line.{queue_of}
 use Rattle.av_turns.proofs.LineLemmas.{drops_nothing, nothing_in_front}
-use Rattle.av_turns.proofs.line.Line.look.Goals as goal
+use Rattle.av_turns.proofs.line.WaitingLine.look.Goals as goal
 
 pub returns-in_default-length_of-clause-exact : goal.returns-in_default-length_of-clause-exact
 returns-in_default-length_of-clause-exact c =

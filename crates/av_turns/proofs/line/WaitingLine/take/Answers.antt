@@ -2,7 +2,7 @@ use Rattle.std.proofs.Common.{arith, ◌≡◌, ◌∷◌, ◌++◌, [], drop, s
 use Rattle.std.proofs.lemmas.Grind.{common_steps}
 use Rattle.av_turns.specs.Line.{IsOrdered}
 use Rattle.av_turns.proofs.LineLemmas.{turned_order}
-use Rattle.av_turns.proofs.line.Line.take.Goals as goal
+use Rattle.av_turns.proofs.line.WaitingLine.take.Goals as goal
 
 pub invariant_of-self-2 : goal.invariant_of-self-2
 invariant_of-self-2 c =

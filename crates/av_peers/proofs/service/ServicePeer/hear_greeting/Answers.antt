@@ -1,8 +1,8 @@
 use Rattle.std.proofs.Common.{◌∙◌, Ok, ap, subst, sym}
 use Rattle.av_peers.specs.Service.{GivesMessage}
-use Rattle.av_peers.specs.declared.service.Service.{Service}
+use Rattle.av_peers.specs.declared.service.ServicePeer.{ServicePeer}
 use Rattle.av_peers.proofs.ServiceLemmas.{greeted, heard_on, none_kept}
-use Rattle.av_peers.proofs.service.Service.hear_greeting.Goals as goal
+use Rattle.av_peers.proofs.service.ServicePeer.hear_greeting.Goals as goal
 
 pub returns-in-Some-clause-more : goal.returns-in-Some-clause-more
 returns-in-Some-clause-more c =
@@ -12,4 +12,4 @@ returns-in-Some-clause-more c =
 pub returns-in-Ok-clause-more : goal.returns-in-Ok-clause-more
 returns-in-Ok-clause-more c =
     heard_on c.args.self.now c.hear-heard.new.self c.next.new.self _ c.hear-heard.ensures.greeting c.hear-heard.ensures.rest.2
-    (ap (λ (s : Service). s.greeting) c.next.ensures.same) (subst (λ o. GivesMessage c.hear-heard.new.self.feed c.next.new.self.feed (Ok o)) c.in-None.is c.in_ok-greeting.ensures.message).1
+    (ap (λ (s : ServicePeer). s.greeting) c.next.ensures.same) (subst (λ o. GivesMessage c.hear-heard.new.self.feed c.next.new.self.feed (Ok o)) c.in-None.is c.in_ok-greeting.ensures.message).1

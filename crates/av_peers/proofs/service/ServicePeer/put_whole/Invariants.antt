@@ -2,7 +2,7 @@ use Rattle.std.proofs.Common.{◌≡◌, ◌++◌, [], length, None}
 use Rattle.std.specs.List.{flat_map}
 use Rattle.av_frame.specs.Spelling.{frame}
 use Rattle.av_peers.specs.Service.{unheard}
-use Rattle.av_peers.proofs.service.Service.put_whole.Given as goal
+use Rattle.av_peers.proofs.service.ServicePeer.put_whole.Given as goal
 
 -- the messages so far were taken off
 abbrev pub invariant-messages : goal.invariant-messages

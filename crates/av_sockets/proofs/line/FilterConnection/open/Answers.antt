@@ -1,5 +1,5 @@
 use Rattle.av_sockets.proofs.RunLemmas.{kept_none}
-use Rattle.av_sockets.proofs.line.Line.open.Goals as goal
+use Rattle.av_sockets.proofs.line.FilterConnection.open.Goals as goal
 
 pub returns-in_default : goal.returns-in_default
 returns-in_default g c = kept_none _ _

@@ -1,5 +1,5 @@
 use Rattle.std.proofs.Common.{◌≡◌, ◌≤◌, max, vec_len}
-use Rattle.av_peers.proofs.line.Line.send_all.Given as goal
+use Rattle.av_peers.proofs.line.Connection.send_all.Given as goal
 
 -- more has gone out, and no more than there is
 abbrev pub invariant-writes : goal.invariant-writes

@@ -1,5 +1,5 @@
 use Rattle.std.proofs.Common.{◌≡◌}
-use Rattle.av_peers.proofs.line.Line.read.Given as goal
+use Rattle.av_peers.proofs.line.Connection.read.Given as goal
 
 -- a read that was interrupted changes nothing
 abbrev pub invariant-reads : goal.invariant-reads

@@ -2,7 +2,7 @@ use Rattle.std.proofs.Common.{arith, ◌≡◌, ◌∷◌, ◌++◌, [], None, s
 use Rattle.std.proofs.lemmas.Grind.{common_steps}
 use Rattle.av_turns.specs.Line.{IsOrdered, queue_at}
 use Rattle.av_turns.proofs.LineLemmas.{joined_order}
-use Rattle.av_turns.proofs.line.Line.stand.Goals as goal
+use Rattle.av_turns.proofs.line.WaitingLine.stand.Goals as goal
 
 pub invariant_of-self-2 : goal.invariant_of-self-2
 invariant_of-self-2 c =

@@ -1,7 +1,7 @@
 use Rattle.std.proofs.Common.{sym, subst}
 use Rattle.av_turns.specs.Line.{IsOrdered}
 use Rattle.av_turns.proofs.LineLemmas.{gone_order}
-use Rattle.av_turns.proofs.line.Line.forget.Goals as goal
+use Rattle.av_turns.proofs.line.WaitingLine.forget.Goals as goal
 
 pub invariant_of-self : goal.invariant_of-self
 invariant_of-self c =
