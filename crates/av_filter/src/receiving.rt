@@ -43,7 +43,12 @@ pub(crate) fn receive(
             Ok(Out::says(alloc, Note::Quiet))
         }
         Body::Read { id, offset, count } => {
-            read(table, alloc, volume, port, *id, *offset, *count)
+            let wanted = Wanted {
+                id: *id,
+                offset: *offset,
+                count: *count,
+            };
+            read(table, alloc, volume, port, wanted)
         }
         Body::Reply { id, outcome } => reply(table, alloc, volume, port, *id, *outcome),
         _ => Ok(Out::says(alloc, Note::Ignored)),
@@ -77,6 +82,14 @@ fn greet(
     Out::says(alloc, Note::Welcome)
 }
 
+// So many bytes of the content of a question, from a place on.
+#[derive(Clone, Copy)]
+struct Wanted {
+    id: MessageId,
+    offset: u64,
+    count: u32,
+}
+
 // The service reads content of a question.
 #[tactic(auto, unfolding(crate::specs::Receiving::reads))]
 fn read(
@@ -84,15 +97,15 @@ fn read(
     alloc: Global,
     volume: &Volume,
     port: Port,
-    id: MessageId,
-    offset: u64,
-    count: u32,
+    wanted: Wanted,
 ) -> Result<Out, AllocError>
-    requires asked { IsInRange (Read id offset count) }
+    requires asked { IsInRange (Read wanted.id wanted.offset wanted.count) }
     ensures { IfOk result
         (λ out. Reacts out table.now volume.now
-        (reads table.now volume.now port id offset count (question_on port id table.now.questions))) }
+        (reads table.now volume.now port wanted.id wanted.offset wanted.count
+        (question_on port wanted.id table.now.questions))) }
 {
+    let Wanted { id, offset, count } = wanted;
     let Some(question) = running_on(table, port, id) else {
         return Out::sends(
             alloc,

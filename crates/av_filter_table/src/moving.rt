@@ -15,40 +15,46 @@ use av_numbered::{Bounded, Numbered};
 use av_pend::{Answer, PendedOpen};
 use av_store::Volume;
 
-/// Lets the opens of a question wait for another one, which has none yet, with one rescan more; those with no rescan left
-/// are answered. It takes no memory.
+/// A question and the one that is asked anew for it, by their numbers.
+#[derive(Clone, Copy)]
+pub struct Renewal {
+    pub old: u64,
+    pub new: u64,
+}
+
+/// Lets the opens of a question wait for the one that is asked anew, which has none yet, with one rescan more; those with no
+/// rescan left are answered. It takes no memory.
 pub fn move_opens(
     questions: &mut Bounded<Asked, ContextRef>,
     pended: &mut Numbered<Waits, PendedOpen>,
-    old: u64,
-    new: u64,
+    renewal: Renewal,
     mode: Mode,
     volume: &Volume,
     answers: &mut Vec<Answer>,
 )
-    requires from { IsSome (at questions.old old) }
-    requires to { IsSome (at questions.old new) }
-    requires apart { old ≢ new }
+    requires from { IsSome (at questions.old renewal.old) }
+    requires to { IsSome (at questions.old renewal.new) }
+    requires apart { renewal.old ≢ renewal.new }
     requires chained { AreChained questions.old pended.old }
-    requires fresh { of new (plains pended.old) ≡ [] }
-    requires room { vec_len answers.old + length (of old (plains pended.old)) ≤ vec_capacity answers.old }
+    requires fresh { of renewal.new (plains pended.old) ≡ [] }
+    requires room { vec_len answers.old + length (of renewal.old (plains pended.old)) ≤ vec_capacity answers.old }
     ensures answers { answers.new.items
-        ≡ answers.old.items ++ refusals mode volume.now Unsettled (overs old (plains pended.old)) }
-    ensures moved { plains pended.new ≡ moved_all old new (plains pended.old) }
+        ≡ answers.old.items ++ refusals mode volume.now Unsettled (overs renewal.old (plains pended.old)) }
+    ensures moved { plains pended.new ≡ moved_all renewal.old renewal.new (plains pended.old) }
     ensures numbered { AreNumbered pended.old → AreNumbered pended.new }
     ensures chained { AreChained questions.new pended.new }
     ensures same { essences questions.new ≡ essences questions.old }
     ensures capacity { vec_capacity answers.new ≡ vec_capacity answers.old }
 {
-    'opens: while let Some(is_spent) = chains::first_is_spent(questions, pended, old) {
+    'opens: while let Some(is_spent) = chains::first_is_spent(questions, pended, renewal.old) {
         if is_spent {
-            let Some(held) = chains::take_first(questions, pended, old) else {
+            let Some(held) = chains::take_first(questions, pended, renewal.old) else {
                 unreachable!()
             };
             let generation = generation_now(volume, held.stream());
             answers.push_reserved(held.refuse(mode, generation, Cause::Unsettled));
         } else {
-            chains::move_first(questions, pended, old, new);
+            chains::move_first(questions, pended, renewal.old, renewal.new);
         }
     }
 }

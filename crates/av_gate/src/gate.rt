@@ -8,6 +8,7 @@ ghost use Rattle.av_store.specs.Store.{mount_of};
 use crate::call::{Call, NamedCall};
 use crate::fault::GateFault;
 use crate::locked::Locked;
+use crate::patch::Patch;
 use crate::port_waits::PortWaits;
 use crate::seat::{Seat, SeatCall};
 use crate::settled::Settled;
@@ -137,7 +138,7 @@ impl Gate {
         Ok(ticket)
     }
 
-    /// Writes bytes over those of a stream from `offset` on: AuditFull, the volume's faults (an unknown name is NoStream),
+    /// Writes bytes over those of a stream from a place on: AuditFull, the volume's faults (an unknown name is NoStream),
     /// NoMemory.
     pub fn write<R: Wait>(
         &self,
@@ -145,14 +146,14 @@ impl Gate {
         alloc: Global,
         seat: &mut Seat,
         name: &[u8],
-        offset: u64,
-        bytes: &[u8],
+        patch: Patch<'_>,
     ) -> Result<Note, Refusal<GateFault>>
         requires { IsSeatOf self.now seat.old }
         ensures same { IsSeatOf self.now seat.new }
         ensures later { floor_seen seat.old ≤ floor_seen seat.new }
-        ensures call { Adds seat.old seat.new (call.Write name.now offset bytes.now) result }
+        ensures call { Adds seat.old seat.new (call.Write name.now patch.entry.offset patch.entry.bytes.now) result }
     {
+        let Patch { offset, bytes } = patch;
         let call = self.prepare(seat, Call::write(alloc, name, offset, bytes))?;
         let settled = self
             .inner

@@ -7,7 +7,7 @@ ghost use Rattle.av_gate.specs.Seats.{IsSeatOf};
 
 use self::rows::{ROWS, Row};
 use self::said::{Said, Step, Told, message_of, what_is_said, what_is_told};
-use crate::{Audit, CloseFault, Event, Gate, GateFault, Seat, Unclosed};
+use crate::{Audit, CloseFault, Event, Gate, GateFault, Patch, Seat, Unclosed};
 use av_base::Port::{One, Two};
 use av_base::{LimitField, LimitValues, Limits, Mode, Port, Refusal, Refused, StreamId};
 use av_ends::{Receipt, Ticket};
@@ -103,7 +103,9 @@ fn take<R: Wait>(
             let _ = tickets.push(ticket);
             Ok(Note::Submitted { open_id })
         }
-        Step::Write(name, offset, bytes) => gate.write(rt, alloc, seat, name, offset, bytes),
+        Step::Write(name, offset, bytes) => {
+            gate.write(rt, alloc, seat, name, Patch { offset, bytes })
+        },
         Step::Cleanup(name) => gate.cleanup(rt, alloc, seat, name),
         Step::Timeout(seq) => gate.timeout(rt, alloc, seat, seq),
         Step::Disconnect(port) => gate.disconnect(rt, alloc, seat, port),

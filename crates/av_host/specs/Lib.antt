@@ -3,3 +3,4 @@ pub mod Ends
 pub mod Files
 pub mod Groups
 pub mod Lines
+pub mod Losses

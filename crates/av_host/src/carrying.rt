@@ -3,9 +3,11 @@
 ghost use Rattle.std.specs.Prelude.{◌≡◌, ◌≢◌};
 ghost use Rattle.av_frame.specs.declared.end.End.TheVariants.{Done};
 ghost use Rattle.av_gate.specs.Seats.{IsSeatOf};
+ghost use Rattle.av_host.specs.Losses.{IsLossTold};
 ghost use Rattle.av_host.specs.declared.carrying.LoopDirection.TheVariants.{Into};
 
 use crate::wire::{PortWire, Wire};
+use av_base::Refusal;
 use av_base::recorded::Recorded;
 use av_desk::Desk;
 use av_engines::End;
@@ -14,6 +16,7 @@ use av_gate::{Gate, Seat};
 use av_loops::{DeskSide, GateSide, desk_done, desk_in_running_works, gate_in, gate_out};
 use av_pool::{Giver, Taker};
 use std::alloc::{AllocError, Global};
+use std::io::Write;
 use std::sync::Wait;
 use std::sync::atomic::Ordering::SeqCst;
 
@@ -76,6 +79,7 @@ fn into_gate<R: Wait>(
         sender: &wire.sender,
     };
     let end = gate_in(&side, &mut seat, &mut reader, TURNS);
+    let end = with_loss(&side, &mut seat, end);
     wire.is_over.store(true, SeqCst);
     wire.cut();
     if matches!(end, End::Memory | End::AuditFull) {
@@ -85,6 +89,28 @@ fn into_gate<R: Wait>(
         gate.stop(rt);
     }
     (seat, end)
+}
+
+// How the loop into the gate ends. A failed write may be the other loop's, which perhaps has yet to tell the gate that the service is
+// lost: so this one tells it too, before the gate can be stopped. A loss that is told twice changes nothing more.
+pub(crate) fn with_loss<R: Wait, W: Write>(
+    side: &GateSide<'_, R, W>,
+    seat: &mut Seat,
+    end: End,
+) -> End
+    requires { IsSeatOf side.now.gate.now seat.old }
+    ensures same { IsSeatOf side.now.gate.now seat.new }
+    ensures told { IsLossTold seat.old seat.new side.now.port end result }
+    ensures end { end ≢ Done → result ≢ Done }
+{
+    match end {
+        End::WriteFault => match side.gate.disconnect(side.rt, side.alloc, seat, side.port) {
+            Ok(_) => End::WriteFault,
+            Err(Refusal::Fault(_)) => End::AuditFull,
+            Err(Refusal::NoMemory) => End::Memory,
+        },
+        _ => end,
+    }
 }
 
 // From the gate's port into its connection, of what the openers' calls and the other connection give out. At its end the other

@@ -254,6 +254,15 @@ fn start_into_desk<'s, S, R: Threads + Wait + Sync>(
     or_run_here(started, wire)
 }
 
+// Where the threads of the filter's side are started, and the gate that they share.
+#[derive(Drop)]
+struct Starter<'s, S, R> {
+    scope: &'s Scope<'s, S>,
+    rt: &'s R,
+    alloc: Global,
+    gate: &'s Gate,
+}
+
 // The filter's side: two loops round each port of the gate that has a connection, and the openers. Gives what the openers brought
 // back, and how the loops of the first port ended and of the second, with their seats.
 fn open_all<R: Threads + Wait + Sync, C: Clock, E: Write>(
@@ -292,27 +301,17 @@ fn open_all<R: Threads + Wait + Sync, C: Clock, E: Write>(
         {
             let first = Some(openings.wires.first());
             let spare = openings.wires.spare();
-            let into = start_loop(scope, rt, alloc, LoopDirection::Into, first, gate, reader);
-            let into_spare = start_loop(
+            let starter = Starter {
                 scope,
                 rt,
                 alloc,
-                LoopDirection::Into,
-                spare,
                 gate,
-                spare_reader,
-            );
-            let out = start_loop(scope, rt, alloc, LoopDirection::Out, first, gate, writer);
-            let out_of_spare = start_loop(
-                scope,
-                rt,
-                alloc,
-                LoopDirection::Out,
-                spare,
-                gate,
-                spare_writer,
-            );
-            let brought = open_in_threads(scope, rt, alloc, gate, seat, openings, err);
+            };
+            let into = start_loop(&starter, LoopDirection::Into, first, reader);
+            let into_spare = start_loop(&starter, LoopDirection::Into, spare, spare_reader);
+            let out = start_loop(&starter, LoopDirection::Out, first, writer);
+            let out_of_spare = start_loop(&starter, LoopDirection::Out, spare, spare_writer);
+            let brought = open_in_threads(&starter, seat, openings, err);
             gate.stop(rt);
             let first = ends_at(rt, into, out);
             let spare = ends_at(rt, into_spare, out_of_spare);
@@ -346,19 +345,22 @@ fn joined<R: Threads, T>(rt: &R, started: Result<JoinHandle<T>, T>) -> T {
 
 // A loop at a port that has a connection; else Done.
 fn start_loop<'s, S, R: Threads + Wait + Sync>(
-    scope: &'s Scope<'s, S>,
-    rt: &'s R,
-    alloc: Global,
+    starter: &Starter<'s, S, R>,
     way: LoopDirection,
     line: Option<PortWire<'s>>,
-    gate: &'s Gate,
     seat: Seat,
 ) -> Result<JoinHandle<(Seat, End)>, (Seat, End)>
-    requires { IsSeatOf gate.now seat }
+    requires { IsSeatOf starter.now.gate.now seat }
 {
     let Some(line) = line else {
         return Err((seat, End::Done));
     };
+    let Starter {
+        scope,
+        rt,
+        alloc,
+        gate,
+    } = *starter;
     let started = scope.spawn(
         move ||
             requires { IsSeatOf gate.now seat }
@@ -368,15 +370,18 @@ fn start_loop<'s, S, R: Threads + Wait + Sync>(
 }
 
 fn start_opener<'s, S, R: Threads + Wait + Sync>(
-    scope: &'s Scope<'s, S>,
-    rt: &'s R,
-    alloc: Global,
-    gate: &'s Gate,
+    starter: &Starter<'s, S, R>,
     seat: Seat,
     part: Part<'s>,
 ) -> Result<JoinHandle<Brought>, Brought>
-    requires { IsSeatOf gate.now seat }
+    requires { IsSeatOf starter.now.gate.now seat }
 {
+    let Starter {
+        scope,
+        rt,
+        alloc,
+        gate,
+    } = *starter;
     let started = scope.spawn(
         move ||
             requires { IsSeatOf gate.now seat }
@@ -387,23 +392,21 @@ fn start_opener<'s, S, R: Threads + Wait + Sync>(
 
 // What the openers bring back, each from a thread of its own, the first opener's first.
 fn open_in_threads<'s, S, R: Threads + Wait + Sync, C: Clock, E: Write>(
-    scope: &'s Scope<'s, S>,
-    rt: &'s R,
-    alloc: Global,
-    gate: &'s Gate,
+    starter: &Starter<'s, S, R>,
     mut seat: Seat,
     openings: &'s Openings<'s>,
     err: &mut Progress<'_, C, E>,
 ) -> Result<Vec<Brought>, AllocError>
-    requires { IsSeatOf gate.now seat }
+    requires { IsSeatOf starter.now.gate.now seat }
     ensures { IfOk result (λ all. vec_len all ≡ openings.now.openers) }
 {
+    let (rt, alloc, gate) = (starter.rt, starter.alloc, starter.gate);
     let mut openers = Vec::with_capacity(alloc, openings.openers)?;
     let mut all = Vec::with_capacity(alloc, openings.openers)?;
     'openers: for first in 0..openings.openers {
         let mine = gate.seat(&mut seat);
         let part = Part { openings, first };
-        let opener = start_opener(scope, rt, alloc, gate, mine, part);
+        let opener = start_opener(starter, mine, part);
         openers.push(opener)?;
     }
     watch(rt, openings, err);

@@ -80,21 +80,35 @@ pub struct Host<'a, R> {
     pub wishes: Wishes,
 }
 
+/// What is asked of a host: the file of signatures by which it judges, the files that it opens, its threads, and what it writes.
+#[derive(Clone, Copy)]
+pub struct HostRequest<'a> {
+    pub set: Input<'a>,
+    pub files: &'a [Input<'a>],
+    pub crew: Crew,
+    pub wishes: Wishes,
+}
+
 /// Opens files through a filter and its scanning service, in threads of this process, and writes a line for each, in the
 /// order given, as far as it is to be shown. The set and then each file is judged before any is opened; the first fault ends it,
 /// with one line to `err`.
 pub fn host_files<R: Hosting, W: Write, E: Write>(
     rt: &R,
     alloc: Global,
-    set: Input<'_>,
-    files: &[Input<'_>],
-    crew: Crew,
-    wishes: Wishes,
+    request: HostRequest<'_>,
     out: &mut W,
     err: &mut E,
 ) -> Status
-    ensures { EndsWell result → AreHosted (option_copied set.entry.content) crew.openers files.now wishes (W.contents out.old) (W.contents out.new) result }
+    ensures { EndsWell result
+        → AreHosted (option_copied request.entry.set.content) request.entry.crew.openers request.entry.files.now request.entry.wishes
+        (W.contents out.old) (W.contents out.new) result }
 {
+    let HostRequest {
+        set,
+        files,
+        crew,
+        wishes,
+    } = request;
     let set = match read_set(alloc, set, err) {
         Ok(set) => set,
         Err(status) => return status,

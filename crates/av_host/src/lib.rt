@@ -2,7 +2,9 @@
 //! connected sockets.
 //!
 //! ```text
-//! let status = host_files(&rt, alloc, set, &files, Crew { openers: 2, workers: 2, has_spare: false }, wishes, &mut out, &mut err);
+//! let crew = Crew { openers: 2, workers: 2, has_spare: false };
+//! let request = HostRequest { set, files: &files, crew, wishes };
+//! let status = host_files(&rt, alloc, request, &mut out, &mut err);
 //! ```
 #![tactic(auto)]
 
@@ -24,6 +26,6 @@ mod threads;
 mod wire;
 
 pub use groups::host_groups;
-pub use host::{Crew, Host, Hosting, host_files, host_group};
+pub use host::{Crew, Host, HostRequest, Hosting, host_files, host_group};
 pub use opener::Group;
 pub use signatures::Signatures;

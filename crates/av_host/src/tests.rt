@@ -8,6 +8,8 @@ use av_store::Volume;
 use std::alloc::Global;
 use std::test::Fail;
 
+mod losses;
+
 // A volume with the files a and b, of which a was written so often: streams 1 and 2.
 fn volume_of(alloc: Global, content: &[u8], writes: usize) -> Result<Volume, Fail> {
     let mut volume = Volume::new(alloc, 1, Limits::greatest());

@@ -10,6 +10,13 @@ use av_pend::Answer;
 use json::Writer;
 use std::alloc::{AllocError, Global};
 
+// What was found in a file: the signature that ends first, its name, and where it ends.
+struct Infection<'a> {
+    index: u32,
+    name: &'a [u8],
+    end_at: u64,
+}
+
 /// Puts the object of a file that was scanned under the set of a version, where `name` is the name of the signature that ends
 /// first, if one does.
 pub fn put_scanned(
@@ -33,7 +40,12 @@ pub fn put_scanned(
             ],
         ),
         Verdict::Infected { index, end_at } => {
-            put_infected(alloc, line, file, version, index, name, end_at)
+            let infection = Infection {
+                index,
+                name,
+                end_at,
+            };
+            put_infected(alloc, line, file, version, infection)
         }
     }
 }
@@ -44,12 +56,16 @@ fn put_infected(
     line: &mut Writer,
     file: &[u8],
     version: Version,
-    index: u32,
-    name: &[u8],
-    end_at: u64,
+    infection: Infection<'_>,
 ) -> Result<(), AllocError>
-    ensures { Puts result line.old line.new (file_tokens file.now version (Infected index end_at) name.now) }
+    ensures { Puts result line.old line.new
+        (file_tokens file.now version (Infected infection.entry.index infection.entry.end_at) infection.entry.name.now) }
 {
+    let Infection {
+        index,
+        name,
+        end_at,
+    } = infection;
     line.begin_object()?;
     put_named(alloc, line, "file", "file_hex", file)?;
     put_members(

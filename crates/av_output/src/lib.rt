@@ -2,8 +2,8 @@
 //! a message holds, and the objects lead back to the lines.
 //!
 //! ```text
-//! print_report(&report, answers, down, up, works, &mut out)?;          // stream 1 generation 2 length 3
-//! put_report(alloc, &report, answers, down, up, works, &mut line)?;    // {"kind":"changed","stream":1,..}
+//! print_report(&report, lists, &mut out)?;          // stream 1 generation 2 length 3
+//! put_report(alloc, &report, lists, &mut line)?;    // {"kind":"changed","stream":1,..}
 //! ```
 #![tactic(auto)]
 
@@ -11,6 +11,7 @@ mod answer;
 pub mod judgement;
 pub mod laws;
 mod line;
+pub mod lists;
 mod message;
 mod note;
 pub mod objects;
@@ -20,4 +21,5 @@ pub mod report;
 mod told;
 mod work;
 
+pub use lists::Lists;
 pub use message::Direction;

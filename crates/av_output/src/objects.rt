@@ -9,6 +9,7 @@ mod message;
 mod note;
 mod work;
 
+use crate::lists::Lists;
 use crate::message::Direction;
 use crate::objects::answer::{put_answers, put_pended};
 use crate::objects::line::put_line;
@@ -16,11 +17,8 @@ use crate::objects::message::put_messages;
 use crate::objects::note::put_note;
 use crate::objects::work::put_works;
 use crate::part::part;
-use av_base::Port;
-use av_frame::Message;
 use av_history::given::Given;
 use av_history::report::Report;
-use av_service::Work;
 use json::Writer;
 use std::alloc::{AllocError, Global};
 
@@ -28,17 +26,14 @@ use std::alloc::{AllocError, Global};
 pub fn put_report(
     alloc: Global,
     report: &Report,
-    answers: &[Given],
-    down: &[Message],
-    up: &[Message],
-    works: &[Option<(Port, Work)>],
+    lists: Lists<'_>,
     line: &mut Writer,
 ) -> Result<(), AllocError>
-    ensures { Puts result line.old line.new (told_tokens report.now answers.now down.now up.now works.now) }
+    ensures { Puts result line.old line.new (told_tokens report.now lists.entry.answers.now lists.entry.down.now lists.entry.up.now lists.entry.works.now) }
 {
     put_line(&report.line, line)?;
-    put_opens(report, answers, line)?;
-    put_sent(alloc, report, down, up, works, line)?;
+    put_opens(report, lists.answers, line)?;
+    put_sent(alloc, report, lists, line)?;
     put_note(report.note, line)
 }
 
@@ -55,14 +50,18 @@ fn put_opens(report: &Report, answers: &[Given], line: &mut Writer) -> Result<()
 fn put_sent(
     alloc: Global,
     report: &Report,
-    down: &[Message],
-    up: &[Message],
-    works: &[Option<(Port, Work)>],
+    lists: Lists<'_>,
     line: &mut Writer,
 ) -> Result<(), AllocError>
-    ensures { Puts result line.old line.new (sent_tokens report.now down.now up.now works.now) }
+    ensures { Puts result line.old line.new (sent_tokens report.now lists.entry.down.now lists.entry.up.now lists.entry.works.now) }
 {
     let Report { before, after, .. } = *report;
+    let Lists {
+        down,
+        up,
+        works,
+        ..
+    } = lists;
     put_messages(alloc, Direction::Down, down, before.down, after.down, line)?;
     put_messages(alloc, Direction::Up, up, before.up, after.up, line)?;
     put_works(alloc, works, before.works, after.works, line)

@@ -3,31 +3,27 @@ ghost use Rattle.av_output.specs.Text.{opens_text, sent_text, told_text};
 
 use crate::answer::{print_answers, print_pended};
 use crate::line::print_line;
+use crate::lists::Lists;
 use crate::message::{Direction, print_messages};
 use crate::note::print_note;
 use crate::part::part;
 use crate::work::print_works;
-use av_base::{Port, WriteFault};
-use av_frame::Message;
+use av_base::WriteFault;
 use av_history::given::Given;
 use av_history::report::Report;
-use av_service::Work;
 use std::io::Write;
 
 /// Writes the lines of a step, by the world's lists after it. It takes no memory.
 pub fn print_report<W: Write>(
     report: &Report,
-    answers: &[Given],
-    down: &[Message],
-    up: &[Message],
-    works: &[Option<(Port, Work)>],
+    lists: Lists<'_>,
     writer: &mut W,
 ) -> Result<(), WriteFault>
-    ensures { Writes result (W.contents writer.old) (W.contents writer.new) (told_text report.now answers.now down.now up.now works.now) }
+    ensures { Writes result (W.contents writer.old) (W.contents writer.new) (told_text report.now lists.entry.answers.now lists.entry.down.now lists.entry.up.now lists.entry.works.now) }
 {
     print_line(&report.line, writer)?;
-    print_opens(report, answers, writer)?;
-    print_sent(report, down, up, works, writer)?;
+    print_opens(report, lists.answers, writer)?;
+    print_sent(report, lists, writer)?;
     print_note(report.note, writer)
 }
 
@@ -45,16 +41,16 @@ fn print_opens<W: Write>(
 }
 
 // Writes the messages and the work of a step.
-fn print_sent<W: Write>(
-    report: &Report,
-    down: &[Message],
-    up: &[Message],
-    works: &[Option<(Port, Work)>],
-    writer: &mut W,
-) -> Result<(), WriteFault>
-    ensures { Writes result (W.contents writer.old) (W.contents writer.new) (sent_text report.now down.now up.now works.now) }
+fn print_sent<W: Write>(report: &Report, lists: Lists<'_>, writer: &mut W) -> Result<(), WriteFault>
+    ensures { Writes result (W.contents writer.old) (W.contents writer.new) (sent_text report.now lists.entry.down.now lists.entry.up.now lists.entry.works.now) }
 {
     let Report { before, after, .. } = *report;
+    let Lists {
+        down,
+        up,
+        works,
+        ..
+    } = lists;
     print_messages(Direction::Down, down, before.down, after.down, writer)?;
     print_messages(Direction::Up, up, before.up, after.up, writer)?;
     print_works(works, before.works, after.works, writer)

@@ -67,7 +67,11 @@ fn run_lines<W: Write>(
     let mut number = 1u64;
     'lines: while !rest.is_empty() {
         let (first, below) = first_line(rest);
-        room = run_line(alloc, world, number, first, room, writer)?;
+        let line = SourceLine {
+            number,
+            text: first,
+        };
+        room = run_line(alloc, world, line, room, writer)?;
         rest = below;
         number += 1;
     }
@@ -77,25 +81,31 @@ fn run_lines<W: Write>(
     Ok(())
 }
 
+// A line of a script and its number, from 1 on.
+#[derive(Clone, Copy)]
+struct SourceLine<'a> {
+    number: u64,
+    text: &'a [u8],
+}
+
 // Runs a line of a script and writes its object, if it has one; gives back the room, emptied.
 fn run_line<W: Write>(
     alloc: Global,
     world: &mut World,
-    number: u64,
-    text: &[u8],
+    line: SourceLine<'_>,
     room: Vec<u8>,
     writer: &mut W,
 ) -> Result<Vec<u8>, RunFault>
     requires { room.items ≡ [] }
-    ensures world { OnOk result (world.new ≡ said_world world.old (line_of text.now)) }
+    ensures world { OnOk result (world.new ≡ said_world world.old (line_of line.entry.text.now)) }
     ensures writes { Writes result (W.contents writer.old) (W.contents writer.new)
-        (said_json number text.now (said_tokens world.old (line_of text.now))) }
+        (said_json line.entry.number line.entry.text.now (said_tokens world.old (line_of line.entry.text.now))) }
     ensures late { IfErr result IsLate }
     ensures emptied { IfOk result (λ left. left.items ≡ []) }
 {
-    match read_statement(text) {
+    match read_statement(line.text) {
         Some(statement) if statement.is_told() => {
-            run_statement(alloc, world, number, text, statement, room, writer)
+            run_statement(alloc, world, line, statement, room, writer)
         }
         _ => Ok(room),
     }
@@ -105,8 +115,7 @@ fn run_line<W: Write>(
 fn run_statement<W: Write>(
     alloc: Global,
     world: &mut World,
-    number: u64,
-    text: &[u8],
+    line: SourceLine<'_>,
     statement: Statement<'_>,
     room: Vec<u8>,
     writer: &mut W,
@@ -115,15 +124,16 @@ fn run_statement<W: Write>(
     requires told { is_told (meaning statement) ≡ true }
     ensures world { OnOk result (world.new ≡ said_world world.old (Some (meaning statement.entry))) }
     ensures writes { Writes result (W.contents writer.old) (W.contents writer.new)
-        (said_json number text.now (said_tokens world.old (Some (meaning statement.entry)))) }
+        (said_json line.entry.number line.entry.text.now (said_tokens world.old (Some (meaning statement.entry)))) }
     ensures late { IfErr result IsLate }
     ensures emptied { IfOk result (λ left. left.items ≡ []) }
 {
-    let mut line = Writer::new(room);
-    if put_line_object(alloc, world, number, text, statement, &mut line).is_err() {
+    let SourceLine { number, text } = line;
+    let mut object = Writer::new(room);
+    if put_line_object(alloc, world, number, text, statement, &mut object).is_err() {
         return Err(RunFault::NoMemory);
     }
-    match write_line(line, writer) {
+    match write_line(object, writer) {
         Ok(room) => Ok(room),
         Err(LineFault::NoMemory) => Err(RunFault::NoMemory),
         Err(LineFault::Write) => Err(RunFault::Write),

@@ -30,6 +30,7 @@ use av_history::fault::{JudgeFault, StepFault};
 use av_history::given::Given;
 use av_history::report::{Judged, Report};
 use av_match::plain::plain_verdict;
+use av_output::Lists;
 use av_output::objects::put_report;
 use av_output::report::print_report;
 use av_sigset::{Catalogue, SignatureSet};
@@ -126,23 +127,28 @@ impl World {
     pub fn print<W: Write>(&self, report: &Report, writer: &mut W) -> Result<(), WriteFault>
         ensures { Writes result (W.contents writer.old) (W.contents writer.new) (report_text self.now report.now) }
     {
-        print_report(
-            report,
-            self.answers(),
-            self.down(),
-            self.up(),
-            self.stage.works.as_slice(),
-            writer,
-        )
+        print_report(report, self.lists(), writer)
     }
 
     /// Puts an object for each line of a step, by the report that it gave.
     pub fn put(&self, alloc: Global, report: &Report, line: &mut Writer) -> Result<(), AllocError>
         ensures { Puts result line.old line.new (report_tokens self.now report.now) }
     {
-        let answers = self.answers();
-        let works = self.stage.works.as_slice();
-        put_report(alloc, report, answers, self.down(), self.up(), works, line)
+        put_report(alloc, report, self.lists(), line)
+    }
+
+    fn lists(&self) -> Lists<'_>
+        ensures answers { result.answers.now ≡ self.now.answers }
+        ensures down { result.down.now ≡ self.now.down }
+        ensures up { result.up.now ≡ self.now.up }
+        ensures works { result.works.now ≡ self.now.works }
+    {
+        Lists {
+            answers: self.answers(),
+            down: self.down(),
+            up: self.up(),
+            works: self.stage.works.as_slice(),
+        }
     }
 
     /// Lets events happen in turn to a new world and passes over those that are refused, also those that memory refuses.

@@ -3,7 +3,7 @@ use crate::run::run_text;
 use av_base::recorded::Recorded;
 use av_fakes::{FakeReader, FakeWriter, Fault};
 use av_files::Input;
-use av_host::{Crew, host_files};
+use av_host::{Crew, HostRequest, host_files};
 use av_status::{Form, Shown, Status, Wishes};
 use av_trust::Trust;
 use std::test::Fail;
@@ -46,6 +46,15 @@ fn set_file<'a>() -> Input<'a> {
     Input {
         name: "set",
         content: Some(SET),
+    }
+}
+
+fn request_of<'a>(files: &'a [Input<'a>]) -> HostRequest<'a> {
+    HostRequest {
+        set: set_file(),
+        files,
+        crew: CREW,
+        wishes: PLAIN,
     }
 }
 
@@ -134,16 +143,8 @@ fn a_host_tells_of_each_file_or_of_the_first_that_can_be_no_stream(
         let mut out = FakeWriter::new(rt.alloc()).in_pieces_of(1);
         let mut err = FakeWriter::new(rt.alloc());
         let files = files(name, content);
-        let ended = host_files(
-            &rt,
-            rt.alloc(),
-            set_file(),
-            &files,
-            CREW,
-            PLAIN,
-            &mut out,
-            &mut err,
-        );
+        let request = request_of(&files);
+        let ended = host_files(&rt, rt.alloc(), request, &mut out, &mut err);
         assert!(&rt; ended == status && out.taken() == lines && err.taken() == line);
     }
     Ok(())
@@ -201,16 +202,8 @@ fn lines_of_a_host_that_can_not_be_written_are_told(rt: HostRuntime) -> Result<(
     let mut out = FakeWriter::new(rt.alloc()).with(Fault::KeepsUnflushed);
     let mut err = FakeWriter::new(rt.alloc());
     let files = files("b", Some(b"".as_slice()));
-    let ended = host_files(
-        &rt,
-        rt.alloc(),
-        set_file(),
-        &files,
-        CREW,
-        PLAIN,
-        &mut out,
-        &mut err,
-    );
+    let request = request_of(&files);
+    let ended = host_files(&rt, rt.alloc(), request, &mut out, &mut err);
     assert!(&rt; ended == Status::Device);
     assert!(&rt; err.taken() == b"device\n".as_slice());
     Ok(())

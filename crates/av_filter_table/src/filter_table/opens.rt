@@ -10,7 +10,7 @@ ghost use Rattle.av_filter_table.specs.FilterTable.{id_of, open_numbers};
 use super::FilterTable;
 use crate::asked::Asked;
 use crate::chains;
-use crate::moving::move_opens;
+use crate::moving::{Renewal, move_opens};
 use crate::present::generation_now;
 use av_base::{MessageId, Port};
 use av_context::ContextState;
@@ -137,8 +137,10 @@ impl FilterTable {
         move_opens(
             &mut self.questions,
             &mut self.pended,
-            question,
-            seq,
+            Renewal {
+                old: question,
+                new: seq,
+            },
             self.mode,
             volume,
             answers,

@@ -23,6 +23,13 @@ pub enum ServiceCall<'a> {
     Restart,
 }
 
+// What is asked of the service of a port.
+#[derive(Clone, Copy)]
+struct PortCall<'a> {
+    port: Port,
+    call: &'a ServiceCall<'a>,
+}
+
 // Asks it; none where it is refused.
 #[tactic(auto, using(crate::proofs::ServingLemmas::small_if))]
 fn ask(
@@ -89,12 +96,12 @@ fn serve(
     up: &mut Vec<Message>,
     works: &mut Vec<Option<(Port, Work)>>,
     alloc: Global,
-    port: Port,
-    call: &ServiceCall<'_>,
+    asked: PortCall<'_>,
 ) -> Option<EventNote>
-    ensures { Served port service.old.desk up.old.items works.old.items service.new.desk up.new.items works.new.items
-        (event_called catalogue.now.sets call.now) result }
+    ensures { Served asked.entry.port service.old.desk up.old.items works.old.items service.new.desk up.new.items works.new.items
+        (event_called catalogue.now.sets asked.entry.call.now) result }
 {
+    let PortCall { port, call } = asked;
     let most = service.job_count().checked_add(1)?;
     up.reserve(most).ok()?;
     works.reserve(1).ok()?;
@@ -114,6 +121,7 @@ impl Stage {
         ensures { (h : List Event) (e : Event) → TakesServed self.old self.new h e port (event_called self.old.sets call.now) result }
     {
         let before = self.places();
+        let asked = PortCall { port, call };
         let Stage {
             one,
             two,
@@ -123,8 +131,8 @@ impl Stage {
             ..
         } = self;
         let note = match port {
-            Port::One => serve(one, catalogue, up, works, alloc, port, call),
-            Port::Two => serve(two, catalogue, up, works, alloc, port, call),
+            Port::One => serve(one, catalogue, up, works, alloc, asked),
+            Port::Two => serve(two, catalogue, up, works, alloc, asked),
         }?;
         Some(Report {
             line: Line::Silent,

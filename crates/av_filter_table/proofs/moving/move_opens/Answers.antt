@@ -13,7 +13,7 @@ pub opens-init : goal.opens-init
 opens-init c = record {
   answers = refl;
   moved = refl;
-  behind = fresh-behind c.args.old c.args.new (plains c.args.pended.now) c.requires.fresh;
+  behind = fresh-behind c.args.renewal.old c.args.renewal.new (plains c.args.pended.now) c.requires.fresh;
   chained = c.requires.chained;
   numbered = λ n. n;
   same = refl;
@@ -22,24 +22,24 @@ opens-init c = record {
 }
 
 pub first_is_spent-requires-clause-there : goal.first_is_spent-requires-clause-there
-first_is_spent-requires-clause-there c = there-kept c.args.questions.now c.opens.questions c.args.old c.opens.invariant.same c.requires.from
+first_is_spent-requires-clause-there c = there-kept c.args.questions.now c.opens.questions c.args.renewal.old c.opens.invariant.same c.requires.from
 
 pub take_first-requires-clause-there : goal.take_first-requires-clause-there
-take_first-requires-clause-there c = there-kept c.args.questions.now c.opens.questions c.args.old c.opens.invariant.same c.requires.from
+take_first-requires-clause-there c = there-kept c.args.questions.now c.opens.questions c.args.renewal.old c.opens.invariant.same c.requires.from
 
 pub unreachable-requires : goal.unreachable-requires
 unreachable-requires c =
-    let told = told_some is_spent (first_waiting c.args.old (plains c.opens.pended)) c.in-Some.is_spent c.in-Some.ensures in
-    some-of c.args.old (plains c.opens.pended) told.0 c.in_default-take_first.ensures.none told.1
+    let told = told_some is_spent (first_waiting c.args.renewal.old (plains c.opens.pended)) c.in-Some.is_spent c.in-Some.ensures in
+    some-of c.args.renewal.old (plains c.opens.pended) told.0 c.in_default-take_first.ensures.none told.1
 
 pub opens-preserved-then-is_spent : goal.opens-preserved-then-is_spent
 opens-preserved-then-is_spent c =
-    let old = c.args.old in
+    let old = c.args.renewal.old in
     let xs = plains c.opens.pended in
     let held = c.in-Some-take_first.held in
     let first = first-of old xs (of old (plains c.take_first.new.pended)) (old, held) c.in-Some-take_first.ensures.some in
     let spent : is_spent (old, held) ≡ true = sym (some_same c.in-Some.is_spent (is_spent (old, held)) (c.in-Some.ensures ∙ ap (option_map is_spent) first)) ∙ c.if-is_spent.true in
-    let o : Outs old c.args.new (old, held) xs (plains c.take_first.new.pended) = subst (Outs old c.args.new (old, held) xs) (sym c.in-Some-take_first.ensures.rest) (outs old c.args.new (old, held) xs first spent c.opens.invariant.behind) in
+    let o : Outs old c.args.renewal.new (old, held) xs (plains c.take_first.new.pended) = subst (Outs old c.args.renewal.new (old, held) xs) (sym c.in-Some-take_first.ensures.rest) (outs old c.args.renewal.new (old, held) xs first spent c.opens.invariant.behind) in
     let answer : c.refuse.result ≡ refusal c.args.mode c.args.volume.now Unsettled (old, held) =
     c.refuse.ensures ∙ ap (λ g. refused c.args.mode g Unsettled held) (c.generation_now-generation.ensures ∙ ap (present_generation c.args.volume.now) c.stream.ensures) in
     let rest = refusals c.args.mode c.args.volume.now Unsettled (overs old (plains c.take_first.new.pended)) in
@@ -64,24 +64,24 @@ opens-preserved-then-is_spent c =
     }
 
 pub move_first-requires-clause-from : goal.move_first-requires-clause-from
-move_first-requires-clause-from c = there-kept c.args.questions.now c.opens.questions c.args.old c.opens.invariant.same c.requires.from
+move_first-requires-clause-from c = there-kept c.args.questions.now c.opens.questions c.args.renewal.old c.opens.invariant.same c.requires.from
 
 pub move_first-requires-clause-to : goal.move_first-requires-clause-to
-move_first-requires-clause-to c = there-kept c.args.questions.now c.opens.questions c.args.new c.opens.invariant.same c.requires.to
+move_first-requires-clause-to c = there-kept c.args.questions.now c.opens.questions c.args.renewal.new c.opens.invariant.same c.requires.to
 
 pub opens-smaller : goal.opens-smaller
 opens-smaller c =
-    let told = told_some is_spent (first_waiting c.args.old (plains c.opens.pended)) c.in-Some.is_spent c.in-Some.ensures in
-    let i : Ins c.args.old c.args.new (plains c.opens.pended) (plains c.move_first.new.pended) =
-    subst (Ins c.args.old c.args.new (plains c.opens.pended)) (sym c.move_first.ensures.moved) (ins c.args.old c.args.new told.0 (plains c.opens.pended) c.requires.apart told.1 (told.2 ∙ c.if-is_spent.false) c.opens.invariant.behind) in
+    let told = told_some is_spent (first_waiting c.args.renewal.old (plains c.opens.pended)) c.in-Some.is_spent c.in-Some.ensures in
+    let i : Ins c.args.renewal.old c.args.renewal.new (plains c.opens.pended) (plains c.move_first.new.pended) =
+    subst (Ins c.args.renewal.old c.args.renewal.new (plains c.opens.pended)) (sym c.move_first.ensures.moved) (ins c.args.renewal.old c.args.renewal.new told.0 (plains c.opens.pended) c.requires.apart told.1 (told.2 ∙ c.if-is_spent.false) c.opens.invariant.behind) in
     let fewer = i.fewer in
     omega arith
 
 pub opens-preserved : goal.opens-preserved
 opens-preserved c =
-    let told = told_some is_spent (first_waiting c.args.old (plains c.opens.pended)) c.in-Some.is_spent c.in-Some.ensures in
-    let i : Ins c.args.old c.args.new (plains c.opens.pended) (plains c.move_first.new.pended) =
-    subst (Ins c.args.old c.args.new (plains c.opens.pended)) (sym c.move_first.ensures.moved) (ins c.args.old c.args.new told.0 (plains c.opens.pended) c.requires.apart told.1 (told.2 ∙ c.if-is_spent.false) c.opens.invariant.behind) in
+    let told = told_some is_spent (first_waiting c.args.renewal.old (plains c.opens.pended)) c.in-Some.is_spent c.in-Some.ensures in
+    let i : Ins c.args.renewal.old c.args.renewal.new (plains c.opens.pended) (plains c.move_first.new.pended) =
+    subst (Ins c.args.renewal.old c.args.renewal.new (plains c.opens.pended)) (sym c.move_first.ensures.moved) (ins c.args.renewal.old c.args.renewal.new told.0 (plains c.opens.pended) c.requires.apart told.1 (told.2 ∙ c.if-is_spent.false) c.opens.invariant.behind) in
     record {
       answers = ap (λ ys. c.opens.answers.items ++ refusals c.args.mode c.args.volume.now Unsettled ys) i.over ∙ c.opens.invariant.answers;
       moved = i.all ∙ c.opens.invariant.moved;
@@ -98,10 +98,10 @@ opens-preserved c =
 
 pub returns-clause-answers : goal.returns-clause-answers
 returns-clause-answers c =
-    let none = told_none is_spent (first_waiting c.args.old (plains c.opens.pended)) c.in_default.ensures in
-    sym (append-nil c.opens.answers.items) ∙ (ap (λ ys. c.opens.answers.items ++ refusals c.args.mode c.args.volume.now Unsettled ys) (sym (none-over c.args.old (plains c.opens.pended) none)) ∙ c.opens.invariant.answers)
+    let none = told_none is_spent (first_waiting c.args.renewal.old (plains c.opens.pended)) c.in_default.ensures in
+    sym (append-nil c.opens.answers.items) ∙ (ap (λ ys. c.opens.answers.items ++ refusals c.args.mode c.args.volume.now Unsettled ys) (sym (none-over c.args.renewal.old (plains c.opens.pended) none)) ∙ c.opens.invariant.answers)
 
 pub returns-clause-moved : goal.returns-clause-moved
 returns-clause-moved c =
-    let none = told_none is_spent (first_waiting c.args.old (plains c.opens.pended)) c.in_default.ensures in
-    sym (all-moved c.args.old c.args.new (plains c.opens.pended) none) ∙ c.opens.invariant.moved
+    let none = told_none is_spent (first_waiting c.args.renewal.old (plains c.opens.pended)) c.in_default.ensures in
+    sym (all-moved c.args.renewal.old c.args.renewal.new (plains c.opens.pended) none) ∙ c.opens.invariant.moved
