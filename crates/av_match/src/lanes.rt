@@ -1,16 +1,17 @@
 //! A piece of a content, read in six parts side by side: a part needs no more than the 63 bytes before it to come to
 //! the state of the whole, since a word of 64 bytes is a pattern.
-ghost use Rattle.std.specs.Prelude.{◌≡◌, ◌+◌, ◌*◌, ◌<◌, ◌≤◌, length, take, drop, slice_index, IfSome};
+ghost use Rattle.std.specs.Prelude.{◌≡◌, ◌+◌, ◌*◌, ◌<◌, ◌≤◌, length, take, slice_index, IfSome};
 ghost use Rattle.std.specs.Bool.{OnTrue};
 ghost use Rattle.av_match.specs.Lanes.{AreInside, AreSilent, AreWithin};
 ghost use Rattle.av_match.specs.Part.{IsClosed};
 ghost use Rattle.av_match.specs.Reach.{reach};
 ghost use Rattle.av_match.specs.Tables.{AreTables};
-ghost use Rattle.av_match.specs.Words.{run, AllBytes};
+ghost use Rattle.av_match.specs.Words.{run};
 ghost use Rattle.av_match.specs.declared.cells.Reached.TheVariants.{Through};
 
 use crate::cells::Reached;
 use crate::reach::{Position, reach_of};
+use crate::six_parts::{SixParts, six_parts};
 use crate::tables::Tables;
 
 /// How many bytes a part is begun early: one less than the longest pattern has.
@@ -61,17 +62,8 @@ fn through_parts(tables: &Tables<'_>, from: u16, piece: &[u8], step: usize) -> O
     ensures { IfSome result (λ t. reach tables.now.cells.now tables.now.outputs.now from 0 (take (6 * step + 63) piece.now)
         ≡ Through t) }
 {
-    let count = step + EARLY;
-    let states = six_lanes(
-        tables.cells,
-        from as usize,
-        part(piece, 0, count),
-        part(piece, step, count),
-        part(piece, 2 * step, count),
-        part(piece, 3 * step, count),
-        part(piece, 4 * step, count),
-        part(piece, 5 * step, count),
-    );
+    let parts = six_parts(piece, step, step + EARLY);
+    let states = six_lanes(tables.cells, from as usize, &parts);
     if are_silent(tables.outputs, states) {
         Some(states.f as u16)
     } else {
@@ -93,34 +85,21 @@ fn are_silent(outputs: &[u16], states: SixStates) -> bool
 }
 
 // Where six parts of one length lead, the first from a state and the others from the root.
-fn six_lanes(
-    cells: &[u16],
-    from: usize,
-    a: &[u8],
-    b: &[u8],
-    c: &[u8],
-    d: &[u8],
-    e: &[u8],
-    f: &[u8],
-) -> SixStates
+fn six_lanes(cells: &[u16], from: usize, parts: &SixParts<'_>) -> SixStates
     requires closed { IsClosed cells.now }
     requires some { 256 ≤ length cells.now }
     requires inside { 256 * from + 256 ≤ length cells.now }
-    requires b { length b.now ≡ length a.now }
-    requires c { length c.now ≡ length a.now }
-    requires d { length d.now ≡ length a.now }
-    requires e { length e.now ≡ length a.now }
-    requires f { length f.now ≡ length a.now }
     ensures runs { result ≡ record {
-      a = run cells.now from a.now;
-      b = run cells.now 0 b.now;
-      c = run cells.now 0 c.now;
-      d = run cells.now 0 d.now;
-      e = run cells.now 0 e.now;
-      f = run cells.now 0 f.now;
+      a = run cells.now from parts.now.a.now;
+      b = run cells.now 0 parts.now.b.now;
+      c = run cells.now 0 parts.now.c.now;
+      d = run cells.now 0 parts.now.d.now;
+      e = run cells.now 0 parts.now.e.now;
+      f = run cells.now 0 parts.now.f.now;
     } }
     ensures inside { AreWithin (length cells.now) result }
 {
+    let SixParts { a, b, c, d, e, f } = *parts;
     let mut p = from;
     let mut q = 0usize;
     let mut r = 0usize;
@@ -143,14 +122,4 @@ fn six_lanes(
         e: t,
         f: u,
     }
-}
-
-// So many bytes of a piece, from a place on.
-pub(crate) fn part(piece: &[u8], start: usize, count: usize) -> &[u8]
-    requires { start + count ≤ length piece.now }
-    ensures part { result.now ≡ take count (drop start piece.now) }
-    ensures length { length result.now ≡ count }
-    ensures bytes { AllBytes piece.now }
-{
-    &piece[start..start + count]
 }

@@ -28,6 +28,7 @@ pub mod scan;
 mod searches;
 mod shifts;
 mod shorts;
+mod six_parts;
 mod skim;
 pub mod step;
 mod tables;

@@ -6,9 +6,10 @@ ghost use Rattle.av_match.specs.Ranged.{reach_find};
 ghost use Rattle.av_match.specs.declared.cells.Reached.TheVariants.{Through};
 
 use crate::cells::Reached;
-use crate::lanes::{SixStates, part};
+use crate::lanes::SixStates;
 use crate::ranged::{Walk, find, walk_on};
 use crate::reach::Position;
+use crate::six_parts::{SixParts, six_parts};
 
 /// How many bytes a part is begun early: as many as the longest pattern has.
 const EARLY: usize = 64;
@@ -49,19 +50,8 @@ fn quiet_parts(walk: &Walk<'_>, from: Position, fed: u64, piece: &[u8], step: us
         (take (6 * step + 64) piece.now) ≡ Through t) }
     ensures inside { IfSome result (λ t. t < length walk.now.stops.now) }
 {
-    let count = step + EARLY;
-    let states = quiet_lanes(
-        walk,
-        from,
-        fed,
-        step,
-        part(piece, 0, count),
-        part(piece, step, count),
-        part(piece, 2 * step, count),
-        part(piece, 3 * step, count),
-        part(piece, 4 * step, count),
-        part(piece, 5 * step, count),
-    )?;
+    let parts = six_parts(piece, step, step + EARLY);
+    let states = quiet_lanes(walk, from, fed, step, &parts)?;
     Some(states.f as u16)
 }
 
@@ -72,23 +62,15 @@ fn quiet_lanes(
     from: Position,
     fed: u64,
     step: usize,
-    a: &[u8],
-    b: &[u8],
-    c: &[u8],
-    d: &[u8],
-    e: &[u8],
-    f: &[u8],
+    parts: &SixParts<'_>,
 ) -> Option<SixStates>
     requires inside { from.state < length walk.now.stops.now }
-    requires room { fed + from.place + 5 * step + length a.now < 2 ^ 64 }
-    requires b { length b.now ≡ length a.now }
-    requires c { length c.now ≡ length a.now }
-    requires d { length d.now ≡ length a.now }
-    requires e { length e.now ≡ length a.now }
-    requires f { length f.now ≡ length a.now }
-    ensures quiet { IfSome result (λ s. AreQuiet walk.now.patterns.now walk.now.cells.now fed from.state from.place step a.now b.now c.now d.now e.now f.now s) }
+    requires room { fed + from.place + 5 * step + length parts.now.a.now < 2 ^ 64 }
+    ensures quiet { IfSome result (λ s. AreQuiet walk.now.patterns.now walk.now.cells.now fed from.state from.place step
+        parts.now.a.now parts.now.b.now parts.now.c.now parts.now.d.now parts.now.e.now parts.now.f.now s) }
     ensures inside { IfSome result (λ s. s.f < length walk.now.stops.now) }
 {
+    let SixParts { a, b, c, d, e, f } = *parts;
     let mut p = from.state as usize;
     let mut q = 0usize;
     let mut r = 0usize;

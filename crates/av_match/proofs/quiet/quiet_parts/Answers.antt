@@ -16,6 +16,6 @@ returns-clause-quiet c =
     let quiet = c.in_ok-states.ensures.quiet in
     let inside : from.state < length (state_words ps) = omega (arith, c.requires.inside, w.ranged.ends.size) in
     six_quiet ps cells w.ranged.part fed c.args.piece.now (λ k l. (c.type_inv.piece k).fits) from.state from.place inside step states.a states.b states.c states.d states.e states.f c.requires.long
-    (ap (reach_find ps cells fed from.state from.place) (sym c.part.ensures.part) ∙ quiet.a) (ap (reach_find ps cells fed 0 (from.place + step)) (sym c.part-2.ensures.part) ∙ quiet.b)
-    (ap (reach_find ps cells fed 0 (from.place + 2 * step)) (sym c.part-3.ensures.part) ∙ quiet.c) (ap (reach_find ps cells fed 0 (from.place + 3 * step)) (sym c.part-4.ensures.part) ∙ quiet.d)
-    (ap (reach_find ps cells fed 0 (from.place + 4 * step)) (sym c.part-5.ensures.part) ∙ quiet.e) (ap (reach_find ps cells fed 0 (from.place + 5 * step)) (sym c.part-6.ensures.part) ∙ quiet.f)
+    (ap (reach_find ps cells fed from.state from.place) (sym c.six_parts-parts.ensures.a) ∙ quiet.a) (ap (reach_find ps cells fed 0 (from.place + step)) (sym c.six_parts-parts.ensures.b) ∙ quiet.b)
+    (ap (reach_find ps cells fed 0 (from.place + 2 * step)) (sym c.six_parts-parts.ensures.c) ∙ quiet.c) (ap (reach_find ps cells fed 0 (from.place + 3 * step)) (sym c.six_parts-parts.ensures.d) ∙ quiet.d)
+    (ap (reach_find ps cells fed 0 (from.place + 4 * step)) (sym c.six_parts-parts.ensures.e) ∙ quiet.e) (ap (reach_find ps cells fed 0 (from.place + 5 * step)) (sym c.six_parts-parts.ensures.f) ∙ quiet.f)
