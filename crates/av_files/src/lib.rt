@@ -29,7 +29,7 @@ pub use object::line_failed;
 pub use opened::{Opened, conclude_opened, count_opened, print_opened};
 pub use quoted::quoted_name;
 pub use scan::{Scanned, is_infected, print_scanned, scan_files};
-pub use scanner::{Input, MAX_FILE, Scanner, admit_set, read_set};
+pub use scanner::{FILE_BUFFER, Input, MAX_FILE, Scanner, admit_set, read_set};
 pub use scanners::{NamedScanner, Scanners};
 pub use streams::{TURNS, VOLUME, add_file, empty_volume, look_at, say_refused};
 pub use under::{Under, print_one};

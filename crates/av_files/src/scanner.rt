@@ -20,6 +20,10 @@ use std::marker::Model;
 /// The most bytes of a signature file, and of a file that is scanned where nothing else is asked for.
 pub const MAX_FILE: usize = 1_048_576;
 
+/// How long the buffer is that such a file is read into. One byte more shows that a file is too long; and since only a read behind
+/// the last byte finds the end, there is room for one byte behind that.
+pub const FILE_BUFFER: usize = MAX_FILE + 2;
+
 /// A file: the name under which it was asked for, and its content, where it could be read.
 #[derive(Clone, Copy)]
 pub struct Input<'a> {

@@ -10,7 +10,7 @@ use crate::host::{Host, Hosting, host_group};
 use crate::opener::Group;
 use av_files::contents::{Contents, GROUP_BYTES, content_of, counted_bytes};
 use av_files::opened::conclude_opened;
-use av_files::scanner::{Input, MAX_FILE};
+use av_files::scanner::{FILE_BUFFER, Input};
 use av_files::streams::{add_file, empty_volume};
 use av_status::faults::out_of_memory;
 use av_status::progress::Progress;
@@ -55,7 +55,7 @@ fn open_groups<R: Hosting, F: Contents, C: Clock, W: Write, E: Write>(
     ensures so_far { OnErr result (AreTrueSoFar (F.has_content files.now) host.now.signatures.now host.now.crew.openers names.now host.now.wishes tally.old (W.contents out.old) (W.contents out.new)) }
     ensures failed { IfErr result (λ status. IsFault status) }
 {
-    let Ok(mut buffer) = vec![in host.alloc; 0u8; MAX_FILE + 2] else {
+    let Ok(mut buffer) = vec![in host.alloc; 0u8; FILE_BUFFER] else {
         return Err(out_of_memory(err));
     };
     let mut done = 0usize;

@@ -15,7 +15,7 @@ use crate::verdict::spoken_of;
 use av_base::device::write_text;
 use av_clamd::{Failing, Spoken, put_path_reply};
 use av_client::{Asker, AskingFault, Reply};
-use av_files::{MAX_FILE, Met, Walk, quoted_name};
+use av_files::{FILE_BUFFER, Met, Walk, quoted_name};
 use std::alloc::{AllocError, Global};
 use std::fs;
 use std::io::Write;
@@ -110,7 +110,7 @@ fn answer_file<R: Opens, W: Write>(
 
 // Asks about a file over a connection of its own.
 fn ask_alone<R: Opens>(place: &Place<'_, R>, plain: &str) -> Result<Reply, AskingFault> {
-    let Ok(mut buffer) = vec![in place.alloc; 0u8; MAX_FILE + 2] else {
+    let Ok(mut buffer) = vec![in place.alloc; 0u8; FILE_BUFFER] else {
         return Err(AskingFault::Memory);
     };
     match Asker::connect(place.system, place.alloc, place.meeting()) {
@@ -131,7 +131,7 @@ fn answer_folder<R: Opens, W: Write>(
         return refuse(place.alloc, out, named, Failing::NoAnswer);
     };
     let mut walk = Walk::new(place.system, place.alloc, plain)?;
-    let mut buffer = vec![in place.alloc; 0u8; MAX_FILE + 2]?;
+    let mut buffer = vec![in place.alloc; 0u8; FILE_BUFFER]?;
     tell_folder(place, out, named, &mut asker, &mut walk, &mut buffer)
 }
 

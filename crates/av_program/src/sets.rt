@@ -5,7 +5,7 @@ ghost use Rattle.av_status.specs.Status.{IsFault};
 
 use crate::reading::{Source, read_file, reasons, say_why};
 use av_base::Refusal;
-use av_files::{Input, MAX_FILE, admit_set};
+use av_files::{FILE_BUFFER, Input, MAX_FILE, admit_set};
 use av_sets::read_trusted;
 use av_sigset::SignatureSet;
 use av_status::Status;
@@ -27,7 +27,7 @@ pub fn set_named<E: Write>(
     ensures admitted { IfOk result (IsAdmitted empty_sets) }
     ensures status { IfErr result (λ status. IsFault status) }
 {
-    let Ok(mut buffer) = vec![in alloc; 0u8; MAX_FILE + 2] else {
+    let Ok(mut buffer) = vec![in alloc; 0u8; FILE_BUFFER] else {
         return Err(out_of_memory(err));
     };
     let file = read_file(rt, name, &mut buffer);

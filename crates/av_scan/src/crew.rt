@@ -12,7 +12,7 @@ use crate::scanning::Scanning;
 use crate::stretches::{Hands, ReadAnywhere, Turn};
 use crate::told::ScanEntry;
 use crate::truth::{Judged, Truth};
-use av_files::{MAX_FILE, Scanners};
+use av_files::{FILE_BUFFER, Scanners};
 use crossbeam_channel::{Receiver, Sender, TryRecvError, bounded};
 use std::alloc::Global;
 use std::sync::{Arc, Wait};
@@ -20,7 +20,7 @@ use std::thread;
 use std::thread::{JoinHandle, Threads};
 
 /// The bytes of a file that one read gives at most.
-pub(crate) const PIECE: usize = MAX_FILE + 2;
+pub(crate) const PIECE: usize = FILE_BUFFER;
 
 /// As many files are under way at most.
 pub(crate) const ROOM: usize = 1_024;

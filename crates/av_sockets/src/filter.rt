@@ -16,7 +16,7 @@ use crate::sockets::Meeting;
 use av_base::{Generation, StreamId};
 use av_files::contents::{Contents, content_of};
 use av_files::opened::{Opened, conclude_opened, count_opened, print_opened};
-use av_files::scanner::MAX_FILE;
+use av_files::scanner::FILE_BUFFER;
 use av_pend::Answer;
 use av_status::faults::{not_certified, out_of_memory};
 use av_status::progress::Progress;
@@ -119,7 +119,7 @@ fn open_all<'a, R: Files + Net + Clock, F: Contents, C: Clock, W: Write, E: Writ
         (AreToldSoFar (F.has_content named.now.files.now) wishes tally.old (W.contents out.old) opener.old.mount named.now.names.now (W.contents out.new)) }
     ensures failed { IfErr result (λ status. IsFault status) }
 {
-    let Ok(mut buffer) = vec![in opener.alloc; 0u8; MAX_FILE + 2] else {
+    let Ok(mut buffer) = vec![in opener.alloc; 0u8; FILE_BUFFER] else {
         return Err(out_of_memory(err));
     };
     let Listed { files, names } = *named;

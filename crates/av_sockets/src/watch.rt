@@ -8,7 +8,7 @@ use crate::looks::{Look, Looks, looked_at};
 use av_base::device::read_into;
 use av_base::{Part, Refusal, Version};
 use av_engines::Fresh;
-use av_files::{Input, MAX_FILE, TURNS, admit_set};
+use av_files::{FILE_BUFFER, Input, MAX_FILE, TURNS, admit_set};
 use av_sets::read_trusted;
 use av_sigset::{CatalogueFault, SignatureSet};
 use av_status::faults::{EmptySets, bad_frame, out_of_memory, say, say_of, text};
@@ -109,7 +109,7 @@ impl<'a, 'b, R: Files + Clock, E: Write> Watch<'a, 'b, R, E> {
         ensures set { IfSome result (IsTrusted self.old.trust) }
         ensures trust { self.new.trust ≡ self.old.trust }
     {
-        let Ok(mut buffer) = vec![in self.alloc; 0u8; MAX_FILE + 2] else {
+        let Ok(mut buffer) = vec![in self.alloc; 0u8; FILE_BUFFER] else {
             out_of_memory(self.err);
             return None;
         };

@@ -15,7 +15,7 @@ use crate::guarding::Guards;
 use crate::inquiry::{Asking, Found, ask_one, asking_failed};
 use crate::told::{Told, count_told, print_told};
 use av_client::{Asker, Reply};
-use av_files::{MAX_FILE, Met, Walk, conclude_opened};
+use av_files::{FILE_BUFFER, Met, Walk, conclude_opened};
 use av_program::{Source, failing, is_folder, names_of, say_why};
 use av_sockets::Meeting;
 use av_sockets::fault::socket_failed;
@@ -168,7 +168,7 @@ fn ask_found<R: Guards, W: Write, E: Write>(
     if files.is_empty() {
         return no_file(finds.missed, err);
     }
-    let Ok(mut buffer) = vec![in asking.alloc; 0u8; MAX_FILE + 2] else {
+    let Ok(mut buffer) = vec![in asking.alloc; 0u8; FILE_BUFFER] else {
         return out_of_memory(err);
     };
     let meeting = Meeting::within(asked.opens, asked.wait);

@@ -7,7 +7,7 @@ ghost use Rattle.avscan.specs.Check.{AreAllGood, AreGood, IsChecked, IsGood, che
 
 use av_base::parts::write_parts;
 use av_base::{Part, Refusal, WriteFault};
-use av_files::{Input, MAX_FILE, admit_set, quoted_name};
+use av_files::{FILE_BUFFER, Input, admit_set, quoted_name};
 use av_program::{Source, Why, key_asked, read_file, say_given, why_unread};
 use av_sets::trusted_text;
 use av_sigset::SignatureSet;
@@ -58,7 +58,7 @@ fn check_all<W: Write, E: Write>(
     ensures ended { IsDoneOrFault result }
     ensures good { result ≡ Done → AreGood by.entry.trust (map (λ n. n.now) names.now) (W.contents out.old) (W.contents out.new) }
 {
-    let Ok(mut buffer) = vec![in by.alloc; 0u8; MAX_FILE + 2] else {
+    let Ok(mut buffer) = vec![in by.alloc; 0u8; FILE_BUFFER] else {
         return out_of_memory(err);
     };
     let worst = check_each(by, names, &mut buffer, out, err);

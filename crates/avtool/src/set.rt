@@ -7,7 +7,7 @@ ghost use Rattle.av_sigset.specs.Judge.{set_of};
 ghost use Rattle.av_status.specs.Status.{IsFault};
 
 use av_base::Refusal;
-use av_files::{MAX_FILE, admit_set};
+use av_files::{FILE_BUFFER, admit_set};
 use av_program::{Source, read_file, say_why};
 use av_sets::trusted_text;
 use av_sigset::SignatureSet;
@@ -30,7 +30,7 @@ pub fn set_of<E: Write>(
     ensures stand { IfOk result (λ set. MayStand set.signatures) }
     ensures fault { IfErr result (λ status. IsFault status) }
 {
-    let Ok(mut buffer) = vec![in alloc; 0u8; MAX_FILE + 2] else {
+    let Ok(mut buffer) = vec![in alloc; 0u8; FILE_BUFFER] else {
         return Err(out_of_memory(err));
     };
     let text = text_named(rt, alloc, name, trust, &mut buffer, err)?;

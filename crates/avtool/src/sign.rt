@@ -9,7 +9,7 @@ ghost use Rattle.avtool.specs.Sign.{IsSignedSet, IsSignedText, LeavesSigned};
 use crate::placing::put_content;
 use crate::set::{set_in, text_named};
 use av_base::device::write_text;
-use av_files::MAX_FILE;
+use av_files::FILE_BUFFER;
 use av_program::{key_asked, key_named};
 use av_status::faults::{device_failed, out_of_memory};
 use av_status::status::Status;
@@ -53,7 +53,7 @@ fn signed_as<E: Write>(
 {
     let key = key_named(rt, alloc, asked.key, err)?;
     let old = key_asked(rt, alloc, asked.trust, err)?;
-    let Ok(mut buffer) = vec![in alloc; 0u8; MAX_FILE + 2] else {
+    let Ok(mut buffer) = vec![in alloc; 0u8; FILE_BUFFER] else {
         return Err(out_of_memory(err));
     };
     let trust = Trust::by(old.as_ref());
