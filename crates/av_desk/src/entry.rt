@@ -1,4 +1,4 @@
-ghost use Rattle.std.specs.Prelude.{◌≡◌, ◌++◌, ◌∷◌, ◌<◌, [], map, vec_len, IfSome, None};
+ghost use Rattle.std.specs.Prelude.{◌≡◌, ◌++◌, ◌∷◌, ◌<◌, [], map, vec_len, IfNone, IfSome, None};
 ghost use Rattle.std.specs.Option.{option_to_list};
 ghost use Rattle.std.specs.Vec.{vec_capacity};
 ghost use Rattle.av_desk.specs.Book.{given};
@@ -61,7 +61,8 @@ impl DeskEntry {
 
     /// The work that it gave out, if it gave one: its lease, the version of its set, and its scan so far.
     pub fn lent(&self) -> Option<(Lease, Version, ContentScan)>
-        ensures { IfSome result (λ r. IsLentAs self.now.works r.0 r.1 r.2) }
+        ensures some { IfSome result (λ r. IsLentAs self.now.works r.0 r.1 r.2) }
+        ensures none { IfNone result (self.now.works ≡ []) }
     {
         match &self.given {
             Some(given) => Some((given.lease(), given.version(), given.scan())),

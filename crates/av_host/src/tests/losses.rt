@@ -49,7 +49,12 @@ fn told_at<R: Wait>(rt: &R, alloc: Global, end: End) -> Result<(usize, End), Fai
             Ok((told, ended))
         }
         Err(unclosed) => {
-            let Unclosed { gate, .. } = unclosed;
+            let Unclosed {
+                why: _,
+                gate,
+                seats: _,
+                receipts: _,
+            } = unclosed;
             gate.abandon();
             Err(Fail::new("not closed"))
         }
