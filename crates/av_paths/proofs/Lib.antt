@@ -1,4 +1,3 @@
-pub mod ContentLemmas
 pub mod CourseLemmas
 pub mod ReplyLemmas
 pub mod ToldLemmas

@@ -1,9 +1,9 @@
 //! How a guard is asked about one content: as one, or in parts.
 
-ghost use Rattle.std.specs.Prelude.{◌≡◌, ◌+◌, length, IfSome, OnOk};
+ghost use Rattle.std.specs.Prelude.{◌≡◌, ◌+◌, length, OnOk};
 ghost use Rattle.av_client.specs.Asking.{AreAtTheirTags, IsOwedEach};
 ghost use Rattle.av_client.specs.Again.{next_way_of};
-ghost use Rattle.av_paths.specs.Content.{IsWanted, chance_of, manner_of};
+ghost use Rattle.av_paths.specs.Content.{again_of, chance_of, manner_of};
 
 use av_base::device::read_into;
 use av_client::{Asker, AskingFault, Chance, Reply, Way, next_way};
@@ -74,9 +74,8 @@ pub fn ask_content<R: Net + Clock, C: Read + Drop>(
 }
 
 /// How the content that was asked about last is asked about again, where it is. One without a size can't be had once more.
-#[tactic(auto, using(crate::proofs::ContentLemmas::is_wanted))]
 pub fn way_again(answers: &[Option<Reply>], tries: u32, size: Option<u64>) -> Option<Way>
-    ensures { IfSome result (IsWanted tries size) }
+    ensures { result ≡ again_of answers.now tries size }
 {
     match answers.last() {
         Some(Some(reply)) => way_after(*reply, tries, size),
