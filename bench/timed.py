@@ -3,17 +3,20 @@ The copy takes along what the crates' checks keep in out/."""
 import os, shutil, subprocess, sys
 
 ROOT = os.path.dirname(os.path.dirname(os.path.abspath(__file__)))
+sys.path.insert(0, os.path.join(ROOT, "gate"))
+import rooms
 
 
-def build(folder, source, crates, used, words, changed=()):
-    """The program of a file NAME.txt over these crates, of which it names some and libraries of the kit. It is run once with these
-    words. What proofs.txt beside it has are its proofs; `changed` are pairs of a file of the copy and its text."""
+def build(folder, source, used, words, changed=()):
+    """The program of a file NAME.txt, which uses these crates and libraries of the kit. It is run once with these words. What
+    proofs.txt beside it has are its proofs; `changed` are pairs of a file of the copy and its text."""
+    listed = rooms.listed()
+    crates = rooms.below(listed, [name for name in used if name in listed])
     name = os.path.basename(source)[: -len(".txt")]
     os.makedirs(os.path.join(folder, "crates"))
     shutil.copy(os.path.join(ROOT, "HANDLES"), folder)
-    with open(os.path.join(ROOT, "crates.txt")) as file:
-        lines = [line for line in file if line.split(":")[0] in crates]
-    write(os.path.join(folder, "crates.txt"), "".join(lines) + f"{name}: {' '.join(used)}\n")
+    lines = rooms.lines()
+    write(os.path.join(folder, "crates.txt"), "".join(lines[crate] for crate in crates) + f"{name}: {' '.join(used)}\n")
     for crate in crates:
         shutil.copytree(os.path.join(ROOT, "crates", crate), os.path.join(folder, "crates", crate), symlinks=True)
     for path, text in changed:

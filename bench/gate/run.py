@@ -14,7 +14,6 @@ LOOKS = 10_000_000
 OPENERS = (1, 2, 4)
 # Events, and receipts among them.
 CLOSES = ((100_000, 0), (100_000, 50_000), (1_048_576, 0), (1_048_576, 500_000))
-CRATES = ("av_fakes", "av_base", "av_store", "av_frame", "av_cache", "av_pend", "av_context", "av_filter_table", "av_filter", "av_ends", "av_gate")
 USED = ("av_base", "av_store", "av_frame", "av_pend", "av_filter", "av_ends", "av_gate", "anyhow")
 MOST_OPEN, MOST_LOOK, MOST_CLOSE = 1_000, 50, 10
 HERE = os.path.dirname(os.path.abspath(__file__))
@@ -24,7 +23,7 @@ import timed
 
 def build(folder):
     timed.check("av_gate")
-    return timed.build(os.path.join(folder, "copy"), os.path.join(HERE, "gatetime.txt"), CRATES, USED, ["open", "1", "10", "1", "0"])
+    return timed.build(os.path.join(folder, "copy"), os.path.join(HERE, "gatetime.txt"), USED, ["open", "1", "10", "1", "0"])
 
 
 def run(*words, **more):

@@ -10,7 +10,7 @@ from cases import KINDS, MIB, put
 HERE = os.path.dirname(os.path.abspath(__file__))
 sys.path.insert(0, os.path.dirname(HERE))
 import timed
-CRATES = ("av_fakes", "av_base", "av_sigset", "av_match")
+USED = ("av_base", "av_sigset", "av_match", "anyhow")
 NARROW = "if shorts.len() > MOST_SHORT {"
 ROUNDS, REPEATS = 7, 4
 CHUNK = 4096
@@ -26,7 +26,7 @@ def built(folder, windows):
     without = text.replace(NARROW, "if shorts.len() <= MOST_SHORT || shorts.len() > MOST_SHORT {")
     changed = [] if windows else [(shifts, without)]
     words = [os.devnull, "1", "1"]
-    return timed.build(folder, os.path.join(HERE, "scantime.txt"), CRATES, (*CRATES[1:], "anyhow"), words, changed)
+    return timed.build(folder, os.path.join(HERE, "scantime.txt"), USED, words, changed)
 
 
 class Ours:

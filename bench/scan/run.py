@@ -196,7 +196,7 @@ def instructions(runner, cases, goals):
         goals.unknown("instructions a byte", "valgrind could not run the program")
 
 
-def whole_processes(runner, case, empty, ordinary, peers, goals):
+def whole_processes(runner, case, one, ordinary, peers, goals):
     print("\nwhole processes with 1,000 patterns, build included: ms gone by (processor time)")
 
     def timed(what, files, goal):
@@ -220,9 +220,9 @@ def whole_processes(runner, case, empty, ordinary, peers, goals):
             made[size].append(f"{case.base}-small-{size}-{len(made[size])}")
             put(made[size][-1], source[at:at + size])
     peak = timed("one file of 1 byte", made[1], 40)
-    none = max(runner.avscan(empty, made[1], ["clean"])[2] for _ in range(ROUNDS))
-    print(f"peak of memory: {peak:,} KiB; with an empty set {none:,} KiB")
-    goals.judge("memory above that of an empty set", (peak - none) / 1024, 9.2, False, " MiB")
+    none = max(runner.avscan(one, made[1], ["clean"])[2] for _ in range(ROUNDS))
+    print(f"peak of memory: {peak:,} KiB; with one signature {none:,} KiB")
+    goals.judge("memory above that with one signature", (peak - none) / 1024, 9.2, False, " MiB")
     timed("400 files of 1 KiB", made[1024], 50)
     timed("200 files of 64 KiB", made[65536], 60)
 
@@ -254,11 +254,11 @@ def main():
             runner = Runner(folder, program)
             peers = peers_here(runner)
             plain = [case for case in cases if case.name in WHOLE]
-            empty = os.path.join(folder, "empty.avsig")
-            put(empty, b"avsig 1\nversion 1\n")
+            one = os.path.join(folder, "one.avsig")
+            put(one, b"avsig 1\nversion 1\none 00112233445566778899aabbccddeeff\n")
             throughput(runner, plain, peers, goals)
             instructions(runner, plain, goals)
-            whole_processes(runner, plain[-1], empty, ordinary, peers, goals)
+            whole_processes(runner, plain[-1], one, ordinary, peers, goals)
     print(f"\ngoals (load {os.getloadavg()[0]:.2f} at the end)")
     print("\n".join(goals.lines))
 

@@ -8,7 +8,7 @@ in a copy of the repository, so that the gate need not prove it; the copy takes 
 import os, subprocess, sys, tempfile
 
 ROUNDS = 9
-CRATES = ("av_base", "av_sigset", "av_match", "av_frame", "av_cache", "av_service")
+USED = ("av_base", "av_sigset", "av_match", "av_frame", "av_cache", "av_service", "anyhow")
 MOST_TIMES, MOST_NANOSECONDS, MOST_RISE = 1.5, 2000, 1.25
 HERE = os.path.dirname(os.path.abspath(__file__))
 sys.path.insert(0, os.path.dirname(HERE))
@@ -17,7 +17,7 @@ import timed
 
 def build(folder):
     timed.check("av_service")
-    return timed.build(os.path.join(folder, "copy"), os.path.join(HERE, "servicetime.txt"), CRATES, (*CRATES, "anyhow"), ["1"])
+    return timed.build(os.path.join(folder, "copy"), os.path.join(HERE, "servicetime.txt"), USED, ["1"])
 
 
 def goal(what, value, most, unit):
