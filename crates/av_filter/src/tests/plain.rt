@@ -1,7 +1,7 @@
 //! A filter as plain lists, written anew from docs/CONDUCT.md for the tests: it shares no code with the filter. It has no
 //! cache, which no sequence of events can tell: within one boot the floor only rises, and a restart empties the cache.
 use crate::tests::steps::Step;
-use av_base::{Mode, Port};
+use av_base::{MessageId, Mode, Port};
 use std::alloc::{AllocError, Global};
 
 // What is known of a stream.
@@ -147,10 +147,16 @@ impl Plain {
                 self.floor = self.floor.max(version);
                 Ok(())
             }
-            Step::Read(boot, seq, offset, count) => self.read(port, boot, seq, offset, count, text),
-            Step::Clean(boot, seq, version) => self.reply(port, boot, seq, version, false, text),
-            Step::Infected(boot, seq, version) => self.reply(port, boot, seq, version, true, text),
-            Step::Failed(boot, seq) => self.fail(port, boot, seq, text),
+            Step::Read(boot, seq, offset, count) => {
+                self.read(port, MessageId { boot, seq }, offset, count, text)
+            }
+            Step::Clean(boot, seq, version) => {
+                self.reply(port, MessageId { boot, seq }, version, false, text)
+            }
+            Step::Infected(boot, seq, version) => {
+                self.reply(port, MessageId { boot, seq }, version, true, text)
+            }
+            Step::Failed(boot, seq) => self.fail(port, MessageId { boot, seq }, text),
             _ => self.add(text, "note Ignored"),
         }
     }
@@ -195,9 +201,9 @@ impl Plain {
         }
     }
 
-    // The question of a whole id, where it runs on this port.
-    fn question_on(&self, port: Port, boot: u64, seq: u64) -> Option<PlainQuestion> {
-        let question = self.question_of(boot, seq)?;
+    // The question of an id, if it runs on this port.
+    fn question_on(&self, port: Port, id: MessageId) -> Option<PlainQuestion> {
+        let question = self.question_of(id)?;
         if question.port == port {
             Some(question)
         } else {
@@ -205,12 +211,12 @@ impl Plain {
         }
     }
 
-    // The question of a whole id, where it runs.
-    fn question_of(&self, boot: u64, seq: u64) -> Option<PlainQuestion> {
-        if boot != self.boot {
+    // The question of an id, if it runs.
+    fn question_of(&self, id: MessageId) -> Option<PlainQuestion> {
+        if id.boot != self.boot {
             return None;
         }
-        self.questions.iter().find(|q| q.seq == seq).copied()
+        self.questions.iter().find(|q| q.seq == id.seq).copied()
     }
 
     fn generation_of(&self, stream: u64) -> u64 {
@@ -531,21 +537,21 @@ impl Plain {
     fn read(
         &self,
         port: Port,
-        boot: u64,
-        seq: u64,
+        id: MessageId,
         offset: u64,
         count: u32,
         text: &mut String,
     ) -> Result<(), AllocError> {
-        let Some(question) = self.question_on(port, boot, seq) else {
-            return self.no_chunk(port, boot, seq, offset, 1, text);
+        let Some(question) = self.question_on(port, id) else {
+            return self.no_chunk(port, id, offset, 1, text);
         };
         let Some(found) = self.streams.iter().find(|s| s.id == question.stream) else {
             return self.add(text, "a question of no stream");
         };
         if offset >= found.bytes.len() as u64 {
-            return self.no_chunk(port, boot, seq, offset, 2, text);
+            return self.no_chunk(port, id, offset, 2, text);
         }
+        let MessageId { boot, seq } = id;
         let mut part = format!(in self.alloc; "chunk {boot}.{seq} offset {offset} bytes")?;
         for byte in found
             .bytes
@@ -561,12 +567,12 @@ impl Plain {
     fn no_chunk(
         &self,
         port: Port,
-        boot: u64,
-        seq: u64,
+        id: MessageId,
         offset: u64,
         cause: u64,
         text: &mut String,
     ) -> Result<(), AllocError> {
+        let MessageId { boot, seq } = id;
         let part = format!(in self.alloc; "nochunk {boot}.{seq} offset {offset} cause {cause}")?;
         self.send(port, part.as_str(), text)
     }
@@ -574,19 +580,19 @@ impl Plain {
     fn reply(
         &mut self,
         port: Port,
-        boot: u64,
-        seq: u64,
+        id: MessageId,
         version: u64,
         infected: bool,
         text: &mut String,
     ) -> Result<(), AllocError> {
-        let Some(question) = self.question_on(port, boot, seq) else {
+        let Some(question) = self.question_on(port, id) else {
             return self.add(text, "note NoWaiter");
         };
         if version < self.floor {
             return self.again(question, false, text);
         }
         self.floor = version;
+        let seq = question.seq;
         self.questions.retain(|q| q.seq != seq);
         self.set_known(question.stream, Known::Judged { version, infected });
         for open in self.waiting.as_slice() {
@@ -598,21 +604,16 @@ impl Plain {
         Ok(())
     }
 
-    fn fail(
-        &mut self,
-        port: Port,
-        boot: u64,
-        seq: u64,
-        text: &mut String,
-    ) -> Result<(), AllocError> {
-        let Some(question) = self.question_on(port, boot, seq) else {
+    fn fail(&mut self, port: Port, id: MessageId, text: &mut String) -> Result<(), AllocError> {
+        let Some(question) = self.question_on(port, id) else {
             return self.add(text, "note NoWaiter");
         };
         self.end_by_mode(question, 7, text)
     }
 
     fn time_out(&mut self, seq: u64, text: &mut String) -> Result<(), AllocError> {
-        let Some(question) = self.question_of(self.boot, seq) else {
+        let boot = self.boot;
+        let Some(question) = self.question_of(MessageId { boot, seq }) else {
             return self.add(text, "note NoWaiter");
         };
         self.end_by_mode(question, 5, text)?;
