@@ -331,44 +331,48 @@ fn a_floor_that_is_read_while_it_rises_never_goes_back(rt: HostRuntime) -> Resul
     Ok(())
 }
 
-// Replies at a port to the questions of these numbers, under version 1.
+// The service of a port, and the number of the question that it answers next.
+#[derive(Clone, Copy)]
+struct PortService {
+    port: Port,
+    next: u64,
+}
+
+// Replies to the questions of a service from its next up to this number, under version 1.
 fn replies<R: Wait>(
     rt: &R,
     alloc: Global,
     gate: &Gate,
     seat: &mut Seat,
-    port: Port,
-    first: u64,
+    service: PortService,
     end: u64,
 ) -> Result<(), Refusal<GateFault>>
     requires { IsSeatOf gate.now seat.old }
     ensures { IsSeatOf gate.now seat.new }
 {
-    for seq in first..end {
-        happens(rt, alloc, gate, seat, Step::Clean(port, seq, 1))?;
+    for seq in service.next..end {
+        happens(rt, alloc, gate, seat, Step::Clean(service.port, seq, 1))?;
     }
     Ok(())
 }
 
-// Replies to each question of a port as its message comes, from this number on, until the gate is stopped.
+// Replies to each question of a port as its message comes, until the gate is stopped.
 fn serves<R: Wait>(
     rt: &R,
     alloc: Global,
     gate: &Gate,
     mut seat: Seat,
-    port: Port,
-    first: u64,
+    mut service: PortService,
 ) -> Result<Seat, Refusal<GateFault>>
     requires { IsSeatOf gate.now seat }
 {
-    let mut next = first;
     for _ in rt.forever() {
-        let Some(messages) = gate.wait_outgoing(rt, alloc, port)? else {
+        let Some(messages) = gate.wait_outgoing(rt, alloc, service.port)? else {
             return Ok(seat);
         };
-        let end = next.saturating_add(messages.len() as u64);
-        replies(rt, alloc, gate, &mut seat, port, next, end)?;
-        next = end;
+        let end = service.next.saturating_add(messages.len() as u64);
+        replies(rt, alloc, gate, &mut seat, service, end)?;
+        service.next = end;
     }
     Ok(seat)
 }
@@ -396,29 +400,28 @@ fn opens_both<R: Wait>(
     Ok((seat, one, other))
 }
 
-// Two opens that wait for the service of a port, which replies in a thread of its own to questions from a number on.
+// Two opens that wait for the service of a port, which replies in a thread of its own.
 fn served<R: Threads + Wait + Abort + Sync>(
     rt: &R,
     alloc: Global,
     gate: &Gate,
     mut seat: Seat,
-    port: Port,
-    first: u64,
+    service: PortService,
     lost: Option<Port>,
 ) -> Result<(Vec<Seat>, Vec<Receipt>), Fail>
     requires { IsSeatOf gate.now seat }
 {
     let other = gate.seat(&mut seat);
-    let (opened, service) = thread::join(
+    let (opened, replied) = thread::join(
         rt,
         move ||
             requires { IsSeatOf gate.now seat }
         { opens_both(rt, alloc, gate, seat, lost) },
         move ||
             requires { IsSeatOf gate.now other }
-        { serves(rt, alloc, gate, other, port, first) },
+        { serves(rt, alloc, gate, other, service) },
     );
-    let other = service?;
+    let other = replied?;
     let (seat, one, two) = opened?;
     assert_eq!(rt; (one, two), (Told::Granted(2, 1), Told::Granted(2, 1)));
     let mut seats = Vec::new(alloc);
@@ -437,7 +440,8 @@ fn served_alone<R: Threads + Wait + Abort + Sync>(
     requires { IsSeatOf gate.now seat }
 {
     happens(rt, alloc, gate, &mut seat, Step::Hello(One, 1))?;
-    served(rt, alloc, gate, seat, One, 1, None)
+    let first = PortService { port: One, next: 1 };
+    served(rt, alloc, gate, seat, first, None)
 }
 
 // Both greet, and the first port is lost behind the opens.
@@ -453,7 +457,8 @@ fn served_by_the_spare<R: Threads + Wait + Abort + Sync>(
     assert!(rt; gate.connected(rt, One) && !gate.connected(rt, Two));
     happens(rt, alloc, gate, &mut seat, Step::Hello(Two, 1))?;
     assert!(rt; gate.connected(rt, One) && gate.connected(rt, Two));
-    served(rt, alloc, gate, seat, Two, 3, Some(One))
+    let spare = PortService { port: Two, next: 3 };
+    served(rt, alloc, gate, seat, spare, Some(One))
 }
 
 #[test]
