@@ -56,22 +56,10 @@ fn run(
         .with(LimitField::Chunk, CHUNK);
     let mut stand = Stand::with_limits(alloc, Port::One, values)?;
     let mut plain = Plain::new(alloc);
-    run_beside(alloc, &mut stand, &mut plain, works, seed, events, counts)
-}
-
-fn run_beside(
-    alloc: Global,
-    stand: &mut Stand,
-    plain: &mut Plain,
-    works: &mut VecDeque<Work>,
-    seed: &mut u64,
-    events: u64,
-    counts: &mut [u64; 12],
-) -> Result<String, Fail> {
     for event in 0..events {
-        let (said, wanted) = happen(alloc, stand, plain, works, seed)?;
+        let (said, wanted) = happen(alloc, &mut stand, &mut plain, works, seed)?;
         count(counts, said.as_str());
-        if said.as_str() != wanted.as_str() || !same_readers(alloc, stand, plain)? {
+        if said.as_str() != wanted.as_str() || !same_readers(alloc, &stand, &plain)? {
             return Ok(format!(in alloc; "{event}: {said} for {wanted}")?);
         }
     }
