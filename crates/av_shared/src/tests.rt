@@ -118,18 +118,16 @@ fn receipts_of(alloc: Global, tickets: Vec<Ticket>) -> Result<Vec<Receipt>, Fail
 // Takes the steps of a row, each with its lines.
 fn take_steps<R: Wait + Abort>(
     rt: &R,
-    alloc: Global,
     gate: &Gate,
-    desks: Desks<'_>,
     seat: &mut Seat,
-    between: &mut Between,
+    between: &mut Between<'_>,
     row: &Row<'_>,
 ) -> Result<(), Fail>
     requires { IsSeatOf gate.now seat.old }
     ensures { IsSeatOf gate.now seat.new }
 {
     for (i, (step, lines)) in row.steps.iter().enumerate() {
-        let told = between.step(rt, alloc, gate, desks, seat, *step)?;
+        let told = between.step(rt, gate, seat, *step)?;
         assert_eq!(rt; told.as_slice(), lines.as_bytes(), "{}, step {i}", row.name);
     }
     Ok(())
@@ -146,8 +144,8 @@ fn run<R: Wait + Abort>(
 ) -> Result<(Vec<Seat>, Vec<Receipt>), Fail>
     requires { IsSeatOf gate.now seat }
 {
-    let mut between = Between::new(alloc);
-    let taken = take_steps(rt, alloc, gate, desks, &mut seat, &mut between, row);
+    let mut between = Between::new(alloc, desks);
+    let taken = take_steps(rt, gate, &mut seat, &mut between, row);
     let tickets = between.end();
     taken?;
     let mut seats = Vec::new(alloc);

@@ -52,8 +52,10 @@ impl<'a> Desks<'a> {
     }
 }
 
-// All that was sent and answered, and the work that is out.
-pub struct Between {
+// The desks, all that was sent and answered, and the work that is out.
+pub struct Between<'a> {
+    alloc: Global,
+    desks: Desks<'a>,
     pub tickets: Vec<Ticket>,
     answers: Vec<Given>,
     down: Vec<Message>,
@@ -63,9 +65,11 @@ pub struct Between {
     lent: Option<Lent>,
 }
 
-impl Between {
-    pub fn new(alloc: Global) -> Between {
+impl<'a> Between<'a> {
+    pub fn new(alloc: Global, desks: Desks<'a>) -> Between<'a> {
         Between {
+            alloc,
+            desks,
             tickets: Vec::new(alloc),
             answers: Vec::new(alloc),
             down: Vec::new(alloc),
@@ -79,6 +83,8 @@ impl Between {
     // Ends it, and gives the tickets.
     pub fn end(self) -> Vec<Ticket> {
         let Between {
+            alloc: _,
+            desks: _,
             tickets,
             answers: _,
             down: _,
@@ -95,17 +101,16 @@ impl Between {
     pub fn step<R: Wait>(
         &mut self,
         rt: &R,
-        alloc: Global,
         gate: &Gate,
-        desks: Desks<'_>,
         seat: &mut Seat,
         step: Step<'_>,
     ) -> Result<Vec<u8>, Fail>
         requires { IsSeatOf gate.now seat.old }
         ensures { IsSeatOf gate.now seat.new }
     {
+        let (alloc, desks) = (self.alloc, self.desks);
         let before = self.places();
-        let note = self.happen(rt, alloc, gate, desks, seat, step)?;
+        let note = self.happen(rt, gate, seat, step)?;
         for port in [Port::One, Port::Two] {
             add_all(&mut self.down, gate.take_outgoing(rt, alloc, port)?)?;
         }
@@ -120,21 +125,20 @@ impl Between {
             after: self.places(),
             note,
         };
-        self.printed(alloc, &report)
+        self.printed(&report)
     }
 
     fn happen<R: Wait>(
         &mut self,
         rt: &R,
-        alloc: Global,
         gate: &Gate,
-        desks: Desks<'_>,
         seat: &mut Seat,
         step: Step<'_>,
     ) -> Result<EventNote, Fail>
         requires { IsSeatOf gate.now seat.old }
         ensures { IsSeatOf gate.now seat.new }
     {
+        let (alloc, desks) = (self.alloc, self.desks);
         let note = match step {
             Step::Write(name, offset, bytes) => EventNote::Filter(gate.write(
                 rt, alloc, seat, name, offset, bytes,
@@ -154,7 +158,7 @@ impl Between {
             Step::Down(number) => {
                 let message = carried(alloc, &mut self.to_desk, self.down.as_slice(), number)?;
                 let desk = desks.at(message.port())?;
-                self.receive(rt, alloc, desk, message)?
+                self.receive(rt, desk, message)?
             }
             Step::Work(port, lease) => {
                 let desk = desks.at(port)?;
@@ -170,11 +174,10 @@ impl Between {
     fn receive<R: Wait>(
         &mut self,
         rt: &R,
-        alloc: Global,
         desk: &Desk,
         message: Message,
     ) -> Result<EventNote, Fail> {
-        let Ok(taken) = desk.message(rt, alloc, message) else {
+        let Ok(taken) = desk.message(rt, self.alloc, message) else {
             return Err(Fail::new("a message was refused"));
         };
         let Taken { lent, note } = taken;
@@ -220,9 +223,9 @@ impl Between {
         }
     }
 
-    fn printed(&self, alloc: Global, report: &Report) -> Result<Vec<u8>, Fail> {
-        let mut text = Vec::new(alloc);
-        let works = Vec::new(alloc);
+    fn printed(&self, report: &Report) -> Result<Vec<u8>, Fail> {
+        let mut text = Vec::new(self.alloc);
+        let works = Vec::new(self.alloc);
         let printed = print_report(
             report,
             self.answers.as_slice(),
