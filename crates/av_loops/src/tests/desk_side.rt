@@ -82,20 +82,16 @@ fn kinds(alloc: Global, audit: &Audit) -> Result<Vec<u8>, Fail> {
 
 // The first loop over a stream, and then the second over what the pool gives.
 fn in_and_done<R: Wait>(
-    rt: &R,
-    alloc: Global,
-    desk: &Desk,
+    side: &DeskSide<'_, R, FakeWriter>,
     giver: &mut Giver,
     taker: &mut Taker,
     reader: &mut FakeReader<'_>,
-    sender: &Sender<FakeWriter>,
 ) -> (End, End)
     ensures giver { giver.new.channel ≡ giver.old.channel }
     ensures taker { taker.new.channel ≡ taker.old.channel }
 {
-    let side = side_of(rt, alloc, desk, sender);
-    let into = desk_in(&side, giver, &mut Recorded::new(reader), 1_000);
-    (into, desk_done(&side, taker))
+    let into = desk_in(side, giver, &mut Recorded::new(reader), 1_000);
+    (into, desk_done(side, taker))
 }
 
 #[test]
@@ -111,15 +107,8 @@ fn two_workers_scan_what_a_stream_brings_at_once(rt: HostRuntime) -> Result<(), 
     };
     let mut reader = FakeReader::new(TWO_CONTENTS);
     let sender = Sender::new(alloc, FakeWriter::new(alloc));
-    let ends = in_and_done(
-        &rt,
-        alloc,
-        &desk,
-        &mut giver,
-        &mut taker,
-        &mut reader,
-        &sender,
-    );
+    let side = side_of(&rt, alloc, &desk, &sender);
+    let ends = in_and_done(&side, &mut giver, &mut taker, &mut reader);
     let left = pool.stop(&rt, giver, taker);
     let count = left.dones.len();
     left.discard();
