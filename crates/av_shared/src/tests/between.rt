@@ -7,8 +7,9 @@ use av_desk::{Desk, Lent, Taken};
 use av_ends::Ticket;
 use av_filter::Note as FilterNote;
 use av_frame::{Feed, Message};
-use av_gate::{Gate, Seat};
+use av_gate::{Gate, Patch, Seat};
 use av_history::{EventNote, Given, Line, Places, Report};
+use av_output::Lists;
 use av_output::report::print_report;
 use av_service::Done;
 use av_sigset::SignatureSet;
@@ -140,9 +141,10 @@ impl<'a> Between<'a> {
     {
         let (alloc, desks) = (self.alloc, self.desks);
         let note = match step {
-            Step::Write(name, offset, bytes) => EventNote::Filter(gate.write(
-                rt, alloc, seat, name, offset, bytes,
-            )?),
+            Step::Write(name, offset, bytes) => {
+                let patch = Patch { offset, bytes };
+                EventNote::Filter(gate.write(rt, alloc, seat, name, patch)?)
+            }
             Step::Open(name) => {
                 let ticket = gate.open(rt, alloc, seat, name)?;
                 let open_id = ticket.open_id();
@@ -226,14 +228,13 @@ impl<'a> Between<'a> {
     fn printed(&self, report: &Report) -> Result<Vec<u8>, Fail> {
         let mut text = Vec::new(self.alloc);
         let works = Vec::new(self.alloc);
-        let printed = print_report(
-            report,
-            self.answers.as_slice(),
-            self.down.as_slice(),
-            self.up.as_slice(),
-            works.as_slice(),
-            &mut text,
-        );
+        let lists = Lists {
+            answers: self.answers.as_slice(),
+            down: self.down.as_slice(),
+            up: self.up.as_slice(),
+            works: works.as_slice(),
+        };
+        let printed = print_report(report, lists, &mut text);
         works.destroy_empty();
         printed?;
         Ok(text)

@@ -9,7 +9,7 @@ use av_base::{Port, StreamId};
 use av_desk::{Desk, Taken};
 use av_ends::{Receipt, Ticket};
 use av_frame::{Feed, Message};
-use av_gate::{Audit as GateAudit, Gate, Seat};
+use av_gate::{Audit as GateAudit, Gate, Patch, Seat};
 use std::alloc::Global;
 use std::process::Abort;
 use std::sync::Wait;
@@ -42,8 +42,11 @@ fn writes<R: Wait>(rt: &R, alloc: Global, gate: &Gate, mut seat: Seat) -> Option
     requires { IsSeatOf gate.now seat }
 {
     for turn in 0..TURNS {
-        gate.write(rt, alloc, &mut seat, name_of(turn), 0, b"D")
-            .ok()?;
+        let patch = Patch {
+            offset: 0,
+            bytes: b"D",
+        };
+        gate.write(rt, alloc, &mut seat, name_of(turn), patch).ok()?;
         thread::yield_now();
     }
     Some(seat)
@@ -259,8 +262,12 @@ fn begun<R: Wait>(
     requires { IsSeatOf gate.now seat.old }
     ensures { IsSeatOf gate.now seat.new }
 {
-    gate.write(rt, alloc, seat, b"a", 0, b"ABC")?;
-    gate.write(rt, alloc, seat, b"b", 0, b"ABC")?;
+    let patch = Patch {
+        offset: 0,
+        bytes: b"ABC",
+    };
+    gate.write(rt, alloc, seat, b"a", patch)?;
+    gate.write(rt, alloc, seat, b"b", patch)?;
     desk.connect(rt, alloc)?;
     let mut feed = Feed::new(alloc);
     let hello = desk.take_outgoing(rt, alloc)?;
