@@ -25,5 +25,5 @@ pub use exchange::Exchange;
 pub use fresh::Fresh;
 pub use incoming::Incoming;
 pub use outgoing::Outgoing;
-pub use serving::{serve_fresh, serve_service};
+pub use serving::{CataloguedService, serve_fresh, serve_service};
 pub use watching::{Watched, serve_filter, serve_further};

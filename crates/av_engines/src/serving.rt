@@ -23,28 +23,41 @@ use av_service::{Service, ServiceOut, Work};
 use av_sigset::Catalogue;
 use std::alloc::{AllocError, AllocFailed, Global};
 
+/// A scanning service, and the catalogue with the set under which it judges.
+#[derive(Drop)]
+pub struct CataloguedService {
+    pub service: Service,
+    pub catalogue: Catalogue,
+}
+
+// The automaton of the set under which a service judges, and the stream of frames to its filter.
+#[derive(Drop)]
+struct Session {
+    automaton: Automaton,
+    exchange: Exchange,
+}
+
 /// Runs a scanning service over a stream of frames: it connects, handles each message that comes, and runs each work at
 /// once, under the set of its version. It ends with ReadFault, also once `turns` reads were made; WriteFault; Frame; Closed;
 /// each of these disconnects the service; or with Memory, which leaves it where the messages led, or within the last of them.
 /// It holds the automaton of the set, a buffer and the frames of one message. It is `serve_fresh` where no set comes.
 pub fn serve_service<R: RecordedRead, W: RecordedWrite>(
     alloc: Global,
-    service: &mut Service,
-    catalogue: &mut Catalogue,
+    catalogued: &mut CataloguedService,
     reader: &mut R,
     writer: &mut W,
     turns: u64,
 ) -> End
-    requires idle { service.old.desk.connected ≡ false }
-    requires version { 1 ≤ service.old.desk.version }
-    requires set { IsSome (set_at catalogue.old.sets service.old.desk.version) }
-    ensures serves { ServesTo catalogue.old.sets service.old.desk service.new.desk (R.remaining reader.old) (W.contents writer.old)
-        (W.contents writer.new) turns result }
-    ensures kept { catalogue.new.sets ≡ catalogue.old.sets }
+    requires idle { catalogued.old.service.desk.connected ≡ false }
+    requires version { 1 ≤ catalogued.old.service.desk.version }
+    requires set { IsSome (set_at catalogued.old.catalogue.sets catalogued.old.service.desk.version) }
+    ensures serves { ServesTo catalogued.old.catalogue.sets catalogued.old.service.desk catalogued.new.service.desk
+        (R.remaining reader.old) (W.contents writer.old) (W.contents writer.new) turns result }
+    ensures kept { catalogued.new.catalogue.sets ≡ catalogued.old.catalogue.sets }
     ensures read { IsOfReads result (R.has_failed reader.new) turns (R.reads reader.old) (R.reads reader.new) }
     ensures written { IsOfWriter result (W.has_failed writer.new) }
 {
-    serve_fresh(alloc, service, catalogue, reader, writer, turns, &mut ())
+    serve_fresh(alloc, catalogued, reader, writer, turns, &mut ())
 }
 
 /// The same of a service to which newer sets may come. Before each message and each read it is asked whether one has: it is
@@ -53,24 +66,24 @@ pub fn serve_service<R: RecordedRead, W: RecordedWrite>(
 /// was up (WouldBlock) is made again, so a reader that gives the sets their turn has reads of a bounded time.
 pub fn serve_fresh<R: RecordedRead, W: RecordedWrite, F: Fresh>(
     alloc: Global,
-    service: &mut Service,
-    catalogue: &mut Catalogue,
+    catalogued: &mut CataloguedService,
     reader: &mut R,
     writer: &mut W,
     turns: u64,
     fresh: &mut F,
 ) -> End
-    requires idle { service.old.desk.connected ≡ false }
-    requires version { 1 ≤ service.old.desk.version }
-    requires set { IsSome (set_at catalogue.old.sets service.old.desk.version) }
-    ensures serves { ServesFresh catalogue.old.sets catalogue.new.sets service.old.desk service.new.desk (F.coming fresh.old)
-        (F.coming fresh.new) (R.remaining reader.old) (W.contents writer.old) (W.contents writer.new) turns result }
+    requires idle { catalogued.old.service.desk.connected ≡ false }
+    requires version { 1 ≤ catalogued.old.service.desk.version }
+    requires set { IsSome (set_at catalogued.old.catalogue.sets catalogued.old.service.desk.version) }
+    ensures serves { ServesFresh catalogued.old.catalogue.sets catalogued.new.catalogue.sets catalogued.old.service.desk
+        catalogued.new.service.desk (F.coming fresh.old) (F.coming fresh.new) (R.remaining reader.old)
+        (W.contents writer.old) (W.contents writer.new) turns result }
     ensures read { IsOfReads result (R.has_failed reader.new) turns (R.reads reader.old) (R.reads reader.new) }
     ensures written { IsOfWriter result (W.has_failed writer.new) }
 {
-    let end = serve(alloc, service, catalogue, reader, writer, turns, fresh);
+    let end = serve(alloc, catalogued, reader, writer, turns, fresh);
     if end != End::Memory {
-        leave(alloc, service);
+        leave(alloc, &mut catalogued.service);
     }
     end
 }
@@ -78,39 +91,35 @@ pub fn serve_fresh<R: RecordedRead, W: RecordedWrite, F: Fresh>(
 // The same, without the disconnection.
 fn serve<R: RecordedRead, W: RecordedWrite, F: Fresh>(
     alloc: Global,
-    service: &mut Service,
-    catalogue: &mut Catalogue,
+    catalogued: &mut CataloguedService,
     reader: &mut R,
     writer: &mut W,
     turns: u64,
     fresh: &mut F,
 ) -> End
-    requires idle { service.old.desk.connected ≡ false }
-    requires version { 1 ≤ service.old.desk.version }
-    requires set { IsSome (set_at catalogue.old.sets service.old.desk.version) }
-    ensures runs { RunsFresh catalogue.old.sets catalogue.new.sets service.old.desk service.new.desk (F.coming fresh.old)
-        (F.coming fresh.new) (R.remaining reader.old) (W.contents writer.old) (W.contents writer.new) turns result }
+    requires idle { catalogued.old.service.desk.connected ≡ false }
+    requires version { 1 ≤ catalogued.old.service.desk.version }
+    requires set { IsSome (set_at catalogued.old.catalogue.sets catalogued.old.service.desk.version) }
+    ensures runs { RunsFresh catalogued.old.catalogue.sets catalogued.new.catalogue.sets catalogued.old.service.desk
+        catalogued.new.service.desk (F.coming fresh.old) (F.coming fresh.new) (R.remaining reader.old)
+        (W.contents writer.old) (W.contents writer.new) turns result }
     ensures read { IsOfReads result (R.has_failed reader.new) turns (R.reads reader.old) (R.reads reader.new) }
     ensures written { IsOfWriter result (W.has_failed writer.new) }
 {
     works_are_lent_under_the_present_version();
-    let Ok(mut automaton) = automaton_of(alloc, service, catalogue) else {
+    let Ok(automaton) = automaton_of(alloc, &catalogued.service, &catalogued.catalogue) else {
         return End::Memory;
     };
-    let Ok(mut exchange) = Exchange::new(alloc, turns) else {
+    let Ok(exchange) = Exchange::new(alloc, turns) else {
         return End::Memory;
     };
-    match greet(alloc, service, &mut exchange.outgoing) {
-        Ok(()) => hear_all(
-            alloc,
-            service,
-            catalogue,
-            &mut automaton,
-            &mut exchange,
-            reader,
-            writer,
-            fresh,
-        ),
+    let mut session = Session {
+        automaton,
+        exchange,
+    };
+    let outgoing = &mut session.exchange.outgoing;
+    match greet(alloc, &mut catalogued.service, outgoing) {
+        Ok(()) => hear_all(alloc, catalogued, &mut session, reader, writer, fresh),
         Err(_) => End::Memory,
     }
 }
@@ -153,36 +162,48 @@ fn greet(alloc: Global, service: &mut Service, outgoing: &mut Outgoing) -> Resul
 // Handles each message and each newer set that comes, until no message does.
 fn hear_all<R: RecordedRead, W: RecordedWrite, F: Fresh>(
     alloc: Global,
-    service: &mut Service,
-    catalogue: &mut Catalogue,
-    automaton: &mut Automaton,
-    exchange: &mut Exchange,
+    catalogued: &mut CataloguedService,
+    session: &mut Session,
     reader: &mut R,
     writer: &mut W,
     fresh: &mut F,
 ) -> End
-    requires unread { unread exchange.old.incoming ≡ [] }
-    requires newest { service.old.desk.version ≤ latest catalogue.old.sets }
-    requires patterns { automaton.old.patterns ≡ patterns_at catalogue.old.sets service.old.desk.version }
-    ensures hears { HearsFresh catalogue.old.sets catalogue.new.sets service.old.desk service.new.desk (F.coming fresh.old)
-        (F.coming fresh.new) exchange.old.outgoing (R.remaining reader.old) (W.contents writer.old)
-        (W.contents writer.new) exchange.old.incoming.turns result }
-    ensures read { IsOfReads result (R.has_failed reader.new) exchange.old.incoming.turns (R.reads reader.old) (R.reads reader.new) }
+    requires unread { unread session.old.exchange.incoming ≡ [] }
+    requires newest { catalogued.old.service.desk.version ≤ latest catalogued.old.catalogue.sets }
+    requires patterns { session.old.automaton.patterns
+        ≡ patterns_at catalogued.old.catalogue.sets catalogued.old.service.desk.version }
+    ensures hears { HearsFresh catalogued.old.catalogue.sets catalogued.new.catalogue.sets catalogued.old.service.desk
+        catalogued.new.service.desk (F.coming fresh.old) (F.coming fresh.new) session.old.exchange.outgoing
+        (R.remaining reader.old) (W.contents writer.old) (W.contents writer.new) session.old.exchange.incoming.turns result }
+    ensures read { IsOfReads result (R.has_failed reader.new) session.old.exchange.incoming.turns (R.reads reader.old)
+        (R.reads reader.new) }
     ensures written { IsOfWriter result (W.has_failed writer.new) }
 {
     bytes_spell_one_list();
     works_are_lent_under_the_present_version();
     'looks: loop {
-        let outgoing = &mut exchange.outgoing;
-        let Ok(()) = refresh(alloc, service, catalogue, automaton, outgoing, fresh) else {
+        let Ok(()) = refresh(
+            alloc,
+            &mut catalogued.service,
+            &mut catalogued.catalogue,
+            &mut session.automaton,
+            &mut session.exchange.outgoing,
+            fresh,
+        ) else {
             return End::Memory;
         };
-        let message = match exchange.look(reader, writer) {
+        let message = match session.exchange.look(reader, writer) {
             Ok(Some(message)) => message,
             Ok(None) => continue,
             Err(end) => return end,
         };
-        match hear(alloc, service, automaton, &mut exchange.outgoing, &message) {
+        match hear(
+            alloc,
+            &mut catalogued.service,
+            &session.automaton,
+            &mut session.exchange.outgoing,
+            &message,
+        ) {
             Ok(()) => {}
             Err(_) => return End::Memory,
         }

@@ -7,9 +7,10 @@ use av_pend::Answer;
 use std::alloc::{AllocError, Global};
 
 /// The answers that a filter gave so far, and how many of them are to opens behind a number; whether those opens may be submitted
-/// before a message comes, and whether they were.
+/// before a message comes, and whether they were. It keeps the allocator of the engine.
 #[derive(Drop)]
 pub struct AnswerTally {
+    pub alloc: Global,
     pub answers: Vec<Answer>,
     pub first: u64,
     pub answered: usize,
@@ -27,6 +28,7 @@ impl AnswerTally {
         ensures submitted { result.submitted ≡ false }
     {
         AnswerTally {
+            alloc,
             answers: Vec::new(alloc),
             first,
             answered: 0,

@@ -67,10 +67,7 @@ pub fn serve_filter<R: RecordedRead, W: RecordedWrite>(
 {
     let tally = AnswerTally::new(alloc, mounted.volume().opens(), false);
     match Exchange::new(alloc, turns) {
-        Ok(mut exchange) => {
-            let line = &mut exchange;
-            serve(alloc, mounted, opens, tally, line, reader, writer)
-        }
+        Ok(mut exchange) => serve(mounted, opens, tally, &mut exchange, reader, writer),
         Err(_) => Watched::of(End::Memory, tally),
     }
 }
@@ -97,12 +94,11 @@ pub fn serve_further<R: RecordedRead, W: RecordedWrite>(
     ensures written { IsOfWriter result.end (W.has_failed writer.new) }
 {
     let tally = AnswerTally::new(alloc, mounted.volume().opens(), true);
-    serve(alloc, mounted, opens, tally, exchange, reader, writer)
+    serve(mounted, opens, tally, exchange, reader, writer)
 }
 
 // The same, with a tally that has no answer yet.
 fn serve<R: RecordedRead, W: RecordedWrite>(
-    alloc: Global,
     mounted: &mut Mounted,
     opens: &[StreamId],
     mut tally: AnswerTally,
@@ -120,15 +116,13 @@ fn serve<R: RecordedRead, W: RecordedWrite>(
     ensures read { IsOfReads result.end (R.has_failed reader.new) exchange.old.incoming.turns (R.reads reader.old) (R.reads reader.new) }
     ensures written { IsOfWriter result.end (W.has_failed writer.new) }
 {
-    let line = &mut tally;
-    let would = watch(alloc, mounted, opens, line, exchange, reader, writer);
-    let end = leave(alloc, mounted, &mut tally, would);
+    let would = watch(mounted, opens, &mut tally, exchange, reader, writer);
+    let end = leave(mounted, &mut tally, would);
     Watched::of(end, tally)
 }
 
 // Submits the opens where that may be at once, and handles each message that comes, until all opens are answered or none comes.
 fn watch<R: RecordedRead, W: RecordedWrite>(
-    alloc: Global,
     mounted: &mut Mounted,
     opens: &[StreamId],
     tally: &mut AnswerTally,
@@ -148,7 +142,7 @@ fn watch<R: RecordedRead, W: RecordedWrite>(
 {
     bytes_spell_one_list();
     let outgoing = &mut exchange.outgoing;
-    match begin(alloc, mounted, opens, tally, outgoing) {
+    match begin(mounted, opens, tally, outgoing) {
         Ok(()) => {}
         Err(_) => return End::Memory,
     }
@@ -158,7 +152,7 @@ fn watch<R: RecordedRead, W: RecordedWrite>(
             Err(end) => return end,
         };
         let outgoing = &mut exchange.outgoing;
-        match hear(alloc, mounted, opens, tally, outgoing, &message) {
+        match hear(mounted, opens, tally, outgoing, &message) {
             Ok(()) => {}
             Err(_) => return End::Memory,
         }
@@ -171,7 +165,6 @@ fn watch<R: RecordedRead, W: RecordedWrite>(
 
 // Submits the opens where that may be before any message, and the filter is connected.
 fn begin(
-    alloc: Global,
     mounted: &mut Mounted,
     opens: &[StreamId],
     tally: &mut AnswerTally,
@@ -191,12 +184,11 @@ fn begin(
     if !tally.at_once {
         return Ok(());
     }
-    join(alloc, mounted, opens, tally, outgoing)
+    join(mounted, opens, tally, outgoing)
 }
 
 // Handles a message of the first port, and submits the opens where it connects the filter.
 fn hear(
-    alloc: Global,
     mounted: &mut Mounted,
     opens: &[StreamId],
     tally: &mut AnswerTally,
@@ -219,13 +211,12 @@ fn hear(
     if message.port() != Port::One {
         return Ok(());
     }
-    receive(alloc, mounted, tally, outgoing, message)?;
-    join(alloc, mounted, opens, tally, outgoing)
+    receive(mounted, tally, outgoing, message)?;
+    join(mounted, opens, tally, outgoing)
 }
 
 // Submits the opens where the filter is connected and they weren't submitted.
 fn join(
-    alloc: Global,
     mounted: &mut Mounted,
     opens: &[StreamId],
     tally: &mut AnswerTally,
@@ -244,14 +235,13 @@ fn join(
 {
     if mounted.filter().connected(Port::One) && !tally.submitted {
         tally.submitted = true;
-        submit_all(alloc, mounted, opens, tally, outgoing)?;
+        submit_all(mounted, opens, tally, outgoing)?;
     }
     Ok(())
 }
 
 // Submits an open of each of these streams.
 fn submit_all(
-    alloc: Global,
     mounted: &mut Mounted,
     opens: &[StreamId],
     tally: &mut AnswerTally,
@@ -267,13 +257,13 @@ fn submit_all(
     ensures rest { (tally.new.first ≡ tally.old.first) × (tally.new.submitted ≡ tally.old.submitted) }
 {
     'opens: for stream in opens {
-        submit(alloc, mounted, tally, outgoing, *stream)?;
+        submit(mounted, tally, outgoing, *stream)?;
     }
     Ok(())
 }
 
 // Disconnects the filter, where its engine did not end with Done or Memory. The end; Memory, where it was refused to that.
-fn leave(alloc: Global, mounted: &mut Mounted, tally: &mut AnswerTally, end: End) -> End
+fn leave(mounted: &mut Mounted, tally: &mut AnswerTally, end: End) -> End
     ensures leaves { Leaves end result mounted.old.table mounted.old.volume tally.old.answers.items mounted.new.table
         tally.new.answers.items }
     ensures still { mounted.new.volume ≡ mounted.old.volume }
@@ -281,7 +271,7 @@ fn leave(alloc: Global, mounted: &mut Mounted, tally: &mut AnswerTally, end: End
     if matches!(end, End::Done | End::Memory | End::AuditFull) {
         return end;
     }
-    match disconnect(alloc, mounted, tally) {
+    match disconnect(mounted, tally) {
         Ok(()) => end,
         Err(_) => End::Memory,
     }
@@ -289,11 +279,7 @@ fn leave(alloc: Global, mounted: &mut Mounted, tally: &mut AnswerTally, end: End
 
 // Disconnects the filter, behind room for its answers.
 #[tactic(auto, using(crate::proofs::EventLemmas::few_disconnected), unfolding(av_filter::specs::Conduct::filter_step))]
-fn disconnect(
-    alloc: Global,
-    mounted: &mut Mounted,
-    tally: &mut AnswerTally,
-) -> Result<(), AllocError>
+fn disconnect(mounted: &mut Mounted, tally: &mut AnswerTally) -> Result<(), AllocError>
     ensures ok { OnOk result
         (IsAt (happened (unled mounted.old.table mounted.old.volume tally.old.answers.items) (Disconnects One)) mounted.new.table
         mounted.old.volume tally.new.answers.items) }
@@ -301,14 +287,13 @@ fn disconnect(
     ensures still { mounted.new.volume ≡ mounted.old.volume }
 {
     tally.make_room(mounted)?;
-    let out = mounted.disconnect(alloc, Port::One)?;
+    let out = mounted.disconnect(tally.alloc, Port::One)?;
     tally.add(out.answers);
     Ok(())
 }
 
 // A message comes, behind room for its answers.
 fn receive(
-    alloc: Global,
     mounted: &mut Mounted,
     tally: &mut AnswerTally,
     outgoing: &mut Outgoing,
@@ -323,7 +308,7 @@ fn receive(
     ensures rest { (tally.new.first ≡ tally.old.first) × (tally.new.submitted ≡ tally.old.submitted) }
 {
     tally.make_room(mounted)?;
-    let out = tell(alloc, mounted, message)?;
+    let out = tell(tally.alloc, mounted, message)?;
     give(tally, outgoing, out)
 }
 
@@ -340,7 +325,6 @@ fn tell(alloc: Global, mounted: &mut Mounted, message: &Message) -> Result<Out, 
 
 // An open of a stream comes, behind room for its answer.
 fn submit(
-    alloc: Global,
     mounted: &mut Mounted,
     tally: &mut AnswerTally,
     outgoing: &mut Outgoing,
@@ -356,7 +340,7 @@ fn submit(
     ensures rest { (tally.new.first ≡ tally.old.first) × (tally.new.submitted ≡ tally.old.submitted) }
 {
     tally.make_room(mounted)?;
-    let out = open(alloc, mounted, stream)?;
+    let out = open(tally.alloc, mounted, stream)?;
     give(tally, outgoing, out)
 }
 

@@ -14,7 +14,7 @@ use av_arrival::turned_away;
 use av_base::device::write_text;
 use av_base::recorded::Recorded;
 use av_base::{Limits, Port, Version};
-use av_engines::{End, serve_fresh, serve_service};
+use av_engines::{CataloguedService, End, serve_fresh, serve_service};
 use av_files::streams::VOLUME;
 use av_service::Service;
 use av_sigset::{Catalogue, SignatureSet};
@@ -64,29 +64,24 @@ where
     ensures ended { IsDoneOrFault result }
 {
     let Beginning { port, set, watched } = beginning;
-    let Ok((mut service, mut catalogue)) = service_of(alloc, port, set) else {
+    let Ok(mut catalogued) = service_of(alloc, port, set) else {
         return out_of_memory(err);
     };
     match connect(rt, alloc, meeting) {
         Ok(duplex) => {
-            let second = Second::start(
-                rt,
-                alloc,
-                meeting.path,
-                newest(alloc, &service, &catalogue),
-            );
+            let second = Second::start(rt, alloc, meeting.path, newest(alloc, &catalogued));
             let lines = Lines {
                 rt,
                 alloc,
                 first: &duplex,
                 second: second.as_ref(),
             };
-            let end = serve_over(lines, &mut service, &mut catalogue, watched, err);
+            let end = serve_over(lines, &mut catalogued, watched, err);
             if let Some(second) = second {
                 end_second(rt, second, err);
             }
             match duplex.refusal() {
-                Some(why) => turned_away(err, meeting.path, version_of(&service), why),
+                Some(why) => turned_away(err, meeting.path, version_of(&catalogued.service), why),
                 None => told(meeting.path, end, out, err),
             }
         }
@@ -106,14 +101,13 @@ struct Lines<'a, 'b, R> {
 // Scans until the connection ends.
 fn serve_over<'a, R: Files + Clock + Wait, E: Write>(
     lines: Lines<'a, '_, R>,
-    service: &mut Service,
-    catalogue: &mut Catalogue,
+    catalogued: &mut CataloguedService,
     watched: Option<Watched<'_>>,
     err: &mut E,
 ) -> End
-    requires idle { service.old.desk.connected ≡ false }
-    requires version { 1 ≤ service.old.desk.version }
-    requires set { IsSome (set_at catalogue.old.sets service.old.desk.version) }
+    requires idle { catalogued.old.service.desk.connected ≡ false }
+    requires version { 1 ≤ catalogued.old.service.desk.version }
+    requires set { IsSome (set_at catalogued.old.catalogue.sets catalogued.old.service.desk.version) }
 {
     let Lines {
         rt,
@@ -124,9 +118,9 @@ fn serve_over<'a, R: Files + Clock + Wait, E: Write>(
     let mut reader = Recorded::new(Greeting { rt, duplex, second });
     let mut writer = Recorded::new(Saying { duplex });
     let Some(watched) = watched else {
-        return serve_service(alloc, service, catalogue, &mut reader, &mut writer, READS);
+        return serve_service(alloc, catalogued, &mut reader, &mut writer, READS);
     };
-    let version = version_of(service);
+    let version = version_of(&catalogued.service);
     let watch = Watch::new(rt, alloc, duplex, watched, version, err);
     let mut sharing = Sharing {
         rt,
@@ -137,8 +131,7 @@ fn serve_over<'a, R: Files + Clock + Wait, E: Write>(
     };
     serve_fresh(
         alloc,
-        service,
-        catalogue,
+        catalogued,
         &mut reader,
         &mut writer,
         READS,
@@ -147,8 +140,8 @@ fn serve_over<'a, R: Files + Clock + Wait, E: Write>(
 }
 
 // A copy of the set under which a service judges.
-fn newest(alloc: Global, service: &Service, catalogue: &Catalogue) -> Option<SignatureSet> {
-    let set = catalogue.at(service.version()?)?;
+fn newest(alloc: Global, catalogued: &CataloguedService) -> Option<SignatureSet> {
+    let set = catalogued.catalogue.at(catalogued.service.version()?)?;
     set.copied(alloc).ok()
 }
 
@@ -178,22 +171,18 @@ fn told<W: Write, E: Write>(socket: &str, end: End, out: &mut W, err: &mut E) ->
 
 // A service of this port, just started over this one set.
 #[tactic(auto, using(crate::proofs::ServiceLemmas::newest_found))]
-fn service_of(
-    alloc: Global,
-    port: Port,
-    set: SignatureSet,
-) -> Result<(Service, Catalogue), AllocError>
-    ensures port { IfOk result (λ r. r.0.desk.port ≡ port) }
-    ensures idle { IfOk result (λ r. r.0.desk.connected ≡ false) }
-    ensures version { IfOk result (λ r. 1 ≤ r.0.desk.version) }
-    ensures set { IfOk result (λ r. IsSome (set_at r.1.sets r.0.desk.version)) }
+fn service_of(alloc: Global, port: Port, set: SignatureSet) -> Result<CataloguedService, AllocError>
+    ensures port { IfOk result (λ r. r.service.desk.port ≡ port) }
+    ensures idle { IfOk result (λ r. r.service.desk.connected ≡ false) }
+    ensures version { IfOk result (λ r. 1 ≤ r.service.desk.version) }
+    ensures set { IfOk result (λ r. IsSome (set_at r.catalogue.sets r.service.desk.version)) }
 {
     let mut catalogue = Catalogue::new(alloc);
     if catalogue.publish(set).is_err() {
         return Err(AllocError);
     }
     let service = Service::start(alloc, VOLUME, port, &catalogue, Limits::greatest())?;
-    Ok((service, catalogue))
+    Ok(CataloguedService { service, catalogue })
 }
 
 fn print_closed<W: Write, E: Write>(out: &mut W, err: &mut E) -> Status

@@ -1,6 +1,6 @@
 // A service to which newer sets come while it runs.
 use crate::fresh::Fresh;
-use crate::serving::serve_fresh;
+use crate::serving::{CataloguedService, serve_fresh};
 use crate::tests::frames::{CHUNK, CLEAN, HELLO, READ, SCAN};
 use crate::tests::sides::{Unmade, catalogue_of_one};
 use crate::tests::text::bytes_of;
@@ -135,13 +135,13 @@ fn catalogue_of(alloc: Global, count: u64) -> Result<Catalogue, Unmade> {
 
 fn served_over(
     alloc: Global,
-    mut catalogue: Catalogue,
+    catalogue: Catalogue,
     fresh: &mut Coming,
     reader: &mut Timed<'_>,
     writer: &mut FakeWriter,
     turns: u64,
 ) -> Result<End, Unmade> {
-    let Ok(mut service) = Service::start(alloc, 1, Port::One, &catalogue, Limits::greatest()) else {
+    let Ok(service) = Service::start(alloc, 1, Port::One, &catalogue, Limits::greatest()) else {
         return Err(Unmade);
     };
     let Some(version) = service.version() else {
@@ -153,8 +153,7 @@ fn served_over(
     may_refuse(alloc);
     let end = serve_fresh(
         alloc,
-        &mut service,
-        &mut catalogue,
+        &mut CataloguedService { service, catalogue },
         &mut Recorded::new(reader),
         &mut Recorded::new(writer),
         turns,

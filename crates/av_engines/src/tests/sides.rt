@@ -1,7 +1,7 @@
 // Both engines over a volume of two streams, `ABC` and `AXX`, and a set of version 1 with the pattern `XX`.
 
 use crate::exchange::Exchange;
-use crate::serving::serve_service;
+use crate::serving::{CataloguedService, serve_service};
 use crate::tests::frames::{DOWN, UP};
 use crate::watching::{Watched, serve_filter, serve_further};
 use av_base::recorded::Recorded;
@@ -218,8 +218,8 @@ pub fn served_within<R: Read, W: Write>(
     writer: &mut W,
     turns: u64,
 ) -> Result<End, Unmade> {
-    let mut catalogue = catalogue_of_one(alloc)?;
-    let Ok(mut service) = Service::start(alloc, 1, Port::One, &catalogue, limits) else {
+    let catalogue = catalogue_of_one(alloc)?;
+    let Ok(service) = Service::start(alloc, 1, Port::One, &catalogue, limits) else {
         return Err(Unmade);
     };
     let Some(version) = service.version() else {
@@ -231,8 +231,7 @@ pub fn served_within<R: Read, W: Write>(
     may_refuse(alloc);
     let end = serve_service(
         alloc,
-        &mut service,
-        &mut catalogue,
+        &mut CataloguedService { service, catalogue },
         &mut Recorded::new(reader),
         &mut Recorded::new(writer),
         turns,
