@@ -23,7 +23,7 @@ from rooms import CRATES, TOP
 
 KEPT = "refused_or_not_"
 # The crates whose tests of refused memory run with each request refused, where no crate is named: those of which it was seen.
-REFUSED = {"av_cache", "av_context", "av_desk", "av_filter", "av_gate", "av_script", "av_service", "av_store"}
+REFUSED = {"av_cache", "av_context", "av_desk", "av_filter", "av_gate", "av_import", "av_pool", "av_script", "av_service", "av_store"}
 COUNT = re.compile(r"^test result: \w+\. (\d+) passed; (\d+) failed", re.M)
 FAILED = re.compile(r"^test \S+ \.\.\. (?!ok$)|FAILED|^rt: |: error|error\[|fault|proved=no$", re.M)
 

@@ -8,8 +8,10 @@
    from the start. The test fails if any of these runs fails, ends by a signal or takes longer than SECONDS.
 
    The tests are compiled with AddressSanitizer, which lets a program define the functions below: they stand between its
-   malloc and its allocator. */
+   malloc and its allocator. As a thread starts, AddressSanitizer calls pthread_getattr_np for the thread's stack, and
+   aborts if that fails. The two requests of that call are neither refused nor counted. */
 #define _GNU_SOURCE
+#include <dlfcn.h>
 #include <signal.h>
 #include <stdio.h>
 #include <stdlib.h>
@@ -104,7 +106,17 @@ static int is_refused_as_number(long number) {
 
 static int is_mark(size_t size) { return size == COUNT || size == COUNT_NO_MORE || size == COMPARED; }
 
-static int is_refused(size_t size) {
+/* Whether a request is made by pthread_getattr_np, or by the function that it calls. (rt links no code that defines a function of
+   the C library, so the call can't be marked.) */
+static int is_for_stack(const void *caller) {
+    Dl_info in;
+    if (dladdr(caller, &in) == 0 || in.dli_sname == NULL) {
+        return 0;
+    }
+    return strcmp(in.dli_sname, "pthread_getattr_np") == 0 || strcmp(in.dli_sname, "pthread_attr_setaffinity_np") == 0;
+}
+
+static int is_refused(size_t size, const void *caller) {
     if (role == WITH_MEMORY) {
         return 0;
     }
@@ -115,7 +127,7 @@ static int is_refused(size_t size) {
         __atomic_store_n(&is_counting, size == COUNT, __ATOMIC_SEQ_CST);
         return 0;
     }
-    if (!__atomic_load_n(&is_counting, __ATOMIC_SEQ_CST)) {
+    if (!__atomic_load_n(&is_counting, __ATOMIC_SEQ_CST) || is_for_stack(caller)) {
         return 0;
     }
     if (!is_refused_as_number(__atomic_add_fetch(&made, 1, __ATOMIC_SEQ_CST))) {
@@ -127,10 +139,12 @@ static int is_refused(size_t size) {
 
 /* (a mark is given a byte, since nobody writes to it and megabytes cost their time here) */
 void *__interceptor_malloc(size_t size) {
-    return is_refused(size) ? NULL : ___interceptor_malloc(is_mark(size) ? 1 : size);
+    return is_refused(size, __builtin_return_address(0)) ? NULL : ___interceptor_malloc(is_mark(size) ? 1 : size);
 }
 
-void *__interceptor_realloc(void *old, size_t size) { return is_refused(size) ? NULL : ___interceptor_realloc(old, size); }
+void *__interceptor_realloc(void *old, size_t size) {
+    return is_refused(size, __builtin_return_address(0)) ? NULL : ___interceptor_realloc(old, size);
+}
 
 /* In the process that is to run the test with each request refused, which tells its end in words. */
 static void refuse_all(void) {

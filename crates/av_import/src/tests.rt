@@ -1,7 +1,9 @@
 use crate::import::{Import, ImportFault, Rules};
+use av_base::device::write_text;
 use av_fakes::{FakeWriter, Fault, may_refuse, refuse_no_more};
 use av_sigset::SignatureSet;
 use std::alloc::Global;
+use std::io::Write;
 use std::test::Fail;
 
 const STRICT: Rules = Rules {
@@ -274,20 +276,32 @@ fn what_is_left_out_is_told_before_the_next_file(rt: HostRuntime) -> Result<(), 
     Ok(())
 }
 
+// A writer that has what it needs to take TOLD once more: memory grows by as much as there was.
+fn writer_with_room(alloc: Global) -> Result<FakeWriter, Fail> {
+    let mut writer = FakeWriter::new(alloc);
+    for _ in 0..3 {
+        write_text(&mut writer, TOLD)?;
+    }
+    writer.flush()?;
+    Ok(writer)
+}
+
 #[test]
 fn refused_or_not_what_was_left_out_is_told(rt: HostRuntime) -> Result<(), Fail> {
     let alloc = rt.alloc();
     let mut import = Import::new(alloc, STRICT);
-    let mut err = FakeWriter::new(alloc);
+    let mut err = writer_with_room(alloc)?;
+    let before = err.taken().len();
     may_refuse(alloc);
     let taken = import.take("a.db", LEFT_OUT, &mut err);
     refuse_no_more(alloc);
-    assert!(rt; TOLD.starts_with(err.taken()));
+    assert!(rt; TOLD.starts_with(&err.taken()[before..]));
     assert_eq!(rt; err.flushed(), err.taken().len());
     match taken {
         Ok(()) => {
             assert_eq!(rt; import.taken(), 1);
             assert_eq!(rt; import.left(), 3);
+            assert_eq!(rt; err.taken().len(), before + TOLD.len());
         }
         Err(fault) => {
             assert_eq!(rt; fault, ImportFault::NoMemory);
