@@ -4,8 +4,8 @@ use Rattle.std.proofs.Crossing.{crosses}
 use Rattle.av_desk.proofs.shared.SharedAutomaton.TheSendSync as automaton
 use Rattle.av_desk.specs.contracts.desk.Desk as Desk
 use Rattle.av_desk.specs.contracts.desk.Inner as Inner
-use Rattle.av_desk.specs.contracts.entry.Entry as Entry
-use Rattle.av_desk.specs.contracts.given.Given as Given
+use Rattle.av_desk.specs.contracts.entry.DeskEntry as Entry
+use Rattle.av_desk.specs.contracts.given.GivenWork as Given
 use Rattle.av_desk.specs.contracts.locked.Locked as Locked
 use Rattle.av_frame.proofs.message.Message.TheSendSync as message
 use Rattle.av_service.proofs.content_scan.ContentScan.TheSendSync as scan

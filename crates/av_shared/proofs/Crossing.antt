@@ -3,11 +3,11 @@ use denote.Param.Send.{IsSync, sendable}
 use Rattle.std.proofs.Crossing.{crosses}
 use Rattle.av_base.proofs.byte_list.ByteList.TheSendSync as bytes
 use Rattle.av_desk.specs.contracts.audit.Audit as DeskAudit
-use Rattle.av_desk.specs.contracts.entry.Entry as DeskEntry
-use Rattle.av_desk.specs.contracts.given.Given as Given
+use Rattle.av_desk.specs.contracts.entry.DeskEntry as DeskEntry
+use Rattle.av_desk.specs.contracts.given.GivenWork as Given
 use Rattle.av_frame.proofs.message.Message.TheSendSync as message
 use Rattle.av_gate.specs.contracts.audit.Audit as GateAudit
-use Rattle.av_gate.specs.contracts.entry.Entry as GateEntry
+use Rattle.av_gate.specs.contracts.entry.GateEntry as GateEntry
 use Rattle.av_service.proofs.content_scan.ContentScan.TheSendSync as scan
 use Rattle.av_sigset.proofs.catalogue.Catalogue.TheSendSync as catalogue
 use Rattle.av_store.proofs.volume.Volume.TheSendSync as volume
