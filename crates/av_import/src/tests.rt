@@ -295,13 +295,14 @@ fn refused_or_not_what_was_left_out_is_told(rt: HostRuntime) -> Result<(), Fail>
     may_refuse(alloc);
     let taken = import.take("a.db", LEFT_OUT, &mut err);
     refuse_no_more(alloc);
-    assert!(rt; TOLD.starts_with(&err.taken()[before..]));
+    let told = err.taken().get(before..).unwrap_or(b"none".as_slice());
+    assert!(rt; TOLD.starts_with(told));
     assert_eq!(rt; err.flushed(), err.taken().len());
     match taken {
         Ok(()) => {
             assert_eq!(rt; import.taken(), 1);
             assert_eq!(rt; import.left(), 3);
-            assert_eq!(rt; err.taken().len(), before + TOLD.len());
+            assert_eq!(rt; told, TOLD);
         }
         Err(fault) => {
             assert_eq!(rt; fault, ImportFault::NoMemory);
